@@ -21,6 +21,11 @@ manifest() {
     done
 }
 
+# Prints the date, the processor and the compiler.
+machine() {
+    echo "$(date -I), $(sed -n 's/^model name.*: //p' /proc/cpuinfo | head -n 1), $(rustc --version | cut -d' ' -f1,2)"
+}
+
 # Copies seven modules of lexical-util into the frame, the crate `upstream`.
 mkdir -p "$work/upstream/src"
 cp "$repository/compare/upstream.rs" "$work/upstream/src/lib.rs"

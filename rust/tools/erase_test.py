@@ -1,7 +1,7 @@
 #!/usr/bin/env python3
 """Tests that each generated file has the source's words in their order, without whole ghost items, and except for
-the tables of erase.py. Comments are not words. The order of imports, and commas and braces that rustfmt adds, do not
-matter.
+the tables of erase.py. A line of documentation is a word, and another comment is none. The order of imports, and commas
+and braces that rustfmt adds, do not matter.
 
 This test reads the sources by itself and takes only the tables from erase.py. It prints each file that differs.
 """
@@ -16,13 +16,15 @@ OPENS, CLOSES = "([{", ")]}"
 
 
 def words_of(text):
-    """The words, signs, strings and characters of a text, without comments."""
+    """The words, signs, strings, characters and lines of documentation of a text, without other comments."""
     words, at = [], 0
     while at < len(text):
         end = at + 1
         quote = at + 1 if text[at] == "b" and text[at + 1 : at + 2] in "\"'" else at
         if text.startswith("//", at):
-            at = text.index("\n", at)
+            end = text.index("\n", at)
+            words += [text[at:end]] * text.startswith(("///", "//!"), at)
+            at = end
             continue
         if text[quote] == '"' or (text[quote] == "'" and (text[quote + 1] == "\\" or text[quote + 2] == "'")):
             end = quote + 1
@@ -80,9 +82,7 @@ def plain(words):
     kept, at, laws = [], 0, set()
     while at < len(words):
         word, ahead = words[at], words[at : at + 8]
-        if word == "ghost" or ahead[:2] == ["pub", "ghost"]:
-            at = until(words, at, ";") + 1
-        elif "".join(ahead) == "usestd::marker::Model":
+        if word == "ghost" or ahead[:2] == ["pub", "ghost"] or "".join(ahead) == "usestd::marker::Model":
             at = until(words, at, ";") + 1
         elif ahead[:3] == ["#", "[", "tactic"] or ahead[:4] == ["#", "!", "[", "tactic"]:
             at = close(words, at + ahead.index("["))
@@ -117,6 +117,10 @@ def wanted_words(path, place):
     folder, root, std = place
     words = plain(words_of(text))
     for at, word in enumerate(words):
+        if word.startswith("//"):
+            line = re.sub("lexical_(base|flags|builder|util)::", f"{root}::", word).replace("std::", f"{std}::")
+            words[at] = re.sub(rf"\b{erase.VIEW[0]}\b", erase.VIEW[1], line)
+            continue
         if words[at + 1 : at + 3] == [":", ":"]:
             words[at] = root if re.fullmatch("lexical_(base|flags|builder|util)", word) else std if word == "std" else word
         if words[at - 3 : at] == [root, ":", ":"]:
@@ -182,14 +186,8 @@ def pairs():
                 yield path, erase.RUST.joinpath(place[0], first, *rest), place
 
 
-def made_files():
-    """Yields each generated file with the expected words and the actual ones."""
-    for path, made, place in pairs():
-        yield made, wanted_words(path, place), words_of(made.read_text())
-
-
 def main():
-    files = list(made_files())
+    files = [(made, wanted_words(path, place), words_of(made.read_text())) for path, made, place in pairs()]
     found = [str(path.relative_to(erase.RUST)) for path, wanted, made in files if not are_same(wanted, made)]
     sys.exit(f"not the words of the source: {', '.join(found)}" if found or not files else 0)
 

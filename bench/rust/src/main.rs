@@ -5,145 +5,111 @@
 //!     driver [--rounds N] [--only TEXT]
 
 mod data;
-mod fold;
 mod measure;
+#[path = "../../../compare/rust/src/options.rs"]
+mod options;
 mod ours;
 #[path = "../../../compare/rust/src/random.rs"]
 mod random;
+#[allow(dead_code, unused_macros)]
+#[path = "../../../compare/rust/src/results.rs"]
+mod results;
 #[path = "../../../compare/rust/src/rows.rs"]
 mod rows;
 mod theirs;
-mod user;
 
-use data::Words;
-use fold::TIMES;
+use data::Data;
 use measure::Row;
-use random::Random;
+use ours::{HEXADECIMAL, TIMES};
 use std::hint::black_box;
 
-const KIB: usize = 1024;
+/// The end of the name of a row whose sides return different numbers.
+const OVER: &str = ", over format_error";
 
-struct Data {
-    digits: [(u32, Vec<u8>); 3],
-    any_bytes: Vec<u8>,
-    text: Vec<u8>,
-    letters: Vec<u8>,
-    spoiled: Vec<u8>,
-    numbers: Vec<u64>,
-    lawful: Vec<u64>,
-    broken: Vec<u64>,
-    any: Vec<u64>,
+/// Rows: a name, the number of calls in an item of the input, the loop, the input, and the loop's other argument.
+macro_rules! rows {
+    ($($name:expr, $calls:expr, $pass:ident($input:expr $(, $argument:expr)?);)*) => {
+        vec![$({
+            let input = $input;
+            Row {
+                name: $name,
+                calls: (input.len() as f64 * $calls) as usize,
+                ours: Box::new(move || ours::$pass(black_box(input) $(, black_box($argument))?)),
+                theirs: Box::new(move || theirs::$pass(black_box(input) $(, black_box($argument))?)),
+            }
+        }),*]
+    };
 }
 
-impl Data {
-    fn new() -> Data {
-        let random = &mut Random::new(20_240_607);
-        Data {
-            digits: [10, 16, 36].map(|radix| (radix, data::digits(random, 64 * KIB, radix))),
-            any_bytes: data::any_bytes(random, 64 * KIB),
-            text: data::text(random, 16 * KIB * KIB),
-            letters: data::letters(random, 16 * KIB * KIB),
-            spoiled: data::spoiled_text(random, 64 * KIB),
-            numbers: data::numbers(random, 4096),
-            lawful: data::cases(random, 4096, Words::Lawful),
-            broken: data::cases(random, 4096, Words::Broken),
-            any: data::cases(random, 4096, Words::Any),
-        }
-    }
-}
-
-/// A row: its name, the input of both loops, the calls of a pass, the name of the loops and their other argument.
-macro_rules! row {
-    ($name:expr, $input:expr, $calls:expr, $pass:ident $($argument:expr)?) => {{
-        let input = $input;
-        Row {
-            name: $name.to_string(),
-            calls: $calls,
-            ours: Box::new(move || ours::$pass(black_box(input) $(, $argument)?)),
-            theirs: Box::new(move || theirs::$pass(black_box(input) $(, $argument)?)),
-        }
-    }};
-}
-
-/// The rows of bytes and digits.
+/// The rows of bytes and digits. Short slices are timed in a text of 16 KiB, so that a pass takes some time.
+#[rustfmt::skip]
 fn byte_rows(data: &Data) -> Vec<Row<'_>> {
-    let mut rows = vec![];
-    for (radix, digits) in &data.digits {
-        let (radix, digits, calls) = (*radix, &digits[..], digits.len());
-        rows.push(row!(format!("char_to_digit, summed, radix {radix}"), digits, calls, digit_sum radix));
-        rows.push(row!(format!("char_to_digit, read, radix {radix}"), digits, calls, digit_read radix));
+    let [decimal, hexadecimal, alphanumeric] = &data.digits;
+    let (text, letters) = (&data.text, &data.letters);
+    rows! {
+        "char_to_digit, read, radix 10", 1.0, digit_read(decimal, 10);
+        "char_to_digit, read, radix 16", 1.0, digit_read(hexadecimal, 16);
+        "char_to_digit, read, radix 36", 1.0, digit_read(alphanumeric, 36);
+        "char_is_digit, any bytes, radix 16", 1.0, is_digit(&data.any_bytes, 16);
+        "char_to_digit_const, read, radix 10", 1.0, decimal_read(decimal);
+        "mantissa_digit, read", 1.0, view_read(hexadecimal, HEXADECIMAL);
+        "constant format in a reader's loop", 1.0, constant_read(hexadecimal);
+        "role_of, over a text", 1.0, roles(&data.numbers, HEXADECIMAL);
+        "digit_to_char", 1.0, digits_to_char(&data.any_bytes);
+        "is_valid_ascii", 1.0, ascii(&data.any_bytes);
+        "is_valid_ascii_slice, 16 B", 1.0 / 16.0, ascii_slices(&text[..1 << 14], 16);
+        "is_valid_letter_slice, 16 B", 1.0 / 16.0, letter_slices(&letters[..1 << 14], 16);
+        "is_valid_ascii_slice, 1 KiB", 1.0 / 1024.0, ascii_slices(&text[..1 << 14], 1 << 10);
+        "is_valid_letter_slice, 1 KiB", 1.0 / 1024.0, letter_slices(&letters[..1 << 14], 1 << 10);
+        "is_valid_ascii_slice, 16 MiB", 1.0 / 16_777_216.0, ascii_slices(text, 1 << 24);
+        "is_valid_letter_slice, 16 MiB", 1.0 / 16_777_216.0, letter_slices(letters, 1 << 24);
+        "is_valid_ascii_slice, 0 to 63 B, spoiled", 1.0 / 64.0, short_slices(&data.spoiled);
     }
-    let (decimal, any) = (&data.digits[0].1[..], &data.any_bytes[..]);
-    let (hexadecimal, calls) = (&data.digits[1].1[..], any.len());
-    rows.extend([
-        row!("char_to_digit, any bytes, radix 36", any, calls, digit_sum 36),
-        row!("char_is_digit, any bytes, radix 16", any, calls, is_digit 16),
-        row!("char_to_digit_const, read, radix 10", decimal, calls, decimal_read),
-        row!("constant format in a reader's loop", hexadecimal, calls, constant_read),
-        row!("digit_to_char", any, calls, digits_to_char),
-        row!("is_valid_ascii", any, calls, ascii),
-        row!("from_radix", any, calls, from_radix),
-    ]);
-    for (size, size_name) in
-        [(16, "16 B"), (64, "64 B"), (KIB, "1 KiB"), (64 * KIB, "64 KiB"), (16 * KIB * KIB, "16 MiB")]
-    {
-        // At least 16 KiB, so that a pass takes some time.
-        let whole = size.max(16 * KIB);
-        let (text, letters, calls) = (&data.text[..whole], &data.letters[..whole], whole / size);
-        rows.push(row!(format!("is_valid_ascii_slice, {size_name}"), text, calls, ascii_slices size));
-        rows.push(row!(format!("is_valid_letter_slice, {size_name}"), letters, calls, letter_slices size));
-    }
-    let spoiled = &data.spoiled[..];
-    rows.push(row!("is_valid_ascii_slice, 0 to 63 B, spoiled", spoiled, spoiled.len() / 64, short_slices));
-    rows
 }
 
 /// The rows of outcomes, words, builders and edits.
+#[rustfmt::skip]
 fn word_rows(data: &Data) -> Vec<Row<'_>> {
-    let numbers = &data.numbers[..];
-    let [lawful, broken, any] = [&data.lawful, &data.broken, &data.any].map(|cases| &cases[..]);
-    let (each, times, count) = (numbers.len(), numbers.len() * TIMES, lawful.len() / 3);
-    vec![
-        row!("description", numbers, times, descriptions),
-        row!("Display", numbers, each, display),
-        row!("four tests and index", numbers, times, tests),
-        row!("cmp and ==", numbers, times, order),
-        row!("format_error, lawful", lawful, count, format_errors),
-        row!("format_error, unlawful", broken, count, format_errors),
-        row!("radix_error_impl", any, count, radix_errors),
-        row!("five rules by their own calls", lawful, count, validators),
-        row!("is_valid_options_punctuation, lawful", lawful, count, options),
-        row!("is_valid_options_punctuation, unlawful", broken, count, options),
-        row!("view, 42 getters", any, count, view),
-        row!("view, 4 getters", lawful, count, few_getters),
-        row!("view, 7 masks", any, count, masks),
-        row!("new, 5 setters, build", any, count, new_builders),
-        row!("rebuild, 3 setters, build", any, count, setters),
-        row!("rebuild, 37 getters", any, count, builder_getters),
-        row!("rebuild, build_strict, lawful", lawful, count, build_strict),
-        row!("normal_form", any, count, normal_forms),
-        row!("same_format", any, count, same_formats),
-        row!("edit_word, 3 known edits", any, count, known_edits),
-        row!("edit_word, 3 of any kind", any, count, any_edits),
-        row!("migrate, lawful", lawful, count, migrate),
-    ]
+    rows! {
+        "description", TIMES as f64, descriptions(&data.outcomes);
+        "Display", 1.0, display(&data.outcomes);
+        "four tests and index", TIMES as f64, tests(&data.outcomes);
+        "cmp and ==", TIMES as f64, order(&data.outcomes);
+        "format_error, lawful", 1.0, format_errors(&data.lawful);
+        "format_error, unlawful", 1.0, format_errors(&data.broken);
+        "radix_error_impl", 1.0, radix_errors(&data.any);
+        "five rules by their own calls", 1.0, validators(&data.lawful);
+        "is_valid_options_punctuation, lawful", 1.0, options(&data.lawful);
+        "is_valid_options_punctuation, unlawful", 1.0, options(&data.broken);
+        "view, 42 getters", 1.0, view(&data.any);
+        "view, 4 getters", 1.0, few_getters(&data.lawful);
+        "view, 7 masks", 1.0, masks(&data.any);
+        "separators of 3 parts", 1.0, separators(&data.lawful);
+        "new, 5 setters, build", 1.0, new_builders(&data.any);
+        "rebuild, 3 setters, build", 1.0, setters(&data.any);
+        "rebuild, 37 getters", 1.0, builder_getters(&data.any);
+        "rebuild, build_strict, lawful", 1.0, build_strict(&data.lawful);
+        "normal_form", 1.0, normal_forms(&data.any);
+        "same_format", 1.0, same_formats(&data.any);
+        "edit_word, 3 known edits", 1.0, known_edits(&data.any);
+        "edit_word, 3 of any kind", 1.0, any_edits(&data.edits);
+        "migrate, lawful", 1.0, migrate(&data.lawful);
+        "Format::new, lawful", 1.0, formats(&data.lawful);
+        "Format::new, unlawful", 1.0, formats(&data.broken);
+        "FormatView from text", 1.0, words_parsed(&data.texts);
+        "Edit::from_setting", 1.0, settings(&data.settings);
+        "reasons, 1 broken rule, over format_error", 1.0, reasons(&data.one_broken);
+    }
 }
 
 fn main() {
-    let (mut rounds, mut only) = (25, String::new());
-    let mut args = std::env::args().skip(1);
-    while let Some(arg) = args.next() {
-        let value = args.next().unwrap_or_else(|| panic!("{arg} needs a value"));
-        match arg.as_str() {
-            "--rounds" => rounds = value.parse().expect("--rounds needs a number"),
-            "--only" => only = value,
-            _ => panic!("there is no option {arg}"),
-        }
-    }
-    let (data, inputs) = (Data::new(), user::Inputs::new(&mut Random::new(20_261_124)));
-    let rows = byte_rows(&data).into_iter().chain(word_rows(&data)).chain(inputs.rows());
+    let options = options::Options::new(&["--rounds", "--only"]);
+    let rounds = options.get("--rounds").unwrap_or(25);
+    let only = options.get::<String>("--only").unwrap_or_default();
+    let data = Data::new();
+    let rows = byte_rows(&data).into_iter().chain(word_rows(&data));
     for row in rows.filter(|row| row.name.contains(&only)) {
-        assert!((row.ours)() == (row.theirs)() || row.name.ends_with(user::OVER), "{}: the results differ", row.name);
+        assert!((row.ours)() == (row.theirs)() || row.name.ends_with(OVER), "{}: the results differ", row.name);
         let [ours, theirs] = row.measure(rounds);
         println!("{}\t{ours:.4}\t{theirs:.4}", row.name);
     }

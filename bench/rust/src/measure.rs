@@ -1,4 +1,4 @@
-//! Times two loops in turn.
+//! Loops that are timed in turn, and the number into which they fold results.
 
 use std::hint::black_box;
 use std::time::{Duration, Instant};
@@ -7,7 +7,7 @@ pub type Loop<'a> = Box<dyn Fn() -> u64 + 'a>;
 
 /// One loop over the library and over `lexical-util`.
 pub struct Row<'a> {
-    pub name: String,
+    pub name: &'static str,
     /// Calls in one pass.
     pub calls: usize,
     pub ours: Loop<'a>,
@@ -34,7 +34,7 @@ fn passes(pass: &Loop) -> u32 {
 impl Row<'_> {
     /// Times both loops in turn, and returns the least nanoseconds of one call on each side.
     pub fn measure(&self, rounds: usize) -> [f64; 2] {
-        let sides = [(&self.ours, passes(&self.ours)), (&self.theirs, passes(&self.theirs))];
+        let sides = [&self.ours, &self.theirs].map(|pass| (pass, passes(pass)));
         let mut least = [f64::INFINITY; 2];
         for _ in 0..rounds {
             for (least, (pass, times)) in least.iter_mut().zip(sides) {
@@ -44,4 +44,30 @@ impl Row<'_> {
         }
         least
     }
+}
+
+/// A sum in which each number has another weight.
+#[derive(Clone, Copy)]
+pub struct Fold {
+    pub sum: u64,
+    weight: u64,
+}
+
+impl Fold {
+    pub fn new() -> Fold {
+        Fold { sum: 0, weight: 0x9E37_79B9_7F4A_7C15 }
+    }
+
+    pub fn with(self, number: u64) -> Fold {
+        Fold { sum: self.sum.wrapping_add(number.wrapping_mul(self.weight)), weight: self.weight.wrapping_add(2) }
+    }
+
+    pub fn with_word(self, word: u128) -> Fold {
+        self.with((word as u64).wrapping_mul(3).wrapping_add((word >> 64) as u64))
+    }
+}
+
+/// Folds over items.
+pub fn over<T: Copy>(items: &[T], with: impl FnMut(Fold, T) -> Fold) -> u64 {
+    items.iter().copied().fold(Fold::new(), with).sum
 }

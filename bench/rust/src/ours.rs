@@ -1,71 +1,60 @@
 //! The loops over the library, the crate in `rust/`.
 
-use crate::fold::{over, Fold, Page, TIMES};
-use crate::rows::{with_getters, with_outcomes, with_setters};
+use crate::data::Case;
+use crate::measure::{over, Fold};
+use crate::results::Number;
+use crate::rows::{flag_getters, with_getters, with_outcomes, with_setters};
 use peltzivar::ascii::{is_valid_ascii, is_valid_ascii_slice, is_valid_letter_slice};
 use peltzivar::digit::{char_is_digit, char_to_digit, char_to_digit_const, digit_to_char};
-use peltzivar::edits::{edit_word, normal_form, same_format, Edit, FlagSetter};
+use peltzivar::edits::{apply, edit_word, normal_form, same_format, Edit, FlagSetter};
 use peltzivar::error::Error;
-use peltzivar::format::NumberFormat;
-use peltzivar::format_builder::{NumberFormatBuilder, OptionU8};
+use peltzivar::format::{NumberFormat, Part};
+use peltzivar::format_builder::NumberFormatBuilder;
 use peltzivar::format_flags::{self as flags, radix_error_impl as radix_error};
-use peltzivar::word::{format_error, FormatView};
-use std::cmp::Ordering;
-use std::fmt::Write;
-use std::num::NonZeroU8;
+use peltzivar::word::format_error;
+use peltzivar::{Format, FormatView};
 
 include!("loops.rs");
 
-pub fn build_strict(cases: &[u64]) -> u64 {
-    over(cases, |fold, word, _| fold.with_word(NumberFormatBuilder::rebuild(word).build_strict().unwrap_or(0)))
+/// The word that a lawful builder packs.
+fn strict(builder: NumberFormatBuilder) -> u128 {
+    builder.build_strict().unwrap_or(0)
 }
 
-pub fn migrate(cases: &[u64]) -> u64 {
-    over(cases, |fold, word, _| fold.with_word(peltzivar::edits::migrate(word).unwrap_or(0)))
+fn migrated(word: u128) -> u128 {
+    peltzivar::edits::migrate(word).unwrap_or(0)
 }
 
-// VIEWS
-
-fn byte_of(byte: Option<NonZeroU8>) -> u64 {
-    byte.map_or(0, |byte| byte.get().into())
+fn format_of(word: u128) -> Option<u128> {
+    Format::new(word).ok().map(|format| format.word())
 }
 
-macro_rules! getters {
-    ({ $($Flag:ident $flag:ident $get:ident $CONST:ident;)* } $groups:tt) => {
-        with_getters! { views ($($flag $CONST)*) }
+fn parsed(text: &str) -> Option<u128> {
+    text.parse::<FormatView>().ok().map(|view| view.word())
+}
+
+fn set(text: &str) -> Option<u128> {
+    let (name, value) = text.split_once('=')?;
+    let edit = Edit::from_setting(name, value).ok()?;
+    Some(apply(NumberFormatBuilder::new(), edit).build_unchecked())
+}
+
+fn reasons_of(word: u128) -> u64 {
+    FormatView::new(word).reasons().fold(Fold::new(), |fold, reason| fold.with_word(reason.mask())).sum
+}
+
+fn role(view: FormatView, byte: u8) -> u64 {
+    view.role_of(b'p', b'.', byte).map_or(0, |role| role as u64 + 1)
+}
+
+fn separators_of(view: FormatView) -> u64 {
+    let of_part = |bits: u64, part: Part| {
+        let at = view.separators(part);
+        bits << 4
+            | (at.internal as u64) << 3
+            | (at.leading as u64) << 2
+            | (at.trailing as u64) << 1
+            | at.consecutive as u64
     };
-}
-
-macro_rules! views {
-    (
-        ($($flag:ident $FLAG:ident)*) { $($truth:ident $T:ident;)* } { $($byte:ident $B:ident;)* }
-        { $($radix:ident $R:ident;)* } { $($mask:ident $M:ident;)* }
-    ) => {
-        pub fn view(cases: &[u64]) -> u64 {
-            over(cases, |fold, word, _| {
-                let (view, mut bits) = (FormatView::new(word), 0u64);
-                $(bits = bits << 1 | view.$flag() as u64;)*
-                $(bits = bits << 1 | view.$truth() as u64;)*
-                fold.with(bits)$(.with(byte_of(view.$byte())))*$(.with(view.$radix() as u64))*
-            })
-        }
-
-        pub fn masks(cases: &[u64]) -> u64 {
-            over(cases, |fold, word, _| fold$(.with_word(FormatView::new(word).$mask()))*)
-        }
-    };
-}
-
-with_setters!(getters);
-
-pub fn few_getters(cases: &[u64]) -> u64 {
-    over(cases, |fold, word, _| {
-        let view = FormatView::new(word);
-        let radix = if view.required_integer_digits() | view.special_digit_separator() {
-            view.exponent_radix()
-        } else {
-            view.mantissa_radix()
-        };
-        fold.with(radix as u64).with(byte_of(view.digit_separator()))
-    })
+    [Part::Integer, Part::Fraction, Part::Exponent].into_iter().fold(0, of_part)
 }

@@ -1,25 +1,20 @@
-//! The loops over `lexical-util`. It has neither edits nor views of words that are known only at run
-//! time. They are written here as a Rust programmer would write them over the calls of `lexical-util`.
+//! The loops over `lexical-util`. What it lacks, such as edits, settings and views of words that are known only at run
+//! time, is written here as a Rust programmer would write it over its calls.
 
-use crate::fold::{over, Fold, Page, TIMES};
-use crate::rows::{with_getters, with_outcomes, with_setters};
+use crate::data::Case;
+use crate::measure::{over, Fold};
+use crate::results::Number;
+use crate::rows::{flag_getters, with_getters, with_outcomes, with_setters};
 use peltzivar::edits::{Edit, FlagSetter};
-use std::cmp::Ordering;
-use std::fmt::Write;
-use std::num::NonZeroU8;
 use upstream::ascii::{is_valid_ascii, is_valid_ascii_slice, is_valid_letter_slice};
 use upstream::checks::{format_error, radix_error};
 use upstream::digit::{char_is_digit, char_to_digit, char_to_digit_const, digit_to_char};
 use upstream::error::Error;
 use upstream::feature_format::NumberFormat;
-use upstream::format_builder::{NumberFormatBuilder, OptionU8};
+use upstream::format_builder::NumberFormatBuilder;
 use upstream::format_flags as flags;
 
 include!("loops.rs");
-
-pub fn build_strict(cases: &[u64]) -> u64 {
-    over(cases, |fold, word, _| fold.with_word(NumberFormatBuilder::rebuild(word).build_strict()))
-}
 
 macro_rules! edits {
     ({ $($Flag:ident $flag:ident $get:ident $CONST:ident;)* } { $($Group:ident $group:ident;)* }) => {
@@ -38,6 +33,29 @@ macro_rules! edits {
                 Edit::Flag(..) => unreachable!("a setter of the rows"),
             }
         }
+
+        /// Returns the word of a new builder in which the value of a setting is set.
+        fn set(text: &str) -> Option<u128> {
+            let (name, value) = text.split_once('=')?;
+            let byte = || match value.as_bytes() {
+                [b'\'', byte, b'\''] => Some(NonZeroU8::new(*byte)),
+                _ => value.parse().ok().map(NonZeroU8::new),
+            };
+            let builder = NumberFormatBuilder::new();
+            let builder = match name {
+                $(stringify!($flag) => builder.$flag(value.parse().ok()?),)*
+                $(stringify!($group) => builder.$group(value.parse().ok()?),)*
+                "digit_separator" => builder.digit_separator(byte()?),
+                "base_prefix" => builder.base_prefix(byte()?),
+                "base_suffix" => builder.base_suffix(byte()?),
+                "mantissa_radix" => builder.mantissa_radix(value.parse().ok()?),
+                "radix" => builder.radix(value.parse().ok()?),
+                "exponent_base" => builder.exponent_base(byte()?),
+                "exponent_radix" => builder.exponent_radix(byte()?),
+                _ => return None,
+            };
+            Some(builder.build_unchecked())
+        }
     };
 }
 
@@ -47,9 +65,12 @@ fn edit_word(word: u128, edits: &[Edit]) -> u128 {
     edits.iter().fold(NumberFormatBuilder::rebuild(word), apply).build_unchecked()
 }
 
-/// Does the work of `migrate` with the calls of `lexical-util`.
-pub fn migrate(cases: &[u64]) -> u64 {
-    build_strict(cases)
+fn strict(builder: NumberFormatBuilder) -> u128 {
+    builder.build_strict()
+}
+
+fn migrated(word: u128) -> u128 {
+    NumberFormatBuilder::rebuild(word).build_strict()
 }
 
 fn normal_form(word: u128) -> u128 {
@@ -60,44 +81,70 @@ fn same_format(a: u128, b: u128) -> bool {
     normal_form(a) == normal_form(b)
 }
 
-// VIEWS
-
-macro_rules! getters {
-    ({ $($Flag:ident $flag:ident $get:ident $CONST:ident;)* } $groups:tt) => {
-        with_getters! { views ($($flag $CONST)*) }
-    };
+fn format_of(word: u128) -> Option<u128> {
+    format_error(word).is_success().then_some(word)
 }
+
+fn parsed(text: &str) -> Option<u128> {
+    u128::from_str_radix(text.strip_prefix("0x")?, 16).ok()
+}
+
+fn reasons_of(word: u128) -> u64 {
+    position(format_error(word))
+}
+
+/// A word that is known only at run time.
+#[derive(Clone, Copy)]
+struct FormatView(u128);
 
 macro_rules! views {
     (
-        ($($flag:ident $FLAG:ident)*) { $($truth:ident $T:ident;)* } { $($byte:ident $B:ident;)* }
+        (() $($flag:ident $FLAG:ident)*) { $($truth:ident $T:ident;)* } { $($byte:ident $B:ident;)* }
         { $($radix:ident $R:ident;)* } { $($mask:ident $M:ident;)* }
     ) => {
-        pub fn view(cases: &[u64]) -> u64 {
-            over(cases, |fold, word, _| {
-                let mut bits = 0u64;
-                $(bits = bits << 1 | (word & flags::$FLAG != 0) as u64;)*
-                $(bits = bits << 1 | (word & flags::$T != 0) as u64;)*
-                fold.with(bits)$(.with(flags::$byte(word) as u64))*$(.with(flags::$radix(word) as u64))*
-            })
-        }
-
-        pub fn masks(cases: &[u64]) -> u64 {
-            over(cases, |fold, word, _| fold$(.with_word(word & flags::$M))*)
+        impl FormatView {
+            fn new(word: u128) -> Self { FormatView(word) }
+            $(fn $flag(self) -> bool { self.0 & flags::$FLAG != 0 })*
+            $(fn $truth(self) -> bool { self.0 & flags::$T != 0 })*
+            $(fn $byte(self) -> u8 { flags::$byte(self.0) })*
+            $(fn $radix(self) -> u32 { flags::$radix(self.0) })*
+            $(fn $mask(self) -> u128 { self.0 & flags::$M })*
+            fn mantissa_digit(self, byte: u8) -> Option<u32> { char_to_digit(byte, self.mantissa_radix()) }
         }
     };
 }
 
-with_setters!(getters);
+with_setters!(flag_getters(views()));
 
-pub fn few_getters(cases: &[u64]) -> u64 {
-    over(cases, |fold, word, _| {
-        let flag = |mask: u128| word & mask != 0;
-        let radix = if flag(flags::REQUIRED_INTEGER_DIGITS) | flag(flags::SPECIAL_DIGIT_SEPARATOR) {
-            flags::exponent_radix(word)
-        } else {
-            flags::mantissa_radix(word)
-        };
-        fold.with(radix as u64).with(flags::digit_separator(word) as u64)
-    })
+fn role(view: FormatView, byte: u8) -> u64 {
+    let is =
+        |own: u8, is_sensitive: bool| own != 0 && (byte == own || !is_sensitive && byte.eq_ignore_ascii_case(&own));
+    match byte {
+        _ if char_is_digit(byte, view.mantissa_radix()) || char_is_digit(byte, view.exponent_radix()) => 1,
+        b'+' | b'-' => 2,
+        _ if view.digit_separator_flags() != 0 && is(view.digit_separator(), true) => 3,
+        _ if is(view.base_prefix(), view.case_sensitive_base_prefix()) => 4,
+        _ if is(view.base_suffix(), view.case_sensitive_base_suffix()) => 5,
+        _ if is(b'p', view.case_sensitive_exponent()) => 6,
+        b'.' => 7,
+        _ => 0,
+    }
+}
+
+fn separators_of(view: FormatView) -> u64 {
+    let flags = [
+        view.integer_internal_digit_separator(),
+        view.integer_leading_digit_separator(),
+        view.integer_trailing_digit_separator(),
+        view.integer_consecutive_digit_separator(),
+        view.fraction_internal_digit_separator(),
+        view.fraction_leading_digit_separator(),
+        view.fraction_trailing_digit_separator(),
+        view.fraction_consecutive_digit_separator(),
+        view.exponent_internal_digit_separator(),
+        view.exponent_leading_digit_separator(),
+        view.exponent_trailing_digit_separator(),
+        view.exponent_consecutive_digit_separator(),
+    ];
+    flags.into_iter().fold(0, |bits, flag| bits << 1 | flag as u64)
 }

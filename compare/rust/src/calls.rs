@@ -3,13 +3,11 @@
 
 use crate::inputs::{SetterCall, OF_FLAGS};
 use crate::results::{results, Number, Results};
-use crate::rows::{with_getters, with_outcomes, with_setters};
+use crate::rows::{flag_getters, with_getters, with_outcomes, with_setters};
 use crate::rules::SUCCESS;
 use std::cmp::Ordering;
 use std::num::NonZeroU8;
 use std::panic::catch_unwind;
-
-// BYTES AND DIGITS
 
 pub fn byte(c: u8) -> Results<2> {
     results! { is_valid_ascii: is_valid_ascii(c), is_valid_letter: is_valid_letter(c), }
@@ -37,15 +35,13 @@ pub fn is_valid_radix(radix: u32) -> Results<1> {
     results! { is_valid_radix: flags::is_valid_radix(radix), }
 }
 
-// OUTCOMES
-
 macro_rules! outcomes {
     (
         { $($index_rank:literal $Indexed:ident $is_indexed:ident;)* }
         { $($rank:literal $Error:ident $is_error:ident;)* }
     ) => {
         /// The outcome at a position of the enum, with an index if it holds one.
-        fn error_at(position: u128, index: usize) -> Error {
+        pub fn error_at(position: u128, index: usize) -> Error {
             match position {
                 $($index_rank => Error::$Indexed(index),)*
                 $($rank => Error::$Error,)*
@@ -85,26 +81,23 @@ pub fn order(a: (u128, usize), b: (u128, usize)) -> Results<4> {
     results! { cmp: sign(a.cmp(&b)), partial_cmp: a.partial_cmp(&b).map(sign), eq: a == b, lt: a < b, }
 }
 
-pub fn description(position: u128, index: usize) -> String {
-    error_at(position, index).description().to_string()
-}
-
-pub fn display(position: u128, index: usize, style: u32) -> String {
+/// The description, and what is printed with any width and fill.
+pub fn texts(position: u128, index: usize) -> [String; 6] {
     let error = error_at(position, index);
-    match style {
-        0 => format!("{error}"),
-        1 => format!("{error:200}"),
-        2 => format!("{error:*>150}"),
-        3 => format!("{error:#<3}"),
-        _ => format!("{error:0^99}"),
-    }
+    let [wide, starred] = [format!("{error:200}"), format!("{error:*>150}")];
+    let [short, zeros] = [format!("{error:#<3}"), format!("{error:0^99}")];
+    [error.description().to_string(), error.to_string(), wide, starred, short, zeros]
 }
-
-// WORDS
 
 /// The rules and the fields of a word: first what `rules::word` changes. Of `format_error_impl`, the call `format_error`
 /// and the view the errors are given, and then of the two calls for radixes.
-fn word_of(word: u128, errors: [Error; 3], are_valid: [bool; 2], radixes: [Error; 2], is_valid_radix: bool) -> Results<19> {
+fn word_of(
+    word: u128,
+    errors: [Error; 3],
+    are_valid: [bool; 2],
+    radixes: [Error; 2],
+    is_valid_radix: bool,
+) -> Results<19> {
     let [format_error_impl, format_error, view_error] = errors.map(position);
     let [radix_error, view_radix_error] = radixes.map(position);
     results! {
@@ -130,12 +123,6 @@ pub fn radix_from_flags(word: u128, mask: u128, shift: i32) -> Results<1> {
     results! { radix_from_flags: flags::radix_from_flags(word, mask, shift), }
 }
 
-macro_rules! flag_getters {
-    (($then:ident $view:ident) { $($Flag:ident $flag:ident $get:ident $CONST:ident;)* } $groups:tt) => {
-        with_getters! { $then ($view $($flag $CONST)*) }
-    };
-}
-
 /// The getters of a view, which is of another type on each side.
 macro_rules! view_of {
     (
@@ -150,8 +137,6 @@ macro_rules! view_of {
         }
     };
 }
-
-// WORDS THAT ARE KNOWN WHEN THIS IS COMPILED
 
 /// The rules of a word by the calls that take it as a const argument, and the fields.
 pub fn const_word<const WORD: u128>() -> Results<19> {
@@ -187,8 +172,6 @@ macro_rules! constants_of {
 pub fn associated<const WORD: u128>() -> Results<43> {
     with_setters!(flag_getters(constants_of WORD))
 }
-
-// BUILDERS
 
 macro_rules! constants {
     ($($name:ident)*) => {

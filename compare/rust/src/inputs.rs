@@ -1,49 +1,26 @@
 //! The inputs on which the calls are compared. All of them follow from one seed.
 
 use crate::random::Random;
-use crate::rows::with_setters;
+use peltzivar::Edit;
 use std::fmt::{self, Debug, Formatter};
 use upstream::format_flags::FLAG_MASK;
 
-/// A setter of a builder, by its position: the flags in the order of their bits, the nine groups,
-/// separator, prefix, suffix, mantissa radix by its two names, exponent base, exponent radix. An odd
-/// value sets a flag, and the value 0 empties a byte that may be absent.
+/// A call of a setter, by its index: the flags in the order of their bits, the nine groups, separator, prefix, suffix,
+/// mantissa radix by its two names, exponent base, exponent radix. An odd value sets a flag. 0 is an absent byte.
 #[derive(Clone, Copy)]
 pub struct SetterCall {
     pub setter: usize,
     pub value: u8,
 }
 
-macro_rules! setter_names {
-    (
-        { $($Flag:ident $flag:ident $get:ident $CONST:ident;)* }
-        { $($Group:ident $group:ident;)* }
-    ) => {
-        [
-            $(stringify!($flag),)*
-            $(stringify!($group),)*
-            "digit_separator",
-            "base_prefix",
-            "base_suffix",
-            "mantissa_radix",
-            "radix",
-            "exponent_base",
-            "exponent_radix",
-        ]
-    };
-}
-
-/// The names of the setters, each at its position.
-pub const SETTER_NAMES: &[&str] = &with_setters!(setter_names);
-
-const SETTERS: usize = SETTER_NAMES.len();
+const SETTERS: usize = Edit::NAMES.len();
 
 /// The number of setters that take a `bool`. The seven byte setters follow them.
 pub const OF_FLAGS: usize = SETTERS - 7;
 
 impl Debug for SetterCall {
     fn fmt(&self, f: &mut Formatter) -> fmt::Result {
-        let name = SETTER_NAMES[self.setter as usize];
+        let name = Edit::NAMES[self.setter];
         match self.setter {
             0..OF_FLAGS => write!(f, "{name}={}", self.value % 2 == 1),
             _ => write!(f, "{name}={}", self.value),
@@ -54,6 +31,14 @@ impl Debug for SetterCall {
 /// Returns calls of one setter each, with the first `values` values.
 pub fn single_calls(values: u16) -> impl Iterator<Item = SetterCall> {
     (0..SETTERS).flat_map(move |setter| (0..values).map(move |value| SetterCall { setter, value: value as u8 }))
+}
+
+/// Returns the calls that give a new builder the fields of a word as they stand.
+pub fn calls_of(word: u128) -> Vec<SetterCall> {
+    let flags = (0..18).chain(32..45).map(|bit| (word >> bit) as u8 & 1).zip(0..31);
+    let bytes = [64, 88, 96, 104, 112, 120].map(|shift| (word >> shift) as u8);
+    let bytes = bytes.into_iter().zip([0, 1, 2, 3, 5, 6].map(|index| OF_FLAGS + index));
+    flags.chain(bytes).map(|(value, setter)| SetterCall { setter, value }).collect()
 }
 
 impl Random {
@@ -142,21 +127,13 @@ pub fn bits_turned(base: u128) -> impl Iterator<Item = u128> {
     pairs.map(move |(i, j)| base ^ (1 << i) ^ if i == j { 0 } else { 1 << j })
 }
 
-/// A word that is known when this is compiled: the standard format with a single bit flipped, or mixed bits.
-pub const fn known_word(position: usize) -> u128 {
-    const STANDARD: u128 = 0x00000A00_00000000_00000000_0000000C;
-    match position {
-        0..128 => STANDARD ^ 1 << position,
-        _ => {
-            let factor = 0x9E37_79B9_7F4A_7C15_F39C_C060_5CED_C835;
-            let bits = (position as u128).wrapping_mul(factor);
-            let bits = (bits ^ bits >> 61).wrapping_mul(factor);
-            // Half of them have radixes in range.
-            if position % 2 == 0 {
-                bits
-            } else {
-                bits >> 24 & !0xFF_FFFF | 0x10_0A_24 << 104
-            }
-        }
+/// A word that is known when this is compiled: the standard format with a bit flipped, or mixed bits with any radixes or
+/// with lawful ones.
+pub const fn known_word(index: usize) -> u128 {
+    let mixed = (index as u128 + 1).wrapping_mul(0x9E37_79B9_7F4A_7C15_F39C_C060_5CED_C835);
+    match index {
+        0..128 => BASES[2] ^ 1 << index,
+        128..192 => mixed ^ mixed >> 61,
+        _ => mixed >> 24 | 0x10_0A_24 << 104,
     }
 }

@@ -3,6 +3,7 @@
 //!     driver [--seed N] [--scale N] [--threads N] [--only WORD] [--record FILE]
 
 mod inputs;
+mod options;
 mod ours;
 mod random;
 mod record;
@@ -10,45 +11,19 @@ mod results;
 mod rows;
 mod rules;
 mod sections;
-mod source;
 mod tally;
 mod theirs;
 
+use options::Options;
 use sections::Task;
 use std::collections::BTreeMap;
+use std::fs;
 use std::panic::{set_hook, take_hook};
 use std::process::exit;
 use std::sync::atomic::{AtomicUsize, Ordering};
 use std::sync::Mutex;
 use std::time::Instant;
-use std::{env, fs};
 use tally::Tally;
-
-struct Settings {
-    seed: u64,
-    scale: u64,
-    threads: usize,
-    only: String,
-    record: Option<String>,
-}
-
-fn settings() -> Settings {
-    let mut settings = Settings { seed: 1, scale: 1, threads: 2, only: String::new(), record: None };
-    let mut args = env::args().skip(1);
-    while let Some(arg) = args.next() {
-        let value = args.next().unwrap_or_else(|| panic!("{arg} needs a value"));
-        let number = || value.parse().unwrap_or_else(|_| panic!("{arg} needs a number"));
-        match arg.as_str() {
-            "--seed" => settings.seed = number(),
-            "--scale" => settings.scale = number(),
-            "--threads" => settings.threads = number() as usize,
-            "--only" => settings.only = value,
-            "--record" => settings.record = Some(value),
-            _ => panic!("there is no option {arg}"),
-        }
-    }
-    settings
-}
 
 /// Runs the tasks side by side, and returns the tally of each section.
 fn run(tasks: &[Task], threads: usize) -> BTreeMap<&'static str, Tally> {
@@ -78,27 +53,28 @@ fn hush() {
 }
 
 fn main() {
-    let settings = settings();
+    let options = Options::new(&["--seed", "--scale", "--threads", "--only", "--record"]);
+    let (seed, only) = (options.get("--seed").unwrap_or(1), options.get::<String>("--only").unwrap_or_default());
     hush();
-    if let Some(path) = &settings.record {
-        let text = record::lines(settings.seed).join("\n") + "\n";
-        fs::write(path, &text).unwrap_or_else(|error| panic!("{path}: {error}"));
+    if let Some(path) = options.get::<String>("--record") {
+        let text = record::lines(seed).join("\n") + "\n";
+        fs::write(&path, &text).unwrap_or_else(|error| panic!("{path}: {error}"));
         println!("{} lines written to {path}", text.lines().count());
         return;
     }
 
     let start = Instant::now();
-    let mut tasks = sections::tasks(settings.seed, settings.scale);
-    tasks.retain(|task| task.section.contains(&settings.only));
+    let mut tasks = sections::tasks(seed, options.get("--scale").unwrap_or(1));
+    tasks.retain(|task| task.section.contains(&only));
     println!("{:<32} {:>14} {:>12} {:>12}", "section", "compared", "on purpose", "unexplained");
     let mut total = Tally::default();
-    for (name, tally) in run(&tasks, settings.threads) {
+    for (name, tally) in run(&tasks, options.get("--threads").unwrap_or(2)) {
         println!("{name:<32} {:>14} {:>12} {:>12}", tally.compared, tally.on_purpose, tally.unexplained);
         tally.shown.iter().for_each(|difference| println!("{difference}"));
         total += tally;
     }
     println!("{:<32} {:>14} {:>12} {:>12}", "all", total.compared, total.on_purpose, total.unexplained);
-    println!("{:.1} seconds, seed {}", start.elapsed().as_secs_f64(), settings.seed);
+    println!("{:.1} seconds, seed {}", start.elapsed().as_secs_f64(), seed);
     if total.unexplained > 0 {
         exit(1);
     }

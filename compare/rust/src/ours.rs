@@ -2,9 +2,8 @@
 
 use peltzivar::ascii::*;
 use peltzivar::digit::*;
-use peltzivar::edits::{
-    apply, apply_all, edit_word, edits_of, is_built, migrate, normal_form, same_format, Edit, SETTERS as FLAG_SETTERS,
-};
+use peltzivar::edits::{apply, apply_all, edit_word, edits_of, is_built, migrate, normal_form, same_format};
+use peltzivar::edits::{Edit, Setter};
 use peltzivar::error::Error;
 use peltzivar::format::{self as known, STANDARD};
 use peltzivar::format_builder::NumberFormatBuilder;
@@ -46,10 +45,14 @@ fn panicking(builder: &NumberFormatBuilder) -> (u128, u128) {
     word_or_panic(|| builder.build_or_panic())
 }
 
-/// Returns whether a byte is a digit of a word, by two calls. `const_view` has the result of the third if it is known.
-pub fn is_digit(word: u128, byte: u8, const_view: Option<bool>) -> Results<3> {
-    let view = FormatView::new(word).is_digit(byte);
-    results! { is_digit: flags::is_digit(word, byte), view: view, const_view: const_view.unwrap_or(view), }
+/// What a byte is as a digit of a word. `const_view` has the result of the view of a constant if it is known.
+pub fn is_digit(word: u128, byte: u8, const_view: Option<bool>) -> Results<5> {
+    let view = FormatView::new(word);
+    results! {
+        is_digit: flags::is_digit(word, byte), view: view.is_digit(byte),
+        const_view: const_view.unwrap_or(view.is_digit(byte)), mantissa_digit: view.mantissa_digit(byte),
+        exponent_digit: view.exponent_digit(byte),
+    }
 }
 
 /// Returns whether a byte is a digit of the view that has the word as a const argument.
@@ -57,29 +60,9 @@ pub fn const_is_digit<const WORD: u128>(byte: u8) -> bool {
     known::NumberFormat::<WORD>::new().is_digit(byte)
 }
 
-/// A word after each conversion between it and its views.
-pub fn converted<const WORD: u128>() -> Results<6> {
-    let format = known::NumberFormat::<WORD>::new();
-    results! {
-        view: format.view().word(), view_from: FormatView::from(format).word(),
-        default: FormatView::from(known::NumberFormat::<WORD>::default()).word(),
-        from_word: FormatView::from(WORD).word(), word_from: u128::from(FormatView::from(WORD)),
-        word_from_view: u128::from(format.view()),
-    }
-}
-
 fn edit(call: &SetterCall) -> Edit {
-    let byte = NonZeroU8::new(call.value);
-    match call.setter.checked_sub(OF_FLAGS) {
-        None => Edit::Flag(FLAG_SETTERS[call.setter], call.value % 2 == 1),
-        Some(0) => Edit::DigitSeparator(byte),
-        Some(1) => Edit::BasePrefix(byte),
-        Some(2) => Edit::BaseSuffix(byte),
-        Some(3) => Edit::MantissaRadix(call.value),
-        Some(4) => Edit::Radix(call.value),
-        Some(5) => Edit::ExponentBase(byte),
-        Some(_) => Edit::ExponentRadix(byte),
-    }
+    let value = if call.setter < OF_FLAGS { call.value % 2 } else { call.value };
+    Setter::ALL[call.setter].with_byte(value)
 }
 
 pub fn edits(word: u128, calls: &[SetterCall]) -> Results<3> {

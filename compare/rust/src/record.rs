@@ -6,22 +6,15 @@
 
 use crate::inputs::{single_calls, SetterCall, BASES};
 use crate::random::Random;
-use crate::rows::with_outcomes;
 use crate::{rules, theirs};
 use upstream::ascii::{is_valid_ascii, is_valid_letter};
 use upstream::digit::char_to_digit;
 use upstream::format_flags::{self as flags, FLAG_MASK};
 
-macro_rules! names {
-    ($({ $($rank:literal $Error:ident $is_error:ident;)* })*) => {
-        [$($(stringify!($Error),)*)*]
-    };
-}
-
 /// The name of the outcome at a position.
-fn name(position: u128) -> &'static str {
-    const NAMES: [&str; 49] = with_outcomes!(names);
-    NAMES[position as usize]
+fn name(position: u128) -> String {
+    let text = format!("{:?}", theirs::error_at(position, 0));
+    text.trim_end_matches("(0)").to_string()
 }
 
 /// Setter calls as text, each after a space.
@@ -42,7 +35,7 @@ fn original<T: PartialEq>(ours: T, theirs: T, text: impl FnOnce(T) -> String) ->
 pub fn lines(seed: u64) -> Vec<String> {
     let random = &mut Random::new(seed);
     let mut lines = vec![];
-    lines.extend(bytes());
+    lines.extend((0..=255).map(|c| format!("byte {c} {} {}", is_valid_ascii(c), is_valid_letter(c))));
     lines.extend(digits());
     lines.extend(outcomes());
     lines.extend(words(random, 4000).iter().map(|word| fields(*word)));
@@ -52,10 +45,6 @@ pub fn lines(seed: u64) -> Vec<String> {
     lines.extend((0..2500).map(|_| edit(random.word(), &random.calls(6))));
     lines.extend((0..2500).map(|_| build(&random.calls(6))));
     lines
-}
-
-fn bytes() -> impl Iterator<Item = String> {
-    (0..=255).map(|c| format!("byte {c} {} {}", is_valid_ascii(c), is_valid_letter(c)))
 }
 
 fn digits() -> impl Iterator<Item = String> {
@@ -68,11 +57,10 @@ fn digits() -> impl Iterator<Item = String> {
 }
 
 fn outcomes() -> impl Iterator<Item = String> {
-    const INDEXES: [usize; 3] = [0, 7, usize::MAX];
-    let pairs = (0..49)
-        .flat_map(|position| INDEXES[..if position < 19 { 3 } else { 1 }].iter().map(move |index| (position, *index)));
+    let indexes = |position| [0, 7, usize::MAX].into_iter().take(if position < 19 { 3 } else { 1 });
+    let pairs = (0..49).flat_map(|position| indexes(position).map(move |index| (position, index)));
     pairs.map(|(position, index)| {
-        let text = theirs::display(position, index, 0);
+        let [_, text, ..] = theirs::texts(position, index);
         format!("printed {index} {} {text}", name(position))
     })
 }
@@ -106,7 +94,7 @@ fn fields(word: u128) -> String {
 fn check(word: u128) -> String {
     let theirs = theirs::word(word);
     let (ours, theirs) = (rules::word(word, theirs).values[0], theirs.values[0]);
-    format!("check {word:032X} {}{}", name(ours), original(ours, theirs, |error| name(error).to_string()))
+    format!("check {word:032X} {}{}", name(ours), original(ours, theirs, name))
 }
 
 /// Returns a word and two bytes, which are often bytes of the word or their other case.
@@ -133,6 +121,6 @@ fn build(calls: &[SetterCall]) -> String {
     let [theirs, _] = theirs::built(None, calls);
     let ours = rules::strict(theirs).values[2];
     let ([packed, ..], their_error) = (theirs.values, theirs.values[2]);
-    let original = original(ours, their_error, |error| name(error).to_string());
+    let original = original(ours, their_error, name);
     format!("build {packed:032X} {}{}{original}", name(ours), text_of(calls))
 }

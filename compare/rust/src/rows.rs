@@ -58,6 +58,13 @@ macro_rules! with_setters {
     };
 }
 
+/// Calls a macro as `with_getters` does, with its arguments and the getter and the constant of each flag in parentheses.
+macro_rules! flag_getters {
+    (($then:ident $args:tt) { $($Flag:ident $flag:ident $get:ident $CONST:ident;)* } $groups:tt) => {
+        with_getters! { $then ($args $($flag $CONST)*) }
+    };
+}
+
 /// Calls a macro with its arguments in parentheses, and four blocks of rows: getters of a view that return a `bool`, a
 /// byte, a radix and a masked word, each with its constant.
 macro_rules! with_getters {
@@ -158,4 +165,4 @@ macro_rules! with_outcomes {
 }
 
 #[allow(unused_imports)]
-pub(crate) use {with_getters, with_outcomes, with_setters};
+pub(crate) use {flag_getters, with_getters, with_outcomes, with_setters};

@@ -14,23 +14,17 @@ pub const SUCCESS: u128 = 48;
 /// The bits that hold no flag and no byte.
 pub const RESERVED: u128 = !(FLAG_MASK | DIGIT_SEPARATOR | BASE_PREFIX | BASE_SUFFIX | RADIX_MASK | EXPONENT_BASE);
 
-/// The bytes that play the role of a byte. No byte plays the role of 0.
-#[derive(Clone, Copy)]
-struct Role {
-    byte: u8,
-    other_case: u8,
+/// The bytes that play a role: a byte, and the other case of a letter unless it is case-sensitive.
+type Role = [u8; 2];
+
+fn role(byte: u8, case_sensitive: bool) -> Role {
+    let has_other_case = byte.is_ascii_alphabetic() && !case_sensitive;
+    [byte, if has_other_case { byte ^ 0x20 } else { byte }]
 }
 
-impl Role {
-    fn new(byte: u8, case_sensitive: bool) -> Role {
-        let has_other_case = byte.is_ascii_alphabetic() && !case_sensitive;
-        Role { byte, other_case: if has_other_case { byte ^ 0x20 } else { byte } }
-    }
-
-    fn meets(self, other: Role) -> bool {
-        let meets = |byte: u8| byte == other.byte || byte == other.other_case;
-        self.byte != 0 && (meets(self.byte) || meets(self.other_case))
-    }
+/// Returns whether a byte plays both roles. The byte 0 plays none.
+fn meet(one: Role, other: Role) -> bool {
+    one[0] != 0 && one.iter().any(|byte| other.contains(byte))
 }
 
 fn flag(word: u128, bit: u32) -> bool {
@@ -40,12 +34,12 @@ fn flag(word: u128, bit: u32) -> bool {
 /// Separator, prefix and suffix.
 fn roles(word: u128) -> [Role; 3] {
     let byte = |shift: u32| (word >> shift) as u8;
-    [Role::new(byte(64), true), Role::new(byte(88), flag(word, 16)), Role::new(byte(96), flag(word, 17))]
+    [role(byte(64), true), role(byte(88), flag(word, 16)), role(byte(96), flag(word, 17))]
 }
 
 fn roles_are_apart(word: u128) -> bool {
     let [separator, prefix, suffix] = roles(word);
-    !separator.meets(prefix) && !separator.meets(suffix) && !prefix.meets(suffix)
+    !meet(separator, prefix) && !meet(separator, suffix) && !meet(prefix, suffix)
 }
 
 /// Returns the first broken rule, from the one that `lexical-util` names. Its rules up to that on punctuation stay as they
@@ -71,10 +65,9 @@ pub fn word<const N: usize>(word: u128, theirs: Results<N>) -> Results<N> {
 }
 
 pub fn options(word: u128, exponent: u8, decimal_point: u8, theirs: bool) -> bool {
-    let exponent = Role::new(exponent, flag(word, 15));
-    let point = Role::new(decimal_point, true);
-    let taken = |role: Role| roles(word).into_iter().any(|own| own.meets(role));
-    theirs && !exponent.meets(point) && !taken(exponent) && !taken(point)
+    let (exponent, point) = (role(exponent, flag(word, 15)), role(decimal_point, true));
+    let taken = |role: Role| roles(word).into_iter().any(|own| meet(own, role));
+    theirs && !meet(exponent, point) && !taken(exponent) && !taken(point)
 }
 
 /// Results that begin with a word, what a strict call makes of it, and its error; the rest stays.

@@ -3,7 +3,6 @@
 use crate::inputs::{bits_turned, known_word, single_calls, SetterCall, BASES};
 use crate::random::Random;
 use crate::results::{results, Number, Results};
-use crate::source::expressions;
 use crate::tally::Tally;
 use crate::{ours, rules, theirs};
 
@@ -16,15 +15,13 @@ pub struct Task {
 type Section = fn(&mut Tally, &mut Random);
 
 /// Sections over random inputs: the first seed, whether the scale multiplies their seeds, and how many there are.
-const RANDOM: [(&str, Section, u64, bool, u64); 8] = [
+const RANDOM: [(&str, Section, u64, bool, u64); 6] = [
     ("slices", slices, 0, false, 1),
     ("reserved bits", reserved_bits, 100, false, 8),
     ("random words", random_words, 200, true, 8),
     ("masked radixes", masked, 300, false, 8),
     ("options", options, 400, false, 8),
-    ("builders", builders, 500, true, 8),
-    ("edits", edits, 600, true, 8),
-    ("printed expressions", expressions, 700, false, 1),
+    ("builders and edits", builders, 500, true, 8),
 ];
 
 /// All tasks.
@@ -50,67 +47,62 @@ pub fn tasks(seed: u64, scale: u64) -> Vec<Task> {
     tasks
 }
 
-const LARGE_RADIXES: [u32; 6] = [1000, 65_535, 65_536, 1 << 24, 1 << 31, u32::MAX];
+/// Compares a call of both libraries on the same arguments, which are the input.
+macro_rules! same {
+    ($tally:ident, $call:ident($($argument:expr),*)) => {
+        $tally.same((stringify!($call), $(&$argument),*), ours::$call($($argument),*), theirs::$call($($argument),*))
+    };
+}
 
 fn bytes_and_digits(tally: &mut Tally) {
+    const LARGE: [u32; 6] = [1000, 65_535, 65_536, 1 << 24, 1 << 31, u32::MAX];
     for c in 0..=255 {
-        tally.same(("byte", c), ours::byte(c), theirs::byte(c));
+        same!(tally, byte(c));
     }
-    for radix in (0..=300).chain(LARGE_RADIXES) {
+    for radix in (0..=300).chain(LARGE) {
         for c in 0..=255 {
-            tally.same(("byte, radix", c, radix), ours::digit(c, radix), theirs::digit(c, radix));
+            same!(tally, digit(c, radix));
         }
         for digit in 0..36 {
-            let (ours, theirs) = (ours::digit_char(digit, radix), theirs::digit_char(digit, radix));
-            tally.same(("digit, radix", digit, radix), ours, theirs);
+            same!(tally, digit_char(digit, radix));
         }
-        tally.same(("radix", radix), ours::is_valid_radix(radix), theirs::is_valid_radix(radix));
+        same!(tally, is_valid_radix(radix));
     }
 }
 
 fn slices(tally: &mut Tally, random: &mut Random) {
     const OTHERS: &[u8] = &[0, 8, 0x0E, 0x1F, b' ', b'@', b'[', b'`', b'{', 0x7F, 0x80, 0xFF];
-    let mut compare = |slice: &[u8]| {
-        tally.same(("slice", slice), ours::slice(slice), theirs::slice(slice));
-    };
     let lens = (0..=330).chain([511, 512, 513, 1023, 1024, 1025, 4095, 4096, 4097, 8192, 12_345]);
     for len in lens {
         let letters: Vec<u8> = (0..len).map(|_| random.pick(b"AZaz")).collect();
-        compare(&letters);
         for position in 0..len {
             let others = if len <= 330 { OTHERS } else { &OTHERS[position % OTHERS.len()..][..1] };
             for other in others {
                 let mut spoiled = letters.clone();
                 spoiled[position] = *other;
-                compare(&spoiled);
+                same!(tally, slice(&spoiled));
             }
         }
         // Slices that begin anywhere.
-        (0..len.min(32)).for_each(|start| compare(&letters[start..]));
+        for start in 0..=len.min(31) {
+            same!(tally, slice(&letters[start..]));
+        }
     }
     for _ in 0..100_000 {
-        let len = random.below(150) as usize;
-        let any: Vec<u8> = (0..len).map(|_| random.next() as u8 & 0x7F | 0x20).collect();
-        compare(&any);
+        let any: Vec<u8> = (0..random.below(150)).map(|_| random.next() as u8 & 0x7F | 0x20).collect();
+        same!(tally, slice(&any));
     }
 }
 
-const INDEXES: [usize; 6] = [0, 1, 7, 9, 10, usize::MAX];
-
 fn outcomes(tally: &mut Tally) {
-    let all = || (0..49).flat_map(|position| INDEXES.map(|index| (position, index)));
+    let all = || (0..49).flat_map(|position| [0, 1, 7, 9, 10, usize::MAX].map(|index| (position, index)));
     for (position, index) in all() {
-        let input = ("outcome, index", position, index);
-        tally.same(input, ours::outcome(position, index), theirs::outcome(position, index));
-        let text = theirs::description(position, index);
-        tally.equal(("description", input), ours::description(position, index), text);
-        for style in 0..5 {
-            let text = theirs::display(position, index, style);
-            tally.equal(("display", input, style), ours::display(position, index, style), text);
+        same!(tally, outcome(position, index));
+        for (ours, theirs) in ours::texts(position, index).into_iter().zip(theirs::texts(position, index)) {
+            tally.equal(("texts", position, index), ours, theirs);
         }
         for other in all() {
-            let (ours, theirs) = (ours::order((position, index), other), theirs::order((position, index), other));
-            tally.same(("outcomes", (position, index), other), ours, theirs);
+            same!(tally, order((position, index), other));
         }
     }
 }
@@ -119,9 +111,9 @@ fn constants(tally: &mut Tally) {
     for ((name, ours), (_, theirs)) in ours::CONSTANTS.iter().zip(theirs::CONSTANTS) {
         tally.equal(name, ours, theirs);
     }
-    tally.same("no input", ours::standards(), theirs::standards());
+    same!(tally, standards());
     for radix in 0..=255 {
-        tally.same(radix, ours::from_radix(radix), theirs::from_radix(radix));
+        same!(tally, from_radix(radix));
     }
 }
 
@@ -142,7 +134,7 @@ fn known_words(tally: &mut Tally) {
 fn known<const WORD: u128>(tally: &mut Tally) {
     let (input, theirs) = (("word", WORD), theirs::const_word::<WORD>());
     for ours in [ours::const_word::<WORD>(), ours::word(WORD)] {
-        tally.expect(input, ours, rules::word(WORD, theirs), theirs);
+        tally.expect(input, [ours, rules::word(WORD, theirs), theirs]);
     }
     for ours in [ours::const_view::<WORD>(), ours::view(WORD)] {
         tally.same(input, ours, theirs::const_view::<WORD>());
@@ -155,23 +147,21 @@ fn known<const WORD: u128>(tally: &mut Tally) {
         let is_digit = ours::const_is_digit::<WORD>(byte);
         tally.same((input, byte), ours::is_digit(WORD, byte, Some(is_digit)), theirs::is_digit(WORD, byte));
     }
-    let converted = ours::converted::<WORD>();
-    tally.same(input, converted, Results { values: [WORD; 6], ..converted });
 }
 
 /// Compares the calls that depend only on a word: its rules and fields.
 fn rules_of(tally: &mut Tally, word: u128) {
     let theirs = theirs::word(word);
-    tally.expect(("word", word), ours::word(word), rules::word(word, theirs), theirs);
+    tally.expect(("word", word), [ours::word(word), rules::word(word, theirs), theirs]);
 }
 
 /// All calls on a word, and those on two.
 fn whole_word(tally: &mut Tally, word: u128, other: u128) {
     rules_of(tally, word);
-    tally.same(("view", word), ours::view(word), theirs::view(word));
-    tally.same(("rebuilt", word), ours::rebuild(word), theirs::rebuild(word));
+    same!(tally, view(word));
+    same!(tally, rebuild(word));
     let theirs = theirs::own(word, other);
-    tally.expect(("words", word, other), ours::own(word, other), rules::strict(theirs), theirs);
+    tally.expect(("words", word, other), [ours::own(word, other), rules::strict(theirs), theirs]);
     for (ours, theirs) in ours::listed(word).into_iter().zip(theirs::listed(word)) {
         tally.same(("edits of", word), ours, theirs);
     }
@@ -220,12 +210,7 @@ fn masked(tally: &mut Tally, random: &mut Random) {
         let word = random.word();
         for (_, mask) in theirs::CONSTANTS.iter().copied().chain([("", random.bits())]) {
             for shift in 0..128 {
-                let input = ("word, mask, shift", word, mask, shift);
-                tally.same(
-                    input,
-                    ours::radix_from_flags(word, mask, shift),
-                    theirs::radix_from_flags(word, mask, shift),
-                );
+                same!(tally, radix_from_flags(word, mask, shift));
             }
         }
     }
@@ -240,13 +225,9 @@ fn options(tally: &mut Tally, random: &mut Random) {
         }
         for (exponent, point) in (0..=255).flat_map(|exponent| (0..=255).map(move |point| (exponent, point))) {
             let theirs = theirs::options(word, exponent, point);
+            let sides = [ours::options(word, exponent, point), rules::options(word, exponent, point, theirs), theirs];
             let fits = |accepted: bool| results! { is_valid_options_punctuation: accepted, };
-            tally.expect(
-                ("word, exponent, point", word, exponent, point),
-                fits(ours::options(word, exponent, point)),
-                fits(rules::options(word, exponent, point, theirs)),
-                fits(theirs),
-            );
+            tally.expect(("word, exponent, point", word, exponent, point), sides.map(fits));
         }
     }
 }
@@ -254,10 +235,11 @@ fn options(tally: &mut Tally, random: &mut Random) {
 fn builders(tally: &mut Tally, random: &mut Random) {
     let mut compare = |start: Option<u128>, calls: &[SetterCall]| {
         let input = ("start, calls", start, calls);
-        tally.same(input, ours::builder_fields(start, calls), theirs::builder_fields(start, calls));
+        same!(tally, builder_fields(start, calls));
         for (ours, theirs) in ours::built(start, calls).into_iter().zip(theirs::built(start, calls)) {
-            tally.expect(input, ours, rules::strict(theirs), theirs);
+            tally.expect(input, [ours, rules::strict(theirs), theirs]);
         }
+        same!(tally, edits(start.unwrap_or(BASES[2]), calls));
     };
     for call in single_calls(256) {
         compare(None, &[call]);
@@ -266,17 +248,5 @@ fn builders(tally: &mut Tally, random: &mut Random) {
     for _ in 0..100_000 {
         let start = if random.one_in(2) { None } else { Some(random.word()) };
         compare(start, &random.calls(40));
-    }
-}
-
-fn edits(tally: &mut Tally, random: &mut Random) {
-    let mut compare = |word: u128, calls: &[SetterCall]| {
-        tally.same(("word, calls", word, calls), ours::edits(word, calls), theirs::edits(word, calls));
-    };
-    for call in single_calls(256) {
-        compare(random.word(), &[call]);
-    }
-    for _ in 0..100_000 {
-        compare(random.word(), &random.calls(40));
     }
 }

@@ -4,9 +4,6 @@ use crate::results::Results;
 use std::fmt::Debug;
 use std::ops::AddAssign;
 
-/// The number of inputs with unexplained differences that are shown for a section.
-const SHOWN: usize = 3;
-
 #[derive(Default)]
 pub struct Tally {
     /// Calls compared, each on one input.
@@ -15,24 +12,18 @@ pub struct Tally {
     pub on_purpose: usize,
     /// The number of results that differ from the expected ones.
     pub unexplained: usize,
-    /// The first inputs of these, with both sides.
+    /// The first three inputs of these, with both sides.
     pub shown: Vec<String>,
 }
 
 impl Tally {
     /// Compares the results of the library and of `lexical-util`.
     pub fn same<const N: usize>(&mut self, input: impl Debug, ours: Results<N>, theirs: Results<N>) {
-        self.expect(input, ours, theirs, theirs);
+        self.expect(input, [ours, theirs, theirs]);
     }
 
     /// Compares the results of the library with the expected ones, given those of `lexical-util`.
-    pub fn expect<const N: usize>(
-        &mut self,
-        input: impl Debug,
-        ours: Results<N>,
-        expected: Results<N>,
-        theirs: Results<N>,
-    ) {
+    pub fn expect<const N: usize>(&mut self, input: impl Debug, [ours, expected, theirs]: [Results<N>; 3]) {
         self.compared += N;
         if expected.values != theirs.values {
             self.on_purpose += (0..N).filter(|&call| expected.values[call] != theirs.values[call]).count();
@@ -58,7 +49,7 @@ impl Tally {
     }
 
     fn show(&mut self, difference: String) {
-        if self.shown.len() < SHOWN {
+        if self.shown.len() < 3 {
             self.shown.push(difference);
         }
     }

@@ -1,6 +1,7 @@
 //! The calls of `lexical-util`. A call that it has only for a word that is known at compile time, or not at all, is
 //! written over the calls that it has.
 
+use crate::inputs::calls_of;
 use upstream::ascii::*;
 use upstream::checks;
 use upstream::digit::*;
@@ -39,25 +40,6 @@ pub fn view(word: u128) -> Results<56> {
     with_setters!(flag_getters(bits_of word))
 }
 
-macro_rules! raw_builders {
-    ({ $($Flag:ident $flag:ident $get:ident $CONST:ident;)* } $groups:tt) => {
-        /// A new builder after the setter calls that give it the fields of a word as they stand.
-        fn raw_builder(word: u128) -> NumberFormatBuilder {
-            let byte = |shift: i32| (word >> shift) as u8;
-            NumberFormatBuilder::new()
-                $(.$flag(word & flags::$CONST != 0))*
-                .mantissa_radix(byte(flags::MANTISSA_RADIX_SHIFT))
-                .digit_separator(NonZeroU8::new(byte(flags::DIGIT_SEPARATOR_SHIFT)))
-                .base_prefix(NonZeroU8::new(byte(flags::BASE_PREFIX_SHIFT)))
-                .base_suffix(NonZeroU8::new(byte(flags::BASE_SUFFIX_SHIFT)))
-                .exponent_base(NonZeroU8::new(byte(flags::EXPONENT_BASE_SHIFT)))
-                .exponent_radix(NonZeroU8::new(byte(flags::EXPONENT_RADIX_SHIFT)))
-        }
-    };
-}
-
-with_setters!(raw_builders);
-
 pub fn rebuild(word: u128) -> Results<37> {
     fields(&NumberFormatBuilder::rebuild(word))
 }
@@ -76,11 +58,14 @@ fn panicking(builder: &NumberFormatBuilder) -> (u128, u128) {
     strict(builder)
 }
 
-/// Returns whether a byte is a digit of one of the radixes of a word.
-pub fn is_digit(word: u128, byte: u8) -> Results<3> {
-    let radixes = [flags::mantissa_radix(word), flags::exponent_radix(word)];
-    let is_digit = radixes.iter().any(|radix| char_is_digit(byte, *radix));
-    results! { is_digit: is_digit, view: is_digit, const_view: is_digit, }
+/// What a byte is as a digit of the radixes of a word.
+pub fn is_digit(word: u128, byte: u8) -> Results<5> {
+    let [mantissa, exponent] = [flags::mantissa_radix(word), flags::exponent_radix(word)];
+    let is_digit = char_is_digit(byte, mantissa) || char_is_digit(byte, exponent);
+    results! {
+        is_digit: is_digit, view: is_digit, const_view: is_digit, mantissa_digit: char_to_digit(byte, mantissa),
+        exponent_digit: char_to_digit(byte, exponent),
+    }
 }
 
 /// The word after setter calls, for each of three calls of this library.
@@ -100,7 +85,7 @@ pub fn distance(word: u128) -> usize {
 }
 
 pub fn raw_fields(word: u128) -> Results<37> {
-    fields(&raw_builder(word))
+    builder_fields(None, &calls_of(word))
 }
 
 /// The fields that a word has after all edits of `edits_of`, or after those that it counts.
@@ -113,7 +98,7 @@ pub fn own(word: u128, other: u128) -> Results<6> {
     let error = checks::format_error(normal);
     results! {
         normal_form: normal, migrate: if error.is_success() { normal } else { 0 }, error: position(error),
-        same_format: normal == normal_form(other), is_built: raw_builder(word).build_unchecked() == word,
+        same_format: normal == normal_form(other), is_built: builder(None, &calls_of(word)).build_unchecked() == word,
         edits_of: distance(word),
     }
 }
