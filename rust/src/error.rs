@@ -211,14 +211,12 @@ impl Error {
     ///
     /// See [`Error::index`] for the index, and `Display` for the whole text.
     #[must_use]
-    #[inline(always)]
     pub const fn description(&self) -> &'static str {
         DESCRIPTIONS[self.rank() as usize]
     }
 
     /// Returns the index of the offending byte if this is a parse error, and `None` otherwise.
     #[must_use]
-    #[inline(always)]
     pub const fn index(&self) -> Option<&usize> {
         match self {
             Error::Overflow(index)
@@ -541,7 +539,6 @@ impl Error {
     /// Returns the rank of the variant: its index in the list of the 49 variants, from 0 to 48.
     #[must_use]
     #[doc(hidden)]
-    #[inline(always)]
     pub const fn rank(&self) -> u8 {
         match self {
             Error::Overflow(_) => 0,
@@ -601,7 +598,6 @@ impl Error {
     /// If it is a parse error, it holds `index`. Otherwise, `index` is ignored.
     #[must_use]
     #[doc(hidden)]
-    #[inline(always)]
     pub const fn from_rank(rank: u8, index: usize) -> Option<Error> {
         match rank {
             0 => Some(Error::Overflow(index)),
@@ -690,7 +686,6 @@ impl Error {
 
 impl Class {
     // Returns the text that `Display` prints before the description.
-    #[inline(always)]
     const fn start(self) -> &'static str {
         match self {
             Class::Parse => "lexical parse error: ",

@@ -56,7 +56,6 @@ impl Default for NumberFormat {
     ghost is_default = { λ view. view ≡ STANDARD };
 
     /// Returns the view of the [standard format][STANDARD], which is the format word of a new builder.
-    #[inline(always)]
     #[tactic(auto, unfolding(crate::specs::Unfoldable::on_literals))]
     fn default() -> Self
         ensures standard { result ≡ STANDARD }
@@ -75,7 +74,6 @@ impl NumberFormat {
 
     /// Returns a view of `format`, which may be any word.
     #[must_use]
-    #[inline(always)]
     pub const fn new(format: u128) -> Self
         ensures { result ≡ format }
     {
@@ -84,7 +82,6 @@ impl NumberFormat {
 
     /// Returns the format word.
     #[must_use]
-    #[inline(always)]
     pub const fn word(&self) -> u128
         ensures { result ≡ self.now }
     {
@@ -96,7 +93,6 @@ impl NumberFormat {
     /// Returns whether the word is lawful, that is, whether it satisfies all the rules that [`error`][Self::error]
     /// checks.
     #[must_use]
-    #[inline(always)]
     pub const fn is_valid(&self) -> bool
         ensures { IsTrue result ↔ Lawful self.now }
     {
@@ -111,7 +107,6 @@ impl NumberFormat {
     /// - The result is `Success` if and only if the word satisfies every rule.
     /// - No other error is that of the first broken rule.
     #[must_use]
-    #[inline(always)]
     pub const fn error(&self) -> Error
         ensures first { IsErrorOf self.now result }
         ensures lawful { (result ≡ Error.Success) ↔ Lawful self.now }
@@ -123,7 +118,6 @@ impl NumberFormat {
     /// Returns whether the mantissa radix, the exponent base and the exponent radix are all between 2 and 36. An
     /// exponent base or exponent radix of 0 means the mantissa radix.
     #[must_use]
-    #[inline(always)]
     pub const fn is_valid_radix(&self) -> bool
         ensures { IsTrue result ↔ IsFirstError radix_rules self.now Error.Success }
     {
@@ -133,7 +127,6 @@ impl NumberFormat {
     /// Checks, in this order, whether the mantissa radix, the exponent base and the exponent radix are between 2 and
     /// 36. Returns the error of the first one that is not, or `Success`.
     #[must_use]
-    #[inline(always)]
     pub const fn error_radix(&self) -> Error
         ensures first { IsFirstError radix_rules self.now result }
         ensures unique { (other : Error) → IsFirstError radix_rules self.now other → other ≡ result }
@@ -145,7 +138,6 @@ impl NumberFormat {
 
     /// Returns whether the digit separator byte is not 0.
     #[must_use]
-    #[inline(always)]
     pub const fn has_digit_separator(&self) -> bool
         ensures { IsTrue result ↔ ((raw self.now).byte layout.digit_separator ≢ 0) }
     {
@@ -154,7 +146,6 @@ impl NumberFormat {
 
     /// Returns whether the base prefix byte is not 0.
     #[must_use]
-    #[inline(always)]
     pub const fn has_base_prefix(&self) -> bool
         ensures { IsTrue result ↔ ((raw self.now).byte layout.base_prefix ≢ 0) }
     {
@@ -163,7 +154,6 @@ impl NumberFormat {
 
     /// Returns whether the base suffix byte is not 0.
     #[must_use]
-    #[inline(always)]
     pub const fn has_base_suffix(&self) -> bool
         ensures { IsTrue result ↔ ((raw self.now).byte layout.base_suffix ≢ 0) }
     {
@@ -175,7 +165,6 @@ impl NumberFormat {
     /// Returns the [mantissa radix][NumberFormatBuilder::mantissa_radix], a number from 0 to 255. In a
     /// [lawful][flags::Rule] word, it is between 2 and 36.
     #[must_use]
-    #[inline(always)]
     pub const fn mantissa_radix(&self) -> u32
         ensures value { result ≡ (raw self.now).byte layout.mantissa_radix }
         ensures lawful { Lawful self.now → IsRadix result }
@@ -185,7 +174,6 @@ impl NumberFormat {
 
     /// Returns the mantissa radix, as [`mantissa_radix`][Self::mantissa_radix] does.
     #[must_use]
-    #[inline(always)]
     pub const fn radix(&self) -> u32
         ensures value { result ≡ (raw self.now).byte layout.mantissa_radix }
         ensures lawful { Lawful self.now → IsRadix result }
@@ -195,7 +183,6 @@ impl NumberFormat {
 
     /// Returns the square of the mantissa radix.
     #[must_use]
-    #[inline(always)]
     pub const fn radix2(&self) -> u32
         ensures { result ≡ (raw self.now).byte layout.mantissa_radix ^ 2 }
     {
@@ -205,7 +192,6 @@ impl NumberFormat {
 
     /// Returns the fourth power of the mantissa radix.
     #[must_use]
-    #[inline(always)]
     pub const fn radix4(&self) -> u32
         ensures { result ≡ (raw self.now).byte layout.mantissa_radix ^ 4 }
     {
@@ -216,7 +202,6 @@ impl NumberFormat {
     /// Returns the eighth power of the mantissa radix modulo 2^32. The result is exact up to radix 15, and it is 0 for
     /// radix 16.
     #[must_use]
-    #[inline(always)]
     pub const fn radix8(&self) -> u32
         ensures { result ≡ (raw self.now).byte layout.mantissa_radix ^ 8 % 2 ^ 32 }
     {
@@ -227,7 +212,6 @@ impl NumberFormat {
     /// Returns the [exponent base][NumberFormatBuilder::exponent_base], or the mantissa radix if the exponent base byte
     /// is 0. In a [lawful][flags::Rule] word, the result is between 2 and 36.
     #[must_use]
-    #[inline(always)]
     pub const fn exponent_base(&self) -> u32
         ensures value { result ≡ effective_exponent_base (raw self.now) }
         ensures lawful { Lawful self.now → IsRadix result }
@@ -238,7 +222,6 @@ impl NumberFormat {
     /// Returns the [exponent radix][NumberFormatBuilder::exponent_radix], or the mantissa radix if the exponent radix
     /// byte is 0. In a [lawful][flags::Rule] word, the result is between 2 and 36.
     #[must_use]
-    #[inline(always)]
     pub const fn exponent_radix(&self) -> u32
         ensures value { result ≡ effective_exponent_radix (raw self.now) }
         ensures lawful { Lawful self.now → IsRadix result }
@@ -251,7 +234,6 @@ impl NumberFormat {
     /// Returns whether `byte` is a digit in the mantissa radix or in the exponent radix. The case of a letter does not
     /// matter.
     #[must_use]
-    #[inline(always)]
     pub const fn is_digit(&self, byte: u8) -> bool
         ensures { IsTrue result ↔ IsTrue (digits (raw self.now) byte) }
     {
@@ -261,7 +243,6 @@ impl NumberFormat {
     // BUILDERS
 
     /// Returns a new builder, which does not depend on any word.
-    #[inline(always)]
     pub const fn builder() -> NumberFormatBuilder
         ensures { result ≡ new_record }
     {
@@ -270,7 +251,6 @@ impl NumberFormat {
 
     /// Returns a builder with the fields of the word. An exponent base or exponent radix of 0 becomes the mantissa
     /// radix.
-    #[inline(always)]
     pub const fn rebuild(&self) -> NumberFormatBuilder
         ensures { result ≡ fill (raw self.now) }
     {
