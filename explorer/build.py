@@ -97,7 +97,6 @@ def data():
         "rules": [demand for _, demand in rows(r"^\| (\d+) \| (.*?) \| `Invalid")],
         "recipes": [*recipes()],
         "limits": re.findall(r"^\| (.*) \| (.*) \|$", limits, re.M)[1:],
-        "texts": re.search(r"In these examples, [^`]*(`.`[^`.]*)+\.", " ".join(FORMAT.split()))[0],
         "version": re.search(r'^#define PELTZIVAR_VERSION "(.*)"$', header, re.M)[1],
     }
 

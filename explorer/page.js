@@ -124,7 +124,6 @@ class Page {
             return element("tr", {}, element("td", {}, withCode(limit)), element("td", {}, withCode(instead)));
         });
         find("limits").append(...rows);
-        find("texts").append(...withCode(this.data.texts));
         const { recipes } = this.data;
         find("recipe").append(...recipes.map(({ name, about }) => element("option", { value: name }, shortTitle(about))));
     }

@@ -1,5 +1,5 @@
-/* Tests each function of peltzivar.h: what it returns, and what it writes. It compiles as C and as C++. The expected
- * values come from the layout of a word, from lexical-util 1.0.7, and from known strings. */
+/* Calls each function of peltzivar.h, also with values without a meaning and with buffers of any size. It compiles as C
+ * and as C++. test_python.py compares the results of the functions with recorded ones. */
 #include "peltzivar.h"
 
 #include <stdio.h>
@@ -96,19 +96,14 @@ static void test_fields(void) {
 }
 
 static void test_words(void) {
-    const peltzivar_edit separator[] = {{64, '_'}, {32, 1}}, radix[] = {{112, 0}, {104, 16}};
     peltzivar_edit edits[PELTZIVAR_FIELD_COUNT + 1];
     const peltzivar_word hexadecimal = {0xD, 0x0000100000000000};
     peltzivar_word word = {1, 2};
     CHECK(peltzivar_check(PELTZIVAR_STANDARD) == PELTZIVAR_SUCCESS && peltzivar_check(RESERVED) == PELTZIVAR_INVALID_FLAGS);
     CHECK(peltzivar_migrate(ZERO, &word) == PELTZIVAR_INVALID_MANTISSA_RADIX && is_word(word, 2, 1));
     CHECK(!peltzivar_migrate(RESERVED, &word) && is_word(word, 0x0A0A0A0000000000, 0xC));
-    CHECK(is_word(peltzivar_normal_form(PELTZIVAR_STANDARD), 0x0A0A0A0000000000, 0xC));
     CHECK(peltzivar_same_format(PELTZIVAR_STANDARD, RESERVED) && !peltzivar_same_format(PELTZIVAR_STANDARD, ZERO));
     CHECK(peltzivar_is_built(PELTZIVAR_STANDARD) && !peltzivar_is_built(RESERVED));
-    CHECK(peltzivar_edit_word(PELTZIVAR_STANDARD, separator, 2, &word) && is_word(word, 0x0A0A0A000000005F, 0x10000000C));
-    CHECK(peltzivar_edit_word(PELTZIVAR_STANDARD, separator, 1, &word) && is_word(word, 0x0A0A0A0000000000, 0xC));
-    CHECK(peltzivar_edit_word(PELTZIVAR_STANDARD, radix, 2, &word) && is_word(word, 0x0A00100000000000, 0xC));
     memset(edits, '#', sizeof edits);
     CHECK(peltzivar_edits_of(hexadecimal, edits) == 2);
     CHECK(edits[0].setter == 0 && edits[0].value == 1 && edits[1].setter == 104 && edits[1].value == 16);
@@ -120,11 +115,7 @@ static void test_reasons(void) {
     const peltzivar_edit edits[] = {{64, '_'}, {PELTZIVAR_SET_CASE_SENSITIVE_BASE_SUFFIX, 1}};
     peltzivar_fields fields = PELTZIVAR_NEW_FIELDS;
     CHECK(WRITES("the base prefix 'a' is a digit in radix 16", peltzivar_reason_text(clash, 0, text, sizeof text)));
-    CHECK(WRITES("no_special and case_sensitive_special cannot both be set",
-                 peltzivar_reason_text(clash, 1, text, sizeof text)));
-    CHECK(is_word(peltzivar_reason_mask(clash, 0), 0x0000FF00FF000000, 0));
     CHECK(is_word(peltzivar_reason_mask(clash, 1), 0, 0xC00));
-    CHECK(peltzivar_reason_rules(clash, 0) == 1 << PELTZIVAR_RULE_BASE_PREFIX_IS_PUNCTUATION);
     CHECK(peltzivar_reason_rules(clash, 1) == 1 << PELTZIVAR_RULE_SPECIAL_CASE_FLAGS_AGREE);
     CHECK(peltzivar_reason_rules(ZERO, 0) == 0xE);
     for (size_t index = 2; index < 40; index++) {
@@ -134,70 +125,35 @@ static void test_reasons(void) {
     CHECK(!peltzivar_reason_text(PELTZIVAR_STANDARD, 0, NULL, 0) && !peltzivar_reason_rules(clash, SIZE_MAX));
     CHECK(!peltzivar_note_text(&fields, 0, text, sizeof text));
     CHECK(peltzivar_edit_fields(&fields, edits, 2));
-    CHECK(peltzivar_note_text(&fields, 0, text, sizeof text) == strlen(text) && strstr(text, "digit separator '_'"));
-    CHECK(is_word(peltzivar_note_mask(&fields, 0), 0xFF, 0x00001FFF00000000));
     CHECK(peltzivar_note_text(&fields, 1, text, sizeof text) == strlen(text) && strstr(text, "no base suffix"));
     CHECK(is_word(peltzivar_note_mask(&fields, 1), 0xFF00000000, 0x20000));
     CHECK(WRITES("", peltzivar_note_text(&fields, 2, text, sizeof text)) && is_word(peltzivar_note_mask(&fields, 2), 0, 0));
 }
 
-/* Returns the character that stands for the role of a byte in the strings of test_roles. */
-static char role_of(peltzivar_word word, uint8_t exponent, uint8_t point, int byte) {
-    const peltzivar_role role = peltzivar_role_of(word, exponent, point, (uint8_t)byte);
-    return role < 8 ? " ds_<>e."[role] : '?';
-}
-
-/* The roles of bytes, and the positions of separators, for words of known meaning. */
+/* The role of a byte, and the positions of separators in each part. Numbers from 3 on have no part. */
 static void test_roles(void) {
-    static const struct {
-        peltzivar_word word;
-        uint8_t exponent, point;
-        const char *bytes, *roles;
-    } rows[] = {
-        {{0xC, 0x00000A0000000000}, 'e', '.', "019+-eE._aF\x80", "dddssee.    "},
-        {{0x800C, 0x00000A0000000000}, 'e', ',', "eE.,", "e  ."},
-        {{0x000000070000000C, 0x000010487800005F}, 'p', '.', "09afAF_xXhHpP.g", "dddddd_<<>>ee. "},
-        {{0x000000070003000C, 0x000010487800005F}, 'p', '.', "xXhH", "<  >"},
-        {{0xC, 0x0A0210000000005F}, 0, 0, "fe_._\x00", "dd    "},
-        {{0x0000000100000000, 0x1402020000000032}, '3', '4', "12j234", "dddddd"},
-        {{0x0000000100000000, 0x0000020000000033}, '3', '3', "3+", "_s"},
-    };
-    for (size_t row = 0; row < sizeof rows / sizeof *rows; row++) {
-        for (size_t i = 0; i < strlen(rows[row].roles); i++) {
-            CHECK(role_of(rows[row].word, rows[row].exponent, rows[row].point, rows[row].bytes[i]) == rows[row].roles[i]);
-        }
-    }
+    const peltzivar_word word = {0x000000070000000C, 0x000010487800005F};
+    CHECK(peltzivar_role_of(word, 'p', '.', 'X') == PELTZIVAR_ROLE_PREFIX);
+    CHECK(peltzivar_role_of(word, 'p', '.', 'g') == PELTZIVAR_ROLE_NONE);
     for (int part = 0; part < 256; part++) {
         for (int position = 0; position < 4; position++) {
-            const peltzivar_word word = {1ull << (32 + 3 * position + part % 3), 0};
-            const peltzivar_separators allowed = peltzivar_separators_of(word, (peltzivar_part)part);
+            const peltzivar_word flag = {1ull << (32 + 3 * position + part % 3), 0};
+            const peltzivar_separators allowed = peltzivar_separators_of(flag, (peltzivar_part)part);
             CHECK(allowed.internal == (part < 3 && position == 0) && allowed.leading == (part < 3 && position == 1));
             CHECK(allowed.trailing == (part < 3 && position == 2) && allowed.consecutive == (part < 3 && position == 3));
         }
     }
-    CHECK(peltzivar_separators_of(words[0], PELTZIVAR_PART_EXPONENT).trailing == false);
 }
 
 /* The word has the separator `_`, the prefix `x`, the suffix `H`, the mantissa radix 16 and the exponent radix 10. */
 static void test_bytes(void) {
     const peltzivar_word word = {0x100010000, 0x0A02104878000000 | '_'};
-    const char *const digits = "0123456789ABCDEF";
-    for (int number = 0; number < 256; number++) {
-        const uint8_t byte = (uint8_t)number;
-        const int upper = byte >= 'a' && byte <= 'z' ? byte - 32 : byte;
-        const char *const found = upper ? strchr(digits, upper) : NULL;
-        const uint32_t digit = found ? (uint32_t)(found - digits) : PELTZIVAR_NO_DIGIT;
-        CHECK(peltzivar_mantissa_digit(word, byte) == digit);
-        CHECK(peltzivar_exponent_digit(word, byte) == (digit < 10 ? digit : PELTZIVAR_NO_DIGIT));
-        CHECK(peltzivar_is_separator(word, byte) == (byte == '_') && !peltzivar_is_separator(ZERO, byte));
-        CHECK(peltzivar_is_base_prefix(word, byte) == (byte == 'x') && !peltzivar_is_base_prefix(ZERO, byte));
-        CHECK(peltzivar_is_base_suffix(word, byte) == (upper == 'H') && !peltzivar_is_base_suffix(ZERO, byte));
-    }
+    CHECK(peltzivar_mantissa_digit(word, 'f') == 15 && peltzivar_exponent_digit(word, 'f') == PELTZIVAR_NO_DIGIT);
+    CHECK(peltzivar_is_separator(word, '_') && peltzivar_is_base_prefix(word, 'x') && peltzivar_is_base_suffix(word, 'h'));
+    CHECK(!peltzivar_is_separator(ZERO, 0) && !peltzivar_is_base_prefix(word, 'X') && !peltzivar_is_base_suffix(ZERO, 0));
     CHECK(!peltzivar_is_separator(words[1], 2));
     CHECK(peltzivar_check_options(PELTZIVAR_STANDARD, 'e', '.') == PELTZIVAR_SUCCESS);
     CHECK(peltzivar_check_options(PELTZIVAR_STANDARD, '5', '5') == PELTZIVAR_INVALID_EXPONENT_SYMBOL);
-    CHECK(peltzivar_check_options(PELTZIVAR_STANDARD, 'e', '+') == PELTZIVAR_INVALID_DECIMAL_POINT);
-    CHECK(peltzivar_check_options(PELTZIVAR_STANDARD, 'e', 'e') == PELTZIVAR_INVALID_PUNCTUATION);
 }
 
 static void test_texts(void) {
@@ -229,31 +185,6 @@ static void test_texts(void) {
     CHECK(WRITES("NumberFormatBuilder::new().build_unchecked()", peltzivar_source(words[0], text, sizeof text)));
 }
 
-static void test_settings(void) {
-    static const struct {
-        const char *setting;
-        peltzivar_edit edit;
-        const char *why;
-    } rows[] = {
-        {"radix=0x10", {PELTZIVAR_SET_MANTISSA_RADIX, 16}, ""},
-        {"no_special=true", {PELTZIVAR_SET_NO_SPECIAL, 1}, ""},
-        {"base_prefix=none", {PELTZIVAR_SET_BASE_PREFIX, 0}, ""},
-        {"base_suffix='''", {PELTZIVAR_SET_BASE_SUFFIX, '\''}, ""},
-        {"radix", {7, 9}, "expected NAME=VALUE"},
-        {"\xFF", {7, 9}, "unknown setting name"},
-        {"colour=7", {7, 9}, "unknown setting name"},
-        {"no_special=1", {7, 9}, "no_special takes `true` or `false`"},
-        {"radix=256", {7, 9}, "radix takes a number, 2 to 36 in a lawful format"},
-    };
-    for (size_t row = 0; row < sizeof rows / sizeof *rows; row++) {
-        const size_t len = strlen(rows[row].setting);
-        peltzivar_edit edit = {7, 9};
-        CHECK(peltzivar_parse_edit(rows[row].setting, len, &edit) == !*rows[row].why);
-        CHECK(edit.setter == rows[row].edit.setter && edit.value == rows[row].edit.value);
-        CHECK(WRITES(rows[row].why, peltzivar_setting_error_text(rows[row].setting, len, text, sizeof text)));
-    }
-}
-
 /* A null pointer with a length of 0 is accepted as an empty array. */
 static void test_null(void) {
     peltzivar_fields fields = PELTZIVAR_NEW_FIELDS;
@@ -281,7 +212,6 @@ int main(void) {
     test_roles();
     test_bytes();
     test_texts();
-    test_settings();
     test_null();
     return failed;
 }

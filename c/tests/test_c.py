@@ -74,11 +74,6 @@ class Programs(unittest.TestCase):
             program = self.made("cc", *STRICT, *SANITIZERS, TESTS / f"{name}.c", build / "release" / ARCHIVE.name)
             self.assertEqual(run(program, *arguments), ("", 0))
 
-    @unittest.skipUnless(shutil.which("valgrind"), "valgrind")
-    def test_valgrind_finds_nothing(self):
-        program = self.made("cc", "-g", "-I", C, TESTS / "calls.c", ARCHIVE)
-        self.assertEqual(run("valgrind", "-q", "--error-exitcode=9", "--leak-check=full", program), ("", 0))
-
     def test_the_first_program_of_the_header(self):
         lines = re.findall(r"^ \*     (.*)$", HEADER, re.M)
         self.folder.joinpath("first.c").write_text("\n".join(lines) + "\n")

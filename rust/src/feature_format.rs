@@ -7,7 +7,7 @@
 //!
 //! type Standard = NumberFormat<STANDARD>;
 //! const _: () = assert!(Standard::RADIX == 10 && Standard::REQUIRED_MANTISSA_DIGITS);
-//! assert!(Standard::new().is_valid() && !Standard::new().is_digit(b'a'));
+//! assert!(Standard::new().is_valid() && Standard::new().mantissa_digit(b'a').is_none());
 //! ```
 
 use crate::error::Error;
@@ -265,9 +265,6 @@ fields! {
 }
 
 both! {
-    /// Returns whether `byte` is a digit in the mantissa radix or in the exponent radix. The case of a letter does not
-    /// matter.
-    is_digit(byte: u8) -> bool;
     /// Returns the value of `byte` as a digit of the mantissa, or `None`, as [`FormatView::mantissa_digit`] does.
     mantissa_digit(byte: u8) -> Option<u32>;
     /// Returns the value of `byte` as a digit of the exponent, or `None`, as [`FormatView::exponent_digit`] does.

@@ -17,10 +17,10 @@ pub use crate::format_builder::*;
 pub use crate::format_flags::*;
 #[doc(inline)]
 pub use crate::format_flags::{
-    base_prefix, base_suffix, digit_separator, exponent_base, exponent_radix, is_clean, is_digit,
-    is_separator_allowed, is_valid_base_prefix, is_valid_base_suffix, is_valid_digit_separator,
-    is_valid_exponent_flags, is_valid_options_punctuation, is_valid_punctuation, is_valid_radix,
-    mantissa_radix, radix_from_flags,
+    base_prefix, base_suffix, digit_separator, exponent_base, exponent_radix, is_clean,
+    is_digit_of_either_radix, is_separator_allowed, is_valid_base_prefix, is_valid_base_suffix,
+    is_valid_digit_separator, is_valid_exponent_flags, is_valid_options_punctuation,
+    is_valid_punctuation, is_valid_radix, mantissa_radix, radix_from_flags,
 };
 #[doc(no_inline)]
 pub use crate::lawful::Format;

@@ -158,15 +158,6 @@ impl FormatView {
         flags::exponent_radix(self.format)
     }
 
-    // ROLES OF BYTES
-
-    /// Returns whether `byte` is a digit in the mantissa radix or in the exponent radix. The case of a letter does not
-    /// matter.
-    #[must_use]
-    pub const fn is_digit(&self, byte: u8) -> bool {
-        flags::is_digit(self.format, byte)
-    }
-
     // BUILDERS
 
     /// Returns a new builder, which does not depend on any word.

@@ -1,8 +1,8 @@
 //! The pages of the repository: their commands of cargo print what the pages show, and the tables of FORMAT have the
-//! bits, defaults and words of the library.
+//! bits and defaults of the library. `c/tests/test_python.py` tests the words in its table of rules.
 
 use peltzivar::format::STANDARD;
-use peltzivar::{Edit, FormatView};
+use peltzivar::Edit;
 use std::path::Path;
 use std::process::{Command, Output};
 
@@ -121,17 +121,4 @@ fn tables_of_format_have_the_bits_of_the_setters() {
     }
     // All 31 flags and six bytes have a row.
     assert_eq!(bits.count_ones(), 31 + 6 * 8);
-}
-
-#[test]
-fn words_of_format_break_their_rules_first() {
-    let text = page("docs/FORMAT.md");
-    let mut rules = 0;
-    for row in rows(&text).filter(|row| row.len() > 3 && row[2].starts_with("`Invalid")) {
-        let word = u128::from_str_radix(row[3].trim_matches('`').trim_start_matches("0x"), 16);
-        let error = FormatView::new(word.expect("a word")).error();
-        assert_eq!(format!("`{error:?}`"), row[2], "{}", row[1]);
-        rules += 1;
-    }
-    assert_eq!(rules, 16);
 }

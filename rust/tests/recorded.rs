@@ -8,7 +8,7 @@ mod errors;
 use errors::OUTCOMES;
 use peltzivar::ascii::{is_valid_ascii, is_valid_letter};
 use peltzivar::digit::{char_to_digit, char_to_digit_const};
-use peltzivar::edits::{apply_all, edit_word, Edit, FlagSetter};
+use peltzivar::edits::{apply_all, edit_word, Edit};
 use peltzivar::error::Error;
 use peltzivar::format_builder::{NonZeroU8, NumberFormatBuilder};
 use peltzivar::format_flags::is_valid_options_punctuation;
@@ -29,27 +29,8 @@ fn error(name: &str) -> Option<Error> {
     outcome(name, 0)
 }
 
-/// Returns the edit that `SETTER=VALUE` means.
-fn edit(call: &str) -> Option<Edit> {
-    let (name, value) = call.split_once('=')?;
-    if let Ok(setter) = name.parse::<FlagSetter>() {
-        return Some(Edit::Flag(setter, value.parse().ok()?));
-    }
-    let byte: u8 = value.parse().ok()?;
-    Some(match name {
-        "digit_separator" => Edit::DigitSeparator(NonZeroU8::new(byte)),
-        "base_prefix" => Edit::BasePrefix(NonZeroU8::new(byte)),
-        "base_suffix" => Edit::BaseSuffix(NonZeroU8::new(byte)),
-        "mantissa_radix" => Edit::MantissaRadix(byte),
-        "radix" => Edit::Radix(byte),
-        "exponent_base" => Edit::ExponentBase(NonZeroU8::new(byte)),
-        "exponent_radix" => Edit::ExponentRadix(NonZeroU8::new(byte)),
-        _ => return None,
-    })
-}
-
 fn edits(calls: &[&str]) -> Option<Vec<Edit>> {
-    calls.iter().map(|call| edit(call)).collect()
+    calls.iter().map(|call| call.parse().ok()).collect()
 }
 
 fn keeps_digit(byte: u8, radix: u32, digit: &str) -> Option<bool> {

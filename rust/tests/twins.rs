@@ -1,11 +1,16 @@
 //! What a caller relies on beyond results: the view whose word is a const argument is the view at run time, the types
 //! have their traits, and a panic names its caller.
 
+#[allow(unused_macros)]
+#[path = "../../compare/rust/src/rows.rs"]
+mod rows;
+
 use peltzivar::format::{NumberFormatBuilder, STANDARD};
 use peltzivar::{
     Edit, Error, FlagSetter, Format, FormatError, FormatView, Note, NumberFormat, Part, Reason,
     Rule, SettingError, SettingErrorKind,
 };
+use rows::{flag_getters, with_getters, with_setters};
 use std::error::Error as StdError;
 use std::fmt::{Debug, Display};
 use std::hash::Hash;
@@ -67,6 +72,18 @@ macro_rules! same_bytes {
     };
 }
 
+macro_rules! same_getters {
+    (
+        ([$constant:ident $view:ident] $($flag:ident $FLAG:ident)*)
+        { $($truth:ident $T:ident;)* } { $($byte:ident $B:ident;)* } { $($radix:ident $R:ident;)* } { $($mask:ident $M:ident;)* }
+    ) => {
+        same! { $constant $view; $($FLAG $flag,)* $($T $truth,)* $($R $radix,)* RADIX radix,;
+            $($mask,)* has_digit_separator, has_base_prefix, has_base_suffix, radix2, radix4, radix8,;
+            is_valid, error, is_valid_radix, error_radix, }
+        same_bytes! { $constant $view; $($B $byte,)* }
+    };
+}
+
 /// Compares both views of a word.
 #[rustfmt::skip]
 fn views_are_same<const W: u128>() {
@@ -77,7 +94,7 @@ fn views_are_same<const W: u128>() {
     macro_rules! roles_of {
         ($view:ident, $byte:ident) => {
             (
-                [$view.is_digit($byte), $view.is_separator($byte), $view.is_base_prefix($byte)],
+                [$view.is_separator($byte), $view.is_base_prefix($byte)],
                 [$view.is_base_suffix($byte), $view.is_exponent_character(b'e', $byte)],
                 [$view.mantissa_digit($byte), $view.exponent_digit($byte)],
                 $view.role_of(b'e', b'.', $byte),
@@ -94,59 +111,7 @@ fn views_are_same<const W: u128>() {
         assert_eq!(constant.separators(part), view.separators(part));
         assert_eq!(Format::new(W).map_or(view.separators(part), |it| it.separators(part)), view.separators(part));
     }
-    same! { constant view;
-        REQUIRED_INTEGER_DIGITS required_integer_digits,
-        REQUIRED_FRACTION_DIGITS required_fraction_digits,
-        REQUIRED_EXPONENT_DIGITS required_exponent_digits,
-        REQUIRED_MANTISSA_DIGITS required_mantissa_digits,
-        REQUIRED_DIGITS required_digits,
-        NO_POSITIVE_MANTISSA_SIGN no_positive_mantissa_sign,
-        REQUIRED_MANTISSA_SIGN required_mantissa_sign,
-        NO_EXPONENT_NOTATION no_exponent_notation,
-        NO_POSITIVE_EXPONENT_SIGN no_positive_exponent_sign,
-        REQUIRED_EXPONENT_SIGN required_exponent_sign,
-        NO_EXPONENT_WITHOUT_FRACTION no_exponent_without_fraction,
-        NO_SPECIAL no_special,
-        CASE_SENSITIVE_SPECIAL case_sensitive_special,
-        NO_INTEGER_LEADING_ZEROS no_integer_leading_zeros,
-        NO_FLOAT_LEADING_ZEROS no_float_leading_zeros,
-        REQUIRED_EXPONENT_NOTATION required_exponent_notation,
-        CASE_SENSITIVE_EXPONENT case_sensitive_exponent,
-        CASE_SENSITIVE_BASE_PREFIX case_sensitive_base_prefix,
-        CASE_SENSITIVE_BASE_SUFFIX case_sensitive_base_suffix,
-        INTEGER_INTERNAL_DIGIT_SEPARATOR integer_internal_digit_separator,
-        FRACTION_INTERNAL_DIGIT_SEPARATOR fraction_internal_digit_separator,
-        EXPONENT_INTERNAL_DIGIT_SEPARATOR exponent_internal_digit_separator,
-        INTERNAL_DIGIT_SEPARATOR internal_digit_separator,
-        INTEGER_LEADING_DIGIT_SEPARATOR integer_leading_digit_separator,
-        FRACTION_LEADING_DIGIT_SEPARATOR fraction_leading_digit_separator,
-        EXPONENT_LEADING_DIGIT_SEPARATOR exponent_leading_digit_separator,
-        LEADING_DIGIT_SEPARATOR leading_digit_separator,
-        INTEGER_TRAILING_DIGIT_SEPARATOR integer_trailing_digit_separator,
-        FRACTION_TRAILING_DIGIT_SEPARATOR fraction_trailing_digit_separator,
-        EXPONENT_TRAILING_DIGIT_SEPARATOR exponent_trailing_digit_separator,
-        TRAILING_DIGIT_SEPARATOR trailing_digit_separator,
-        INTEGER_CONSECUTIVE_DIGIT_SEPARATOR integer_consecutive_digit_separator,
-        FRACTION_CONSECUTIVE_DIGIT_SEPARATOR fraction_consecutive_digit_separator,
-        EXPONENT_CONSECUTIVE_DIGIT_SEPARATOR exponent_consecutive_digit_separator,
-        CONSECUTIVE_DIGIT_SEPARATOR consecutive_digit_separator,
-        SPECIAL_DIGIT_SEPARATOR special_digit_separator,
-        MANTISSA_RADIX mantissa_radix,
-        RADIX radix,
-        EXPONENT_BASE exponent_base,
-        EXPONENT_RADIX exponent_radix,
-        ;
-        has_digit_separator, has_base_prefix, has_base_suffix, radix2, radix4, radix8, flags,
-        interface_flags, digit_separator_flags, exponent_flags, integer_digit_separator_flags,
-        fraction_digit_separator_flags, exponent_digit_separator_flags,
-        ;
-        is_valid, error, is_valid_radix, error_radix,
-    }
-    same_bytes! { constant view;
-        DIGIT_SEPARATOR digit_separator,
-        BASE_PREFIX base_prefix,
-        BASE_SUFFIX base_suffix,
-    }
+    with_setters!(flag_getters(same_getters [constant view]));
 }
 
 /// Words in which any two bits differ, and a lawful word.

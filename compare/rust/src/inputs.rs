@@ -20,11 +20,8 @@ pub const OF_FLAGS: usize = SETTERS - 7;
 
 impl Debug for SetterCall {
     fn fmt(&self, f: &mut Formatter) -> fmt::Result {
-        let name = Edit::NAMES[self.setter];
-        match self.setter {
-            0..OF_FLAGS => write!(f, "{name}={}", self.value % 2 == 1),
-            _ => write!(f, "{name}={}", self.value),
-        }
+        let flag = (self.setter < OF_FLAGS).then_some((self.value % 2 == 1).to_string());
+        write!(f, "{}={}", Edit::NAMES[self.setter], flag.unwrap_or(self.value.to_string()))
     }
 }
 

@@ -45,19 +45,16 @@ fn panicking(builder: &NumberFormatBuilder) -> (u128, u128) {
     word_or_panic(|| builder.build_or_panic())
 }
 
-/// What a byte is as a digit of a word. `const_view` has the result of the view of a constant if it is known.
-pub fn is_digit(word: u128, byte: u8, const_view: Option<bool>) -> Results<5> {
-    let view = FormatView::new(word);
-    results! {
-        is_digit: flags::is_digit(word, byte), view: view.is_digit(byte),
-        const_view: const_view.unwrap_or(view.is_digit(byte)), mantissa_digit: view.mantissa_digit(byte),
-        exponent_digit: view.exponent_digit(byte),
-    }
+/// Whether a byte is a digit of one of the radixes of a word, and its value in each radix.
+pub fn digits(word: u128, byte: u8) -> Results<3> {
+    let (either, view) = (flags::is_digit_of_either_radix(word, byte), FormatView::new(word));
+    results! { either: either, mantissa: view.mantissa_digit(byte), exponent: view.exponent_digit(byte), }
 }
 
-/// Returns whether a byte is a digit of the view that has the word as a const argument.
-pub fn const_is_digit<const WORD: u128>(byte: u8) -> bool {
-    known::NumberFormat::<WORD>::new().is_digit(byte)
+/// The same by the view that has the word as a const argument.
+pub fn const_digits<const WORD: u128>(byte: u8) -> Results<3> {
+    let (either, view) = (flags::is_digit_of_either_radix(WORD, byte), known::NumberFormat::<WORD>::new());
+    results! { either: either, mantissa: view.mantissa_digit(byte), exponent: view.exponent_digit(byte), }
 }
 
 fn edit(call: &SetterCall) -> Edit {

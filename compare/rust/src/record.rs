@@ -58,7 +58,7 @@ fn digits() -> impl Iterator<Item = String> {
 
 fn outcomes() -> impl Iterator<Item = String> {
     let indexes = |position| [0, 7, usize::MAX].into_iter().take(if position < 19 { 3 } else { 1 });
-    let pairs = (0..49).flat_map(|position| indexes(position).map(move |index| (position, index)));
+    let pairs = (0..49).flat_map(move |position| indexes(position).map(move |index| (position, index)));
     pairs.map(|(position, index)| {
         let [_, text, ..] = theirs::texts(position, index);
         format!("printed {index} {} {text}", name(position))

@@ -1,5 +1,5 @@
-//! The rows of setters and of outcomes, for macros that write what is wanted of each. `bench/` has this file as a
-//! module too.
+//! The rows of setters and of outcomes, for macros that write what is wanted of each. `bench/` and `rust/tests/twins.rs`
+//! have this file as a module too.
 
 /// Calls a macro with its arguments in parentheses, if there are any, and two blocks of rows.
 ///

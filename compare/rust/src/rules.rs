@@ -27,14 +27,10 @@ fn meet(one: Role, other: Role) -> bool {
     one[0] != 0 && one.iter().any(|byte| other.contains(byte))
 }
 
-fn flag(word: u128, bit: u32) -> bool {
-    word >> bit & 1 == 1
-}
-
 /// Separator, prefix and suffix.
 fn roles(word: u128) -> [Role; 3] {
-    let byte = |shift: u32| (word >> shift) as u8;
-    [role(byte(64), true), role(byte(88), flag(word, 16)), role(byte(96), flag(word, 17))]
+    let (byte, flag) = (|at: u32| (word >> at) as u8, |bit: u32| word >> bit & 1 == 1);
+    [role(byte(64), true), role(byte(88), flag(16)), role(byte(96), flag(17))]
 }
 
 fn roles_are_apart(word: u128) -> bool {
@@ -65,7 +61,7 @@ pub fn word<const N: usize>(word: u128, theirs: Results<N>) -> Results<N> {
 }
 
 pub fn options(word: u128, exponent: u8, decimal_point: u8, theirs: bool) -> bool {
-    let (exponent, point) = (role(exponent, flag(word, 15)), role(decimal_point, true));
+    let (exponent, point) = (role(exponent, word >> 15 & 1 == 1), role(decimal_point, true));
     let taken = |role: Role| roles(word).into_iter().any(|own| meet(own, role));
     theirs && !meet(exponent, point) && !taken(exponent) && !taken(point)
 }

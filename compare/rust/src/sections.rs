@@ -144,8 +144,9 @@ fn known<const WORD: u128>(tally: &mut Tally) {
     }
     tally.same(input, ours::associated::<WORD>(), theirs::associated::<WORD>());
     for byte in 0..=255 {
-        let is_digit = ours::const_is_digit::<WORD>(byte);
-        tally.same((input, byte), ours::is_digit(WORD, byte, Some(is_digit)), theirs::is_digit(WORD, byte));
+        for ours in [ours::const_digits::<WORD>(byte), ours::digits(WORD, byte)] {
+            tally.same((input, byte), ours, theirs::digits(WORD, byte));
+        }
     }
 }
 
@@ -221,7 +222,7 @@ fn options(tally: &mut Tally, random: &mut Random) {
     let bases: Vec<u128> = BASES.iter().map(|base| base ^ (random.below(8) as u128) << 15).collect();
     for word in bases.into_iter().chain((0..8).map(|_| random.word())) {
         for byte in 0..=255 {
-            tally.same(("word, byte", word, byte), ours::is_digit(word, byte, None), theirs::is_digit(word, byte));
+            tally.same(("word, byte", word, byte), ours::digits(word, byte), theirs::digits(word, byte));
         }
         for (exponent, point) in (0..=255).flat_map(|exponent| (0..=255).map(move |point| (exponent, point))) {
             let theirs = theirs::options(word, exponent, point);

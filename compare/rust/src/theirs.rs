@@ -58,14 +58,11 @@ fn panicking(builder: &NumberFormatBuilder) -> (u128, u128) {
     strict(builder)
 }
 
-/// What a byte is as a digit of the radixes of a word.
-pub fn is_digit(word: u128, byte: u8) -> Results<5> {
-    let [mantissa, exponent] = [flags::mantissa_radix(word), flags::exponent_radix(word)];
-    let is_digit = char_is_digit(byte, mantissa) || char_is_digit(byte, exponent);
-    results! {
-        is_digit: is_digit, view: is_digit, const_view: is_digit, mantissa_digit: char_to_digit(byte, mantissa),
-        exponent_digit: char_to_digit(byte, exponent),
-    }
+/// Whether a byte is a digit of one of the radixes of a word, and its value in each radix.
+pub fn digits(word: u128, byte: u8) -> Results<3> {
+    let radixes = [flags::mantissa_radix(word), flags::exponent_radix(word)];
+    let [mantissa, exponent] = radixes.map(|radix| char_to_digit(byte, radix));
+    results! { either: mantissa.or(exponent).is_some(), mantissa: mantissa, exponent: exponent, }
 }
 
 /// The word after setter calls, for each of three calls of this library.

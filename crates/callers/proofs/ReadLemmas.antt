@@ -1,187 +1,139 @@
 -- Lemmas on reading a number byte by byte.
-use Rattle.std.proofs.Common.{◌≡◌, ℕ, ◌+◌, ◌*◌, ◌^◌, ◌<◌, ◌≤◌, inl, inr, Bool, true, false, cond}
-use Rattle.std.proofs.Common.{IsTrue, List, [], ◌∷◌, ◌++◌, length, map, take, drop, filter, sym, ap, subst}
-use Rattle.std.proofs.Common.{◌∙◌, arith, append-nil}
-use Rattle.std.proofs.lemmas.Bool.{false≢true, cases_lt, or_from, or_left, or_right}
-use Rattle.std.proofs.lemmas.Int.Digits.{number_after_append, number_after_ge, number_push}
-use Rattle.std.proofs.lemmas.List.{map-append, map_push, take_all, take-append-drop, take-take}
-use Rattle.std.proofs.lemmas.List.Elements.{filter_more, filter-append}
+use Rattle.std.proofs.Common.{◌≡◌, ℕ, ◌+◌, ◌*◌, ◌^◌, ◌<◌, ◌≤◌, ◌==◌, ◌||◌, not, nat_lt, if◌then◌else◌, Bool, true, false, cond}
+use Rattle.std.proofs.Common.{IsTrue, List, [], ◌∷◌, ◌++◌, length, map, take, filter, get_or, Result, Ok, Err}
+use Rattle.std.proofs.Common.{refl, sym, ap, subst, ◌∙◌, arith, append-nil}
+use Rattle.std.proofs.lemmas.Bool.{or_from, or_left, or_right}
+use Rattle.std.proofs.lemmas.Bool.Decides.{nat_tests}
+use Rattle.std.proofs.lemmas.Int.Digits.{number_push}
+use Rattle.std.proofs.lemmas.List.{map_push}
+use Rattle.std.proofs.lemmas.List.Elements.{filter_more}
+use Rattle.std.proofs.lemmas.List.FromFn.{length-range_with_len, get_or-range_with_len}
+use Rattle.std.proofs.lemmas.List.Sums.{position_or_len_is}
 use Rattle.std.specs.Int.Digits.{number_from_digits}
+use Rattle.std.specs.List.{range_with_len}
 use borrow.Author.Count.{below_more}
 use Rattle.lexical_util.specs.Layout as layout
 use Rattle.lexical_util.specs.Digits.{byte_value, numeral}
-use Rattle.lexical_util.specs.Outcomes.{held_index}
-use Rattle.lexical_util.specs.Record.{Record, raw}
-use Rattle.lexical_util.specs.Rules.{Lawful}
+use Rattle.lexical_util.specs.Record.{Record}
 use Rattle.lexical_util.specs.declared.error.Error.{Error}
 use Rattle.lexical_util.specs.declared.error.Error.TheVariants as errors
-use Rattle.callers.specs.Reading.{is_mantissa_digit, is_read, is_skipped, byte_at, number_read}
-use Rattle.callers.specs.Reading.{IsNumeral, IsReadTo, IsRefusal}
+use Rattle.callers.specs.Reading.{is_mantissa_digit, is_skipped, is_read, is_wrong, first_wrong, error_at, number_to, reading}
 
 -- If the byte at index `i` is a digit, then the number of the first `i + 1` bytes is the number of the first `i` bytes
 -- times the radix plus the digit. Otherwise both numbers are equal.
-number-more : (r : Record) (text : List ℕ) (i : ℕ) (test : Bool) → i < length text
-    → is_mantissa_digit r (byte_at text i) ≡ test
-    → number_read r (take (i + 1) text)
-    ≡ cond test (number_read r (take i text) * r.byte layout.mantissa_radix + byte_value (byte_at text i)) (number_read r (take i text))
-number-more r text i test inside is = ap (numeral (r.byte layout.mantissa_radix)) longer ∙ pushed test where
+number_more : (r : Record) (text : List ℕ) (i : ℕ) (test : Bool) → i < length text
+    → is_mantissa_digit r (get_or text i 0) ≡ test
+    → number_to r text (i + 1)
+    ≡ cond test (number_to r text i * r.byte layout.mantissa_radix + byte_value (get_or text i 0)) (number_to r text i)
+number_more r text i test inside is = ap (numeral (r.byte layout.mantissa_radix)) longer ∙ pushed test where
   front : List ℕ
   front = filter (is_mantissa_digit r) (take i text)
 
-  longer : filter (is_mantissa_digit r) (take (i + 1) text) ≡ front ++ cond test (byte_at text i ∷ []) []
-  longer = filter_more (is_mantissa_digit r) text i 0 inside ∙ ap (λ t. front ++ cond t (byte_at text i ∷ []) []) is
+  longer : filter (is_mantissa_digit r) (take (i + 1) text) ≡ front ++ cond test (get_or text i 0 ∷ []) []
+  longer = filter_more (is_mantissa_digit r) text i 0 inside ∙ ap (λ t. front ++ cond t (get_or text i 0 ∷ []) []) is
 
-  pushed : (t : Bool) → numeral (r.byte layout.mantissa_radix) (front ++ cond t (byte_at text i ∷ []) [])
-      ≡ cond t (number_read r (take i text) * r.byte layout.mantissa_radix + byte_value (byte_at text i)) (number_read r (take i text))
-  pushed true = ap (number_from_digits (r.byte layout.mantissa_radix)) (map_push byte_value front (byte_at text i))
-      ∙ number_push (r.byte layout.mantissa_radix) (map byte_value front) (byte_value (byte_at text i))
+  pushed : (t : Bool) → numeral (r.byte layout.mantissa_radix) (front ++ cond t (get_or text i 0 ∷ []) [])
+      ≡ cond t (number_to r text i * r.byte layout.mantissa_radix + byte_value (get_or text i 0)) (number_to r text i)
+  pushed true = ap (number_from_digits (r.byte layout.mantissa_radix)) (map_push byte_value front (get_or text i 0))
+      ∙ number_push (r.byte layout.mantissa_radix) (map byte_value front) (byte_value (get_or text i 0))
   pushed false = ap (numeral (r.byte layout.mantissa_radix)) (append-nil front)
 
--- The number of the first bytes of a text is at most the number of the whole text.
-number-grows : (r : Record) (text : List ℕ) (i : ℕ) → 1 ≤ r.byte layout.mantissa_radix
-    → number_read r (take i text) ≤ number_read r text
-number-grows r text i some =
-    let kept = filter (is_mantissa_digit r) in
-    let apart : map byte_value (kept text)
-    ≡ map byte_value (kept (take i text)) ++ map byte_value (kept (drop i text)) =
-    ap (λ t. map byte_value (kept t)) (sym (take-append-drop i text))
-    ∙ ap (map byte_value) (filter-append (is_mantissa_digit r) (take i text) (drop i text))
-    ∙ map-append byte_value (kept (take i text)) (kept (drop i text)) in
-    rw (apart, number_after_append) (number_after_ge (r.byte layout.mantissa_radix) (number_read r (take i text)) (map byte_value (kept (drop i text))) some)
-
-number-within : (r : Record) (text : List ℕ) (i j : ℕ) → 1 ≤ r.byte layout.mantissa_radix → i ≤ j
-    → number_read r (take i text) ≤ number_read r (take j text)
-number-within r text i j some less =
-    subst (λ t. number_read r t ≤ number_read r (take j text)) (take-take i j text less)
-    (number-grows r (take j text) i some)
-
--- `HasRead r text i number` holds if the first `i` bytes are read, and write `number`, which fits 64 bits.
+-- `HasRead r text i number` holds if none of the first `i` bytes is wrong, and they represent `number`, which fits 64 bits.
 pub record HasRead (r : Record) (text : List ℕ) (i number : ℕ) : Type 0 where
-  pub sum : number ≡ number_read r (take i text)
-  pub read : (k : ℕ) → k < i → IsTrue (is_read r text k)
-  pub fits : number_read r (take i text) < 2 ^ 64
+  pub sum : number ≡ number_to r text i
+  pub right : (k : ℕ) → k < i → is_wrong r text k ≡ false
+  pub fits : number < 2 ^ 64
 
-read_to : (r : Record) (text : List ℕ) (i number : ℕ) → i < length text → HasRead r text i number → IsReadTo r text i
-read_to r text i number inside before = record { inside = inside; read = before.read; fits = before.fits }
+-- If none of the first `i` bytes is wrong, and the next is wrong or there is none, then `i` is the first wrong index.
+first_wrong_is : (r : Record) (text : List ℕ) (i number : ℕ) → HasRead r text i number → i ≤ length text
+    → (i < length text → is_wrong r text i ≡ true) → first_wrong r text ≡ i
+first_wrong_is r text i number before inside here =
+    let places = range_with_len 0 (length text) in
+    let at : (k : ℕ) → k < length text → get_or places k 0 ≡ k = λ k below. omega (arith, get_or-range_with_len 0 (length text) k 0 below) in
+    let all = length-range_with_len 0 (length text) in
+    position_or_len_is (is_wrong r text) places i 0 (omega (arith, all))
+    (λ k below. ap (is_wrong r text) (at k (omega arith)) ∙ before.right k below)
+    (λ below. let within : i < length text = omega (arith, all) in ap (is_wrong r text) (at i within) ∙ here within)
 
--- If the byte at index `i` is a separator that is skipped, then `i + 1` bytes are read, with the same number.
-pub skipped : (r : Record) (text : List ℕ) (i number : ℕ) → i < length text
-    → is_mantissa_digit r (byte_at text i) ≡ false
-    → IsTrue (is_skipped r text i) → HasRead r text i number → HasRead r text (i + 1) number
-skipped r text i number inside other here before =
-    let same = number-more r text i false inside other in
-    record {
-      sum = before.sum ∙ sym same;
-      read = below_more (λ k. IsTrue (is_read r text k)) i before.read (or_left (is_skipped r text i) _ here);
-      fits = subst (λ n. n < 2 ^ 64) (sym same) before.fits;
-    }
+-- `reading_from r text i` is the number of `text`, or its error, if `i` is its first wrong index.
+abbrev reading_from : Record → List ℕ → ℕ → Result ℕ Error
+reading_from r text i =
+    if length text == 0 then Err (errors.Empty 0) else if i == length text then Ok (number_to r text (length text)) else Err (error_at r text i)
+
+-- If none of the first `i` bytes is wrong, and the next is, then its error is returned.
+stops : (r : Record) (text : List ℕ) (i number : ℕ) → HasRead r text i number → i < length text
+    → is_wrong r text i ≡ true → reading r text ≡ Err (error_at r text i)
+stops r text i number before inside wrong =
+    let some : (length text == 0) ≡ false = grind (arith, nat_tests) in
+    let earlier : (i == length text) ≡ false = grind (arith, nat_tests) in
+    ap (reading_from r text) (first_wrong_is r text i number before (omega arith) (λ _. wrong))
+    ∙ (λ k. if some k then Err (errors.Empty 0) else if earlier k then Ok (number_to r text (length text)) else Err (error_at r text i))
+
+-- If the byte at index `i` is neither a digit nor a separator that is skipped, then the error is `InvalidDigit`.
+pub no_digit : (r : Record) (text : List ℕ) (i number : ℕ) → HasRead r text i number → i < length text
+    → is_mantissa_digit r (get_or text i 0) ≡ false → is_skipped r text i ≡ false
+    → Err (errors.InvalidDigit i) ≡ reading r text
+no_digit r text i number before inside other stays =
+    let unread : is_read r text i ≡ false = or_from (is_mantissa_digit r (get_or text i 0)) _ other stays in
+    sym (stops r text i number before inside (ap (λ t. not t || not (nat_lt (number_to r text (i + 1)) (2 ^ 64))) unread)
+    ∙ ap (λ t. Err (if t then errors.Overflow i else errors.InvalidDigit i)) unread)
 
 -- If the byte at index `i` is a digit, then the number of `i + 1` bytes is the number before times the radix plus it.
-next : (r : Record) (text : List ℕ) (i number digit : ℕ) → i < length text
-    → IsTrue (is_mantissa_digit r (byte_at text i))
-    → digit ≡ byte_value (byte_at text i) → HasRead r text i number
-    → number * r.byte layout.mantissa_radix + digit ≡ number_read r (take (i + 1) text)
-next r text i number digit inside here is before = rw (is, before.sum) (sym (number-more r text i true inside here))
+next : (r : Record) (text : List ℕ) (i number digit : ℕ) → HasRead r text i number → i < length text
+    → IsTrue (is_mantissa_digit r (get_or text i 0)) → digit ≡ byte_value (get_or text i 0)
+    → number * r.byte layout.mantissa_radix + digit ≡ number_to r text (i + 1)
+next r text i number digit before inside here is = rw (is, before.sum) (sym (number_more r text i true inside here))
 
--- If the byte at index `i` is a digit, and the number with this digit fits, then `i + 1` bytes are read.
-pub pushed : (r : Record) (text : List ℕ) (i number digit : ℕ) → i < length text
-    → IsTrue (is_mantissa_digit r (byte_at text i))
-    → digit ≡ byte_value (byte_at text i) → HasRead r text i number
-    → number * r.byte layout.mantissa_radix + digit < 2 ^ 64
-    → HasRead r text (i + 1) (number * r.byte layout.mantissa_radix + digit)
-pushed r text i number digit inside here is before fits =
-    let sum = next r text i number digit inside here is before in
+-- If the byte at index `i` is a digit, and the number with this digit does not fit, then the error is `Overflow`.
+pub too_large : (r : Record) (text : List ℕ) (i number digit : ℕ) → HasRead r text i number → i < length text
+    → IsTrue (is_mantissa_digit r (get_or text i 0)) → digit ≡ byte_value (get_or text i 0)
+    → (number * r.byte layout.mantissa_radix + digit < 2 ^ 64 → ⊥) → Err (errors.Overflow i) ≡ reading r text
+too_large r text i number digit before inside here is large =
+    let read : is_read r text i ≡ true = or_left (is_mantissa_digit r (get_or text i 0)) _ here in
+    let over : nat_lt (number_to r text (i + 1)) (2 ^ 64) ≡ false =
+    subst (λ n. nat_lt n (2 ^ 64) ≡ false) (next r text i number digit before inside here is) (grind (arith, nat_tests, large)) in
+    sym (stops r text i number before inside (ap (λ t. not (is_read r text i) || not t) over ∙ or_true (is_read r text i))
+    ∙ ap (λ t. Err (if t then errors.Overflow i else errors.InvalidDigit i)) read) where
+      or_true : (t : Bool) → (not t || true) ≡ true
+      or_true true = refl
+      or_true false = refl
+
+-- If the byte at index `i` is read, and the number up to it fits, then none of the first `i + 1` bytes is wrong.
+more : (r : Record) (text : List ℕ) (i number next : ℕ) → HasRead r text i number → is_read r text i ≡ true
+    → next ≡ number_to r text (i + 1) → next < 2 ^ 64 → HasRead r text (i + 1) next
+more r text i number next before read is fits =
+    let within : nat_lt (number_to r text (i + 1)) (2 ^ 64) ≡ true = subst (λ n. nat_lt n (2 ^ 64) ≡ true) is (grind (arith, nat_tests)) in
     record {
-      sum = sum;
-      read = below_more (λ k. IsTrue (is_read r text k)) i before.read (or_right (is_skipped r text i) _ here);
-      fits = subst (λ n. n < 2 ^ 64) sum fits;
+      sum = is;
+      right = below_more (λ k. is_wrong r text k ≡ false) i before.right
+          (ap (λ t. not t || not (nat_lt (number_to r text (i + 1)) (2 ^ 64))) read ∙ ap not within);
+      fits = fits;
     }
 
--- If the byte at index `i` is a digit, and the number with this digit does not fit, then the refusal is `Overflow`.
-pub too_large : (r : Record) (text : List ℕ) (i number digit : ℕ) → i < length text
-    → IsTrue (is_mantissa_digit r (byte_at text i)) → digit ≡ byte_value (byte_at text i) → HasRead r text i number
-    → (number * r.byte layout.mantissa_radix + digit < 2 ^ 64 → ⊥) → IsRefusal r text (errors.Overflow i)
-too_large r text i number digit inside here is before large = (
-  read_to r text i number inside before,
-  or_right (is_skipped r text i) _ here,
-  subst (λ n. 2 ^ 64 ≤ n) (next r text i number digit inside here is before) (omega (arith, large)),
-)
+-- If the byte at index `i` is a digit, and the number with this digit fits, then `i + 1` bytes are read.
+pub pushed : (r : Record) (text : List ℕ) (i number digit : ℕ) → HasRead r text i number → i < length text
+    → IsTrue (is_mantissa_digit r (get_or text i 0)) → digit ≡ byte_value (get_or text i 0)
+    → number * r.byte layout.mantissa_radix + digit < 2 ^ 64
+    → HasRead r text (i + 1) (number * r.byte layout.mantissa_radix + digit)
+pushed r text i number digit before inside here is fits =
+    more r text i number _ before (or_left (is_mantissa_digit r (get_or text i 0)) _ here)
+    (next r text i number digit before inside here is) fits
 
--- If the byte at index `i` is neither a digit nor a separator that is skipped, then the refusal is `InvalidDigit`.
-pub no_digit : (r : Record) (text : List ℕ) (i number : ℕ) → i < length text
-    → is_mantissa_digit r (byte_at text i) ≡ false
-    → is_skipped r text i ≡ false → HasRead r text i number → IsRefusal r text (errors.InvalidDigit i)
-no_digit r text i number inside other stays before =
-    (read_to r text i number inside before, or_from (is_skipped r text i) _ stays other)
+-- If the byte at index `i` is a separator that is skipped, then `i + 1` bytes are read, with the same number.
+pub skipped : (r : Record) (text : List ℕ) (i number : ℕ) → HasRead r text i number → i < length text
+    → is_mantissa_digit r (get_or text i 0) ≡ false → IsTrue (is_skipped r text i)
+    → HasRead r text (i + 1) number
+skipped r text i number before inside other here =
+    more r text i number number before (or_right (is_mantissa_digit r (get_or text i 0)) _ here)
+    (before.sum ∙ sym (number_more r text i false inside other)) before.fits
 
--- If the whole text is read, and it is not empty, then it is a numeral.
-pub whole : (r : Record) (text : List ℕ) (i number : ℕ) → length text ≤ i → 1 ≤ length text → HasRead r text i number
-    → IsNumeral r text × (number ≡ number_read r text)
-whole r text i number end some before =
-    let all : number_read r (take i text) ≡ number_read r text = ap (number_read r) (take_all i text end) in (
-      record {
-        some = some;
-        read = λ k below. before.read k (omega arith);
-        fits = subst (λ n. n < 2 ^ 64) all before.fits;
-      },
-      before.sum ∙ all,
-    )
-
--- The mantissa radix of a lawful word is 2 or more.
-radix_some : (word : ℕ) → Lawful word → 2 ≤ (raw word).byte layout.mantissa_radix
-unfolding Lawful
-radix_some word lawful = lawful.mantissa_radix.0
-
--- A text that is refused is not a numeral.
-pub no_numeral : (word : ℕ) (text : List ℕ) (e : Error) → Lawful word → IsRefusal (raw word) text e
-    → IsNumeral (raw word) text → ⊥
-no_numeral word text (errors.InvalidDigit i) lawful refused is = false≢true (sym refused.1 ∙ is.read i refused.0.inside)
-no_numeral word text (errors.Overflow i) lawful refused is =
-    omega (arith, refused.2, is.fits, number-grows (raw word) text (i + 1) (omega (arith, radix_some word lawful)))
-no_numeral word text (errors.Empty i) lawful refused is = omega (arith, refused.1, is.some)
-no_numeral word text _ lawful refused is = absurd refused
-
--- A text has at most one refusal.
-module _ (word : ℕ) (text : List ℕ) (lawful : Lawful word) where
-  abbrev Refuses : Error → Type 0
-  Refuses = IsRefusal (raw word) text
-
-  -- Nothing is read past the index in a refusal.
-  ends : (error : Error) (j : ℕ) → Refuses error → IsReadTo (raw word) text j → j ≤ held_index error
-  ends (errors.InvalidDigit i) j refused reads = elim (cases_lt i j) [
-    | inl before ↦ absurd (false≢true (sym refused.1 ∙ reads.read i before))
-    | inr after ↦ after
-  ]
-  ends (errors.Overflow i) j refused reads = elim (cases_lt i j) [
-    | inl before ↦
-        let some : 1 ≤ (raw word).byte layout.mantissa_radix = omega (arith, radix_some word lawful) in
-        let more = number-within (raw word) text (i + 1) j some (omega (arith, before)) in
-        absurd (omega (arith, more, refused.2, reads.fits))
-    | inr after ↦ after
-  ]
-  ends (errors.Empty i) j refused reads = absurd (omega (arith, refused.1, reads.inside))
-  ends _ j refused reads = absurd refused
-
-  -- A text cannot be refused both for a byte that is not allowed and for a number that is too large.
-  digit_or_large : (i j : ℕ) → Refuses (errors.InvalidDigit i) → Refuses (errors.Overflow j) → ⊥
-  digit_or_large i j h k =
-      let same : j ≡ i = omega (arith, ends (errors.InvalidDigit i) j h k.0, ends (errors.Overflow j) i k h.0) in
-      false≢true (sym h.1 ∙ subst (λ n. IsTrue (is_read (raw word) text n)) same k.1)
-
-  pub IsRefusal-unique : (error other : Error) → Refuses error → Refuses other → error ≡ other
-  IsRefusal-unique (errors.InvalidDigit i) (errors.InvalidDigit j) h k =
-      ap errors.InvalidDigit
-      (omega (arith, ends (errors.InvalidDigit i) j h k.0, ends (errors.InvalidDigit j) i k h.0))
-  IsRefusal-unique (errors.InvalidDigit i) (errors.Overflow j) h k = absurd (digit_or_large i j h k)
-  IsRefusal-unique (errors.InvalidDigit i) (errors.Empty j) h k = absurd (omega (arith, k.1, h.0.inside))
-  IsRefusal-unique (errors.InvalidDigit i) _ h k = absurd k
-  IsRefusal-unique (errors.Overflow i) (errors.InvalidDigit j) h k = absurd (digit_or_large j i k h)
-  IsRefusal-unique (errors.Overflow i) (errors.Overflow j) h k =
-      ap errors.Overflow (omega (arith, ends (errors.Overflow i) j h k.0, ends (errors.Overflow j) i k h.0))
-  IsRefusal-unique (errors.Overflow i) (errors.Empty j) h k = absurd (omega (arith, k.1, h.0.inside))
-  IsRefusal-unique (errors.Overflow i) _ h k = absurd k
-  IsRefusal-unique (errors.Empty i) (errors.InvalidDigit j) h k = absurd (omega (arith, h.1, k.0.inside))
-  IsRefusal-unique (errors.Empty i) (errors.Overflow j) h k = absurd (omega (arith, h.1, k.0.inside))
-  IsRefusal-unique (errors.Empty i) (errors.Empty j) h k = ap errors.Empty (omega (arith, h.0, k.0))
-  IsRefusal-unique (errors.Empty i) _ h k = absurd k
-  IsRefusal-unique _ other h k = absurd h
+-- If the whole text is read, and it is not empty, then its number is returned.
+pub whole : (r : Record) (text : List ℕ) (i number : ℕ) → HasRead r text i number → length text ≤ i → i ≤ length text
+    → 1 ≤ length text → Ok number ≡ reading r text
+whole r text i number before end inside some =
+    let at_end : i ≡ length text = omega arith in
+    let not_empty : (length text == 0) ≡ false = grind (arith, nat_tests) in
+    let last : (i == length text) ≡ true = grind (arith, nat_tests) in
+    sym (ap (reading_from r text) (first_wrong_is r text i number before inside (λ below. absurd (omega arith)))
+    ∙ (λ k. if not_empty k then Err (errors.Empty 0) else if last k then Ok (number_to r text (length text)) else Err (error_at r text i))
+    ∙ ap Ok (sym (before.sum ∙ ap (number_to r text) at_end)))

@@ -1,16 +1,20 @@
 //! The smallest complete caller: a function that tests whether text consists only of digits.
 
-ghost use Rattle.std.specs.Prelude.{◌↔◌, IsTrue};
+ghost use Rattle.std.specs.Prelude.{◌↔◌, IsTrue, is_some};
 ghost use Rattle.std.specs.List.{AllPass};
+ghost use Rattle.lexical_util.specs.Digits.{digit_of};
+ghost use Rattle.lexical_util.specs.Layout as layout;
 ghost use Rattle.lexical_util.specs.Record.{raw};
-ghost use Rattle.lexical_util.specs.Roles.{digits};
 
-use lexical_util::format::is_digit;
+use lexical_util::format::NumberFormat;
 
-/// Returns whether every byte of `text` is a digit of the mantissa or of the exponent of `format`, which may be any
-/// word. If `text` is empty, the result is `true`.
+/// Returns whether every byte of `text` is a digit in the mantissa radix of `format`, which may be any word. If `text`
+/// is empty, the result is `true`.
 pub fn has_digits_alone(format: u128, text: &[u8]) -> bool
-    ensures { IsTrue result ↔ AllPass (digits (raw format)) text.now }
+    ensures { IsTrue result
+        ↔ AllPass (λ byte. is_some (digit_of byte ((raw format).byte layout.mantissa_radix))) text.now }
 {
-    text.iter().all(|byte| is_digit(format, *byte))
+    let format = NumberFormat::new(format);
+    text.iter()
+        .all(|byte| format.mantissa_digit(*byte).is_some())
 }

@@ -4,8 +4,7 @@
 //! is lawful. After a call to the law, you can pass the constant where a lawful format is required. Nothing is tested
 //! at run time.
 
-ghost use Rattle.std.specs.Prelude.{◌≡◌, ◌≢◌, ◌↔◌, [], ◌∷◌, IfErr, IsTrue, bit_and, true, false};
-ghost use Rattle.std.specs.Result.{OkIff};
+ghost use Rattle.std.specs.Prelude.{◌≡◌, ◌≢◌, ◌↔◌, [], ◌∷◌, IsTrue, bit_and, true, false};
 ghost use Rattle.lexical_util.specs.Layout as layout;
 ghost use Rattle.lexical_util.specs.Masks.{mask_of};
 ghost use Rattle.lexical_util.specs.Record.{raw};
@@ -13,7 +12,7 @@ ghost use Rattle.lexical_util.specs.Rules.{Lawful};
 ghost use Rattle.lexical_util.specs.Options.{OptionsFit};
 ghost use Rattle.lexical_util.specs.Writes.{write_byte, write_flag, write_flags};
 ghost use Rattle.lexical_util.specs.Edits.{edited};
-ghost use Rattle.callers.specs.Reading.{number_read, IsNumeral, IsRefusal};
+ghost use Rattle.callers.specs.Reading.{reading};
 
 use crate::read::read_digits;
 use lexical_util::error::Error;
@@ -117,8 +116,7 @@ pub fn octal_facts()
 ///
 /// Returns an error if [`read_digits`] returns one.
 pub fn read_decimal(text: &[u8]) -> Result<u64, Error>
-    ensures number { OkIff result (IsNumeral (raw DECIMAL) text.now) (number_read (raw DECIMAL) text.now) }
-    ensures refusal { IfErr result (IsRefusal (raw DECIMAL) text.now) }
+    ensures { result ≡ reading (raw DECIMAL) text.now }
 {
     decimal_facts();
     read_digits(DECIMAL, text)

@@ -1,19 +1,17 @@
 //! Functions that read a whole number in any lawful format into a `u64`.
 
-ghost use Rattle.std.specs.Prelude.{◌≡◌, ◌+◌, ◌*◌, ◌<◌, ◌^◌, ◌⊎◌, Err, IfErr, IsTrue, length};
+ghost use Rattle.std.specs.Prelude.{◌≡◌, ℕ, ◌+◌, ◌*◌, ◌<◌, ◌^◌, IfErr, IsErr, IsTrue, is_some, length, not, position};
 ghost use Rattle.std.specs.Option.{SomeIff};
-ghost use Rattle.std.specs.Result.{OkIff};
-ghost use Rattle.lexical_util.specs.Layout as layout;
+ghost use Rattle.lexical_util.specs.Additions.ByteRoles.{first_role, used_separator};
 ghost use Rattle.lexical_util.specs.Digits.{byte_value};
+ghost use Rattle.lexical_util.specs.Layout as layout;
 ghost use Rattle.lexical_util.specs.Record.{raw};
-ghost use Rattle.lexical_util.specs.Roles.{separator};
 ghost use Rattle.lexical_util.specs.Rules.{Lawful, IsErrorOf};
-ghost use Rattle.callers.specs.Reading.{byte_at, byte_before, is_mantissa_digit, is_neighbour, is_skipped};
-ghost use Rattle.callers.specs.Reading.{may_stand, number_read, IsNumeral, IsRefusal};
+ghost use Rattle.callers.specs.Reading.{is_mantissa_digit, is_neighbour, is_skipped, reading};
 
-use lexical_util::digit::char_to_digit;
 use lexical_util::error::Error;
-use lexical_util::format::{NumberFormat, check, mantissa_radix};
+use lexical_util::format::{NumberFormat, Part, check};
+use lexical_util::laws::flags::role_facts;
 
 /// Reads `text` as a whole number in the mantissa radix of `format`, which may be any lawful format.
 ///
@@ -27,12 +25,13 @@ use lexical_util::format::{NumberFormat, check, mantissa_radix};
 /// determines the error.
 pub fn read_digits(format: u128, text: &[u8]) -> Result<u64, Error>
     requires { Lawful format }
-    ensures number { OkIff result (IsNumeral (raw format) text.now) (number_read (raw format) text.now) }
-    ensures refusal { IfErr result (IsRefusal (raw format) text.now) }
+    ensures value { result ≡ reading (raw format) text.now }
 
-    // Only one error describes why a text is refused.
-    ensures unique { (error : Error) → IsRefusal (raw format) text.now error → result ≡ Err error }
+    // No byte is both a digit and the separator, so either may be tested first.
+    ensures apart { (byte : ℕ) → byte < 256 → IsTrue (is_mantissa_digit (raw format) byte)
+        → IsTrue (used_separator (raw format) byte) → ⊥ }
 {
+    separator_facts(format);
     let mut number: u64 = 0;
     for (index, byte) in text.iter().enumerate() {
         if let Some(digit) = digit_value(format, *byte) {
@@ -58,21 +57,27 @@ pub fn read_digits(format: u128, text: &[u8]) -> Result<u64, Error>
 /// If `format` breaks a rule, returns the error of the first rule that it breaks. Otherwise, returns an error if
 /// [`read_digits`] returns one.
 pub fn read_checked(format: u128, text: &[u8]) -> Result<u64, Error>
-    ensures number { OkIff result (Lawful format × IsNumeral (raw format) text.now)
-        (number_read (raw format) text.now) }
-    ensures refusal { IfErr result (λ error.
-        IsErrorOf format error ⊎ (Lawful format × IsRefusal (raw format) text.now error)) }
+    ensures lawful { Lawful format → result ≡ reading (raw format) text.now }
+    ensures unlawful { (Lawful format → ⊥) → IsErr result × IfErr result (IsErrorOf format) }
 {
     check(format)?;
     read_digits(format, text)
 }
 
-/// Returns the value of `byte` as a digit of the mantissa, or `None` if `byte` is not such a digit. In a lawful format,
-/// the value is at most 35.
-pub fn digit_value(format: u128, byte: u8) -> Option<u32>
+// States that no byte is both a digit and the separator.
+fn separator_facts(format: u128)
+    requires { Lawful format }
+    ensures { (byte : ℕ) → byte < 256 → IsTrue (is_mantissa_digit (raw format) byte)
+        → IsTrue (used_separator (raw format) byte) → ⊥ }
+{
+    role_facts();
+}
+
+// Returns the value of `byte` as a digit of the mantissa, or `None` if it is not such a digit.
+fn digit_value(format: u128, byte: u8) -> Option<u32>
     ensures { SomeIff result (IsTrue (is_mantissa_digit (raw format) byte)) (byte_value byte) }
 {
-    char_to_digit(byte, mantissa_radix(format))
+    NumberFormat::new(format).mantissa_digit(byte)
 }
 
 // Returns `number` with `digit` appended, or `None` if the result exceeds 64 bits.
@@ -80,8 +85,9 @@ fn push(format: u128, number: u64, digit: u32) -> Option<u64>
     ensures { SomeIff result (number * (raw format).byte layout.mantissa_radix + digit < 2 ^ 64)
         (number * (raw format).byte layout.mantissa_radix + digit) }
 {
+    let radix = NumberFormat::new(format).mantissa_radix();
     number
-        .checked_mul(u64::from(mantissa_radix(format)))?
+        .checked_mul(u64::from(radix))?
         .checked_add(u64::from(digit))
 }
 
@@ -90,52 +96,34 @@ fn is_skipped(format: u128, text: &[u8], index: usize) -> bool
     requires { index < length text.now }
     ensures { result ≡ is_skipped (raw format) text.now index }
 {
-    is_separator(format, text[index]) && may_stand(format, text, index)
+    let view = NumberFormat::new(format);
+    view.is_separator(text[index])
+        && view.separators(Part::Integer).internal
+        && index > 0
+        && is_neighbour(format, text, index - 1)
+        && is_neighbour(format, text, index + 1)
 }
 
-// Returns whether `byte` is the digit separator.
-#[tactic(auto, unfolding(lexical_util::specs::Unfoldable::cased))]
-pub(crate) fn is_separator(format: u128, byte: u8) -> bool
-    ensures { result ≡ separator (raw format) byte }
+// Returns whether `text` has a byte at `index` that is allowed next to a digit separator.
+fn is_neighbour(format: u128, text: &[u8], index: usize) -> bool
+    ensures { result ≡ is_neighbour (raw format) text.now index }
 {
-    byte != 0 && byte == NumberFormat::new(format).digit_separator()
-}
-
-// Returns whether a digit separator is allowed at `index`.
-fn may_stand(format: u128, text: &[u8], index: usize) -> bool
-    requires { index < length text.now }
-    ensures { result ≡ may_stand (raw format) text.now index }
-{
-    NumberFormat::new(format).integer_internal_digit_separator()
-        && is_neighbour(format, byte_before(text, index))
-        && is_neighbour(format, byte_at(text, index + 1))
-}
-
-// Returns whether `byte` is allowed next to a digit separator.
-fn is_neighbour(format: u128, byte: u8) -> bool
-    ensures { result ≡ is_neighbour (raw format) byte }
-{
-    let in_a_row = NumberFormat::new(format).integer_consecutive_digit_separator();
-    digit_value(format, byte).is_some() || in_a_row && is_separator(format, byte)
-}
-
-// Returns the byte at `index`, or 0 if `text` is not that long.
-fn byte_at(text: &[u8], index: usize) -> u8
-    ensures { result ≡ byte_at text.now index }
-{
+    let view = NumberFormat::new(format);
     match text.get(index) {
-        Some(byte) => *byte,
-        None => 0,
+        Some(byte) => {
+            digit_value(format, *byte).is_some()
+                || view.separators(Part::Integer).consecutive && view.is_separator(*byte)
+        }
+        None => false,
     }
 }
 
-// Returns the byte before `index`, or 0 if `text` has no byte there.
-fn byte_before(text: &[u8], index: usize) -> u8
-    ensures { result ≡ byte_before text.now index }
+/// Returns the index of the first byte of `text` that plays no role in numbers of `format` with these options, or `None`
+/// if each byte plays one. A tokenizer can end a number there.
+pub fn other_byte(format: u128, exponent: u8, decimal_point: u8, text: &[u8]) -> Option<usize>
+    ensures { result ≡ position
+        (λ byte. not (is_some (first_role (raw format) exponent decimal_point byte))) text.now }
 {
-    if index == 0 {
-        0
-    } else {
-        byte_at(text, index - 1)
-    }
+    let view = NumberFormat::new(format);
+    text.iter().position(|byte| view.role_of(exponent, decimal_point, *byte).is_none())
 }

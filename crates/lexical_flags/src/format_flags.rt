@@ -20,7 +20,7 @@ mod rules;
 pub use crate::format_flags::all_rules::{RULES, Rule};
 pub use crate::format_flags::parts::Part;
 pub use crate::format_flags::rules::{
-    check, clashes, format_error_impl, is_clean, is_digit, is_separator_allowed,
+    check, clashes, format_error_impl, is_clean, is_digit_of_either_radix, is_separator_allowed,
     is_valid_base_prefix, is_valid_base_suffix, is_valid_digit_separator, is_valid_exponent_flags,
     is_valid_options_punctuation, is_valid_punctuation, is_valid_radix, options_error,
     radix_error_impl,

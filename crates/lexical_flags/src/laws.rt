@@ -8,7 +8,7 @@ ghost use Rattle.lexical_flags.specs.Layout.{Flag, Byte, bit, shift, IsClean};
 ghost use Rattle.lexical_flags.specs.Record.{raw, fill, trim};
 ghost use Rattle.lexical_flags.specs.Record.{SeparatorAllowedOrAbsent};
 ghost use Rattle.lexical_flags.specs.Pairs.{ArePairwise};
-ghost use Rattle.lexical_flags.specs.Roles.{Disjoint};
+ghost use Rattle.lexical_flags.specs.Roles.{Disjoint, AreDisjoint, five_roles};
 ghost use Rattle.lexical_flags.specs.Rules.{Holds, Lawful, IsErrorOf};
 ghost use Rattle.lexical_flags.specs.Additions.RuleFields.{mask_read};
 ghost use Rattle.lexical_flags.specs.declared.format_flags.all_rules.Rule.{Rule};
@@ -90,13 +90,16 @@ pub const fn rule_facts()
         → error ≡ other }
 {}
 
-/// States when two sets of bytes are disjoint, and that no byte plays two roles in a lawful format with accepted
+/// States when two sets of bytes are disjoint, and that no byte plays two roles in a lawful format, also with accepted
 /// options.
 #[inline(always)]
 pub const fn role_facts()
     // Two sets are disjoint if and only if no byte is in both.
     ensures disjoint { (A B : ByteSet)
         → Disjoint A B ↔ ((byte : ℕ) → byte < 256 → IsTrue (A byte) → IsTrue (B byte) → ⊥) }
+
+    // In a lawful format, no byte plays two of the roles digit, sign, separator, prefix and suffix.
+    ensures five { (word : ℕ) → Lawful word → AreDisjoint (five_roles (raw word)) }
 
     // In a lawful format with accepted options, each byte plays at most one role.
     ensures lawful { (word exponent_byte point_byte : ℕ) → Lawful word → OptionsFit word exponent_byte point_byte

@@ -1,8 +1,10 @@
 use callers::digits::has_digits_alone;
+use callers::edit::with_prefix;
 use callers::formats::read_decimal;
 use callers::keep::keep;
-use callers::read::read_checked;
+use callers::read::{other_byte, read_checked};
 use lexical_util::error::Error;
+use lexical_util::format::NonZeroU8;
 
 const DECIMAL: u128 = 0x00000A00_00000000_00000000_0000000C;
 
@@ -12,20 +14,24 @@ const GROUPED: u128 = 0x10101000_0000005F_00000001_0000000C;
 // Radix 16, `_` between integer digits, also several in a row.
 const LOOSE: u128 = 0x10101000_0000005F_00000201_0000000C;
 
+// Radix 2 with exponents in radix 10.
+const BINARY: u128 = 0x0A020200_00000000_00000000_0000000C;
+
+// `_` between fraction digits alone.
+const FRACTION: u128 = 0x0A0A0A00_0000005F_00000002_0000000C;
+
 #[test]
-fn digits_of_a_text_are_those_of_the_mantissa_and_of_the_exponent(rt: HostRuntime) {
-    // Radix 2 with exponents in radix 10.
-    let format = 0x0A020200_00000000_00000000_0000000C;
-    for (text, alone) in &[("109", true), ("", true), ("10a", false)] {
+fn digits_of_a_text_are_those_of_the_mantissa(rt: HostRuntime) {
+    for (text, alone) in &[("101", true), ("", true), ("109", false)] {
         assert!(rt;
-            has_digits_alone(format, text.as_bytes()) == *alone,
+            has_digits_alone(BINARY, text.as_bytes()) == *alone,
             "{text}"
         );
     }
 }
 
 #[rattlefmt::skip]
-const NUMBERS: [(u128, &str, Result<u64, Error>); 13] = [
+const NUMBERS: [(u128, &str, Result<u64, Error>); 16] = [
     (DECIMAL, "0042", Ok(42)),
     (DECIMAL, "18446744073709551615", Ok(u64::MAX)),
     (GROUPED, "FF_ff", Ok(65535)),
@@ -38,6 +44,9 @@ const NUMBERS: [(u128, &str, Result<u64, Error>); 13] = [
     (GROUPED, "1_", Err(Error::InvalidDigit(1))),
     (GROUPED, "1__0", Err(Error::InvalidDigit(1))),
     (GROUPED, "1_0000_0000_0000_0000", Err(Error::Overflow(20))),
+    (BINARY, "19", Err(Error::InvalidDigit(1))),
+    (FRACTION, "1_2", Err(Error::InvalidDigit(1))),
+    (DECIMAL, "1\02", Err(Error::InvalidDigit(1))),
     (0, "1", Err(Error::InvalidMantissaRadix)),
 ];
 
@@ -54,4 +63,19 @@ fn a_number_is_the_sum_of_its_digits_or_the_first_byte_that_is_wrong(rt: HostRun
 fn stored_words_are_kept_as_their_normal_form(rt: HostRuntime) {
     assert!(rt; keep(DECIMAL) == Ok(0x0A0A0A00_00000000_00000000_0000000C));
     assert!(rt; keep(0xC) == Err(Error::InvalidMantissaRadix));
+}
+
+#[test]
+fn a_byte_without_a_role_ends_a_number(rt: HostRuntime) {
+    assert!(rt; other_byte(DECIMAL, b'e', b'.', b"-1.5e3 km") == Some(6));
+    assert!(rt; other_byte(GROUPED, b'p', b'.', b"f_0.8p1").is_none());
+}
+
+#[test]
+fn an_edit_fills_exponent_bytes_and_keeps_other_fields(rt: HostRuntime) {
+    let word = NonZeroU8::new(b'x').map(|prefix| with_prefix(
+        0x00001068_00000000_00000000_0000000C,
+        prefix,
+    ));
+    assert!(rt; word == Some(0x10101068_78000000_00000000_0001000C));
 }

@@ -4,7 +4,6 @@
 ghost use Rattle.std.specs.Prelude.{◌≡◌, ◌≢◌, ℕ, ◌↔◌, ◌%◌, ◌^◌, IsTrue};
 ghost use Rattle.lexical_flags.specs.Layout as layout;
 ghost use Rattle.lexical_flags.specs.Record.{raw, fill, effective_exponent_base, effective_exponent_radix};
-ghost use Rattle.lexical_flags.specs.Roles.{digits};
 ghost use Rattle.lexical_flags.specs.Rules.{IsRadix, Lawful, IsErrorOf, IsFirstError, radix_rules};
 ghost use Rattle.lexical_builder.specs.Writes.{new_record};
 
@@ -227,17 +226,6 @@ impl NumberFormat {
         ensures lawful { Lawful self.now → IsRadix result }
     {
         flags::exponent_radix(self.format)
-    }
-
-    // ROLES OF BYTES
-
-    /// Returns whether `byte` is a digit in the mantissa radix or in the exponent radix. The case of a letter does not
-    /// matter.
-    #[must_use]
-    pub const fn is_digit(&self, byte: u8) -> bool
-        ensures { IsTrue result ↔ IsTrue (digits (raw self.now) byte) }
-    {
-        flags::is_digit(self.format, byte)
     }
 
     // BUILDERS

@@ -1,8 +1,12 @@
 //! Laws: public functions with empty bodies, whose clauses are theorems. To use a law, call it.
 
-ghost use Rattle.std.specs.Prelude.{◌≡◌, ◌↔◌, ℕ};
-ghost use Rattle.lexical_flags.specs.Record.{raw};
+ghost use Rattle.std.specs.Prelude.{◌≡◌, ◌↔◌, ℕ, List, All, IsTrue, unwrap_or};
+ghost use Rattle.lexical_flags.specs.Layout as layout;
+ghost use Rattle.lexical_flags.specs.Layout.{Flag};
+ghost use Rattle.lexical_flags.specs.Record.{raw, separator_allowed, effective_exponent_base, effective_exponent_radix};
 ghost use Rattle.lexical_flags.specs.Rules.{Lawful};
+ghost use Rattle.lexical_builder.specs.Writes.{Write, IsLegal, last_flag, last_byte};
+ghost use Rattle.lexical_util.specs.Edits.{edited};
 ghost use Rattle.lexical_util.specs.NormalForm.{normal_form_of, SameFormat};
 
 pub mod examples;
@@ -24,3 +28,31 @@ pub const fn normal_form_facts()
 {
     flags::rule_facts();
 }
+
+/// States the fields of an edited word one by one. A field that is written has the last value written to it. Any other
+/// field keeps its value, but an absent exponent byte becomes the mantissa radix of the word before the edits.
+pub fn edit_facts()
+    ensures flag { (word : ℕ) → (writes : List Write) → All IsLegal writes → (f : Flag)
+        → (raw (edited word writes)).flag f ≡ unwrap_or (last_flag writes f) ((raw word).flag f) }
+    ensures base_prefix { (word : ℕ) → (writes : List Write) → All IsLegal writes
+        → (raw (edited word writes)).byte layout.base_prefix
+        ≡ unwrap_or (last_byte writes layout.base_prefix) ((raw word).byte layout.base_prefix) }
+    ensures base_suffix { (word : ℕ) → (writes : List Write) → All IsLegal writes
+        → (raw (edited word writes)).byte layout.base_suffix
+        ≡ unwrap_or (last_byte writes layout.base_suffix) ((raw word).byte layout.base_suffix) }
+    ensures mantissa_radix { (word : ℕ) → (writes : List Write) → All IsLegal writes
+        → (raw (edited word writes)).byte layout.mantissa_radix
+        ≡ unwrap_or (last_byte writes layout.mantissa_radix) ((raw word).byte layout.mantissa_radix) }
+    ensures exponent_base { (word : ℕ) → (writes : List Write) → All IsLegal writes
+        → (raw (edited word writes)).byte layout.exponent_base
+        ≡ unwrap_or (last_byte writes layout.exponent_base) (effective_exponent_base (raw word)) }
+    ensures exponent_radix { (word : ℕ) → (writes : List Write) → All IsLegal writes
+        → (raw (edited word writes)).byte layout.exponent_radix
+        ≡ unwrap_or (last_byte writes layout.exponent_radix) (effective_exponent_radix (raw word)) }
+
+    // The digit separator is kept only if a flag of the edited word allows one.
+    ensures digit_separator { (word : ℕ) → (writes : List Write) → All IsLegal writes
+        → IsTrue (separator_allowed (raw (edited word writes)))
+        → (raw (edited word writes)).byte layout.digit_separator
+        ≡ unwrap_or (last_byte writes layout.digit_separator) ((raw word).byte layout.digit_separator) }
+{}

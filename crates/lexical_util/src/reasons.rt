@@ -214,7 +214,7 @@ const fn punctuation_reasons(format: u128, byte: u8, edit: &Edit) -> [Option<Rea
         some_if((byte != 0) & !is_valid_ascii(byte), Reason::NotText(*edit)),
         some_if((byte == b'+') | (byte == b'-'), Reason::IsSign(*edit)),
         some_if(
-            flags::is_digit(format, byte),
+            flags::is_digit_of_either_radix(format, byte),
             Reason::IsDigit(*edit, radix_of_digit(format, byte)),
         ),
     ]

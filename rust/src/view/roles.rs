@@ -123,7 +123,12 @@ impl FormatView {
     /// - If the word is lawful and accepts these options, `byte` plays the returned role and no other.
     #[must_use]
     pub const fn role_of(&self, exponent: u8, decimal_point: u8, byte: u8) -> Option<Role> {
-        if self.is_digit(byte) {
+        self.first_role(exponent, decimal_point, byte)
+    }
+
+    // Returns the first role that `byte` plays, in the order of the variants of `Role`.
+    const fn first_role(&self, exponent: u8, decimal_point: u8, byte: u8) -> Option<Role> {
+        if flags::is_digit_of_either_radix(self.word(), byte) {
             Some(Role::Digit)
         } else if is_sign(byte) {
             Some(Role::Sign)

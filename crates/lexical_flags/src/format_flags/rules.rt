@@ -50,13 +50,15 @@ const fn larger(a: u32, b: u32) -> u32
     if a < b { b } else { a }
 }
 
-/// Returns whether `byte` is a digit in the mantissa radix or the exponent radix of `format`.
+/// Returns whether `byte` is a digit in the mantissa radix or the exponent radix of `format`, that is, in the larger of
+/// the two. To read a digit of the mantissa or of the exponent, use `NumberFormat::mantissa_digit` or
+/// `NumberFormat::exponent_digit`.
 ///
 /// The case of a letter does not matter: in radix 16, both `f` and `F` are digits. If the exponent radix is 0, the
 /// mantissa radix replaces it. The exponent base does not affect the result. `format` need not be [lawful][Rule].
 #[must_use]
 #[inline]
-pub const fn is_digit(format: u128, byte: u8) -> bool
+pub const fn is_digit_of_either_radix(format: u128, byte: u8) -> bool
     ensures { IsTrue result ↔ IsTrue (digits (raw format) byte) }
 {
     digit_facts();
@@ -183,7 +185,7 @@ pub(crate) const fn is_valid_exponent_radix(format: u128) -> bool
 /// Returns whether the digit separator of `format` is absent or punctuation.
 ///
 /// A byte of 0 is *absent*. *Punctuation* is any byte that [`is_valid_ascii`][lexical_base::ascii::is_valid_ascii]
-/// accepts, except signs (`+` and `-`) and [digits][is_digit] of `format`.
+/// accepts, except signs (`+` and `-`) and [digits][is_digit_of_either_radix] of `format`.
 ///
 /// The flags do not affect the result: a digit is rejected even if no flag allows a separator, and 0 is accepted even
 /// if a flag allows one.
@@ -198,7 +200,7 @@ pub const fn is_valid_digit_separator(format: u128) -> bool
 /// Returns whether the base prefix of `format` is absent or punctuation.
 ///
 /// A byte of 0 is *absent*. *Punctuation* is any byte that [`is_valid_ascii`][lexical_base::ascii::is_valid_ascii]
-/// accepts, except signs (`+` and `-`) and [digits][is_digit] of `format`.
+/// accepts, except signs (`+` and `-`) and [digits][is_digit_of_either_radix] of `format`.
 #[must_use]
 #[inline]
 pub const fn is_valid_base_prefix(format: u128) -> bool
@@ -210,7 +212,7 @@ pub const fn is_valid_base_prefix(format: u128) -> bool
 /// Returns whether the base suffix of `format` is absent or punctuation.
 ///
 /// A byte of 0 is *absent*. *Punctuation* is any byte that [`is_valid_ascii`][lexical_base::ascii::is_valid_ascii]
-/// accepts, except signs (`+` and `-`) and [digits][is_digit] of `format`.
+/// accepts, except signs (`+` and `-`) and [digits][is_digit_of_either_radix] of `format`.
 #[must_use]
 #[inline]
 pub const fn is_valid_base_suffix(format: u128) -> bool
@@ -282,12 +284,12 @@ const fn is_disjoint_from_format_roles(format: u128, byte: u8, case_sensitive: b
 /// `decimal_point`.
 ///
 /// Each must be a byte that [`is_valid_ascii`][lexical_base::ascii::is_valid_ascii] accepts and that is neither a sign
-/// (`+` or `-`) nor a [digit][is_digit] of `format`. So neither may be 0. The two must differ from each other, and from
-/// the digit separator, the base prefix and the base suffix. If the exponent character is a letter, it matches both
-/// cases of that letter unless [`CASE_SENSITIVE_EXPONENT`] is set. The base prefix and the base suffix are compared as
-/// in [`is_valid_punctuation`]. The decimal point is always case-sensitive. Every [lawful][Rule] format accepts at
-/// least one pair. With such a pair, no byte has two meanings in a number. `lexical-util` compares the raw bytes, so a
-/// letter matches only its own case there.
+/// (`+` or `-`) nor a [digit][is_digit_of_either_radix] of `format`. So neither may be 0. The two must differ from each
+/// other, and from the digit separator, the base prefix and the base suffix. If the exponent character is a letter, it
+/// matches both cases of that letter unless [`CASE_SENSITIVE_EXPONENT`] is set. The base prefix and the base suffix are
+/// compared as in [`is_valid_punctuation`]. The decimal point is always case-sensitive. Every [lawful][Rule] format
+/// accepts at least one pair. With such a pair, no byte has two meanings in a number. `lexical-util` compares the raw
+/// bytes, so a letter matches only its own case there.
 ///
 /// ```
 /// use peltzivar::format::{is_valid_options_punctuation, STANDARD};

@@ -152,7 +152,14 @@ impl NumberFormat {
             → IsOnlyRole (raw self.now) exponent decimal_point byte result }
     {
         role_facts();
-        if self.is_digit(byte) {
+        self.first_role(exponent, decimal_point, byte)
+    }
+
+    // Returns the first role that `byte` plays, in the order of the variants of `Role`.
+    const fn first_role(&self, exponent: u8, decimal_point: u8, byte: u8) -> Option<Role>
+        ensures { result ≡ first_role (raw self.now) exponent decimal_point byte }
+    {
+        if flags::is_digit_of_either_radix(self.word(), byte) {
             Some(Role::Digit)
         } else if is_sign(byte) {
             Some(Role::Sign)

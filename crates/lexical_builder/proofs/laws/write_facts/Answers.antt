@@ -1,8 +1,13 @@
+use Rattle.std.proofs.Common.{ap, unwrap_or}
+use Rattle.lexical_builder.specs.Writes.{after}
 use Rattle.lexical_builder.proofs.WriteLemmas.{after_none, after-append}
 use Rattle.lexical_builder.proofs.laws.write_facts.Goals as goal
 
-pub returns-clause-none : goal.returns-clause-none
-returns-clause-none c = after_none
-
-pub returns-clause-append : goal.returns-clause-append
-returns-clause-append c = after-append
+pub returns : goal.returns
+unfolding after
+returns c = record {
+  none = after_none;
+  append = after-append;
+  kept_flag = λ r writes f none. ap (λ written. unwrap_or written (r.flag f)) none;
+  kept_byte = λ r writes b none. ap (λ written. unwrap_or written (r.byte b)) none;
+}

@@ -12,6 +12,6 @@ returns c = rw (
   c.some_if-2.ensures,
   c.some_if-3.ensures,
   same _ _ c.is_valid_ascii.ensures,
-  same _ _ c.is_digit.ensures,
+  same _ _ c.is_digit_of_either_radix.ensures,
   c.radix_of_digit.ensures,
 ) refl
