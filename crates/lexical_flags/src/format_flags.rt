@@ -17,8 +17,11 @@ mod all_rules;
 mod parts;
 mod rules;
 
+#[doc(no_inline)]
 pub use crate::format_flags::all_rules::{RULES, Rule};
+#[doc(no_inline)]
 pub use crate::format_flags::parts::Part;
+#[doc(no_inline)]
 pub use crate::format_flags::rules::{
     check, clashes, format_error_impl, is_clean, is_digit_of_either_radix, is_separator_allowed,
     is_valid_base_prefix, is_valid_base_suffix, is_valid_digit_separator, is_valid_exponent_flags,
