@@ -19,7 +19,7 @@ pub(crate) use text::Fault;
 pub use text::{byte_from_decimal, SettingError, SettingErrorKind};
 
 /// Calls the setter of `edit` on `builder`, and returns the new builder.
-#[inline]
+#[inline(always)]
 pub const fn apply(builder: NumberFormatBuilder, edit: Edit) -> NumberFormatBuilder {
     match edit {
         Edit::Flag(setter, flag) => apply_flag(builder, setter, flag),
@@ -34,7 +34,7 @@ pub const fn apply(builder: NumberFormatBuilder, edit: Edit) -> NumberFormatBuil
 }
 
 // Calls a flag setter or a group setter with `flag`.
-#[inline]
+#[inline(always)]
 const fn apply_flag(
     builder: NumberFormatBuilder,
     setter: FlagSetter,
@@ -48,7 +48,7 @@ const fn apply_flag(
 /// To build a new format, apply the edits to a new builder, and call
 /// [`build_strict`][NumberFormatBuilder::build_strict]. The mantissa radix is used in place of an exponent base or
 /// exponent radix that no edit sets.
-#[inline]
+#[inline(always)]
 pub const fn apply_all(mut builder: NumberFormatBuilder, edits: &[Edit]) -> NumberFormatBuilder {
     let mut index = 0;
     while index < edits.len() {

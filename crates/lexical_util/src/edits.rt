@@ -29,7 +29,7 @@ pub(crate) use text::Fault;
 pub use text::{SettingError, SettingErrorKind, byte_from_decimal};
 
 /// Calls the setter of `edit` on `builder`, and returns the new builder.
-#[inline]
+#[inline(always)]
 pub const fn apply(builder: NumberFormatBuilder, edit: Edit) -> NumberFormatBuilder
     ensures fields { result ≡ after builder (writes_of edit) }
     ensures legal { All IsLegal (writes_of edit) }
@@ -47,7 +47,7 @@ pub const fn apply(builder: NumberFormatBuilder, edit: Edit) -> NumberFormatBuil
 }
 
 // Calls a flag setter or a group setter with `flag`.
-#[inline]
+#[inline(always)]
 const fn apply_flag(
     builder: NumberFormatBuilder,
     setter: FlagSetter,
@@ -63,7 +63,7 @@ const fn apply_flag(
 /// To build a new format, apply the edits to a new builder, and call
 /// [`build_strict`][NumberFormatBuilder::build_strict]. The mantissa radix is used in place of an exponent base or
 /// exponent radix that no edit sets.
-#[inline]
+#[inline(always)]
 pub const fn apply_all(mut builder: NumberFormatBuilder, edits: &[Edit]) -> NumberFormatBuilder
     ensures fields { result ≡ after builder (all_writes edits.now) }
     ensures legal { All IsLegal (all_writes edits.now) }
