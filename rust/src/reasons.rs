@@ -17,11 +17,9 @@ mod text;
 pub use note::{notes, notes_beside_reasons, notes_of_fields, Note, MAX_NOTES};
 
 /// The number of slots in the array that [`reasons`] returns.
-#[doc(hidden)]
 pub const MAX_REASONS: usize = 18;
 
 /// The number of slots in the array that [`options_reasons`] returns.
-#[doc(hidden)]
 pub const MAX_OPTIONS_REASONS: usize = 9;
 
 /// A byte of a format word, or a character that options choose.
@@ -134,7 +132,6 @@ struct Characters {
 /// [`Reason::breaks`] returns whether a word breaks a rule because of a reason, and [`Reason::mask`] returns the bits
 /// that a reason blames.
 #[must_use]
-#[doc(hidden)]
 pub const fn reasons(format: u128) -> [Option<Reason>; MAX_REASONS] {
     let word = Characters {
         format,
@@ -174,7 +171,6 @@ pub const fn reasons(format: u128) -> [Option<Reason>; MAX_REASONS] {
 ///
 /// For such a reason, [`Reason::rule`] returns `None`, and [`Reason::mask`] has only bits of the format word.
 #[must_use]
-#[doc(hidden)]
 pub const fn options_reasons(
     format: u128,
     exponent: u8,

@@ -8,7 +8,6 @@ use crate::format_flags as flags;
 use crate::reasons::{reasons, some_if, Byte, Characters, NamedByte, Reason};
 
 /// The maximum number of notes on a format word.
-#[doc(hidden)]
 pub const MAX_NOTES: usize = 3;
 
 /// A note on a field that is set but has no effect on any number. The rules may still read the field.
@@ -47,14 +46,12 @@ impl Note {
 ///
 /// A note is not an error, so a lawful word may have notes. A field that a reason [blames][Reason] has no note.
 #[must_use]
-#[doc(hidden)]
 pub const fn notes(format: u128) -> [Option<Note>; MAX_NOTES] {
     notes_beside_reasons(format, &reasons(format))
 }
 
 /// Returns the notes on a format word for which [`reasons`] returns `reasons`, as [`notes`] does.
 #[must_use]
-#[doc(hidden)]
 pub const fn notes_beside_reasons(
     format: u128,
     reasons: &[Option<Reason>],
@@ -66,7 +63,6 @@ pub const fn notes_beside_reasons(
 ///
 /// A digit separator that no flag allows has a note, although the builder does not pack it.
 #[must_use]
-#[doc(hidden)]
 pub const fn notes_of_fields(builder: &NumberFormatBuilder) -> [Option<Note>; MAX_NOTES] {
     let separator = match builder.get_digit_separator() {
         Some(byte) => byte.get(),

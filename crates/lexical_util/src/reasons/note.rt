@@ -18,7 +18,6 @@ use lexical_builder::format_builder::NumberFormatBuilder;
 use lexical_flags::format_flags as flags;
 
 /// The maximum number of notes on a format word.
-#[doc(hidden)]
 pub const MAX_NOTES: usize = 3;
 
 /// A note on a field that is set but has no effect on any number. The rules may still read the field.
@@ -59,7 +58,6 @@ impl Note {
 ///
 /// A note is not an error, so a lawful word may have notes. A field that a reason [blames][Reason] has no note.
 #[must_use]
-#[doc(hidden)]
 pub const fn notes(format: u128) -> [Option<Note>; MAX_NOTES]
     ensures each { result ≡ notes_beside (blamed (reason_slots format)) (raw format) }
 
@@ -89,7 +87,6 @@ pub const fn notes(format: u128) -> [Option<Note>; MAX_NOTES]
 
 /// Returns the notes on a format word for which [`reasons`] returns `reasons`, as [`notes`] does.
 #[must_use]
-#[doc(hidden)]
 pub const fn notes_beside_reasons(
     format: u128,
     reasons: &[Option<Reason>],
@@ -103,7 +100,6 @@ pub const fn notes_beside_reasons(
 ///
 /// A digit separator that no flag allows has a note, although the builder does not pack it.
 #[must_use]
-#[doc(hidden)]
 pub const fn notes_of_fields(builder: &NumberFormatBuilder) -> [Option<Note>; MAX_NOTES]
     ensures { result ≡ notes_beside (blamed (reason_slots (pack builder.now))) builder.now }
 {
