@@ -12,14 +12,12 @@ pub use slices::{is_valid_ascii_slice, is_valid_letter_slice};
 /// space, and the visible characters `!` to `~`. The result is `false` for every other byte, including 127 (delete) and
 /// all bytes above it.
 #[must_use]
-#[inline(always)]
 pub const fn is_valid_ascii(c: u8) -> bool {
     (c >= 0x09 && c <= 0x0d) || (c >= 0x20 && c < 0x7f)
 }
 
 /// Returns whether the byte `c` is an ASCII letter, uppercase or lowercase.
 #[must_use]
-#[inline(always)]
 pub const fn is_valid_letter(c: u8) -> bool {
     (c >= b'A' && c <= b'Z') || (c >= b'a' && c <= b'z')
 }

@@ -30,7 +30,6 @@ const VALUES: [u32; 256] = [
 ];
 
 // Returns the value of the byte `c`: 0 to 35 for a digit character, and 255 for any other byte.
-#[inline(always)]
 const fn byte_value(c: u8) -> u32 {
     VALUES[c as usize]
 }
@@ -41,7 +40,6 @@ const fn byte_value(c: u8) -> u32 {
 /// `radix` may be any number. If it is at most 10, the result is `c.wrapping_sub(b'0')`. If it is above 10, the result
 /// is between 0 and 35 for a digit character, and 255 for any other byte.
 #[must_use]
-#[inline(always)]
 pub const fn char_to_valid_digit_const(c: u8, radix: u32) -> u32 {
     if radix <= 10 {
         c.wrapping_sub(b'0') as u32
@@ -56,7 +54,6 @@ pub const fn char_to_valid_digit_const(c: u8, radix: u32) -> u32 {
 /// be any number. If it is at least 36, all these characters are digits. If it is above 255, every other byte is also a
 /// digit, and has the value 255.
 #[must_use]
-#[inline(always)]
 pub const fn char_to_digit_const(c: u8, radix: u32) -> Option<u32> {
     let digit = char_to_valid_digit_const(c, radix);
     if digit < radix {
@@ -68,7 +65,6 @@ pub const fn char_to_digit_const(c: u8, radix: u32) -> Option<u32> {
 
 /// Returns whether the byte `c` is a digit in the given radix, that is, whether [`char_to_digit_const`] returns `Some`.
 #[must_use]
-#[inline(always)]
 pub const fn char_is_digit_const(c: u8, radix: u32) -> bool {
     matches!(char_to_digit_const(c, radix), Some(_))
 }
@@ -82,7 +78,6 @@ pub const fn char_is_digit_const(c: u8, radix: u32) -> bool {
 ///
 /// If `digit` is 36 or more, the result is unspecified, and the call may panic if overflow checks are enabled.
 #[must_use]
-#[inline(always)]
 pub const fn digit_to_char_const(digit: u32, radix: u32) -> u8 {
     if radix <= 10 || digit < 10 {
         digit as u8 + b'0'
@@ -95,7 +90,6 @@ pub const fn digit_to_char_const(digit: u32, radix: u32) -> u8 {
 ///
 /// [`char_to_digit_const`] returns the same result. Use `char_to_digit` for a radix that is known only at run time.
 #[must_use]
-#[inline(always)]
 pub const fn char_to_digit(c: u8, radix: u32) -> Option<u32> {
     let digit = byte_value(c);
     if digit < radix {
@@ -107,7 +101,6 @@ pub const fn char_to_digit(c: u8, radix: u32) -> Option<u32> {
 
 /// Returns whether the byte `c` is a digit in the given radix, that is, whether [`char_to_digit`] returns `Some`.
 #[must_use]
-#[inline(always)]
 pub const fn char_is_digit(c: u8, radix: u32) -> bool {
     matches!(char_to_digit(c, radix), Some(_))
 }
@@ -120,7 +113,6 @@ pub const fn char_is_digit(c: u8, radix: u32) -> bool {
 ///
 /// Panics if `digit` is 36 or more.
 #[must_use]
-#[inline(always)]
 pub const fn digit_to_char(digit: u32) -> u8 {
     DIGIT_CHARACTERS[digit as usize]
 }

@@ -111,7 +111,6 @@ pub const fn edit_word(format: u128, edits: &[Edit]) -> u128 {
 /// - The normal form of a lawful word is lawful. If no separator is dropped and no reserved bit, it has the same error.
 /// - If no separator is dropped, all edits turn `format` and the result into the same word.
 #[must_use]
-#[inline(always)]
 pub const fn normal_form(format: u128) -> u128 {
     NumberFormatBuilder::rebuild(format).build_unchecked()
 }

@@ -158,7 +158,6 @@ impl Error {
     ///
     /// See [`Error::index`] for the index, and `Display` for the whole text.
     #[must_use]
-    #[inline(always)]
     pub const fn description(&self) -> &'static str {
         match self {
             Error::Overflow(_) => "'numeric overflow occurred'",
@@ -239,7 +238,6 @@ impl Error {
 
     /// Returns the index of the offending byte if this is a parse error, and `None` otherwise.
     #[must_use]
-    #[inline(always)]
     pub const fn index(&self) -> Option<&usize> {
         match self {
             Error::Overflow(index)
@@ -562,7 +560,6 @@ impl Error {
     /// Returns the rank of the variant: its index in the list of the 49 variants, from 0 to 48.
     #[must_use]
     #[doc(hidden)]
-    #[inline(always)]
     pub const fn rank(&self) -> u8 {
         match self {
             Error::Overflow(_) => 0,
@@ -622,7 +619,6 @@ impl Error {
     /// If it is a parse error, it holds `index`. Otherwise, `index` is ignored.
     #[must_use]
     #[doc(hidden)]
-    #[inline(always)]
     pub const fn from_rank(rank: u8, index: usize) -> Option<Error> {
         match rank {
             0 => Some(Error::Overflow(index)),
@@ -711,7 +707,6 @@ impl Error {
 
 impl Class {
     // Returns the text that `Display` prints before the description.
-    #[inline(always)]
     const fn start(self) -> &'static str {
         match self {
             Class::Parse => "lexical parse error: ",

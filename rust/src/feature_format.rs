@@ -182,125 +182,85 @@ impl Format {
 }
 
 fields! {
-    /// This is true if the format requires digits before the decimal point. In that case, a parser rejects `.5`. See
-    /// the [setter][NumberFormatBuilder::required_integer_digits].
+    /// Whether the format requires digits before the decimal point.
     REQUIRED_INTEGER_DIGITS required_integer_digits bool;
-    /// This is true if the format requires digits after a decimal point. In that case, a parser rejects `1.` but
-    /// accepts `1`. See the [setter][NumberFormatBuilder::required_fraction_digits].
+    /// Whether the format requires digits after a decimal point.
     REQUIRED_FRACTION_DIGITS required_fraction_digits bool;
-    /// This is true if the format requires digits after an exponent character. In that case, a parser rejects `1e`. See
-    /// the [setter][NumberFormatBuilder::required_exponent_digits].
+    /// Whether the format requires digits after an exponent character.
     REQUIRED_EXPONENT_DIGITS required_exponent_digits bool;
-    /// This is true if the format requires a digit in the mantissa of a float. In that case, a parser rejects `.`. See
-    /// the [setter][NumberFormatBuilder::required_mantissa_digits].
+    /// Whether the format requires a digit in the mantissa of a float.
     REQUIRED_MANTISSA_DIGITS required_mantissa_digits bool;
-    /// This is true if any of the flags that require digits is set. See the
-    /// [setter][NumberFormatBuilder::required_digits].
+    /// Whether any of the flags that require digits is set.
     REQUIRED_DIGITS required_digits bool;
-    /// This is true if the format forbids a `+` before an integer or a float. In that case, a parser rejects `+1` but
-    /// accepts `-1`. See the [setter][NumberFormatBuilder::no_positive_mantissa_sign].
+    /// Whether the format forbids a `+` before an integer or a float.
     NO_POSITIVE_MANTISSA_SIGN no_positive_mantissa_sign bool;
-    /// This is true if the format requires a sign before an integer or a float. In that case, a parser rejects `1`, and
-    /// a writer writes `+1`. See the [setter][NumberFormatBuilder::required_mantissa_sign].
+    /// Whether the format requires a sign before an integer or a float.
     REQUIRED_MANTISSA_SIGN required_mantissa_sign bool;
-    /// This is true if the format forbids an exponent in a float. In that case, a parser rejects `1e5`, and a writer
-    /// writes all digits instead. See the [setter][NumberFormatBuilder::no_exponent_notation].
+    /// Whether the format forbids an exponent in a float.
     NO_EXPONENT_NOTATION no_exponent_notation bool;
-    /// This is true if the format forbids a `+` in the exponent. In that case, a parser rejects `1e+5` but accepts
-    /// `1e5` and `1e-5`. See the [setter][NumberFormatBuilder::no_positive_exponent_sign].
+    /// Whether the format forbids a `+` in the exponent.
     NO_POSITIVE_EXPONENT_SIGN no_positive_exponent_sign bool;
-    /// This is true if the format requires a sign in the exponent. In that case, a parser rejects `1e5`, and a writer
-    /// writes `1e+5`. See the [setter][NumberFormatBuilder::required_exponent_sign].
+    /// Whether the format requires a sign in the exponent.
     REQUIRED_EXPONENT_SIGN required_exponent_sign bool;
-    /// This is true if the format requires a decimal point before an exponent. In that case, a parser rejects `1e5` but
-    /// accepts `1.0e5`. See the [setter][NumberFormatBuilder::no_exponent_without_fraction].
+    /// Whether the format requires a decimal point before an exponent.
     NO_EXPONENT_WITHOUT_FRACTION no_exponent_without_fraction bool;
-    /// This is true if the format forbids all special values. In that case, a parser rejects `NaN` and `inf`. See the
-    /// [setter][NumberFormatBuilder::no_special].
+    /// Whether the format forbids all special values.
     NO_SPECIAL no_special bool;
-    /// This is true if special values are case-sensitive. In that case, a parser rejects `nan` when the spelling of NaN
-    /// is `NaN`. See the [setter][NumberFormatBuilder::case_sensitive_special].
+    /// Whether special values are case-sensitive.
     CASE_SENSITIVE_SPECIAL case_sensitive_special bool;
-    /// This is true if the format forbids leading zeros in an integer. In that case, a parser rejects the integer
-    /// `01` but accepts `0`. See the [setter][NumberFormatBuilder::no_integer_leading_zeros].
+    /// Whether the format forbids leading zeros in an integer.
     NO_INTEGER_LEADING_ZEROS no_integer_leading_zeros bool;
-    /// This is true if the format forbids leading zeros in a float. In that case, a parser rejects `01.0` but accepts
-    /// `0.1`. See the [setter][NumberFormatBuilder::no_float_leading_zeros].
+    /// Whether the format forbids leading zeros in a float.
     NO_FLOAT_LEADING_ZEROS no_float_leading_zeros bool;
-    /// This is true if the format requires an exponent in a float. In that case, a parser rejects `1.0`, and a writer
-    /// writes every float with an exponent. See the [setter][NumberFormatBuilder::required_exponent_notation].
+    /// Whether the format requires an exponent in a float.
     REQUIRED_EXPONENT_NOTATION required_exponent_notation bool;
-    /// This is true if the exponent character is case-sensitive. In that case, a parser rejects `1E5` when the exponent
-    /// character is `e`. See the [setter][NumberFormatBuilder::case_sensitive_exponent].
+    /// Whether the exponent character is case-sensitive.
     CASE_SENSITIVE_EXPONENT case_sensitive_exponent bool;
-    /// This is true if the base prefix is case-sensitive. In that case, a parser rejects `0X1F` when the base prefix is
-    /// `x`. See the [setter][NumberFormatBuilder::case_sensitive_base_prefix].
+    /// Whether the base prefix is case-sensitive.
     CASE_SENSITIVE_BASE_PREFIX case_sensitive_base_prefix bool;
-    /// This is true if the base suffix is case-sensitive. In that case, a parser rejects `1FH` when the base suffix is
-    /// `h`. See the [setter][NumberFormatBuilder::case_sensitive_base_suffix].
+    /// Whether the base suffix is case-sensitive.
     CASE_SENSITIVE_BASE_SUFFIX case_sensitive_base_suffix bool;
-    /// This is true if the format allows a digit separator between integer digits. In that case, a parser accepts
-    /// `1_2`. See the [setter][NumberFormatBuilder::integer_internal_digit_separator].
+    /// Whether the format allows a digit separator between integer digits.
     INTEGER_INTERNAL_DIGIT_SEPARATOR integer_internal_digit_separator bool;
-    /// This is true if the format allows a digit separator between fraction digits. In that case, a parser accepts
-    /// `0.1_2`. See the [setter][NumberFormatBuilder::fraction_internal_digit_separator].
+    /// Whether the format allows a digit separator between fraction digits.
     FRACTION_INTERNAL_DIGIT_SEPARATOR fraction_internal_digit_separator bool;
-    /// This is true if the format allows a digit separator between exponent digits. In that case, a parser accepts
-    /// `1e1_2`. See the [setter][NumberFormatBuilder::exponent_internal_digit_separator].
+    /// Whether the format allows a digit separator between exponent digits.
     EXPONENT_INTERNAL_DIGIT_SEPARATOR exponent_internal_digit_separator bool;
-    /// This is true if any of the flags that allow a digit separator between digits is set. See the
-    /// [setter][NumberFormatBuilder::internal_digit_separator].
+    /// Whether any of the flags that allow a digit separator between digits is set.
     INTERNAL_DIGIT_SEPARATOR internal_digit_separator bool;
-    /// This is true if the format allows a digit separator before the integer digits. In that case, a parser accepts
-    /// `_12`. See the [setter][NumberFormatBuilder::integer_leading_digit_separator].
+    /// Whether the format allows a digit separator before the integer digits.
     INTEGER_LEADING_DIGIT_SEPARATOR integer_leading_digit_separator bool;
-    /// This is true if the format allows a digit separator before the fraction digits. In that case, a parser accepts
-    /// `0._12`. See the [setter][NumberFormatBuilder::fraction_leading_digit_separator].
+    /// Whether the format allows a digit separator before the fraction digits.
     FRACTION_LEADING_DIGIT_SEPARATOR fraction_leading_digit_separator bool;
-    /// This is true if the format allows a digit separator before the exponent digits. In that case, a parser accepts
-    /// `1e_12`. See the [setter][NumberFormatBuilder::exponent_leading_digit_separator].
+    /// Whether the format allows a digit separator before the exponent digits.
     EXPONENT_LEADING_DIGIT_SEPARATOR exponent_leading_digit_separator bool;
-    /// This is true if any of the flags that allow a digit separator before digits is set. See the
-    /// [setter][NumberFormatBuilder::leading_digit_separator].
+    /// Whether any of the flags that allow a digit separator before digits is set.
     LEADING_DIGIT_SEPARATOR leading_digit_separator bool;
-    /// This is true if the format allows a digit separator after the integer digits. In that case, a parser accepts
-    /// `12_`. See the [setter][NumberFormatBuilder::integer_trailing_digit_separator].
+    /// Whether the format allows a digit separator after the integer digits.
     INTEGER_TRAILING_DIGIT_SEPARATOR integer_trailing_digit_separator bool;
-    /// This is true if the format allows a digit separator after the fraction digits. In that case, a parser accepts
-    /// `0.12_`. See the [setter][NumberFormatBuilder::fraction_trailing_digit_separator].
+    /// Whether the format allows a digit separator after the fraction digits.
     FRACTION_TRAILING_DIGIT_SEPARATOR fraction_trailing_digit_separator bool;
-    /// This is true if the format allows a digit separator after the exponent digits. In that case, a parser accepts
-    /// `1e12_`. See the [setter][NumberFormatBuilder::exponent_trailing_digit_separator].
+    /// Whether the format allows a digit separator after the exponent digits.
     EXPONENT_TRAILING_DIGIT_SEPARATOR exponent_trailing_digit_separator bool;
-    /// This is true if any of the flags that allow a digit separator after digits is set. See the
-    /// [setter][NumberFormatBuilder::trailing_digit_separator].
+    /// Whether any of the flags that allow a digit separator after digits is set.
     TRAILING_DIGIT_SEPARATOR trailing_digit_separator bool;
-    /// This is true if the format allows consecutive digit separators in the integer part. In that case, a parser
-    /// accepts several separators in a row wherever it accepts a single one: `1__2`, `__12`, `12__`. See the
-    /// [setter][NumberFormatBuilder::integer_consecutive_digit_separator].
+    /// Whether the format allows consecutive digit separators in the integer part.
     INTEGER_CONSECUTIVE_DIGIT_SEPARATOR integer_consecutive_digit_separator bool;
-    /// This is true if the format allows consecutive digit separators in the fraction. In that case, a parser accepts
-    /// several separators in a row wherever it accepts a single one: `0.1__2`, `0.__12`, `0.12__`. See the
-    /// [setter][NumberFormatBuilder::fraction_consecutive_digit_separator].
+    /// Whether the format allows consecutive digit separators in the fraction.
     FRACTION_CONSECUTIVE_DIGIT_SEPARATOR fraction_consecutive_digit_separator bool;
-    /// This is true if the format allows consecutive digit separators in the exponent. In that case, a parser accepts
-    /// several separators in a row wherever it accepts a single one: `1e1__2`, `1e__12`, `1e12__`. See the
-    /// [setter][NumberFormatBuilder::exponent_consecutive_digit_separator].
+    /// Whether the format allows consecutive digit separators in the exponent.
     EXPONENT_CONSECUTIVE_DIGIT_SEPARATOR exponent_consecutive_digit_separator bool;
-    /// This is true if any of the flags that allow consecutive digit separators is set. See the
-    /// [setter][NumberFormatBuilder::consecutive_digit_separator].
+    /// Whether any of the flags that allow consecutive digit separators is set.
     CONSECUTIVE_DIGIT_SEPARATOR consecutive_digit_separator bool;
-    /// This is true if the format allows digit separators in special values. In that case, a parser accepts `N__a_N_`
-    /// as `NaN`. See the [setter][NumberFormatBuilder::special_digit_separator].
+    /// Whether the format allows digit separators in special values.
     SPECIAL_DIGIT_SEPARATOR special_digit_separator bool;
-    /// The [mantissa radix][NumberFormatBuilder::mantissa_radix], a number from 0 to 255.
+    /// The [mantissa radix][NumberFormatBuilder::mantissa_radix], between 2 and 36 in a lawful word.
     MANTISSA_RADIX mantissa_radix u32;
     /// The mantissa radix, which [`mantissa_radix`][Self::mantissa_radix] returns too.
     RADIX radix u32;
-    /// The [exponent base][NumberFormatBuilder::exponent_base], or the mantissa radix if the exponent base byte is 0.
+    /// The [exponent base][NumberFormatBuilder::exponent_base], or the mantissa radix if the byte is 0.
     EXPONENT_BASE exponent_base u32;
-    /// The [exponent radix][NumberFormatBuilder::exponent_radix], or the mantissa radix if the exponent radix byte is
-    /// 0.
+    /// The [exponent radix][NumberFormatBuilder::exponent_radix], or the mantissa radix if the byte is 0.
     EXPONENT_RADIX exponent_radix u32;
 }
 

@@ -15,11 +15,8 @@ pub use non_zero::NonZeroU8;
 // The bit at which the digit separator flags of a builder start. In a format word, they start at bit 32.
 const FIRST_SEPARATOR: u32 = u128::count_ones(flags::FLAG_MASK % (1 << 32));
 
-// The masks of a builder's flags: first the flags below the digit separator flags, whose bits are the same in a format
-// word, and then the digit separator flags.
+// The mask of the flags below the digit separator flags. Their bits in a builder are the same as in a format word.
 const LOW_FLAGS: u32 = (1 << FIRST_SEPARATOR) - 1;
-
-const SEPARATOR_FLAGS: u32 = (flags::DIGIT_SEPARATOR_FLAG_MASK >> (32 - FIRST_SEPARATOR)) as u32;
 
 // The flags that are set in a new builder, at their bits in a format word.
 const NEW_FLAGS: u128 = 0xC;
@@ -83,7 +80,6 @@ pub struct NumberFormatBuilder {
 }
 
 impl Default for NumberFormatBuilder {
-    #[inline(always)]
     fn default() -> Self {
         Self::new()
     }
@@ -97,7 +93,6 @@ impl NumberFormatBuilder {
     /// The mantissa radix is 10. The digit separator, the base prefix, the base suffix, the exponent base and the
     /// exponent radix are absent. The flags `required_exponent_digits` and `required_mantissa_digits` are true, and all
     /// other flags are false.
-    #[inline(always)]
     pub const fn new() -> Self {
         NumberFormatBuilder {
             flags: 0xC,
@@ -107,28 +102,24 @@ impl NumberFormatBuilder {
 
     /// Returns the format word for binary numbers, which is [`from_radix(2)`][Self::from_radix].
     #[must_use]
-    #[inline(always)]
     pub const fn binary() -> u128 {
         Self::from_radix(2)
     }
 
     /// Returns the format word for octal numbers, which is [`from_radix(8)`][Self::from_radix].
     #[must_use]
-    #[inline(always)]
     pub const fn octal() -> u128 {
         Self::from_radix(8)
     }
 
     /// Returns the format word for decimal numbers, which is [`from_radix(10)`][Self::from_radix].
     #[must_use]
-    #[inline(always)]
     pub const fn decimal() -> u128 {
         Self::from_radix(10)
     }
 
     /// Returns the format word for hexadecimal numbers, which is [`from_radix(16)`][Self::from_radix].
     #[must_use]
-    #[inline(always)]
     pub const fn hexadecimal() -> u128 {
         Self::from_radix(16)
     }
@@ -138,7 +129,6 @@ impl NumberFormatBuilder {
     ///
     /// The radix is not checked. The word is [lawful][flags::Rule] if and only if `radix` is between 2 and 36.
     #[must_use]
-    #[inline(always)]
     pub const fn from_radix(radix: u8) -> u128 {
         NEW_FLAGS + (radix as u128) * ONE_IN_EACH_RADIX
     }
@@ -152,7 +142,6 @@ impl NumberFormatBuilder {
     /// If no flag allows digit separators in numbers or special values, the digit separator is dropped: its byte in the
     /// word is 0. All other fields are packed as they are.
     #[must_use]
-    #[inline(always)]
     pub const fn build_unchecked(&self) -> u128 {
         let [separator, prefix, suffix, radix, exponent_base, exponent_radix] = self.bytes;
         let flags = word_flags(self.flags);
@@ -180,7 +169,6 @@ impl NumberFormatBuilder {
     /// - The result is `Ok` if and only if the packed word is lawful.
     /// - A returned word has the fields of the builder, without a separator that no flag allows.
     /// - The error is that of the first broken rule. It is never `Success`, nor `InvalidFlags`.
-    #[inline(always)]
     pub const fn build_strict(&self) -> Result<u128, Error> {
         check(self.build_unchecked())
     }
@@ -188,7 +176,6 @@ impl NumberFormatBuilder {
     /// Packs the fields into a format word, as [`build_unchecked`][Self::build_unchecked] does. In `lexical-util`,
     /// `build` is deprecated.
     #[must_use]
-    #[inline(always)]
     #[deprecated = "Use `build_strict` or `build_unchecked` instead."]
     pub const fn build(&self) -> u128 {
         self.build_unchecked()
@@ -208,7 +195,6 @@ impl NumberFormatBuilder {
     /// let octal = NumberFormatBuilder::from_word(hexadecimal).mantissa_radix(8).build_unchecked();
     /// assert_eq!(octal, 0x00000800_00000000_00000000_0000000C);
     /// ```
-    #[inline(always)]
     pub const fn from_word(word: u128) -> Self {
         let upper = (word >> 64) as u64;
         NumberFormatBuilder {
@@ -230,7 +216,6 @@ impl NumberFormatBuilder {
     /// The exponent base and the exponent radix are therefore not affected by later changes to the mantissa radix. If
     /// the mantissa radix is 0 too, an exponent base or exponent radix of 0 stays 0. The digit separator is kept even
     /// if no flag allows one. The reserved bits, which hold no field, are dropped.
-    #[inline(always)]
     pub const fn rebuild(format: u128) -> Self {
         let high = (format >> 64) as u64;
         let radix = (high >> MANTISSA_SHIFT) % 256;
@@ -249,49 +234,22 @@ impl NumberFormatBuilder {
         }
     }
 
-    // PARTS
-
-    /// Returns a builder with the given flags and bytes, laid out as [`to_parts`][Self::to_parts] returns them.
-    ///
-    /// Bits of `flags` above the last flag are ignored.
-    #[doc(hidden)]
-    #[inline(always)]
-    pub const fn from_parts(flags: u32, bytes: [u8; 6]) -> Self {
-        NumberFormatBuilder {
-            flags: flags & (LOW_FLAGS | SEPARATOR_FLAGS),
-            bytes,
-        }
-    }
-
-    /// Returns the flags and the bytes of the builder.
-    ///
-    /// Bits 0 to 30 of the `u32` are the flags, in the order of their bits in a format word. The bytes are, in this
-    /// order, the digit separator, the base prefix, the base suffix, the mantissa radix, the exponent base and the
-    /// exponent radix. An absent byte is 0.
-    #[must_use]
-    #[doc(hidden)]
-    #[inline(always)]
-    pub const fn to_parts(&self) -> (u32, [u8; 6]) {
-        (self.flags, self.bytes)
-    }
+    // FLAGS BY THEIR MASKS
 
     /// Sets every flag in `mask` to `value`. A flag is in `mask` if its bit in a format word is 1 in `mask`. The other
     /// bits of `mask` have no effect.
     #[doc(hidden)]
-    #[inline(always)]
     pub const fn with_flags(mut self, mask: u128, value: bool) -> Self {
         self.flags = replace_bits(self.flags, builder_flags(mask), value);
         self
     }
 
     // Returns whether the flag with this mask is set.
-    #[inline(always)]
     const fn has_flag(&self, mask: u128) -> bool {
         self.flags & builder_flags(mask) != 0
     }
 
     // Sets the byte at `index`.
-    #[inline(always)]
     const fn with_byte(mut self, index: usize, value: u8) -> Self {
         self.bytes[index] = value;
         self
@@ -300,7 +258,6 @@ impl NumberFormatBuilder {
 
 // Returns an exponent byte of a format word, or the mantissa radix if the byte is 0. Both are 64 bits wide, like the
 // upper half of a word, since a choice between narrower numbers is slower.
-#[inline(always)]
 const fn byte_or_radix(byte: u64, mantissa_radix: u64) -> u64 {
     if byte == 0 {
         mantissa_radix
@@ -310,7 +267,6 @@ const fn byte_or_radix(byte: u64, mantissa_radix: u64) -> u64 {
 }
 
 // Returns the flags of a format word, each at its bit in a builder.
-#[inline(always)]
 const fn builder_flags(format: u128) -> u32 {
     let low = (format & (LOW_FLAGS as u128)) as u32;
     let separators = ((format & flags::DIGIT_SEPARATOR_FLAG_MASK) >> 32) as u32;
@@ -318,20 +274,17 @@ const fn builder_flags(format: u128) -> u32 {
 }
 
 // Returns the flags of a builder, each at its bit in a format word.
-#[inline(always)]
 const fn word_flags(flags: u32) -> u128 {
     (flags & LOW_FLAGS) as u128
         | ((flags as u128) << (32 - FIRST_SEPARATOR)) & flags::DIGIT_SEPARATOR_FLAG_MASK
 }
 
 // Returns `bits` with all bits in `mask` set to `value`.
-#[inline(always)]
 const fn replace_bits(bits: u32, mask: u32, value: bool) -> u32 {
     (bits & !mask) | bits_if(value, mask)
 }
 
 // Returns `bits` if the condition is true, and 0 otherwise.
-#[inline(always)]
 const fn bits_if(condition: bool, bits: u32) -> u32 {
     if condition {
         bits
@@ -342,7 +295,6 @@ const fn bits_if(condition: bool, bits: u32) -> u32 {
 
 // Returns `WITH_SEPARATOR` if any of `flags`, the flags of a format word, allows a digit separator, and
 // `WITHOUT_SEPARATOR` otherwise.
-#[inline(always)]
 const fn kept_bytes(flags: u128) -> u64 {
     if flags & flags::DIGIT_SEPARATOR_FLAG_MASK != 0 {
         WITH_SEPARATOR
@@ -352,7 +304,6 @@ const fn kept_bytes(flags: u128) -> u64 {
 }
 
 // Returns the byte, or 0 if it is absent.
-#[inline(always)]
 const fn byte_or_zero(byte: OptionU8) -> u8 {
     match byte {
         Some(byte) => byte.get(),

@@ -62,16 +62,31 @@ impl FormatError {
         }
     }
 
-    /// Returns the text of a panic: the description of the error, a colon, and the first reason as a sentence.
-    pub(crate) const fn message(&self) -> Message {
-        let mut message = Message::new().with(self.code.description());
+    const fn first_reason(&self) -> Option<Reason> {
         let (reasons, mut index) = (self.candidates(), 0);
         while index < reasons.len() {
-            if let Some(reason) = reasons[index] {
-                message = message.with(": ").with_sentence(reason.text());
-                break;
+            if reasons[index].is_some() {
+                return reasons[index];
             }
             index += 1;
+        }
+        None
+    }
+
+    /// Returns the text of a panic: the description of the error, a colon, and the first reason as a sentence.
+    pub(crate) const fn message(&self) -> Message {
+        let mut message = Message {
+            bytes: [0; 512],
+            length: 0,
+        };
+        message.put(self.code.description());
+        if let Some(reason) = self.first_reason() {
+            let ShortText(first, second, third, fourth) = reason.text();
+            message.put(": ");
+            message.put_piece(first);
+            message.put_piece(second);
+            message.put_piece(third);
+            message.put_piece(fourth);
         }
         message
     }
@@ -81,7 +96,7 @@ impl core::error::Error for FormatError {}
 
 impl fmt::Display for FormatError {
     fn fmt(&self, f: &mut fmt::Formatter<'_>) -> fmt::Result {
-        match self.reasons().next() {
+        match self.first_reason() {
             Some(reason) => fmt::Display::fmt(&reason, f),
             None => fmt::Display::fmt(&self.code, f),
         }
@@ -112,13 +127,6 @@ pub(crate) struct Message {
 }
 
 impl Message {
-    const fn new() -> Self {
-        Message {
-            bytes: [0; 512],
-            length: 0,
-        }
-    }
-
     pub(crate) const fn text(&self) -> &str {
         match core::str::from_utf8(self.bytes.split_at(self.length).0) {
             Ok(text) => text,
@@ -126,56 +134,49 @@ impl Message {
         }
     }
 
-    const fn with(mut self, text: &str) -> Self {
+    const fn put(&mut self, text: &str) {
         let mut index = 0;
         while index < text.len() {
-            self = self.with_byte(text.as_bytes()[index]);
+            self.put_byte(text.as_bytes()[index]);
             index += 1;
         }
-        self
     }
 
-    const fn with_byte(mut self, byte: u8) -> Self {
+    const fn put_byte(&mut self, byte: u8) {
         if self.length < self.bytes.len() {
             self.bytes[self.length] = byte;
             self.length += 1;
         }
-        self
     }
 
-    const fn with_sentence(self, text: ShortText) -> Self {
-        let ShortText(first, second, third, fourth) = text;
-        self.with_piece(first)
-            .with_piece(second)
-            .with_piece(third)
-            .with_piece(fourth)
-    }
-
-    const fn with_piece(self, piece: Piece) -> Self {
+    const fn put_piece(&mut self, piece: Piece) {
         match piece {
-            Piece::Words(words) => self.with(words),
-            Piece::Number(number) => self.with_digits(number as u128, 10),
-            Piece::Hexadecimal(number) => self.with("0x").with_digits(number, 16),
-            Piece::QuotedByte(name, byte) if byte.is_ascii_graphic() && byte != b'\'' => self
-                .with("the ")
-                .with(name)
-                .with(" '")
-                .with_byte(byte)
-                .with("'"),
-            Piece::NumberedByte(name, byte) | Piece::QuotedByte(name, byte) => self
-                .with("the ")
-                .with(name)
-                .with(" ")
-                .with_digits(byte as u128, 10),
+            Piece::Words(words) => self.put(words),
+            Piece::Number(number) => self.put_digits(number as u128, 10),
+            Piece::Hexadecimal(number) => {
+                self.put("0x");
+                self.put_digits(number, 16);
+            }
+            Piece::NumberedByte(name, byte) | Piece::QuotedByte(name, byte) => {
+                let is_number = matches!(piece, Piece::NumberedByte(..));
+                self.put("the ");
+                self.put(name);
+                if is_number || !byte.is_ascii_graphic() || byte == b'\'' {
+                    self.put(" ");
+                    self.put_digits(byte as u128, 10);
+                } else {
+                    self.put(" '");
+                    self.put_byte(byte);
+                    self.put("'");
+                }
+            }
         }
     }
 
-    const fn with_digits(self, number: u128, radix: u128) -> Self {
-        let text = if number < radix {
-            self
-        } else {
-            self.with_digits(number / radix, radix)
-        };
-        text.with_byte(digit_to_char((number % radix) as u32))
+    const fn put_digits(&mut self, number: u128, radix: u128) {
+        if number >= radix {
+            self.put_digits(number / radix, radix);
+        }
+        self.put_byte(digit_to_char((number % radix) as u32));
     }
 }

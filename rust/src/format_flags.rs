@@ -12,8 +12,11 @@ mod all_rules;
 mod parts;
 mod rules;
 
+#[doc(no_inline)]
 pub use crate::format_flags::all_rules::{Rule, RULES};
+#[doc(no_inline)]
 pub use crate::format_flags::parts::Part;
+#[doc(no_inline)]
 pub use crate::format_flags::rules::{
     check, clashes, format_error_impl, is_clean, is_digit_of_either_radix, is_separator_allowed,
     is_valid_base_prefix, is_valid_base_suffix, is_valid_digit_separator, is_valid_exponent_flags,
@@ -213,21 +216,18 @@ const RESERVED_MASK: u128 = !(FLAG_MASK | DIGIT_SEPARATOR | !0 << BASE_PREFIX_SH
 /// Returns the digit separator of `format`, or 0 if it is absent. The result does not depend on whether a flag
 /// allows a digit separator.
 #[must_use]
-#[inline(always)]
 pub const fn digit_separator(format: u128) -> u8 {
     ((format & DIGIT_SEPARATOR) >> DIGIT_SEPARATOR_SHIFT) as u8
 }
 
 /// Returns the base prefix of `format`, or 0 if it is absent.
 #[must_use]
-#[inline(always)]
 pub const fn base_prefix(format: u128) -> u8 {
     ((format & BASE_PREFIX) >> BASE_PREFIX_SHIFT) as u8
 }
 
 /// Returns the base suffix of `format`, or 0 if it is absent.
 #[must_use]
-#[inline(always)]
 pub const fn base_suffix(format: u128) -> u8 {
     ((format & BASE_SUFFIX) >> BASE_SUFFIX_SHIFT) as u8
 }
@@ -235,7 +235,6 @@ pub const fn base_suffix(format: u128) -> u8 {
 /// Returns the mantissa radix of `format`. The result is at most 255. If `format` is [lawful][Rule], the
 /// result is between 2 and 36.
 #[must_use]
-#[inline(always)]
 pub const fn mantissa_radix(format: u128) -> u32 {
     ((format & MANTISSA_RADIX) >> MANTISSA_RADIX_SHIFT) as u32
 }
@@ -243,7 +242,6 @@ pub const fn mantissa_radix(format: u128) -> u32 {
 /// Returns the exponent base of `format`, or the mantissa radix if the exponent base is 0. If `format` is
 /// [lawful][Rule], the result is between 2 and 36.
 #[must_use]
-#[inline(always)]
 pub const fn exponent_base(format: u128) -> u32 {
     let base = ((format & EXPONENT_BASE) >> EXPONENT_BASE_SHIFT) as u32;
     if base == 0 {
@@ -256,7 +254,6 @@ pub const fn exponent_base(format: u128) -> u32 {
 /// Returns the exponent radix of `format`, or the mantissa radix if the exponent radix is 0. If `format` is
 /// [lawful][Rule], the result is between 2 and 36.
 #[must_use]
-#[inline(always)]
 pub const fn exponent_radix(format: u128) -> u32 {
     let radix = ((format & EXPONENT_RADIX) >> EXPONENT_RADIX_SHIFT) as u32;
     if radix == 0 {
@@ -268,16 +265,12 @@ pub const fn exponent_radix(format: u128) -> u32 {
 
 /// Returns the exponent base that `format` stores, or 0 if it is absent.
 #[must_use]
-#[doc(hidden)]
-#[inline(always)]
 pub const fn raw_exponent_base(format: u128) -> u8 {
     ((format & EXPONENT_BASE) >> EXPONENT_BASE_SHIFT) as u8
 }
 
 /// Returns the exponent radix that `format` stores, or 0 if it is absent.
 #[must_use]
-#[doc(hidden)]
-#[inline(always)]
 pub const fn raw_exponent_radix(format: u128) -> u8 {
     ((format & EXPONENT_RADIX) >> EXPONENT_RADIX_SHIFT) as u8
 }
@@ -291,7 +284,6 @@ pub const fn raw_exponent_radix(format: u128) -> u8 {
 ///
 /// If `shift` is not in this range, panics if overflow checks are enabled, and otherwise returns an unspecified result.
 #[must_use]
-#[inline(always)]
 pub const fn radix_from_flags(format: u128, mask: u128, shift: i32) -> u32 {
     let own = (((format & mask) >> shift) & 0xFFFF_FFFF) as u32;
     if own == 0 {

@@ -17,12 +17,10 @@ mod text;
 pub use note::{notes, notes_of_fields, Note, MAX_NOTES};
 
 /// The maximum number of reasons why a format word can break a single rule.
-#[doc(hidden)]
 pub const MAX_REASONS: usize = 3;
 
 /// The number of slots in the array that [`reasons`] returns. There is one slot for each reason that a format word can
 /// have.
-#[doc(hidden)]
 pub const CANDIDATE_COUNT: usize = 24;
 
 /// A reason why a format word breaks one or more rules. If the reason concerns a byte of the word, it holds the
@@ -64,7 +62,6 @@ pub enum Reason {
 /// [`Reason::breaks`] returns whether a word breaks a rule because of a reason, and [`Reason::mask`] returns the
 /// bits that a reason blames.
 #[must_use]
-#[doc(hidden)]
 pub const fn reasons(format: u128) -> [Option<Reason>; CANDIDATE_COUNT] {
     let separator = reasons_of(Rule::DigitSeparatorIsPunctuation, format);
     let prefix = reasons_of(Rule::BasePrefixIsPunctuation, format);
@@ -105,7 +102,6 @@ pub const fn reasons(format: u128) -> [Option<Reason>; CANDIDATE_COUNT] {
 /// it is a sign, or it is a digit. [`Rule::PunctuationDiffers`] has one reason for each pair of bytes that clash. Every
 /// other rule has at most one reason.
 #[must_use]
-#[doc(hidden)]
 pub const fn reasons_of(rule: Rule, format: u128) -> [Option<Reason>; MAX_REASONS] {
     match rule {
         Rule::MantissaRadixInRange => [mantissa_reason(format), None, None],

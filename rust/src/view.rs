@@ -32,7 +32,6 @@ pub struct FormatView {
 
 impl Default for FormatView {
     /// Returns the view of the [standard format][STANDARD], which is the format word of a new builder.
-    #[inline(always)]
     fn default() -> Self {
         FormatView { format: STANDARD }
     }
@@ -43,14 +42,12 @@ impl FormatView {
 
     /// Returns a view of `format`, which may be any word.
     #[must_use]
-    #[inline(always)]
     pub const fn new(format: u128) -> Self {
         FormatView { format }
     }
 
     /// Returns the format word.
     #[must_use]
-    #[inline(always)]
     pub const fn word(&self) -> u128 {
         self.format
     }
@@ -60,7 +57,6 @@ impl FormatView {
     /// Returns whether the word is lawful, that is, whether it satisfies all the rules that [`error`][Self::error]
     /// checks.
     #[must_use]
-    #[inline(always)]
     pub const fn is_valid(&self) -> bool {
         self.error().is_success()
     }
@@ -73,7 +69,6 @@ impl FormatView {
     /// - The result is `Success` if and only if the word satisfies every rule.
     /// - No other error is that of the first broken rule.
     #[must_use]
-    #[inline(always)]
     pub const fn error(&self) -> Error {
         format_error_impl(self.format)
     }
@@ -81,7 +76,6 @@ impl FormatView {
     /// Returns whether the mantissa radix, the exponent base and the exponent radix are all between 2 and 36. An
     /// exponent base or exponent radix of 0 means the mantissa radix.
     #[must_use]
-    #[inline(always)]
     pub const fn is_valid_radix(&self) -> bool {
         self.error_radix().is_success()
     }
@@ -89,7 +83,6 @@ impl FormatView {
     /// Checks, in this order, whether the mantissa radix, the exponent base and the exponent radix are between 2 and
     /// 36. Returns the error of the first one that is not, or `Success`.
     #[must_use]
-    #[inline(always)]
     pub const fn error_radix(&self) -> Error {
         radix_error_impl(self.format)
     }
@@ -98,21 +91,18 @@ impl FormatView {
 
     /// Returns whether the digit separator byte is not 0.
     #[must_use]
-    #[inline(always)]
     pub const fn has_digit_separator(&self) -> bool {
         has_any!(self, DIGIT_SEPARATOR)
     }
 
     /// Returns whether the base prefix byte is not 0.
     #[must_use]
-    #[inline(always)]
     pub const fn has_base_prefix(&self) -> bool {
         has_any!(self, BASE_PREFIX)
     }
 
     /// Returns whether the base suffix byte is not 0.
     #[must_use]
-    #[inline(always)]
     pub const fn has_base_suffix(&self) -> bool {
         has_any!(self, BASE_SUFFIX)
     }
@@ -122,21 +112,18 @@ impl FormatView {
     /// Returns the [mantissa radix][NumberFormatBuilder::mantissa_radix], a number from 0 to 255. In a
     /// [lawful][flags::Rule] word, it is between 2 and 36.
     #[must_use]
-    #[inline(always)]
     pub const fn mantissa_radix(&self) -> u32 {
         flags::mantissa_radix(self.format)
     }
 
     /// Returns the mantissa radix, as [`mantissa_radix`][Self::mantissa_radix] does.
     #[must_use]
-    #[inline(always)]
     pub const fn radix(&self) -> u32 {
         self.mantissa_radix()
     }
 
     /// Returns the square of the mantissa radix.
     #[must_use]
-    #[inline(always)]
     pub const fn radix2(&self) -> u32 {
         let radix = self.mantissa_radix();
         radix * radix
@@ -144,7 +131,6 @@ impl FormatView {
 
     /// Returns the fourth power of the mantissa radix.
     #[must_use]
-    #[inline(always)]
     pub const fn radix4(&self) -> u32 {
         let square = self.radix2();
         square * square
@@ -153,7 +139,6 @@ impl FormatView {
     /// Returns the eighth power of the mantissa radix modulo 2^32. The result is exact up to radix 15, and it is 0 for
     /// radix 16.
     #[must_use]
-    #[inline(always)]
     pub const fn radix8(&self) -> u32 {
         let fourth = self.radix4();
         fourth.wrapping_mul(fourth)
@@ -162,7 +147,6 @@ impl FormatView {
     /// Returns the [exponent base][NumberFormatBuilder::exponent_base], or the mantissa radix if the exponent base byte
     /// is 0. In a [lawful][flags::Rule] word, the result is between 2 and 36.
     #[must_use]
-    #[inline(always)]
     pub const fn exponent_base(&self) -> u32 {
         flags::exponent_base(self.format)
     }
@@ -170,7 +154,6 @@ impl FormatView {
     /// Returns the [exponent radix][NumberFormatBuilder::exponent_radix], or the mantissa radix if the exponent radix
     /// byte is 0. In a [lawful][flags::Rule] word, the result is between 2 and 36.
     #[must_use]
-    #[inline(always)]
     pub const fn exponent_radix(&self) -> u32 {
         flags::exponent_radix(self.format)
     }
@@ -178,14 +161,12 @@ impl FormatView {
     // BUILDERS
 
     /// Returns a new builder, which does not depend on any word.
-    #[inline(always)]
     pub const fn builder() -> NumberFormatBuilder {
         NumberFormatBuilder::new()
     }
 
     /// Returns a builder with the fields of the word. An exponent base or exponent radix of 0 becomes the mantissa
     /// radix.
-    #[inline(always)]
     pub const fn rebuild(&self) -> NumberFormatBuilder {
         NumberFormatBuilder::rebuild(self.format)
     }

@@ -4,7 +4,9 @@
 //! `format_builder`.
 
 use crate::error::Error;
+#[doc(no_inline)]
 pub use crate::format_builder::{NonZeroU8, NumberFormatBuilder, OptionU8};
+#[doc(no_inline)]
 pub use crate::format_flags::{
     base_prefix, base_suffix, check, clashes, digit_separator, exponent_base, exponent_radix,
     format_error_impl, is_clean, is_digit_of_either_radix, is_separator_allowed,
@@ -30,6 +32,7 @@ pub use crate::format_flags::{
     REQUIRED_INTEGER_DIGITS, REQUIRED_MANTISSA_DIGITS, REQUIRED_MANTISSA_SIGN, RULES,
     SPECIAL_DIGIT_SEPARATOR, TRAILING_DIGIT_SEPARATOR,
 };
+#[doc(no_inline)]
 pub use crate::view::{FormatView, Role, Separators};
 
 /// The standard format, which is the format word of a new builder.
@@ -40,7 +43,6 @@ pub const STANDARD: u128 = 0x00000A00_00000000_00000000_0000000C;
 
 /// Returns whether `format` is lawful, as [`FormatView::is_valid`] does.
 #[must_use]
-#[inline(always)]
 pub const fn format_is_valid(format: u128) -> bool {
     FormatView::new(format).is_valid()
 }
@@ -48,7 +50,6 @@ pub const fn format_is_valid(format: u128) -> bool {
 /// Returns the error of the first rule that `format` breaks, or `Success`, as [`FormatView::error`]
 /// does.
 #[must_use]
-#[inline(always)]
 pub const fn format_error(format: u128) -> Error {
     FormatView::new(format).error()
 }

@@ -13,7 +13,6 @@ pub use slices::{is_valid_ascii_slice, is_valid_letter_slice};
 /// space, and the visible characters `!` to `~`. The result is `false` for every other byte, including 127 (delete) and
 /// all bytes above it.
 #[must_use]
-#[inline(always)]
 pub const fn is_valid_ascii(c: u8) -> bool
     ensures { IsTrue result ↔ IsTrue (allowed_ascii c) }
 {
@@ -22,7 +21,6 @@ pub const fn is_valid_ascii(c: u8) -> bool
 
 /// Returns whether the byte `c` is an ASCII letter, uppercase or lowercase.
 #[must_use]
-#[inline(always)]
 pub const fn is_valid_letter(c: u8) -> bool
     ensures { IsTrue result ↔ IsTrue (letters c) }
 {

@@ -31,7 +31,6 @@ const VALUES: [u8; 256] = [
 ];
 
 // Returns the value of the byte `c`: 0 to 35 for a digit character, and 255 for any other byte.
-#[inline(always)]
 const fn byte_value(c: u8) -> u32
     ensures { result ≡ byte_value c }
 {
@@ -44,7 +43,6 @@ const fn byte_value(c: u8) -> u32
 /// `radix` may be any number. If it is at most 10, the result is `c.wrapping_sub(b'0')`. If it is above 10, the result
 /// is between 0 and 35 for a digit character, and 255 for any other byte.
 #[must_use]
-#[inline(always)]
 pub const fn char_to_valid_digit_const(c: u8, radix: u32) -> u32
     ensures small { radix ≤ 10 → result ≡ (c + 208) % 256 }
     ensures large { 10 < radix → result ≡ byte_value c }
@@ -62,7 +60,6 @@ pub const fn char_to_valid_digit_const(c: u8, radix: u32) -> u32
 /// be any number. If it is at least 36, all these characters are digits. If it is above 255, every other byte is also a
 /// digit, and has the value 255.
 #[must_use]
-#[inline(always)]
 pub const fn char_to_digit_const(c: u8, radix: u32) -> Option<u32>
     ensures digit { result ≡ digit_of c radix }
     // A digit of a radix has the same value in every larger radix.
@@ -74,7 +71,6 @@ pub const fn char_to_digit_const(c: u8, radix: u32) -> Option<u32>
 
 /// Returns whether the byte `c` is a digit in the given radix, that is, whether [`char_to_digit_const`] returns `Some`.
 #[must_use]
-#[inline(always)]
 pub const fn char_is_digit_const(c: u8, radix: u32) -> bool
     ensures { IsTrue result ↔ IsSome (digit_of c radix) }
 {
@@ -90,7 +86,6 @@ pub const fn char_is_digit_const(c: u8, radix: u32) -> bool
 ///
 /// If `digit` is 36 or more, the result is unspecified, and the call may panic if overflow checks are enabled.
 #[must_use]
-#[inline(always)]
 #[tactic(auto, using(crate::proofs::ValueLemmas::values))]
 pub const fn digit_to_char_const(digit: u32, radix: u32) -> u8
     requires { digit < 36 }
@@ -112,7 +107,6 @@ pub const fn digit_to_char_const(digit: u32, radix: u32) -> u8
 ///
 /// [`char_to_digit_const`] returns the same result. Use `char_to_digit` for a radix that is known only at run time.
 #[must_use]
-#[inline(always)]
 pub const fn char_to_digit(c: u8, radix: u32) -> Option<u32>
     ensures digit { result ≡ digit_of c radix }
     // A digit of a radix has the same value in every larger radix.
@@ -124,7 +118,6 @@ pub const fn char_to_digit(c: u8, radix: u32) -> Option<u32>
 
 /// Returns whether the byte `c` is a digit in the given radix, that is, whether [`char_to_digit`] returns `Some`.
 #[must_use]
-#[inline(always)]
 pub const fn char_is_digit(c: u8, radix: u32) -> bool
     ensures { IsTrue result ↔ IsSome (digit_of c radix) }
 {
@@ -139,7 +132,6 @@ pub const fn char_is_digit(c: u8, radix: u32) -> bool
 ///
 /// Panics if `digit` is 36 or more.
 #[must_use]
-#[inline(always)]
 pub const fn digit_to_char(digit: u32) -> u8
     requires { digit < 36 }
     ensures character { slice_get digit_characters digit ≡ Some result }

@@ -162,7 +162,6 @@ impl Error {
     ///
     /// See [`Error::index`] for the index, and `Display` for the whole text.
     #[must_use]
-    #[inline(always)]
     pub const fn description(&self) -> &'static str
         ensures text { result.now ≡ description_of self.now }
         ensures short { length result.now < 128 }
@@ -246,7 +245,6 @@ impl Error {
 
     /// Returns the index of the offending byte if this is a parse error, and `None` otherwise.
     #[must_use]
-    #[inline(always)]
     pub const fn index(&self) -> Option<&usize>
         ensures value { option_copied result ≡ index_of self.now }
         ensures held { IsSome result ↔ (rank_of self.now < 19) }
@@ -671,7 +669,6 @@ impl Error {
     /// Returns the rank of the variant: its index in the list of the 49 variants, from 0 to 48.
     #[must_use]
     #[doc(hidden)]
-    #[inline(always)]
     pub const fn rank(&self) -> u8
         ensures value { result ≡ rank_of self.now }
         ensures last { result < 49 }
@@ -734,7 +731,6 @@ impl Error {
     /// If it is a parse error, it holds `index`. Otherwise, `index` is ignored.
     #[must_use]
     #[doc(hidden)]
-    #[inline(always)]
     pub const fn from_rank(rank: u8, index: usize) -> Option<Error>
         ensures defined { IsSome result ↔ (rank < 49) }
         ensures rank { IfSome result (λ error. rank_of error ≡ rank) }
@@ -834,7 +830,6 @@ impl Error {
 
 impl Class {
     // Returns the text that `Display` prints before the description.
-    #[inline(always)]
     const fn start(self) -> &'static str
         ensures { result.now ≡ start_of_class self }
     {

@@ -1,5 +1,4 @@
--- The place of each field in a builder, the record that a builder represents, and the flags in a mask, for functions on
--- builders, such as `from_parts`, `to_parts` and `with_flags`.
+-- The place of each field in a builder, the record that a builder represents, and the flags in a mask.
 use Rattle.std.specs.Prelude.{ℕ, ◌+◌, ◌-◌, ◌==◌, nat_lt, if◌then◌else◌, List}
 use Rattle.std.specs.Prelude.{length, slice_index, filter}
 use Rattle.lexical_flags.specs.Layout.{part, Flag, Byte, bit, flags, bytes, base_flags, digit_separator_flags}

@@ -7,7 +7,7 @@ ghost use Rattle.lexical_flags.specs.Layout.{IsClean, bit, part};
 ghost use Rattle.lexical_flags.specs.Record.{Record, HasBytes, raw, fill, trim, pack, effective, separator_allowed};
 ghost use Rattle.lexical_flags.specs.Rules.{IsErrorOf, IsRadix, Lawful};
 ghost use Rattle.lexical_builder.specs.OptionByte.{byte_of_option};
-ghost use Rattle.lexical_builder.specs.BuilderBits.{builder_bit, byte_index, builder_record_of_parts, flags_with};
+ghost use Rattle.lexical_builder.specs.BuilderBits.{builder_bit, byte_index, flags_with};
 ghost use Rattle.lexical_builder.specs.Private.{flags_in, byte_at, flag_with};
 ghost use Rattle.lexical_builder.specs.declared.format_builder.TheConstants.{WITH_SEPARATOR, WITHOUT_SEPARATOR};
 ghost use Rattle.lexical_builder.specs.Writes.{new_record, radix_record, after, write_flags, write_byte};
@@ -27,11 +27,8 @@ pub use non_zero::NonZeroU8;
 // The bit at which the digit separator flags of a builder start. In a format word, they start at bit 32.
 const FIRST_SEPARATOR: u32 = u128::count_ones(flags::FLAG_MASK % (1 << 32));
 
-// The masks of a builder's flags: first the flags below the digit separator flags, whose bits are the same in a format
-// word, and then the digit separator flags.
+// The mask of the flags below the digit separator flags. Their bits in a builder are the same as in a format word.
 const LOW_FLAGS: u32 = (1 << FIRST_SEPARATOR) - 1;
-
-const SEPARATOR_FLAGS: u32 = (flags::DIGIT_SEPARATOR_FLAG_MASK >> (32 - FIRST_SEPARATOR)) as u32;
 
 // The flags that are set in a new builder, at their bits in a format word.
 const NEW_FLAGS: u128 = 0xC;
@@ -115,7 +112,6 @@ impl Default for NumberFormatBuilder {
 
     ghost is_default = { λ builder. builder ≡ new_record };
 
-    #[inline(always)]
     fn default() -> Self {
         Self::new()
     }
@@ -130,7 +126,6 @@ impl NumberFormatBuilder {
     /// The mantissa radix is 10. The digit separator, the base prefix, the base suffix, the exponent base and the
     /// exponent radix are absent. The flags `required_exponent_digits` and `required_mantissa_digits` are true, and all
     /// other flags are false.
-    #[inline(always)]
     #[tactic(auto, using(crate::proofs::WriteLemmas::new_parts), unfolding(lexical_flags::specs::Literals::on_literals))]
     pub const fn new() -> Self
         ensures fields { result ≡ new_record }
@@ -145,7 +140,6 @@ impl NumberFormatBuilder {
 
     /// Returns the format word for binary numbers, which is [`from_radix(2)`][Self::from_radix].
     #[must_use]
-    #[inline(always)]
     pub const fn binary() -> u128
         ensures word { result ≡ 0x02020200_00000000_00000000_0000000C }
         ensures lawful { Lawful result }
@@ -155,7 +149,6 @@ impl NumberFormatBuilder {
 
     /// Returns the format word for octal numbers, which is [`from_radix(8)`][Self::from_radix].
     #[must_use]
-    #[inline(always)]
     pub const fn octal() -> u128
         ensures word { result ≡ 0x08080800_00000000_00000000_0000000C }
         ensures lawful { Lawful result }
@@ -165,7 +158,6 @@ impl NumberFormatBuilder {
 
     /// Returns the format word for decimal numbers, which is [`from_radix(10)`][Self::from_radix].
     #[must_use]
-    #[inline(always)]
     pub const fn decimal() -> u128
         ensures word { result ≡ 0x0A0A0A00_00000000_00000000_0000000C }
         ensures lawful { Lawful result }
@@ -175,7 +167,6 @@ impl NumberFormatBuilder {
 
     /// Returns the format word for hexadecimal numbers, which is [`from_radix(16)`][Self::from_radix].
     #[must_use]
-    #[inline(always)]
     pub const fn hexadecimal() -> u128
         ensures word { result ≡ 0x10101000_00000000_00000000_0000000C }
         ensures lawful { Lawful result }
@@ -188,7 +179,6 @@ impl NumberFormatBuilder {
     ///
     /// The radix is not checked. The word is [lawful][flags::Rule] if and only if `radix` is between 2 and 36.
     #[must_use]
-    #[inline(always)]
     #[tactic(auto, unfolding(lexical_flags::specs::Record::word_of))]
     pub const fn from_radix(radix: u8) -> u128
         ensures word { result ≡ pack (radix_record radix) }
@@ -207,7 +197,6 @@ impl NumberFormatBuilder {
     /// If no flag allows digit separators in numbers or special values, the digit separator is dropped: its byte in the
     /// word is 0. All other fields are packed as they are.
     #[must_use]
-    #[inline(always)]
     pub const fn build_unchecked(&self) -> u128
         ensures word { result ≡ pack self.now }
         ensures fields { raw result ≡ trim self.now }
@@ -251,7 +240,6 @@ impl NumberFormatBuilder {
     /// - The result is `Ok` if and only if the packed word is lawful.
     /// - A returned word has the fields of the builder, without a separator that no flag allows.
     /// - The error is that of the first broken rule. It is never `Success`, nor `InvalidFlags`.
-    #[inline(always)]
     pub const fn build_strict(&self) -> Result<u128, Error>
         ensures lawful { OkIff result (Lawful (pack self.now)) (pack self.now) }
         ensures fields { IfOk result (λ word. raw word ≡ trim self.now) }
@@ -267,7 +255,6 @@ impl NumberFormatBuilder {
     /// Packs the fields into a format word, as [`build_unchecked`][Self::build_unchecked] does. In `lexical-util`,
     /// `build` is deprecated.
     #[must_use]
-    #[inline(always)]
     pub const fn build(&self) -> u128
         ensures { result ≡ pack self.now }
     {
@@ -288,7 +275,6 @@ impl NumberFormatBuilder {
     /// let octal = NumberFormatBuilder::from_word(hexadecimal).mantissa_radix(8).build_unchecked();
     /// assert_eq!(octal, 0x00000800_00000000_00000000_0000000C);
     /// ```
-    #[inline(always)]
     pub const fn from_word(word: u128) -> Self
         ensures { result ≡ raw word }
     {
@@ -312,7 +298,6 @@ impl NumberFormatBuilder {
     /// The exponent base and the exponent radix are therefore not affected by later changes to the mantissa radix. If
     /// the mantissa radix is 0 too, an exponent base or exponent radix of 0 stays 0. The digit separator is kept even
     /// if no flag allows one. The reserved bits, which hold no field, are dropped.
-    #[inline(always)]
     pub const fn rebuild(format: u128) -> Self
         ensures { result ≡ fill (raw format) }
     {
@@ -333,41 +318,11 @@ impl NumberFormatBuilder {
         }
     }
 
-    // PARTS
-
-    /// Returns a builder with the given flags and bytes, laid out as [`to_parts`][Self::to_parts] returns them.
-    ///
-    /// Bits of `flags` above the last flag are ignored.
-    #[doc(hidden)]
-    #[inline(always)]
-    pub const fn from_parts(flags: u32, bytes: [u8; 6]) -> Self
-        ensures { result ≡ builder_record_of_parts (flags % 2 ^ length layout.flags) bytes }
-    {
-        NumberFormatBuilder {
-            flags: flags & (LOW_FLAGS | SEPARATOR_FLAGS),
-            bytes,
-        }
-    }
-
-    /// Returns the flags and the bytes of the builder.
-    ///
-    /// Bits 0 to 30 of the `u32` are the flags, in the order of their bits in a format word. The bytes are, in this
-    /// order, the digit separator, the base prefix, the base suffix, the mantissa radix, the exponent base and the
-    /// exponent radix. An absent byte is 0.
-    #[must_use]
-    #[doc(hidden)]
-    #[inline(always)]
-    pub const fn to_parts(&self) -> (u32, [u8; 6])
-        ensures fields { builder_record_of_parts result.0 result.1 ≡ self.now }
-        ensures flags { result.0 < 2 ^ length layout.flags }
-    {
-        (self.flags, self.bytes)
-    }
+    // FLAGS BY THEIR MASKS
 
     /// Sets every flag in `mask` to `value`. A flag is in `mask` if its bit in a format word is 1 in `mask`. The other
     /// bits of `mask` have no effect.
     #[doc(hidden)]
-    #[inline(always)]
     pub const fn with_flags(mut self, mask: u128, value: bool) -> Self
         ensures { result ≡ after self (write_flags (flags_with mask) value) }
     {
@@ -376,7 +331,6 @@ impl NumberFormatBuilder {
     }
 
     // Returns whether the flag with this mask is set.
-    #[inline(always)]
     const fn has_flag(&self, mask: u128) -> bool
         requires { 2 ^ bit (flag_with mask) ≡ mask }
         ensures { result ≡ self.now.flag (flag_with mask) }
@@ -385,7 +339,6 @@ impl NumberFormatBuilder {
     }
 
     // Sets the byte at `index`.
-    #[inline(always)]
     const fn with_byte(mut self, index: usize, value: u8) -> Self
         requires below { index < 6 }
         requires byte { byte_index (byte_at index) ≡ index }
@@ -398,7 +351,6 @@ impl NumberFormatBuilder {
 
 // Returns an exponent byte of a format word, or the mantissa radix if the byte is 0. Both are 64 bits wide, like the
 // upper half of a word, since a choice between narrower numbers is slower.
-#[inline(always)]
 const fn byte_or_radix(byte: u64, mantissa_radix: u64) -> u64
     ensures { result ≡ effective byte mantissa_radix }
 {
@@ -406,7 +358,6 @@ const fn byte_or_radix(byte: u64, mantissa_radix: u64) -> u64
 }
 
 // Returns the flags of a format word, each at its bit in a builder.
-#[inline(always)]
 const fn builder_flags(format: u128) -> u32
     ensures { result ≡ flags_in format }
 {
@@ -416,7 +367,6 @@ const fn builder_flags(format: u128) -> u32
 }
 
 // Returns the flags of a builder, each at its bit in a format word.
-#[inline(always)]
 const fn word_flags(flags: u32) -> u128
     requires { flags < 2 ^ length layout.flags }
     ensures { result ≡ sum_by (λ f. if part flags (builder_bit f) 1 == 1 then 2 ^ bit f else 0) layout.flags }
@@ -426,7 +376,6 @@ const fn word_flags(flags: u32) -> u128
 }
 
 // Returns `bits` with all bits in `mask` set to `value`.
-#[inline(always)]
 const fn replace_bits(bits: u32, mask: u32, value: bool) -> u32
     ensures each { (i : ℕ) → i < 32 → (part result i 1 == 1)
         ≡ (if part mask i 1 == 1 then value else (part bits i 1 == 1)) }
@@ -436,7 +385,6 @@ const fn replace_bits(bits: u32, mask: u32, value: bool) -> u32
 }
 
 // Returns `bits` if the condition is true, and 0 otherwise.
-#[inline(always)]
 const fn bits_if(condition: bool, bits: u32) -> u32
     ensures { result ≡ (if condition then bits else 0) }
 {
@@ -445,7 +393,6 @@ const fn bits_if(condition: bool, bits: u32) -> u32
 
 // Returns `WITH_SEPARATOR` if any of `flags`, the flags of a format word, allows a digit separator, and
 // `WITHOUT_SEPARATOR` otherwise.
-#[inline(always)]
 const fn kept_bytes(flags: u128) -> u64
     ensures { result ≡ (if separator_allowed (raw flags) then WITH_SEPARATOR else WITHOUT_SEPARATOR) }
 {
@@ -457,7 +404,6 @@ const fn kept_bytes(flags: u128) -> u64
 }
 
 // Returns the byte, or 0 if it is absent.
-#[inline(always)]
 const fn byte_or_zero(byte: OptionU8) -> u8
     ensures { result ≡ byte_of_option byte }
 {

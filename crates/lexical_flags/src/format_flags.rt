@@ -17,8 +17,11 @@ mod all_rules;
 mod parts;
 mod rules;
 
+#[doc(no_inline)]
 pub use crate::format_flags::all_rules::{RULES, Rule};
+#[doc(no_inline)]
 pub use crate::format_flags::parts::Part;
+#[doc(no_inline)]
 pub use crate::format_flags::rules::{
     check, clashes, format_error_impl, is_clean, is_digit_of_either_radix, is_separator_allowed,
     is_valid_base_prefix, is_valid_base_suffix, is_valid_digit_separator, is_valid_exponent_flags,
@@ -218,7 +221,6 @@ const RESERVED_MASK: u128 = !(FLAG_MASK | DIGIT_SEPARATOR | !0 << BASE_PREFIX_SH
 /// Returns the digit separator of `format`, or 0 if it is absent. The result does not depend on whether a flag
 /// allows a digit separator.
 #[must_use]
-#[inline(always)]
 pub const fn digit_separator(format: u128) -> u8
     ensures { result ≡ (raw format).byte layout.digit_separator }
 {
@@ -227,7 +229,6 @@ pub const fn digit_separator(format: u128) -> u8
 
 /// Returns the base prefix of `format`, or 0 if it is absent.
 #[must_use]
-#[inline(always)]
 pub const fn base_prefix(format: u128) -> u8
     ensures { result ≡ (raw format).byte layout.base_prefix }
 {
@@ -236,7 +237,6 @@ pub const fn base_prefix(format: u128) -> u8
 
 /// Returns the base suffix of `format`, or 0 if it is absent.
 #[must_use]
-#[inline(always)]
 pub const fn base_suffix(format: u128) -> u8
     ensures { result ≡ (raw format).byte layout.base_suffix }
 {
@@ -246,7 +246,6 @@ pub const fn base_suffix(format: u128) -> u8
 /// Returns the mantissa radix of `format`. The result is at most 255. If `format` is [lawful][Rule], the
 /// result is between 2 and 36.
 #[must_use]
-#[inline(always)]
 pub const fn mantissa_radix(format: u128) -> u32
     ensures value { result ≡ (raw format).byte layout.mantissa_radix }
     ensures lawful { Lawful format → IsRadix result }
@@ -257,7 +256,6 @@ pub const fn mantissa_radix(format: u128) -> u32
 /// Returns the exponent base of `format`, or the mantissa radix if the exponent base is 0. If `format` is
 /// [lawful][Rule], the result is between 2 and 36.
 #[must_use]
-#[inline(always)]
 pub const fn exponent_base(format: u128) -> u32
     ensures value { result ≡ effective_exponent_base (raw format) }
     ensures lawful { Lawful format → IsRadix result }
@@ -273,7 +271,6 @@ pub const fn exponent_base(format: u128) -> u32
 /// Returns the exponent radix of `format`, or the mantissa radix if the exponent radix is 0. If `format` is
 /// [lawful][Rule], the result is between 2 and 36.
 #[must_use]
-#[inline(always)]
 pub const fn exponent_radix(format: u128) -> u32
     ensures value { result ≡ effective_exponent_radix (raw format) }
     ensures lawful { Lawful format → IsRadix result }
@@ -288,8 +285,6 @@ pub const fn exponent_radix(format: u128) -> u32
 
 /// Returns the exponent base that `format` stores, or 0 if it is absent.
 #[must_use]
-#[doc(hidden)]
-#[inline(always)]
 pub const fn raw_exponent_base(format: u128) -> u8
     ensures { result ≡ (raw format).byte layout.exponent_base }
 {
@@ -298,8 +293,6 @@ pub const fn raw_exponent_base(format: u128) -> u8
 
 /// Returns the exponent radix that `format` stores, or 0 if it is absent.
 #[must_use]
-#[doc(hidden)]
-#[inline(always)]
 pub const fn raw_exponent_radix(format: u128) -> u8
     ensures { result ≡ (raw format).byte layout.exponent_radix }
 {
@@ -315,7 +308,6 @@ pub const fn raw_exponent_radix(format: u128) -> u8
 ///
 /// If `shift` is not in this range, panics if overflow checks are enabled, and otherwise returns an unspecified result.
 #[must_use]
-#[inline(always)]
 #[tactic(auto, using(crate::proofs::ByteParts::byte_parts, crate::proofs::CommonLemmas::common_part))]
 pub const fn radix_from_flags(format: u128, mask: u128, shift: i32) -> u32
     requires from { pos 0 ≤ℤ shift }

@@ -55,7 +55,6 @@ impl Default for NumberFormat {
     ghost is_default = { λ view. view ≡ STANDARD };
 
     /// Returns the view of the [standard format][STANDARD], which is the format word of a new builder.
-    #[inline(always)]
     #[tactic(auto, unfolding(crate::specs::Unfoldable::on_literals))]
     fn default() -> Self
         ensures standard { result ≡ STANDARD }
@@ -74,7 +73,6 @@ impl NumberFormat {
 
     /// Returns a view of `format`, which may be any word.
     #[must_use]
-    #[inline(always)]
     pub const fn new(format: u128) -> Self
         ensures { result ≡ format }
     {
@@ -83,7 +81,6 @@ impl NumberFormat {
 
     /// Returns the format word.
     #[must_use]
-    #[inline(always)]
     pub const fn word(&self) -> u128
         ensures { result ≡ self.now }
     {
@@ -95,7 +92,6 @@ impl NumberFormat {
     /// Returns whether the word is lawful, that is, whether it satisfies all the rules that [`error`][Self::error]
     /// checks.
     #[must_use]
-    #[inline(always)]
     pub const fn is_valid(&self) -> bool
         ensures { IsTrue result ↔ Lawful self.now }
     {
@@ -110,7 +106,6 @@ impl NumberFormat {
     /// - The result is `Success` if and only if the word satisfies every rule.
     /// - No other error is that of the first broken rule.
     #[must_use]
-    #[inline(always)]
     pub const fn error(&self) -> Error
         ensures first { IsErrorOf self.now result }
         ensures lawful { (result ≡ Error.Success) ↔ Lawful self.now }
@@ -122,7 +117,6 @@ impl NumberFormat {
     /// Returns whether the mantissa radix, the exponent base and the exponent radix are all between 2 and 36. An
     /// exponent base or exponent radix of 0 means the mantissa radix.
     #[must_use]
-    #[inline(always)]
     pub const fn is_valid_radix(&self) -> bool
         ensures { IsTrue result ↔ IsFirstError radix_rules self.now Error.Success }
     {
@@ -132,7 +126,6 @@ impl NumberFormat {
     /// Checks, in this order, whether the mantissa radix, the exponent base and the exponent radix are between 2 and
     /// 36. Returns the error of the first one that is not, or `Success`.
     #[must_use]
-    #[inline(always)]
     pub const fn error_radix(&self) -> Error
         ensures first { IsFirstError radix_rules self.now result }
         ensures unique { (other : Error) → IsFirstError radix_rules self.now other → other ≡ result }
@@ -144,7 +137,6 @@ impl NumberFormat {
 
     /// Returns whether the digit separator byte is not 0.
     #[must_use]
-    #[inline(always)]
     pub const fn has_digit_separator(&self) -> bool
         ensures { IsTrue result ↔ ((raw self.now).byte layout.digit_separator ≢ 0) }
     {
@@ -153,7 +145,6 @@ impl NumberFormat {
 
     /// Returns whether the base prefix byte is not 0.
     #[must_use]
-    #[inline(always)]
     pub const fn has_base_prefix(&self) -> bool
         ensures { IsTrue result ↔ ((raw self.now).byte layout.base_prefix ≢ 0) }
     {
@@ -162,7 +153,6 @@ impl NumberFormat {
 
     /// Returns whether the base suffix byte is not 0.
     #[must_use]
-    #[inline(always)]
     pub const fn has_base_suffix(&self) -> bool
         ensures { IsTrue result ↔ ((raw self.now).byte layout.base_suffix ≢ 0) }
     {
@@ -174,7 +164,6 @@ impl NumberFormat {
     /// Returns the [mantissa radix][NumberFormatBuilder::mantissa_radix], a number from 0 to 255. In a
     /// [lawful][flags::Rule] word, it is between 2 and 36.
     #[must_use]
-    #[inline(always)]
     pub const fn mantissa_radix(&self) -> u32
         ensures value { result ≡ (raw self.now).byte layout.mantissa_radix }
         ensures lawful { Lawful self.now → IsRadix result }
@@ -184,7 +173,6 @@ impl NumberFormat {
 
     /// Returns the mantissa radix, as [`mantissa_radix`][Self::mantissa_radix] does.
     #[must_use]
-    #[inline(always)]
     pub const fn radix(&self) -> u32
         ensures value { result ≡ (raw self.now).byte layout.mantissa_radix }
         ensures lawful { Lawful self.now → IsRadix result }
@@ -194,7 +182,6 @@ impl NumberFormat {
 
     /// Returns the square of the mantissa radix.
     #[must_use]
-    #[inline(always)]
     pub const fn radix2(&self) -> u32
         ensures { result ≡ (raw self.now).byte layout.mantissa_radix ^ 2 }
     {
@@ -204,7 +191,6 @@ impl NumberFormat {
 
     /// Returns the fourth power of the mantissa radix.
     #[must_use]
-    #[inline(always)]
     pub const fn radix4(&self) -> u32
         ensures { result ≡ (raw self.now).byte layout.mantissa_radix ^ 4 }
     {
@@ -215,7 +201,6 @@ impl NumberFormat {
     /// Returns the eighth power of the mantissa radix modulo 2^32. The result is exact up to radix 15, and it is 0 for
     /// radix 16.
     #[must_use]
-    #[inline(always)]
     pub const fn radix8(&self) -> u32
         ensures { result ≡ (raw self.now).byte layout.mantissa_radix ^ 8 % 2 ^ 32 }
     {
@@ -226,7 +211,6 @@ impl NumberFormat {
     /// Returns the [exponent base][NumberFormatBuilder::exponent_base], or the mantissa radix if the exponent base byte
     /// is 0. In a [lawful][flags::Rule] word, the result is between 2 and 36.
     #[must_use]
-    #[inline(always)]
     pub const fn exponent_base(&self) -> u32
         ensures value { result ≡ effective_exponent_base (raw self.now) }
         ensures lawful { Lawful self.now → IsRadix result }
@@ -237,7 +221,6 @@ impl NumberFormat {
     /// Returns the [exponent radix][NumberFormatBuilder::exponent_radix], or the mantissa radix if the exponent radix
     /// byte is 0. In a [lawful][flags::Rule] word, the result is between 2 and 36.
     #[must_use]
-    #[inline(always)]
     pub const fn exponent_radix(&self) -> u32
         ensures value { result ≡ effective_exponent_radix (raw self.now) }
         ensures lawful { Lawful self.now → IsRadix result }
@@ -248,7 +231,6 @@ impl NumberFormat {
     // BUILDERS
 
     /// Returns a new builder, which does not depend on any word.
-    #[inline(always)]
     pub const fn builder() -> NumberFormatBuilder
         ensures { result ≡ new_record }
     {
@@ -257,7 +239,6 @@ impl NumberFormat {
 
     /// Returns a builder with the fields of the word. An exponent base or exponent radix of 0 becomes the mantissa
     /// radix.
-    #[inline(always)]
     pub const fn rebuild(&self) -> NumberFormatBuilder
         ensures { result ≡ fill (raw self.now) }
     {

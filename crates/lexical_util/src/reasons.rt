@@ -33,12 +33,10 @@ mod text;
 pub use note::{MAX_NOTES, Note, notes, notes_of_fields};
 
 /// The maximum number of reasons why a format word can break a single rule.
-#[doc(hidden)]
 pub const MAX_REASONS: usize = 3;
 
 /// The number of slots in the array that [`reasons`] returns. There is one slot for each reason that a format word can
 /// have.
-#[doc(hidden)]
 pub const CANDIDATE_COUNT: usize = 24;
 
 /// A reason why a format word breaks one or more rules. If the reason concerns a byte of the word, it holds the
@@ -80,7 +78,6 @@ pub enum Reason {
 /// [`Reason::breaks`] returns whether a word breaks a rule because of a reason, and [`Reason::mask`] returns the
 /// bits that a reason blames.
 #[must_use]
-#[doc(hidden)]
 pub const fn reasons(format: u128) -> [Option<Reason>; CANDIDATE_COUNT]
     ensures each { result ≡ map if_applicable (candidates format) }
     ensures lawful { Lawful format ↔ (all_reasons format ≡ []) }
@@ -133,7 +130,6 @@ pub const fn reasons(format: u128) -> [Option<Reason>; CANDIDATE_COUNT]
 /// it is a sign, or it is a digit. [`Rule::PunctuationDiffers`] has one reason for each pair of bytes that clash. Every
 /// other rule has at most one reason.
 #[must_use]
-#[doc(hidden)]
 #[tactic(auto, using(crate::proofs::ReasonLemmas::kept_without_reason))]
 pub const fn reasons_of(rule: Rule, format: u128) -> [Option<Reason>; MAX_REASONS]
     ensures each { result ≡ in_three_slots (candidates_of rule format) }

@@ -103,7 +103,6 @@ fn put_hexadecimal<S: Sink>(out: &mut S, n: u128) -> fmt::Result {
 }
 
 // Returns the hexadecimal character that represents `digit`, which must be below 16. Letters are uppercase.
-#[inline(always)]
 pub(crate) const fn digit_text(digit: usize) -> &'static str {
     match digit {
         0 => "0",

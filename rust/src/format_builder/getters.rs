@@ -13,14 +13,12 @@ impl NumberFormatBuilder {
 
     /// Returns the [digit separator][Self::digit_separator], or `None` if it is absent.
     #[must_use]
-    #[inline(always)]
     pub const fn get_digit_separator(&self) -> OptionU8 {
         NonZeroU8::new(self.bytes[DIGIT_SEPARATOR])
     }
 
     /// Returns the [mantissa radix][Self::mantissa_radix].
     #[must_use]
-    #[inline(always)]
     pub const fn get_mantissa_radix(&self) -> u8 {
         self.bytes[MANTISSA_RADIX]
     }
@@ -28,7 +26,6 @@ impl NumberFormatBuilder {
     /// Returns the [exponent base][Self::exponent_base], or `None` if it is absent. In that case, the mantissa radix is
     /// used in its place.
     #[must_use]
-    #[inline(always)]
     pub const fn get_exponent_base(&self) -> OptionU8 {
         NonZeroU8::new(self.bytes[EXPONENT_BASE])
     }
@@ -36,238 +33,204 @@ impl NumberFormatBuilder {
     /// Returns the [exponent radix][Self::exponent_radix], or `None` if it is absent. In that case, the mantissa radix
     /// is used in its place.
     #[must_use]
-    #[inline(always)]
     pub const fn get_exponent_radix(&self) -> OptionU8 {
         NonZeroU8::new(self.bytes[EXPONENT_RADIX])
     }
 
     /// Returns the [base prefix][Self::base_prefix], or `None` if it is absent.
     #[must_use]
-    #[inline(always)]
     pub const fn get_base_prefix(&self) -> OptionU8 {
         NonZeroU8::new(self.bytes[BASE_PREFIX])
     }
 
     /// Returns the [base suffix][Self::base_suffix], or `None` if it is absent.
     #[must_use]
-    #[inline(always)]
     pub const fn get_base_suffix(&self) -> OptionU8 {
         NonZeroU8::new(self.bytes[BASE_SUFFIX])
     }
 
     /// Returns the flag that [`Self::required_integer_digits`] sets.
     #[must_use]
-    #[inline(always)]
     pub const fn get_required_integer_digits(&self) -> bool {
         self.has_flag(flags::REQUIRED_INTEGER_DIGITS)
     }
 
     /// Returns the flag that [`Self::required_fraction_digits`] sets.
     #[must_use]
-    #[inline(always)]
     pub const fn get_required_fraction_digits(&self) -> bool {
         self.has_flag(flags::REQUIRED_FRACTION_DIGITS)
     }
 
     /// Returns the flag that [`Self::required_exponent_digits`] sets.
     #[must_use]
-    #[inline(always)]
     pub const fn get_required_exponent_digits(&self) -> bool {
         self.has_flag(flags::REQUIRED_EXPONENT_DIGITS)
     }
 
     /// Returns the flag that [`Self::required_mantissa_digits`] sets.
     #[must_use]
-    #[inline(always)]
     pub const fn get_required_mantissa_digits(&self) -> bool {
         self.has_flag(flags::REQUIRED_MANTISSA_DIGITS)
     }
 
     /// Returns the flag that [`Self::no_positive_mantissa_sign`] sets.
     #[must_use]
-    #[inline(always)]
     pub const fn get_no_positive_mantissa_sign(&self) -> bool {
         self.has_flag(flags::NO_POSITIVE_MANTISSA_SIGN)
     }
 
     /// Returns the flag that [`Self::required_mantissa_sign`] sets.
     #[must_use]
-    #[inline(always)]
     pub const fn get_required_mantissa_sign(&self) -> bool {
         self.has_flag(flags::REQUIRED_MANTISSA_SIGN)
     }
 
     /// Returns the flag that [`Self::no_exponent_notation`] sets.
     #[must_use]
-    #[inline(always)]
     pub const fn get_no_exponent_notation(&self) -> bool {
         self.has_flag(flags::NO_EXPONENT_NOTATION)
     }
 
     /// Returns the flag that [`Self::no_positive_exponent_sign`] sets.
     #[must_use]
-    #[inline(always)]
     pub const fn get_no_positive_exponent_sign(&self) -> bool {
         self.has_flag(flags::NO_POSITIVE_EXPONENT_SIGN)
     }
 
     /// Returns the flag that [`Self::required_exponent_sign`] sets.
     #[must_use]
-    #[inline(always)]
     pub const fn get_required_exponent_sign(&self) -> bool {
         self.has_flag(flags::REQUIRED_EXPONENT_SIGN)
     }
 
     /// Returns the flag that [`Self::no_exponent_without_fraction`] sets.
     #[must_use]
-    #[inline(always)]
     pub const fn get_no_exponent_without_fraction(&self) -> bool {
         self.has_flag(flags::NO_EXPONENT_WITHOUT_FRACTION)
     }
 
     /// Returns the flag that [`Self::no_special`] sets.
     #[must_use]
-    #[inline(always)]
     pub const fn get_no_special(&self) -> bool {
         self.has_flag(flags::NO_SPECIAL)
     }
 
     /// Returns the flag that [`Self::case_sensitive_special`] sets.
     #[must_use]
-    #[inline(always)]
     pub const fn get_case_sensitive_special(&self) -> bool {
         self.has_flag(flags::CASE_SENSITIVE_SPECIAL)
     }
 
     /// Returns the flag that [`Self::no_integer_leading_zeros`] sets.
     #[must_use]
-    #[inline(always)]
     pub const fn get_no_integer_leading_zeros(&self) -> bool {
         self.has_flag(flags::NO_INTEGER_LEADING_ZEROS)
     }
 
     /// Returns the flag that [`Self::no_float_leading_zeros`] sets.
     #[must_use]
-    #[inline(always)]
     pub const fn get_no_float_leading_zeros(&self) -> bool {
         self.has_flag(flags::NO_FLOAT_LEADING_ZEROS)
     }
 
     /// Returns the flag that [`Self::required_exponent_notation`] sets.
     #[must_use]
-    #[inline(always)]
     pub const fn get_required_exponent_notation(&self) -> bool {
         self.has_flag(flags::REQUIRED_EXPONENT_NOTATION)
     }
 
     /// Returns the flag that [`Self::case_sensitive_exponent`] sets.
     #[must_use]
-    #[inline(always)]
     pub const fn get_case_sensitive_exponent(&self) -> bool {
         self.has_flag(flags::CASE_SENSITIVE_EXPONENT)
     }
 
     /// Returns the flag that [`Self::case_sensitive_base_prefix`] sets.
     #[must_use]
-    #[inline(always)]
     pub const fn get_case_sensitive_base_prefix(&self) -> bool {
         self.has_flag(flags::CASE_SENSITIVE_BASE_PREFIX)
     }
 
     /// Returns the flag that [`Self::case_sensitive_base_suffix`] sets.
     #[must_use]
-    #[inline(always)]
     pub const fn get_case_sensitive_base_suffix(&self) -> bool {
         self.has_flag(flags::CASE_SENSITIVE_BASE_SUFFIX)
     }
 
     /// Returns the flag that [`Self::integer_internal_digit_separator`] sets.
     #[must_use]
-    #[inline(always)]
     pub const fn get_integer_internal_digit_separator(&self) -> bool {
         self.has_flag(flags::INTEGER_INTERNAL_DIGIT_SEPARATOR)
     }
 
     /// Returns the flag that [`Self::fraction_internal_digit_separator`] sets.
     #[must_use]
-    #[inline(always)]
     pub const fn get_fraction_internal_digit_separator(&self) -> bool {
         self.has_flag(flags::FRACTION_INTERNAL_DIGIT_SEPARATOR)
     }
 
     /// Returns the flag that [`Self::exponent_internal_digit_separator`] sets.
     #[must_use]
-    #[inline(always)]
     pub const fn get_exponent_internal_digit_separator(&self) -> bool {
         self.has_flag(flags::EXPONENT_INTERNAL_DIGIT_SEPARATOR)
     }
 
     /// Returns the flag that [`Self::integer_leading_digit_separator`] sets.
     #[must_use]
-    #[inline(always)]
     pub const fn get_integer_leading_digit_separator(&self) -> bool {
         self.has_flag(flags::INTEGER_LEADING_DIGIT_SEPARATOR)
     }
 
     /// Returns the flag that [`Self::fraction_leading_digit_separator`] sets.
     #[must_use]
-    #[inline(always)]
     pub const fn get_fraction_leading_digit_separator(&self) -> bool {
         self.has_flag(flags::FRACTION_LEADING_DIGIT_SEPARATOR)
     }
 
     /// Returns the flag that [`Self::exponent_leading_digit_separator`] sets.
     #[must_use]
-    #[inline(always)]
     pub const fn get_exponent_leading_digit_separator(&self) -> bool {
         self.has_flag(flags::EXPONENT_LEADING_DIGIT_SEPARATOR)
     }
 
     /// Returns the flag that [`Self::integer_trailing_digit_separator`] sets.
     #[must_use]
-    #[inline(always)]
     pub const fn get_integer_trailing_digit_separator(&self) -> bool {
         self.has_flag(flags::INTEGER_TRAILING_DIGIT_SEPARATOR)
     }
 
     /// Returns the flag that [`Self::fraction_trailing_digit_separator`] sets.
     #[must_use]
-    #[inline(always)]
     pub const fn get_fraction_trailing_digit_separator(&self) -> bool {
         self.has_flag(flags::FRACTION_TRAILING_DIGIT_SEPARATOR)
     }
 
     /// Returns the flag that [`Self::exponent_trailing_digit_separator`] sets.
     #[must_use]
-    #[inline(always)]
     pub const fn get_exponent_trailing_digit_separator(&self) -> bool {
         self.has_flag(flags::EXPONENT_TRAILING_DIGIT_SEPARATOR)
     }
 
     /// Returns the flag that [`Self::integer_consecutive_digit_separator`] sets.
     #[must_use]
-    #[inline(always)]
     pub const fn get_integer_consecutive_digit_separator(&self) -> bool {
         self.has_flag(flags::INTEGER_CONSECUTIVE_DIGIT_SEPARATOR)
     }
 
     /// Returns the flag that [`Self::fraction_consecutive_digit_separator`] sets.
     #[must_use]
-    #[inline(always)]
     pub const fn get_fraction_consecutive_digit_separator(&self) -> bool {
         self.has_flag(flags::FRACTION_CONSECUTIVE_DIGIT_SEPARATOR)
     }
 
     /// Returns the flag that [`Self::exponent_consecutive_digit_separator`] sets.
     #[must_use]
-    #[inline(always)]
     pub const fn get_exponent_consecutive_digit_separator(&self) -> bool {
         self.has_flag(flags::EXPONENT_CONSECUTIVE_DIGIT_SEPARATOR)
     }
 
     /// Returns the flag that [`Self::special_digit_separator`] sets.
     #[must_use]
-    #[inline(always)]
     pub const fn get_special_digit_separator(&self) -> bool {
         self.has_flag(flags::SPECIAL_DIGIT_SEPARATOR)
     }

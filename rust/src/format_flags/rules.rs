@@ -28,7 +28,7 @@ const LIMITS: [u16; 256] = [
 ];
 
 // Returns the larger of two radixes. A `const fn` cannot call `max`, which is a trait method.
-#[inline(always)]
+#[inline]
 const fn larger(a: u32, b: u32) -> u32 {
     if a < b {
         b
@@ -44,65 +44,65 @@ const fn larger(a: u32, b: u32) -> u32 {
 /// The case of a letter does not matter: in radix 16, both `f` and `F` are digits. If the exponent radix is 0, the
 /// mantissa radix replaces it. The exponent base does not affect the result. `format` need not be [lawful][Rule].
 #[must_use]
-#[inline(always)]
+#[inline]
 pub const fn is_digit_of_either_radix(format: u128, byte: u8) -> bool {
     char_is_digit(byte, larger(mantissa_radix(format), exponent_radix(format)))
 }
 
 // Returns whether `byte` is absent, that is, 0, or punctuation in the word `format`.
-#[inline(always)]
+#[inline]
 const fn is_absent_or_punctuation(format: u128, byte: u8) -> bool {
     let radix = larger(mantissa_radix(format), raw_exponent_radix(format) as u32);
     radix < LIMITS[byte as usize] as u32
 }
 
 // Returns whether `byte` is punctuation in the word `format`: allowed ASCII that is neither a digit nor a sign.
-#[inline(always)]
+#[inline]
 const fn is_punctuation(format: u128, byte: u8) -> bool {
     byte != 0 && is_absent_or_punctuation(format, byte)
 }
 
 // Returns whether two bytes are the two cases of one letter.
-#[inline(always)]
+#[inline]
 const fn is_case_pair(a: u8, b: u8) -> bool {
     a ^ 0x20 == b && is_valid_letter(a)
 }
 
 // Returns whether no byte plays both the role of `a` and the role of `b`. If a role is not case-sensitive and its byte
 // is a letter, both cases of the letter play the role. If the byte is 0, which means absent, no byte plays it.
-#[inline(always)]
+#[inline]
 const fn roles_disjoint(a: u8, a_case_sensitive: bool, b: u8, b_case_sensitive: bool) -> bool {
     a == 0 || (a != b && (!is_case_pair(a, b) || (a_case_sensitive & b_case_sensitive)))
 }
 
 // Returns the same result as `roles_disjoint`, but with a single comparison if the two bytes differ in a
 // bit other than 0x20, as most pairs of bytes do.
-#[inline(always)]
+#[inline]
 const fn roles_disjoint_fast(a: u8, a_case_sensitive: bool, b: u8, b_case_sensitive: bool) -> bool {
     (a | 0x20) != (b | 0x20) || roles_disjoint(a, a_case_sensitive, b, b_case_sensitive)
 }
 
 // Returns whether `b` is not absent and the two bytes agree in all bits except 0x20. If the result is `false`, the
 // roles of the bytes are disjoint, whether or not they are case-sensitive.
-#[inline(always)]
+#[inline]
 const fn may_clash(a: u8, b: u8) -> bool {
     (b != 0) & (a | 0x20 == b | 0x20)
 }
 
 // Returns whether the base prefix is case-sensitive.
-#[inline(always)]
+#[inline]
 const fn prefix_is_case_sensitive(format: u128) -> bool {
     format & CASE_SENSITIVE_BASE_PREFIX != 0
 }
 
 // Returns whether the base suffix is case-sensitive.
-#[inline(always)]
+#[inline]
 const fn suffix_is_case_sensitive(format: u128) -> bool {
     format & CASE_SENSITIVE_BASE_SUFFIX != 0
 }
 
 // Returns whether the exponent character is case-sensitive.
-#[inline(always)]
+#[inline]
 const fn exponent_is_case_sensitive(format: u128) -> bool {
     format & CASE_SENSITIVE_EXPONENT != 0
 }
@@ -111,7 +111,7 @@ const fn exponent_is_case_sensitive(format: u128) -> bool {
 
 /// Returns whether `radix` is between 2 and 36, inclusive.
 #[must_use]
-#[inline(always)]
+#[inline]
 pub const fn is_valid_radix(radix: u32) -> bool {
     radix >= 2 && radix <= 36
 }
@@ -124,19 +124,19 @@ const fn is_valid_own_radix(own: u8, mantissa_radix: u32) -> bool {
 }
 
 // Returns whether the mantissa radix is between 2 and 36.
-#[inline(always)]
+#[inline]
 pub(crate) const fn is_valid_mantissa_radix(format: u128) -> bool {
     is_valid_radix(mantissa_radix(format))
 }
 
 // Returns whether the exponent base, or the mantissa radix if the exponent base is 0, is between 2 and 36.
-#[inline(always)]
+#[inline]
 pub(crate) const fn is_valid_exponent_base(format: u128) -> bool {
     is_valid_own_radix(raw_exponent_base(format), mantissa_radix(format))
 }
 
 // Returns whether the exponent radix, or the mantissa radix if the exponent radix is 0, is between 2 and 36.
-#[inline(always)]
+#[inline]
 pub(crate) const fn is_valid_exponent_radix(format: u128) -> bool {
     is_valid_own_radix(raw_exponent_radix(format), mantissa_radix(format))
 }
@@ -151,7 +151,7 @@ pub(crate) const fn is_valid_exponent_radix(format: u128) -> bool {
 /// The flags do not affect the result: a digit is rejected even if no flag allows a separator, and 0 is accepted even
 /// if a flag allows one.
 #[must_use]
-#[inline(always)]
+#[inline]
 pub const fn is_valid_digit_separator(format: u128) -> bool {
     is_absent_or_punctuation(format, digit_separator(format))
 }
@@ -161,7 +161,7 @@ pub const fn is_valid_digit_separator(format: u128) -> bool {
 /// A byte of 0 is *absent*. *Punctuation* is any byte that [`is_valid_ascii`][crate::ascii::is_valid_ascii]
 /// accepts, except signs (`+` and `-`) and [digits][is_digit_of_either_radix] of `format`.
 #[must_use]
-#[inline(always)]
+#[inline]
 pub const fn is_valid_base_prefix(format: u128) -> bool {
     is_absent_or_punctuation(format, base_prefix(format))
 }
@@ -171,7 +171,7 @@ pub const fn is_valid_base_prefix(format: u128) -> bool {
 /// A byte of 0 is *absent*. *Punctuation* is any byte that [`is_valid_ascii`][crate::ascii::is_valid_ascii]
 /// accepts, except signs (`+` and `-`) and [digits][is_digit_of_either_radix] of `format`.
 #[must_use]
-#[inline(always)]
+#[inline]
 pub const fn is_valid_base_suffix(format: u128) -> bool {
     is_absent_or_punctuation(format, base_suffix(format))
 }
@@ -184,7 +184,7 @@ pub const fn is_valid_base_suffix(format: u128) -> bool {
 /// are set. The digit separator is always case-sensitive. `lexical-util` compares the raw bytes, so it accepts the
 /// prefix `h` with the suffix `H` regardless of the flags.
 #[must_use]
-#[inline(always)]
+#[inline]
 pub const fn is_valid_punctuation(format: u128) -> bool {
     let separator = digit_separator(format);
     let prefix = base_prefix(format);
@@ -203,7 +203,6 @@ pub const fn is_valid_punctuation(format: u128) -> bool {
 /// The pairs are, in this order: separator and prefix, separator and suffix, prefix and suffix. A word breaks
 /// [`Rule::PunctuationDiffers`] if and only if some entry is `true`.
 #[must_use]
-#[doc(hidden)]
 pub const fn clashes(format: u128) -> [bool; 3] {
     let separator = digit_separator(format);
     let prefix = base_prefix(format);
@@ -219,7 +218,7 @@ pub const fn clashes(format: u128) -> [bool; 3] {
 
 // Returns whether the role of `byte` is disjoint from the roles of the digit separator, the base prefix and the base
 // suffix.
-#[inline(always)]
+#[inline]
 const fn is_disjoint_from_format_roles(format: u128, byte: u8, case_sensitive: bool) -> bool {
     let prefix_case = prefix_is_case_sensitive(format);
     let suffix_case = suffix_is_case_sensitive(format);
@@ -252,7 +251,7 @@ const fn is_disjoint_from_format_roles(format: u128, byte: u8, case_sensitive: b
 /// - For a lawful format, the result is true if and only if both bytes are allowed ASCII, and no byte plays two roles.
 /// - Each lawful format accepts at least one pair of bytes.
 #[must_use]
-#[inline(always)]
+#[inline]
 pub const fn is_valid_options_punctuation(format: u128, exponent: u8, decimal_point: u8) -> bool {
     let exponent_case = exponent_is_case_sensitive(format);
     roles_disjoint_fast(exponent, exponent_case, decimal_point, true)
@@ -273,13 +272,12 @@ pub const fn is_valid_options_punctuation(format: u128, exponent: u8, decimal_po
 ///    prefix or the base suffix, the result is `InvalidPunctuation`. [`is_valid_options_punctuation`] describes which
 ///    letters match both cases.
 #[must_use]
-#[doc(hidden)]
 pub const fn options_error(format: u128, exponent: u8, decimal_point: u8) -> Error {
     first_options_error(format, exponent, decimal_point)
 }
 
 // Returns the error of the first condition that the options do not satisfy, or `Success`.
-#[inline(always)]
+#[inline]
 const fn first_options_error(format: u128, exponent: u8, decimal_point: u8) -> Error {
     if !is_punctuation(format, exponent) {
         Error::InvalidExponentSymbol
@@ -297,66 +295,66 @@ const fn first_options_error(format: u128, exponent: u8, decimal_point: u8) -> E
 /// Returns `false` if both [`NO_EXPONENT_NOTATION`] and [`REQUIRED_EXPONENT_NOTATION`] are set in
 /// `format`, and `true` otherwise.
 #[must_use]
-#[inline(always)]
+#[inline]
 pub const fn is_valid_exponent_flags(format: u128) -> bool {
     format & NO_EXPONENT_NOTATION == 0 || format & REQUIRED_EXPONENT_NOTATION == 0
 }
 
 // Returns `false` if both NO_POSITIVE_MANTISSA_SIGN and REQUIRED_MANTISSA_SIGN are set, and `true` otherwise.
-#[inline(always)]
+#[inline]
 pub(crate) const fn is_valid_mantissa_sign_flags(format: u128) -> bool {
     format & NO_POSITIVE_MANTISSA_SIGN == 0 || format & REQUIRED_MANTISSA_SIGN == 0
 }
 
 // Returns `false` if both NO_POSITIVE_EXPONENT_SIGN and REQUIRED_EXPONENT_SIGN are set, and `true` otherwise.
-#[inline(always)]
+#[inline]
 pub(crate) const fn is_valid_exponent_sign_flags(format: u128) -> bool {
     format & NO_POSITIVE_EXPONENT_SIGN == 0 || format & REQUIRED_EXPONENT_SIGN == 0
 }
 
 // Returns `false` if both NO_SPECIAL and CASE_SENSITIVE_SPECIAL are set, and `true` otherwise.
-#[inline(always)]
+#[inline]
 pub(crate) const fn is_valid_special_case_flags(format: u128) -> bool {
     format & NO_SPECIAL == 0 || format & CASE_SENSITIVE_SPECIAL == 0
 }
 
 // Returns `false` if both NO_SPECIAL and SPECIAL_DIGIT_SEPARATOR are set, and `true` otherwise.
-#[inline(always)]
+#[inline]
 pub(crate) const fn is_valid_special_separator_flags(format: u128) -> bool {
     format & NO_SPECIAL == 0 || format & SPECIAL_DIGIT_SEPARATOR == 0
 }
 
 // Returns `false` if INTEGER_CONSECUTIVE_DIGIT_SEPARATOR is the only separator flag of the integer that is set, and
 // `true` otherwise.
-#[inline(always)]
+#[inline]
 pub(crate) const fn is_valid_integer_consecutive_flags(format: u128) -> bool {
     format & INTEGER_DIGIT_SEPARATOR_FLAG_MASK != INTEGER_CONSECUTIVE_DIGIT_SEPARATOR
 }
 
 // Returns `false` if FRACTION_CONSECUTIVE_DIGIT_SEPARATOR is the only separator flag of the fraction that is set, and
 // `true` otherwise.
-#[inline(always)]
+#[inline]
 pub(crate) const fn is_valid_fraction_consecutive_flags(format: u128) -> bool {
     format & FRACTION_DIGIT_SEPARATOR_FLAG_MASK != FRACTION_CONSECUTIVE_DIGIT_SEPARATOR
 }
 
 // Returns `false` if EXPONENT_CONSECUTIVE_DIGIT_SEPARATOR is the only separator flag of the exponent that is set, and
 // `true` otherwise.
-#[inline(always)]
+#[inline]
 pub(crate) const fn is_valid_exponent_consecutive_flags(format: u128) -> bool {
     format & EXPONENT_DIGIT_SEPARATOR_FLAG_MASK != EXPONENT_CONSECUTIVE_DIGIT_SEPARATOR
 }
 
 /// Returns whether all reserved bits of `format` are 0. The reserved bits hold neither a flag nor a byte.
 #[must_use]
-#[inline(always)]
+#[inline]
 pub const fn is_clean(format: u128) -> bool {
     format & RESERVED_MASK == 0
 }
 
 /// Returns whether any flag of `format` allows a digit separator, in a number or in a special value (NaN or infinity).
 #[must_use]
-#[inline(always)]
+#[inline]
 pub const fn is_separator_allowed(format: u128) -> bool {
     format & DIGIT_SEPARATOR_FLAG_MASK != 0
 }
@@ -364,7 +362,7 @@ pub const fn is_separator_allowed(format: u128) -> bool {
 // THE FIRST BROKEN RULE
 
 // Returns the error of the first broken punctuation rule, or `Success`.
-#[inline(always)]
+#[inline]
 const fn first_broken_punctuation(format: u128) -> Error {
     if !is_valid_digit_separator(format) {
         Error::InvalidDigitSeparator
@@ -394,7 +392,7 @@ const fn flags_agree(format: u128) -> bool {
 }
 
 // Returns the error of the first broken flag rule, or `Success`.
-#[inline(always)]
+#[inline]
 const fn first_broken_flags(format: u128) -> Error {
     if flags_agree(format) {
         Error::Success
@@ -418,7 +416,7 @@ const fn first_broken_flags(format: u128) -> Error {
 }
 
 // Returns `InvalidFlags` if a reserved bit is set, and `Success` otherwise.
-#[inline(always)]
+#[inline]
 const fn first_broken_reserved(format: u128) -> Error {
     if is_clean(format) {
         Error::Success
@@ -450,8 +448,7 @@ const fn first_broken(format: u128) -> Error {
 /// The radixes are tested in this order: the mantissa radix, the exponent base, the exponent radix. If the exponent
 /// base or the exponent radix is 0, the mantissa radix is tested instead.
 #[must_use]
-#[doc(hidden)]
-#[inline(always)]
+#[inline]
 pub const fn radix_error_impl(format: u128) -> Error {
     if !is_valid_mantissa_radix(format) {
         Error::InvalidMantissaRadix
@@ -493,7 +490,6 @@ pub const fn radix_error_impl(format: u128) -> Error {
 ///
 /// `lexical-util` compares raw bytes in the seventh rule, and has no rule for reserved bits.
 #[must_use]
-#[doc(hidden)]
 pub const fn format_error_impl(format: u128) -> Error {
     first_broken(format)
 }
@@ -504,8 +500,7 @@ pub const fn format_error_impl(format: u128) -> Error {
 ///
 /// If `format` is not lawful, returns the error of the first rule that it breaks, as [`format_error_impl`] does. This
 /// error is never `Success`.
-#[doc(hidden)]
-#[inline(always)]
+#[inline]
 pub const fn check(format: u128) -> Result<u128, Error> {
     match format_error_impl(format) {
         Error::Success => Ok(format),

@@ -9,7 +9,6 @@ use crate::reasons::{prefix_edit, reasons, suffix_edit, Reason};
 use crate::view::FormatView;
 
 /// The maximum number of notes on a format word.
-#[doc(hidden)]
 pub const MAX_NOTES: usize = 3;
 
 /// A note on a field that is set but has no effect on any number. The rules may still read the field.
@@ -50,7 +49,6 @@ impl Note {
 ///
 /// A note is not an error, so a lawful word may have notes. A field that a reason [blames][Reason] has no note.
 #[must_use]
-#[doc(hidden)]
 pub const fn notes(format: u128) -> [Option<Note>; MAX_NOTES] {
     notes_beside(format, flags::digit_separator(format))
 }
@@ -59,7 +57,6 @@ pub const fn notes(format: u128) -> [Option<Note>; MAX_NOTES] {
 ///
 /// A digit separator that no flag allows has a note, although the builder does not pack it.
 #[must_use]
-#[doc(hidden)]
 pub const fn notes_of_fields(builder: &NumberFormatBuilder) -> [Option<Note>; MAX_NOTES] {
     let separator = match builder.get_digit_separator() {
         Some(byte) => byte.get(),

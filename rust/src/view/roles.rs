@@ -43,7 +43,6 @@ impl FormatView {
     /// Returns the value of `byte` as a digit of the mantissa, or `None` if `byte` is not a digit in the mantissa radix.
     /// The case of a letter does not matter. The value is at most 35, and below the mantissa radix.
     #[must_use]
-    #[inline(always)]
     pub const fn mantissa_digit(&self, byte: u8) -> Option<u32> {
         char_to_digit(byte, self.mantissa_radix())
     }
@@ -52,7 +51,6 @@ impl FormatView {
     /// which is the mantissa radix if the exponent radix byte is 0. The case of a letter does not matter. The value is
     /// at most 35, and below the exponent radix.
     #[must_use]
-    #[inline(always)]
     pub const fn exponent_digit(&self, byte: u8) -> Option<u32> {
         char_to_digit(byte, self.exponent_radix())
     }
@@ -60,7 +58,6 @@ impl FormatView {
     /// Returns whether `byte` is the digit separator, and some flag allows a digit separator. [`Self::separators`]
     /// returns where one is allowed.
     #[must_use]
-    #[inline(always)]
     pub const fn is_separator(&self, byte: u8) -> bool {
         let own = flags::digit_separator(self.format);
         flags::is_separator_allowed(self.format) && is_byte(own, true, byte)
@@ -69,7 +66,6 @@ impl FormatView {
     /// Returns whether `byte` is the base prefix. A base prefix that is a letter matches both cases unless
     /// `case_sensitive_base_prefix` is set. Without a base prefix, the result is `false`.
     #[must_use]
-    #[inline(always)]
     pub const fn is_base_prefix(&self, byte: u8) -> bool {
         let own = flags::base_prefix(self.format);
         is_byte(own, self.case_sensitive_base_prefix(), byte)
@@ -78,7 +74,6 @@ impl FormatView {
     /// Returns whether `byte` is the base suffix. A base suffix that is a letter matches both cases unless
     /// `case_sensitive_base_suffix` is set. Without a base suffix, the result is `false`.
     #[must_use]
-    #[inline(always)]
     pub const fn is_base_suffix(&self, byte: u8) -> bool {
         let own = flags::base_suffix(self.format);
         is_byte(own, self.case_sensitive_base_suffix(), byte)
@@ -87,14 +82,12 @@ impl FormatView {
     /// Returns whether `byte` is the exponent character `exponent`, which options choose. An exponent character that is
     /// a letter matches both cases unless `case_sensitive_exponent` is set. If `exponent` is 0, the result is `false`.
     #[must_use]
-    #[inline(always)]
     pub const fn is_exponent_character(&self, exponent: u8, byte: u8) -> bool {
         is_byte(exponent, self.case_sensitive_exponent(), byte)
     }
 
     /// Returns where digit separators are allowed in `part` of a number.
     #[must_use]
-    #[inline(always)]
     pub const fn separators(&self, part: Part) -> Separators {
         match part {
             Part::Integer => Separators {
@@ -156,14 +149,12 @@ impl FormatView {
 }
 
 // Returns whether `byte` is a sign.
-#[inline(always)]
 const fn is_sign(byte: u8) -> bool {
     matches!(byte, b'+' | b'-')
 }
 
 // Returns whether `byte` is `own` or, if `case_sensitive` is false, the same letter in the other case. Returns `false`
 // if `own` is 0, which means absent.
-#[inline(always)]
 const fn is_byte(own: u8, case_sensitive: bool, byte: u8) -> bool {
     own != 0 && (byte == own || !case_sensitive && byte.eq_ignore_ascii_case(&own))
 }

@@ -15,7 +15,6 @@ impl NumberFormatBuilder {
 
     /// Returns the [digit separator][Self::digit_separator], or `None` if it is absent.
     #[must_use]
-    #[inline(always)]
     pub const fn get_digit_separator(&self) -> OptionU8
         ensures { result ≡ option_of_byte (self.now.byte layout.digit_separator) }
     {
@@ -24,7 +23,6 @@ impl NumberFormatBuilder {
 
     /// Returns the [mantissa radix][Self::mantissa_radix].
     #[must_use]
-    #[inline(always)]
     pub const fn get_mantissa_radix(&self) -> u8
         ensures { result ≡ self.now.byte layout.mantissa_radix }
     {
@@ -34,7 +32,6 @@ impl NumberFormatBuilder {
     /// Returns the [exponent base][Self::exponent_base], or `None` if it is absent. In that case, the mantissa radix is
     /// used in its place.
     #[must_use]
-    #[inline(always)]
     pub const fn get_exponent_base(&self) -> OptionU8
         ensures { result ≡ option_of_byte (self.now.byte layout.exponent_base) }
     {
@@ -44,7 +41,6 @@ impl NumberFormatBuilder {
     /// Returns the [exponent radix][Self::exponent_radix], or `None` if it is absent. In that case, the mantissa radix
     /// is used in its place.
     #[must_use]
-    #[inline(always)]
     pub const fn get_exponent_radix(&self) -> OptionU8
         ensures { result ≡ option_of_byte (self.now.byte layout.exponent_radix) }
     {
@@ -53,7 +49,6 @@ impl NumberFormatBuilder {
 
     /// Returns the [base prefix][Self::base_prefix], or `None` if it is absent.
     #[must_use]
-    #[inline(always)]
     pub const fn get_base_prefix(&self) -> OptionU8
         ensures { result ≡ option_of_byte (self.now.byte layout.base_prefix) }
     {
@@ -62,7 +57,6 @@ impl NumberFormatBuilder {
 
     /// Returns the [base suffix][Self::base_suffix], or `None` if it is absent.
     #[must_use]
-    #[inline(always)]
     pub const fn get_base_suffix(&self) -> OptionU8
         ensures { result ≡ option_of_byte (self.now.byte layout.base_suffix) }
     {
@@ -71,7 +65,6 @@ impl NumberFormatBuilder {
 
     /// Returns the flag that [`Self::required_integer_digits`] sets.
     #[must_use]
-    #[inline(always)]
     pub const fn get_required_integer_digits(&self) -> bool
         ensures { result ≡ self.now.flag layout.required_integer_digits }
     {
@@ -80,7 +73,6 @@ impl NumberFormatBuilder {
 
     /// Returns the flag that [`Self::required_fraction_digits`] sets.
     #[must_use]
-    #[inline(always)]
     pub const fn get_required_fraction_digits(&self) -> bool
         ensures { result ≡ self.now.flag layout.required_fraction_digits }
     {
@@ -89,7 +81,6 @@ impl NumberFormatBuilder {
 
     /// Returns the flag that [`Self::required_exponent_digits`] sets.
     #[must_use]
-    #[inline(always)]
     pub const fn get_required_exponent_digits(&self) -> bool
         ensures { result ≡ self.now.flag layout.required_exponent_digits }
     {
@@ -98,7 +89,6 @@ impl NumberFormatBuilder {
 
     /// Returns the flag that [`Self::required_mantissa_digits`] sets.
     #[must_use]
-    #[inline(always)]
     pub const fn get_required_mantissa_digits(&self) -> bool
         ensures { result ≡ self.now.flag layout.required_mantissa_digits }
     {
@@ -107,7 +97,6 @@ impl NumberFormatBuilder {
 
     /// Returns the flag that [`Self::no_positive_mantissa_sign`] sets.
     #[must_use]
-    #[inline(always)]
     pub const fn get_no_positive_mantissa_sign(&self) -> bool
         ensures { result ≡ self.now.flag layout.no_positive_mantissa_sign }
     {
@@ -116,7 +105,6 @@ impl NumberFormatBuilder {
 
     /// Returns the flag that [`Self::required_mantissa_sign`] sets.
     #[must_use]
-    #[inline(always)]
     pub const fn get_required_mantissa_sign(&self) -> bool
         ensures { result ≡ self.now.flag layout.required_mantissa_sign }
     {
@@ -125,7 +113,6 @@ impl NumberFormatBuilder {
 
     /// Returns the flag that [`Self::no_exponent_notation`] sets.
     #[must_use]
-    #[inline(always)]
     pub const fn get_no_exponent_notation(&self) -> bool
         ensures { result ≡ self.now.flag layout.no_exponent_notation }
     {
@@ -134,7 +121,6 @@ impl NumberFormatBuilder {
 
     /// Returns the flag that [`Self::no_positive_exponent_sign`] sets.
     #[must_use]
-    #[inline(always)]
     pub const fn get_no_positive_exponent_sign(&self) -> bool
         ensures { result ≡ self.now.flag layout.no_positive_exponent_sign }
     {
@@ -143,7 +129,6 @@ impl NumberFormatBuilder {
 
     /// Returns the flag that [`Self::required_exponent_sign`] sets.
     #[must_use]
-    #[inline(always)]
     pub const fn get_required_exponent_sign(&self) -> bool
         ensures { result ≡ self.now.flag layout.required_exponent_sign }
     {
@@ -152,7 +137,6 @@ impl NumberFormatBuilder {
 
     /// Returns the flag that [`Self::no_exponent_without_fraction`] sets.
     #[must_use]
-    #[inline(always)]
     pub const fn get_no_exponent_without_fraction(&self) -> bool
         ensures { result ≡ self.now.flag layout.no_exponent_without_fraction }
     {
@@ -161,7 +145,6 @@ impl NumberFormatBuilder {
 
     /// Returns the flag that [`Self::no_special`] sets.
     #[must_use]
-    #[inline(always)]
     pub const fn get_no_special(&self) -> bool
         ensures { result ≡ self.now.flag layout.no_special }
     {
@@ -170,7 +153,6 @@ impl NumberFormatBuilder {
 
     /// Returns the flag that [`Self::case_sensitive_special`] sets.
     #[must_use]
-    #[inline(always)]
     pub const fn get_case_sensitive_special(&self) -> bool
         ensures { result ≡ self.now.flag layout.case_sensitive_special }
     {
@@ -179,7 +161,6 @@ impl NumberFormatBuilder {
 
     /// Returns the flag that [`Self::no_integer_leading_zeros`] sets.
     #[must_use]
-    #[inline(always)]
     pub const fn get_no_integer_leading_zeros(&self) -> bool
         ensures { result ≡ self.now.flag layout.no_integer_leading_zeros }
     {
@@ -188,7 +169,6 @@ impl NumberFormatBuilder {
 
     /// Returns the flag that [`Self::no_float_leading_zeros`] sets.
     #[must_use]
-    #[inline(always)]
     pub const fn get_no_float_leading_zeros(&self) -> bool
         ensures { result ≡ self.now.flag layout.no_float_leading_zeros }
     {
@@ -197,7 +177,6 @@ impl NumberFormatBuilder {
 
     /// Returns the flag that [`Self::required_exponent_notation`] sets.
     #[must_use]
-    #[inline(always)]
     pub const fn get_required_exponent_notation(&self) -> bool
         ensures { result ≡ self.now.flag layout.required_exponent_notation }
     {
@@ -206,7 +185,6 @@ impl NumberFormatBuilder {
 
     /// Returns the flag that [`Self::case_sensitive_exponent`] sets.
     #[must_use]
-    #[inline(always)]
     pub const fn get_case_sensitive_exponent(&self) -> bool
         ensures { result ≡ self.now.flag layout.case_sensitive_exponent }
     {
@@ -215,7 +193,6 @@ impl NumberFormatBuilder {
 
     /// Returns the flag that [`Self::case_sensitive_base_prefix`] sets.
     #[must_use]
-    #[inline(always)]
     pub const fn get_case_sensitive_base_prefix(&self) -> bool
         ensures { result ≡ self.now.flag layout.case_sensitive_base_prefix }
     {
@@ -224,7 +201,6 @@ impl NumberFormatBuilder {
 
     /// Returns the flag that [`Self::case_sensitive_base_suffix`] sets.
     #[must_use]
-    #[inline(always)]
     pub const fn get_case_sensitive_base_suffix(&self) -> bool
         ensures { result ≡ self.now.flag layout.case_sensitive_base_suffix }
     {
@@ -233,7 +209,6 @@ impl NumberFormatBuilder {
 
     /// Returns the flag that [`Self::integer_internal_digit_separator`] sets.
     #[must_use]
-    #[inline(always)]
     pub const fn get_integer_internal_digit_separator(&self) -> bool
         ensures { result ≡ self.now.flag layout.integer_internal_digit_separator }
     {
@@ -242,7 +217,6 @@ impl NumberFormatBuilder {
 
     /// Returns the flag that [`Self::fraction_internal_digit_separator`] sets.
     #[must_use]
-    #[inline(always)]
     pub const fn get_fraction_internal_digit_separator(&self) -> bool
         ensures { result ≡ self.now.flag layout.fraction_internal_digit_separator }
     {
@@ -251,7 +225,6 @@ impl NumberFormatBuilder {
 
     /// Returns the flag that [`Self::exponent_internal_digit_separator`] sets.
     #[must_use]
-    #[inline(always)]
     pub const fn get_exponent_internal_digit_separator(&self) -> bool
         ensures { result ≡ self.now.flag layout.exponent_internal_digit_separator }
     {
@@ -260,7 +233,6 @@ impl NumberFormatBuilder {
 
     /// Returns the flag that [`Self::integer_leading_digit_separator`] sets.
     #[must_use]
-    #[inline(always)]
     pub const fn get_integer_leading_digit_separator(&self) -> bool
         ensures { result ≡ self.now.flag layout.integer_leading_digit_separator }
     {
@@ -269,7 +241,6 @@ impl NumberFormatBuilder {
 
     /// Returns the flag that [`Self::fraction_leading_digit_separator`] sets.
     #[must_use]
-    #[inline(always)]
     pub const fn get_fraction_leading_digit_separator(&self) -> bool
         ensures { result ≡ self.now.flag layout.fraction_leading_digit_separator }
     {
@@ -278,7 +249,6 @@ impl NumberFormatBuilder {
 
     /// Returns the flag that [`Self::exponent_leading_digit_separator`] sets.
     #[must_use]
-    #[inline(always)]
     pub const fn get_exponent_leading_digit_separator(&self) -> bool
         ensures { result ≡ self.now.flag layout.exponent_leading_digit_separator }
     {
@@ -287,7 +257,6 @@ impl NumberFormatBuilder {
 
     /// Returns the flag that [`Self::integer_trailing_digit_separator`] sets.
     #[must_use]
-    #[inline(always)]
     pub const fn get_integer_trailing_digit_separator(&self) -> bool
         ensures { result ≡ self.now.flag layout.integer_trailing_digit_separator }
     {
@@ -296,7 +265,6 @@ impl NumberFormatBuilder {
 
     /// Returns the flag that [`Self::fraction_trailing_digit_separator`] sets.
     #[must_use]
-    #[inline(always)]
     pub const fn get_fraction_trailing_digit_separator(&self) -> bool
         ensures { result ≡ self.now.flag layout.fraction_trailing_digit_separator }
     {
@@ -305,7 +273,6 @@ impl NumberFormatBuilder {
 
     /// Returns the flag that [`Self::exponent_trailing_digit_separator`] sets.
     #[must_use]
-    #[inline(always)]
     pub const fn get_exponent_trailing_digit_separator(&self) -> bool
         ensures { result ≡ self.now.flag layout.exponent_trailing_digit_separator }
     {
@@ -314,7 +281,6 @@ impl NumberFormatBuilder {
 
     /// Returns the flag that [`Self::integer_consecutive_digit_separator`] sets.
     #[must_use]
-    #[inline(always)]
     pub const fn get_integer_consecutive_digit_separator(&self) -> bool
         ensures { result ≡ self.now.flag layout.integer_consecutive_digit_separator }
     {
@@ -323,7 +289,6 @@ impl NumberFormatBuilder {
 
     /// Returns the flag that [`Self::fraction_consecutive_digit_separator`] sets.
     #[must_use]
-    #[inline(always)]
     pub const fn get_fraction_consecutive_digit_separator(&self) -> bool
         ensures { result ≡ self.now.flag layout.fraction_consecutive_digit_separator }
     {
@@ -332,7 +297,6 @@ impl NumberFormatBuilder {
 
     /// Returns the flag that [`Self::exponent_consecutive_digit_separator`] sets.
     #[must_use]
-    #[inline(always)]
     pub const fn get_exponent_consecutive_digit_separator(&self) -> bool
         ensures { result ≡ self.now.flag layout.exponent_consecutive_digit_separator }
     {
@@ -341,7 +305,6 @@ impl NumberFormatBuilder {
 
     /// Returns the flag that [`Self::special_digit_separator`] sets.
     #[must_use]
-    #[inline(always)]
     pub const fn get_special_digit_separator(&self) -> bool
         ensures { result ≡ self.now.flag layout.special_digit_separator }
     {

@@ -20,7 +20,6 @@ impl NumberFormatBuilder {
     /// The digit separator flags define where the digit separator is allowed. If none of these flags is set, the digit
     /// separator is not packed into the word. In a lawful format, it is punctuation: a byte that `is_valid_ascii`
     /// accepts and that is neither a sign nor a digit in the mantissa radix or the exponent radix.
-    #[inline(always)]
     pub const fn digit_separator(self, character: OptionU8) -> Self
         ensures { result ≡ after self (write_byte layout.digit_separator (byte_of_option character) ∷ []) }
     {
@@ -28,7 +27,6 @@ impl NumberFormatBuilder {
     }
 
     /// Sets the mantissa radix. This method is the same as [`mantissa_radix`][Self::mantissa_radix].
-    #[inline(always)]
     pub const fn radix(self, radix: u8) -> Self
         ensures { result ≡ after self (write_byte layout.mantissa_radix radix ∷ []) }
     {
@@ -39,7 +37,6 @@ impl NumberFormatBuilder {
     ///
     /// It is also used in place of an absent exponent base or exponent radix. In a lawful format, the mantissa radix is
     /// between 2 and 36.
-    #[inline(always)]
     pub const fn mantissa_radix(self, radix: u8) -> Self
         ensures { result ≡ after self (write_byte layout.mantissa_radix radix ∷ []) }
     {
@@ -50,7 +47,6 @@ impl NumberFormatBuilder {
     ///
     /// `None` means the mantissa radix. In a lawful format, the base is between 2 and 36. If it is 2 and the exponent
     /// character is `p`, then `1p3` means 1 × 2^3.
-    #[inline(always)]
     pub const fn exponent_base(self, base: OptionU8) -> Self
         ensures { result ≡ after self (write_byte layout.exponent_base (byte_of_option base) ∷ []) }
     {
@@ -60,7 +56,6 @@ impl NumberFormatBuilder {
     /// Sets the exponent radix: the radix of the exponent digits.
     ///
     /// `None` means the mantissa radix. In a lawful format, the radix is between 2 and 36.
-    #[inline(always)]
     pub const fn exponent_radix(self, radix: OptionU8) -> Self
         ensures { result ≡ after self (write_byte layout.exponent_radix (byte_of_option radix) ∷ []) }
     {
@@ -71,7 +66,6 @@ impl NumberFormatBuilder {
     ///
     /// In a lawful format, it is punctuation: a byte that `is_valid_ascii` accepts and that is neither a sign nor a
     /// digit in the mantissa radix or the exponent radix.
-    #[inline(always)]
     pub const fn base_prefix(self, base_prefix: OptionU8) -> Self
         ensures { result ≡ after self (write_byte layout.base_prefix (byte_of_option base_prefix) ∷ []) }
     {
@@ -82,7 +76,6 @@ impl NumberFormatBuilder {
     ///
     /// In a lawful format, it is punctuation: a byte that `is_valid_ascii` accepts and that is neither a sign nor a
     /// digit in the mantissa radix or the exponent radix.
-    #[inline(always)]
     pub const fn base_suffix(self, base_suffix: OptionU8) -> Self
         ensures { result ≡ after self (write_byte layout.base_suffix (byte_of_option base_suffix) ∷ []) }
     {
@@ -90,7 +83,6 @@ impl NumberFormatBuilder {
     }
 
     /// Sets whether the format requires digits before the decimal point. If so, a parser rejects `.5`.
-    #[inline(always)]
     pub const fn required_integer_digits(self, flag: bool) -> Self
         ensures { result ≡ after self (write_flag layout.required_integer_digits flag ∷ []) }
     {
@@ -98,7 +90,6 @@ impl NumberFormatBuilder {
     }
 
     /// Sets whether the format requires digits after a decimal point. If so, a parser rejects `1.` but accepts `1`.
-    #[inline(always)]
     pub const fn required_fraction_digits(self, flag: bool) -> Self
         ensures { result ≡ after self (write_flag layout.required_fraction_digits flag ∷ []) }
     {
@@ -107,7 +98,6 @@ impl NumberFormatBuilder {
 
     /// Sets whether the format requires digits after an exponent character. If so, a parser rejects `1e`. The default
     /// is `true`.
-    #[inline(always)]
     pub const fn required_exponent_digits(self, flag: bool) -> Self
         ensures { result ≡ after self (write_flag layout.required_exponent_digits flag ∷ []) }
     {
@@ -116,7 +106,6 @@ impl NumberFormatBuilder {
 
     /// Sets whether the format requires a digit in the mantissa of a float. If so, a parser rejects `.`. Otherwise, `.`
     /// is parsed as 0. An empty string is always rejected. The default is `true`.
-    #[inline(always)]
     pub const fn required_mantissa_digits(self, flag: bool) -> Self
         ensures { result ≡ after self (write_flag layout.required_mantissa_digits flag ∷ []) }
     {
@@ -124,7 +113,6 @@ impl NumberFormatBuilder {
     }
 
     /// Sets or clears all flags that require digits. An integer parser always requires a digit.
-    #[inline(always)]
     pub const fn required_digits(self, flag: bool) -> Self
         ensures { result ≡ after self (write_flags layout.required_digits flag) }
     {
@@ -133,7 +121,6 @@ impl NumberFormatBuilder {
 
     /// Sets whether the format forbids a `+` before an integer or a float. If so, a parser rejects `+1` but accepts
     /// `-1`.
-    #[inline(always)]
     pub const fn no_positive_mantissa_sign(self, flag: bool) -> Self
         ensures { result ≡ after self (write_flag layout.no_positive_mantissa_sign flag ∷ []) }
     {
@@ -142,7 +129,6 @@ impl NumberFormatBuilder {
 
     /// Sets whether the format requires a sign before an integer or a float. If so, a parser rejects `1`, and a writer
     /// writes `+1`.
-    #[inline(always)]
     pub const fn required_mantissa_sign(self, flag: bool) -> Self
         ensures { result ≡ after self (write_flag layout.required_mantissa_sign flag ∷ []) }
     {
@@ -151,7 +137,6 @@ impl NumberFormatBuilder {
 
     /// Sets whether the format forbids an exponent in a float. If so, a parser rejects `1e5`, and a writer writes out
     /// all digits.
-    #[inline(always)]
     pub const fn no_exponent_notation(self, flag: bool) -> Self
         ensures { result ≡ after self (write_flag layout.no_exponent_notation flag ∷ []) }
     {
@@ -160,7 +145,6 @@ impl NumberFormatBuilder {
 
     /// Sets whether the format forbids a `+` in the exponent. If so, a parser rejects `1e+5` but accepts `1e5` and
     /// `1e-5`.
-    #[inline(always)]
     pub const fn no_positive_exponent_sign(self, flag: bool) -> Self
         ensures { result ≡ after self (write_flag layout.no_positive_exponent_sign flag ∷ []) }
     {
@@ -169,7 +153,6 @@ impl NumberFormatBuilder {
 
     /// Sets whether the format requires a sign in the exponent. If so, a parser rejects `1e5`, and a writer writes
     /// `1e+5`.
-    #[inline(always)]
     pub const fn required_exponent_sign(self, flag: bool) -> Self
         ensures { result ≡ after self (write_flag layout.required_exponent_sign flag ∷ []) }
     {
@@ -178,7 +161,6 @@ impl NumberFormatBuilder {
 
     /// Sets whether the format requires a decimal point before an exponent. If so, a parser rejects `1e5` but accepts
     /// `1.0e5`. No digit is required after that decimal point.
-    #[inline(always)]
     pub const fn no_exponent_without_fraction(self, flag: bool) -> Self
         ensures { result ≡ after self (write_flag layout.no_exponent_without_fraction flag ∷ []) }
     {
@@ -186,7 +168,6 @@ impl NumberFormatBuilder {
     }
 
     /// Sets whether the format forbids all special values. If so, a parser rejects `NaN` and `inf`.
-    #[inline(always)]
     pub const fn no_special(self, flag: bool) -> Self
         ensures { result ≡ after self (write_flag layout.no_special flag ∷ []) }
     {
@@ -195,7 +176,6 @@ impl NumberFormatBuilder {
 
     /// Sets whether special values are case-sensitive. If so, a parser rejects `nan` when the spelling of NaN is `NaN`.
     /// Otherwise, it accepts any case.
-    #[inline(always)]
     pub const fn case_sensitive_special(self, flag: bool) -> Self
         ensures { result ≡ after self (write_flag layout.case_sensitive_special flag ∷ []) }
     {
@@ -204,7 +184,6 @@ impl NumberFormatBuilder {
 
     /// Sets whether the format forbids leading zeros in an integer. If so, a parser rejects the integer `01` but
     /// accepts `0`.
-    #[inline(always)]
     pub const fn no_integer_leading_zeros(self, flag: bool) -> Self
         ensures { result ≡ after self (write_flag layout.no_integer_leading_zeros flag ∷ []) }
     {
@@ -213,7 +192,6 @@ impl NumberFormatBuilder {
 
     /// Sets whether the format forbids leading zeros in a float. If so, a parser rejects `01.0` but accepts `0.1`. It
     /// also rejects `01` as a float.
-    #[inline(always)]
     pub const fn no_float_leading_zeros(self, flag: bool) -> Self
         ensures { result ≡ after self (write_flag layout.no_float_leading_zeros flag ∷ []) }
     {
@@ -222,7 +200,6 @@ impl NumberFormatBuilder {
 
     /// Sets whether the format requires an exponent in a float. If so, a parser rejects `1.0`, and a writer writes
     /// every float with an exponent.
-    #[inline(always)]
     pub const fn required_exponent_notation(self, flag: bool) -> Self
         ensures { result ≡ after self (write_flag layout.required_exponent_notation flag ∷ []) }
     {
@@ -231,7 +208,6 @@ impl NumberFormatBuilder {
 
     /// Sets whether the exponent character is case-sensitive. If so, a parser rejects `1E5` when the exponent character
     /// is `e`. Otherwise, it accepts both cases.
-    #[inline(always)]
     pub const fn case_sensitive_exponent(self, flag: bool) -> Self
         ensures { result ≡ after self (write_flag layout.case_sensitive_exponent flag ∷ []) }
     {
@@ -240,7 +216,6 @@ impl NumberFormatBuilder {
 
     /// Sets whether the base prefix is case-sensitive. If so, a parser rejects `0X1F` when the base prefix is `x`.
     /// Otherwise, it accepts both cases.
-    #[inline(always)]
     pub const fn case_sensitive_base_prefix(self, flag: bool) -> Self
         ensures { result ≡ after self (write_flag layout.case_sensitive_base_prefix flag ∷ []) }
     {
@@ -249,7 +224,6 @@ impl NumberFormatBuilder {
 
     /// Sets whether the base suffix is case-sensitive. If so, a parser rejects `1FH` when the base suffix is `h`.
     /// Otherwise, it accepts both cases.
-    #[inline(always)]
     pub const fn case_sensitive_base_suffix(self, flag: bool) -> Self
         ensures { result ≡ after self (write_flag layout.case_sensitive_base_suffix flag ∷ []) }
     {
@@ -257,7 +231,6 @@ impl NumberFormatBuilder {
     }
 
     /// Sets whether the format allows a digit separator between integer digits. If so, a parser accepts `1_2`.
-    #[inline(always)]
     pub const fn integer_internal_digit_separator(self, flag: bool) -> Self
         ensures { result ≡ after self (write_flag layout.integer_internal_digit_separator flag ∷ []) }
     {
@@ -265,7 +238,6 @@ impl NumberFormatBuilder {
     }
 
     /// Sets whether the format allows a digit separator between fraction digits. If so, a parser accepts `0.1_2`.
-    #[inline(always)]
     pub const fn fraction_internal_digit_separator(self, flag: bool) -> Self
         ensures { result ≡ after self (write_flag layout.fraction_internal_digit_separator flag ∷ []) }
     {
@@ -273,7 +245,6 @@ impl NumberFormatBuilder {
     }
 
     /// Sets whether the format allows a digit separator between exponent digits. If so, a parser accepts `1e1_2`.
-    #[inline(always)]
     pub const fn exponent_internal_digit_separator(self, flag: bool) -> Self
         ensures { result ≡ after self (write_flag layout.exponent_internal_digit_separator flag ∷ []) }
     {
@@ -281,7 +252,6 @@ impl NumberFormatBuilder {
     }
 
     /// Sets or clears all flags that allow a digit separator between digits.
-    #[inline(always)]
     pub const fn internal_digit_separator(self, flag: bool) -> Self
         ensures { result ≡ after self (write_flags layout.internal_digit_separator flag) }
     {
@@ -289,7 +259,6 @@ impl NumberFormatBuilder {
     }
 
     /// Sets whether the format allows a digit separator before the integer digits. If so, a parser accepts `_12`.
-    #[inline(always)]
     pub const fn integer_leading_digit_separator(self, flag: bool) -> Self
         ensures { result ≡ after self (write_flag layout.integer_leading_digit_separator flag ∷ []) }
     {
@@ -297,7 +266,6 @@ impl NumberFormatBuilder {
     }
 
     /// Sets whether the format allows a digit separator before the fraction digits. If so, a parser accepts `0._12`.
-    #[inline(always)]
     pub const fn fraction_leading_digit_separator(self, flag: bool) -> Self
         ensures { result ≡ after self (write_flag layout.fraction_leading_digit_separator flag ∷ []) }
     {
@@ -305,7 +273,6 @@ impl NumberFormatBuilder {
     }
 
     /// Sets whether the format allows a digit separator before the exponent digits. If so, a parser accepts `1e_12`.
-    #[inline(always)]
     pub const fn exponent_leading_digit_separator(self, flag: bool) -> Self
         ensures { result ≡ after self (write_flag layout.exponent_leading_digit_separator flag ∷ []) }
     {
@@ -313,7 +280,6 @@ impl NumberFormatBuilder {
     }
 
     /// Sets or clears all flags that allow a digit separator before digits.
-    #[inline(always)]
     pub const fn leading_digit_separator(self, flag: bool) -> Self
         ensures { result ≡ after self (write_flags layout.leading_digit_separator flag) }
     {
@@ -321,7 +287,6 @@ impl NumberFormatBuilder {
     }
 
     /// Sets whether the format allows a digit separator after the integer digits. If so, a parser accepts `12_`.
-    #[inline(always)]
     pub const fn integer_trailing_digit_separator(self, flag: bool) -> Self
         ensures { result ≡ after self (write_flag layout.integer_trailing_digit_separator flag ∷ []) }
     {
@@ -329,7 +294,6 @@ impl NumberFormatBuilder {
     }
 
     /// Sets whether the format allows a digit separator after the fraction digits. If so, a parser accepts `0.12_`.
-    #[inline(always)]
     pub const fn fraction_trailing_digit_separator(self, flag: bool) -> Self
         ensures { result ≡ after self (write_flag layout.fraction_trailing_digit_separator flag ∷ []) }
     {
@@ -337,7 +301,6 @@ impl NumberFormatBuilder {
     }
 
     /// Sets whether the format allows a digit separator after the exponent digits. If so, a parser accepts `1e12_`.
-    #[inline(always)]
     pub const fn exponent_trailing_digit_separator(self, flag: bool) -> Self
         ensures { result ≡ after self (write_flag layout.exponent_trailing_digit_separator flag ∷ []) }
     {
@@ -345,7 +308,6 @@ impl NumberFormatBuilder {
     }
 
     /// Sets or clears all flags that allow a digit separator after digits.
-    #[inline(always)]
     pub const fn trailing_digit_separator(self, flag: bool) -> Self
         ensures { result ≡ after self (write_flags layout.trailing_digit_separator flag) }
     {
@@ -355,7 +317,6 @@ impl NumberFormatBuilder {
     /// Sets whether the format allows consecutive digit separators in the integer part. If so, a parser accepts several
     /// separators in a row wherever it accepts a single one: `1__2`, `__12`, `12__`. In a lawful format, this flag is
     /// set only if the internal, leading or trailing separator flag of the integer part is set too.
-    #[inline(always)]
     pub const fn integer_consecutive_digit_separator(self, flag: bool) -> Self
         ensures { result ≡ after self (write_flag layout.integer_consecutive_digit_separator flag ∷ []) }
     {
@@ -365,7 +326,6 @@ impl NumberFormatBuilder {
     /// Sets whether the format allows consecutive digit separators in the fraction. If so, a parser accepts several
     /// separators in a row wherever it accepts a single one: `0.1__2`, `0.__12`, `0.12__`. In a lawful format, this
     /// flag is set only if the internal, leading or trailing separator flag of the fraction is set too.
-    #[inline(always)]
     pub const fn fraction_consecutive_digit_separator(self, flag: bool) -> Self
         ensures { result ≡ after self (write_flag layout.fraction_consecutive_digit_separator flag ∷ []) }
     {
@@ -375,7 +335,6 @@ impl NumberFormatBuilder {
     /// Sets whether the format allows consecutive digit separators in the exponent. If so, a parser accepts several
     /// separators in a row wherever it accepts a single one: `1e1__2`, `1e__12`, `1e12__`. In a lawful format, this
     /// flag is set only if the internal, leading or trailing separator flag of the exponent is set too.
-    #[inline(always)]
     pub const fn exponent_consecutive_digit_separator(self, flag: bool) -> Self
         ensures { result ≡ after self (write_flag layout.exponent_consecutive_digit_separator flag ∷ []) }
     {
@@ -383,7 +342,6 @@ impl NumberFormatBuilder {
     }
 
     /// Sets or clears all flags that allow consecutive digit separators.
-    #[inline(always)]
     pub const fn consecutive_digit_separator(self, flag: bool) -> Self
         ensures { result ≡ after self (write_flags layout.consecutive_digit_separator flag) }
     {
@@ -392,7 +350,6 @@ impl NumberFormatBuilder {
 
     /// Sets whether the format allows digit separators in special values. If so, a parser accepts `N__a_N_` as `NaN`.
     /// Digit separators can be before, between and after the letters, and can be consecutive.
-    #[inline(always)]
     pub const fn special_digit_separator(self, flag: bool) -> Self
         ensures { result ≡ after self (write_flag layout.special_digit_separator flag ∷ []) }
     {
@@ -400,7 +357,6 @@ impl NumberFormatBuilder {
     }
 
     /// Sets or clears all flags that allow digit separators, including the flag that allows them in special values.
-    #[inline(always)]
     pub const fn digit_separator_flags(self, flag: bool) -> Self
         ensures { result ≡ after self (write_flags layout.digit_separator_flags flag) }
     {
@@ -408,7 +364,6 @@ impl NumberFormatBuilder {
     }
 
     /// Sets or clears all flags that allow digit separators in the integer part.
-    #[inline(always)]
     pub const fn integer_digit_separator_flags(self, flag: bool) -> Self
         ensures { result ≡ after self (write_flags layout.integer_digit_separator_flags flag) }
     {
@@ -416,7 +371,6 @@ impl NumberFormatBuilder {
     }
 
     /// Sets or clears all flags that allow digit separators in the fraction.
-    #[inline(always)]
     pub const fn fraction_digit_separator_flags(self, flag: bool) -> Self
         ensures { result ≡ after self (write_flags layout.fraction_digit_separator_flags flag) }
     {
@@ -424,7 +378,6 @@ impl NumberFormatBuilder {
     }
 
     /// Sets or clears all flags that allow digit separators in the exponent.
-    #[inline(always)]
     pub const fn exponent_digit_separator_flags(self, flag: bool) -> Self
         ensures { result ≡ after self (write_flags layout.exponent_digit_separator_flags flag) }
     {

@@ -56,7 +56,6 @@ pub enum Rule {
 }
 
 /// All rules, in the order in which they are checked.
-#[doc(hidden)]
 pub const RULES: [Rule; 16] = [
     Rule::MantissaRadixInRange,
     Rule::ExponentBaseInRange,

@@ -43,7 +43,7 @@ const LIMITS: [u16; 256] = [
 ];
 
 // Returns the larger of two radixes. A `const fn` cannot call `max`, which is a trait method.
-#[inline(always)]
+#[inline]
 const fn larger(a: u32, b: u32) -> u32
     ensures { result ≡ max a b }
 {
@@ -57,7 +57,7 @@ const fn larger(a: u32, b: u32) -> u32
 /// The case of a letter does not matter: in radix 16, both `f` and `F` are digits. If the exponent radix is 0, the
 /// mantissa radix replaces it. The exponent base does not affect the result. `format` need not be [lawful][Rule].
 #[must_use]
-#[inline(always)]
+#[inline]
 pub const fn is_digit_of_either_radix(format: u128, byte: u8) -> bool
     ensures { IsTrue result ↔ IsTrue (digits (raw format) byte) }
 {
@@ -66,7 +66,7 @@ pub const fn is_digit_of_either_radix(format: u128, byte: u8) -> bool
 }
 
 // Returns whether `byte` is absent, that is, 0, or punctuation in the word `format`.
-#[inline(always)]
+#[inline]
 #[tactic(auto)]
 const fn is_absent_or_punctuation(format: u128, byte: u8) -> bool
     ensures { IsTrue result ↔ IsAbsentOrPunctuation (raw format) byte }
@@ -76,7 +76,7 @@ const fn is_absent_or_punctuation(format: u128, byte: u8) -> bool
 }
 
 // Returns whether `byte` is punctuation in the word `format`: allowed ASCII that is neither a digit nor a sign.
-#[inline(always)]
+#[inline]
 const fn is_punctuation(format: u128, byte: u8) -> bool
     ensures { IsTrue result ↔ IsPunctuation (raw format) byte }
 {
@@ -84,7 +84,7 @@ const fn is_punctuation(format: u128, byte: u8) -> bool
 }
 
 // Returns whether two bytes are the two cases of one letter.
-#[inline(always)]
+#[inline]
 #[tactic(auto)]
 const fn is_case_pair(a: u8, b: u8) -> bool
     ensures { IsTrue result ↔ (IsTrue (letters a) × (b ≡ other_case a)) }
@@ -94,7 +94,7 @@ const fn is_case_pair(a: u8, b: u8) -> bool
 
 // Returns whether no byte plays both the role of `a` and the role of `b`. If a role is not case-sensitive and its byte
 // is a letter, both cases of the letter play the role. If the byte is 0, which means absent, no byte plays it.
-#[inline(always)]
+#[inline]
 #[tactic(auto, using(crate::proofs::CaseLemmas::same_clash, crate::proofs::CaseLemmas::differ_apart))]
 const fn roles_disjoint(a: u8, a_case_sensitive: bool, b: u8, b_case_sensitive: bool) -> bool
     ensures { IsTrue result ↔ Disjoint (cased a_case_sensitive a) (cased b_case_sensitive b) }
@@ -104,7 +104,7 @@ const fn roles_disjoint(a: u8, a_case_sensitive: bool, b: u8, b_case_sensitive: 
 
 // Returns the same result as `roles_disjoint`, but with a single comparison if the two bytes differ in a
 // bit other than 0x20, as most pairs of bytes do.
-#[inline(always)]
+#[inline]
 #[tactic(auto, using(crate::proofs::CaseLemmas::other_bits_apart))]
 const fn roles_disjoint_fast(a: u8, a_case_sensitive: bool, b: u8, b_case_sensitive: bool) -> bool
     ensures { IsTrue result ↔ Disjoint (cased a_case_sensitive a) (cased b_case_sensitive b) }
@@ -114,7 +114,7 @@ const fn roles_disjoint_fast(a: u8, a_case_sensitive: bool, b: u8, b_case_sensit
 
 // Returns whether `b` is not absent and the two bytes agree in all bits except 0x20. If the result is `false`, the
 // roles of the bytes are disjoint, whether or not they are case-sensitive.
-#[inline(always)]
+#[inline]
 const fn may_clash(a: u8, b: u8) -> bool
     ensures { IsTrue result ↔ ((b ≢ 0) × (bit_or a 32 ≡ bit_or b 32)) }
 {
@@ -122,7 +122,7 @@ const fn may_clash(a: u8, b: u8) -> bool
 }
 
 // Returns whether the base prefix is case-sensitive.
-#[inline(always)]
+#[inline]
 const fn prefix_is_case_sensitive(format: u128) -> bool
     ensures { result ≡ (raw format).flag layout.case_sensitive_base_prefix }
 {
@@ -130,7 +130,7 @@ const fn prefix_is_case_sensitive(format: u128) -> bool
 }
 
 // Returns whether the base suffix is case-sensitive.
-#[inline(always)]
+#[inline]
 const fn suffix_is_case_sensitive(format: u128) -> bool
     ensures { result ≡ (raw format).flag layout.case_sensitive_base_suffix }
 {
@@ -138,7 +138,7 @@ const fn suffix_is_case_sensitive(format: u128) -> bool
 }
 
 // Returns whether the exponent character is case-sensitive.
-#[inline(always)]
+#[inline]
 const fn exponent_is_case_sensitive(format: u128) -> bool
     ensures { result ≡ (raw format).flag layout.case_sensitive_exponent }
 {
@@ -149,7 +149,7 @@ const fn exponent_is_case_sensitive(format: u128) -> bool
 
 /// Returns whether `radix` is between 2 and 36, inclusive.
 #[must_use]
-#[inline(always)]
+#[inline]
 pub const fn is_valid_radix(radix: u32) -> bool
     ensures { IsTrue result ↔ IsRadix radix }
 {
@@ -166,7 +166,7 @@ const fn is_valid_own_radix(own: u8, mantissa_radix: u32) -> bool
 }
 
 // Returns whether the mantissa radix is between 2 and 36.
-#[inline(always)]
+#[inline]
 pub(crate) const fn is_valid_mantissa_radix(format: u128) -> bool
     ensures { IsTrue result ↔ Holds rules.MantissaRadixInRange format }
 {
@@ -174,7 +174,7 @@ pub(crate) const fn is_valid_mantissa_radix(format: u128) -> bool
 }
 
 // Returns whether the exponent base, or the mantissa radix if the exponent base is 0, is between 2 and 36.
-#[inline(always)]
+#[inline]
 pub(crate) const fn is_valid_exponent_base(format: u128) -> bool
     ensures { IsTrue result ↔ Holds rules.ExponentBaseInRange format }
 {
@@ -182,7 +182,7 @@ pub(crate) const fn is_valid_exponent_base(format: u128) -> bool
 }
 
 // Returns whether the exponent radix, or the mantissa radix if the exponent radix is 0, is between 2 and 36.
-#[inline(always)]
+#[inline]
 pub(crate) const fn is_valid_exponent_radix(format: u128) -> bool
     ensures { IsTrue result ↔ Holds rules.ExponentRadixInRange format }
 {
@@ -199,7 +199,7 @@ pub(crate) const fn is_valid_exponent_radix(format: u128) -> bool
 /// The flags do not affect the result: a digit is rejected even if no flag allows a separator, and 0 is accepted even
 /// if a flag allows one.
 #[must_use]
-#[inline(always)]
+#[inline]
 pub const fn is_valid_digit_separator(format: u128) -> bool
     ensures { IsTrue result ↔ Holds rules.DigitSeparatorIsPunctuation format }
 {
@@ -211,7 +211,7 @@ pub const fn is_valid_digit_separator(format: u128) -> bool
 /// A byte of 0 is *absent*. *Punctuation* is any byte that [`is_valid_ascii`][lexical_base::ascii::is_valid_ascii]
 /// accepts, except signs (`+` and `-`) and [digits][is_digit_of_either_radix] of `format`.
 #[must_use]
-#[inline(always)]
+#[inline]
 pub const fn is_valid_base_prefix(format: u128) -> bool
     ensures { IsTrue result ↔ Holds rules.BasePrefixIsPunctuation format }
 {
@@ -223,7 +223,7 @@ pub const fn is_valid_base_prefix(format: u128) -> bool
 /// A byte of 0 is *absent*. *Punctuation* is any byte that [`is_valid_ascii`][lexical_base::ascii::is_valid_ascii]
 /// accepts, except signs (`+` and `-`) and [digits][is_digit_of_either_radix] of `format`.
 #[must_use]
-#[inline(always)]
+#[inline]
 pub const fn is_valid_base_suffix(format: u128) -> bool
     ensures { IsTrue result ↔ Holds rules.BaseSuffixIsPunctuation format }
 {
@@ -238,7 +238,7 @@ pub const fn is_valid_base_suffix(format: u128) -> bool
 /// are set. The digit separator is always case-sensitive. `lexical-util` compares the raw bytes, so it accepts the
 /// prefix `h` with the suffix `H` regardless of the flags.
 #[must_use]
-#[inline(always)]
+#[inline]
 pub const fn is_valid_punctuation(format: u128) -> bool
     ensures { IsTrue result ↔ Holds rules.PunctuationDiffers format }
 {
@@ -260,7 +260,6 @@ pub const fn is_valid_punctuation(format: u128) -> bool
 /// The pairs are, in this order: separator and prefix, separator and suffix, prefix and suffix. A word breaks
 /// [`Rule::PunctuationDiffers`] if and only if some entry is `true`.
 #[must_use]
-#[doc(hidden)]
 #[tactic(auto, unfolding(crate::specs::Roles::Disjoint))]
 pub const fn clashes(format: u128) -> [bool; 3]
     ensures { result ≡ clashes (raw format) }
@@ -279,7 +278,7 @@ pub const fn clashes(format: u128) -> [bool; 3]
 
 // Returns whether the role of `byte` is disjoint from the roles of the digit separator, the base prefix and the base
 // suffix.
-#[inline(always)]
+#[inline]
 const fn is_disjoint_from_format_roles(format: u128, byte: u8, case_sensitive: bool) -> bool
     ensures { IsTrue result ↔ AllByRecursion (Disjoint (cased case_sensitive byte)) (format_roles (raw format)) }
 {
@@ -314,7 +313,7 @@ const fn is_disjoint_from_format_roles(format: u128, byte: u8, case_sensitive: b
 /// - For a lawful format, the result is true if and only if both bytes are allowed ASCII, and no byte plays two roles.
 /// - Each lawful format accepts at least one pair of bytes.
 #[must_use]
-#[inline(always)]
+#[inline]
 #[tactic(auto)]
 pub const fn is_valid_options_punctuation(format: u128, exponent: u8, decimal_point: u8) -> bool
     ensures accepted { IsTrue result ↔ OptionsFit format exponent decimal_point }
@@ -341,7 +340,6 @@ pub const fn is_valid_options_punctuation(format: u128, exponent: u8, decimal_po
 ///    prefix or the base suffix, the result is `InvalidPunctuation`. [`is_valid_options_punctuation`] describes which
 ///    letters match both cases.
 #[must_use]
-#[doc(hidden)]
 pub const fn options_error(format: u128, exponent: u8, decimal_point: u8) -> Error
     ensures first { IsOptionsError format exponent decimal_point result }
     ensures accepted { (result ≡ Error.Success) ↔ OptionsFit format exponent decimal_point }
@@ -351,7 +349,7 @@ pub const fn options_error(format: u128, exponent: u8, decimal_point: u8) -> Err
 }
 
 // Returns the error of the first condition that the options do not satisfy, or `Success`.
-#[inline(always)]
+#[inline]
 const fn first_options_error(format: u128, exponent: u8, decimal_point: u8) -> Error
     ensures { IsOptionsError format exponent decimal_point result }
 {
@@ -371,7 +369,7 @@ const fn first_options_error(format: u128, exponent: u8, decimal_point: u8) -> E
 /// Returns `false` if both [`NO_EXPONENT_NOTATION`] and [`REQUIRED_EXPONENT_NOTATION`] are set in
 /// `format`, and `true` otherwise.
 #[must_use]
-#[inline(always)]
+#[inline]
 pub const fn is_valid_exponent_flags(format: u128) -> bool
     ensures { IsTrue result ↔ Holds rules.ExponentFlagsAgree format }
 {
@@ -379,7 +377,7 @@ pub const fn is_valid_exponent_flags(format: u128) -> bool
 }
 
 // Returns `false` if both NO_POSITIVE_MANTISSA_SIGN and REQUIRED_MANTISSA_SIGN are set, and `true` otherwise.
-#[inline(always)]
+#[inline]
 pub(crate) const fn is_valid_mantissa_sign_flags(format: u128) -> bool
     ensures { IsTrue result ↔ Holds rules.MantissaSignFlagsAgree format }
 {
@@ -387,7 +385,7 @@ pub(crate) const fn is_valid_mantissa_sign_flags(format: u128) -> bool
 }
 
 // Returns `false` if both NO_POSITIVE_EXPONENT_SIGN and REQUIRED_EXPONENT_SIGN are set, and `true` otherwise.
-#[inline(always)]
+#[inline]
 pub(crate) const fn is_valid_exponent_sign_flags(format: u128) -> bool
     ensures { IsTrue result ↔ Holds rules.ExponentSignFlagsAgree format }
 {
@@ -395,7 +393,7 @@ pub(crate) const fn is_valid_exponent_sign_flags(format: u128) -> bool
 }
 
 // Returns `false` if both NO_SPECIAL and CASE_SENSITIVE_SPECIAL are set, and `true` otherwise.
-#[inline(always)]
+#[inline]
 pub(crate) const fn is_valid_special_case_flags(format: u128) -> bool
     ensures { IsTrue result ↔ Holds rules.SpecialCaseFlagsAgree format }
 {
@@ -403,7 +401,7 @@ pub(crate) const fn is_valid_special_case_flags(format: u128) -> bool
 }
 
 // Returns `false` if both NO_SPECIAL and SPECIAL_DIGIT_SEPARATOR are set, and `true` otherwise.
-#[inline(always)]
+#[inline]
 pub(crate) const fn is_valid_special_separator_flags(format: u128) -> bool
     ensures { IsTrue result ↔ Holds rules.SpecialSeparatorFlagsAgree format }
 {
@@ -412,7 +410,7 @@ pub(crate) const fn is_valid_special_separator_flags(format: u128) -> bool
 
 // Returns `false` if INTEGER_CONSECUTIVE_DIGIT_SEPARATOR is the only separator flag of the integer that is set, and
 // `true` otherwise.
-#[inline(always)]
+#[inline]
 pub(crate) const fn is_valid_integer_consecutive_flags(format: u128) -> bool
     ensures { IsTrue result ↔ Holds rules.IntegerConsecutiveIsAllowed format }
 {
@@ -421,7 +419,7 @@ pub(crate) const fn is_valid_integer_consecutive_flags(format: u128) -> bool
 
 // Returns `false` if FRACTION_CONSECUTIVE_DIGIT_SEPARATOR is the only separator flag of the fraction that is set, and
 // `true` otherwise.
-#[inline(always)]
+#[inline]
 pub(crate) const fn is_valid_fraction_consecutive_flags(format: u128) -> bool
     ensures { IsTrue result ↔ Holds rules.FractionConsecutiveIsAllowed format }
 {
@@ -430,7 +428,7 @@ pub(crate) const fn is_valid_fraction_consecutive_flags(format: u128) -> bool
 
 // Returns `false` if EXPONENT_CONSECUTIVE_DIGIT_SEPARATOR is the only separator flag of the exponent that is set, and
 // `true` otherwise.
-#[inline(always)]
+#[inline]
 pub(crate) const fn is_valid_exponent_consecutive_flags(format: u128) -> bool
     ensures { IsTrue result ↔ Holds rules.ExponentConsecutiveIsAllowed format }
 {
@@ -439,7 +437,7 @@ pub(crate) const fn is_valid_exponent_consecutive_flags(format: u128) -> bool
 
 /// Returns whether all reserved bits of `format` are 0. The reserved bits hold neither a flag nor a byte.
 #[must_use]
-#[inline(always)]
+#[inline]
 pub const fn is_clean(format: u128) -> bool
     ensures { IsTrue result ↔ IsClean format }
 {
@@ -448,7 +446,7 @@ pub const fn is_clean(format: u128) -> bool
 
 /// Returns whether any flag of `format` allows a digit separator, in a number or in a special value (NaN or infinity).
 #[must_use]
-#[inline(always)]
+#[inline]
 #[tactic(auto, using(crate::proofs::FlagBits::separator_flag_set, crate::proofs::FlagBits::no_separator_flag_set))]
 pub const fn is_separator_allowed(format: u128) -> bool
     ensures { result ≡ separator_allowed (raw format) }
@@ -459,7 +457,7 @@ pub const fn is_separator_allowed(format: u128) -> bool
 // THE FIRST BROKEN RULE
 
 // Returns the error of the first broken punctuation rule, or `Success`.
-#[inline(always)]
+#[inline]
 #[tactic(auto)]
 const fn first_broken_punctuation(format: u128) -> Error
     ensures { IsFirstError punctuation_rules format result }
@@ -495,7 +493,7 @@ const fn flags_agree(format: u128) -> bool
 }
 
 // Returns the error of the first broken flag rule, or `Success`.
-#[inline(always)]
+#[inline]
 #[tactic(auto)]
 const fn first_broken_flags(format: u128) -> Error
     ensures { IsFirstError flag_rules format result }
@@ -522,7 +520,7 @@ const fn first_broken_flags(format: u128) -> Error
 }
 
 // Returns `InvalidFlags` if a reserved bit is set, and `Success` otherwise.
-#[inline(always)]
+#[inline]
 #[tactic(auto, unfolding(crate::specs::Rules::Holds))]
 const fn first_broken_reserved(format: u128) -> Error
     ensures { IsFirstError (rules.ReservedBitsAreZero ∷ []) format result }
@@ -560,8 +558,7 @@ const fn first_broken(format: u128) -> Error
 /// The radixes are tested in this order: the mantissa radix, the exponent base, the exponent radix. If the exponent
 /// base or the exponent radix is 0, the mantissa radix is tested instead.
 #[must_use]
-#[doc(hidden)]
-#[inline(always)]
+#[inline]
 #[tactic(auto)]
 pub const fn radix_error_impl(format: u128) -> Error
     ensures first { IsFirstError radix_rules format result }
@@ -607,7 +604,6 @@ pub const fn radix_error_impl(format: u128) -> Error
 ///
 /// `lexical-util` compares raw bytes in the seventh rule, and has no rule for reserved bits.
 #[must_use]
-#[doc(hidden)]
 pub const fn format_error_impl(format: u128) -> Error
     ensures first { IsErrorOf format result }
     ensures lawful { (result ≡ Error.Success) ↔ Lawful format }
@@ -625,8 +621,7 @@ pub const fn format_error_impl(format: u128) -> Error
 ///
 /// If `format` is not lawful, returns the error of the first rule that it breaks, as [`format_error_impl`] does. This
 /// error is never `Success`.
-#[doc(hidden)]
-#[inline(always)]
+#[inline]
 pub const fn check(format: u128) -> Result<u128, Error>
     ensures lawful { OkIff result (Lawful format) format }
     ensures error { IfErr result (IsErrorOf format) }

@@ -224,7 +224,6 @@ macro_rules! variants {
 const FLAGS: usize = u128::count_ones(FLAG_MASK) as usize;
 
 /// The number of fields in a format word: 31 flags and six bytes.
-#[doc(hidden)]
 pub const FIELD_COUNT: usize = FLAGS + 6;
 
 /// All setters that take a `bool`, in the order of the variants of [`FlagSetter`]: first the flag setters, then the
@@ -255,7 +254,6 @@ pub const ALL_SETTERS: [Setter; SETTERS.len() + 7] = with_setters!(all_setters()
 
 // Returns the mask of the flags that a setter writes. The mask is a `u64`, since all flags are in the lower 64 bits of
 // a word, and the compiler makes lookup tables only for numbers of at most 64 bits.
-#[inline(always)]
 pub(crate) const fn mask_of(setter: FlagSetter) -> u64
     ensures flags { flags_with result ≡ flags_of setter }
     ensures mask { result ≡ mask_of_setter setter }
@@ -361,7 +359,6 @@ impl Setter {
     /// Returns the edit that calls the setter with the argument that `byte` represents. For a flag, any byte except 0
     /// means `true`. For a byte that may be absent, 0 means absent.
     #[must_use]
-    #[doc(hidden)]
     pub const fn with_byte(self, byte: u8) -> Edit {
         match self {
             Setter::Flag(setter) => Edit::Flag(setter, byte != 0),
@@ -401,7 +398,6 @@ impl Edit {
     /// Returns the argument of the edit as a byte. This is 1 for `true`, 0 for `false` or an absent byte, and otherwise
     /// the byte itself.
     #[must_use]
-    #[doc(hidden)]
     pub const fn argument_byte(self) -> u8
         ensures { result ≡ argument_byte self }
     {

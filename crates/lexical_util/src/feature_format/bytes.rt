@@ -11,7 +11,6 @@ use lexical_flags::format_flags as flags;
 impl NumberFormat {
     /// Returns the [digit separator][super::NumberFormatBuilder::digit_separator], or 0 if it is absent. The byte is
     /// returned even if no flag allows digit separators.
-    #[inline(always)]
     pub const fn digit_separator(&self) -> u8
         ensures { result ≡ (raw self.now).byte layout.digit_separator }
     {
@@ -19,7 +18,6 @@ impl NumberFormat {
     }
 
     /// Returns the [base prefix][super::NumberFormatBuilder::base_prefix], or 0 if it is absent.
-    #[inline(always)]
     pub const fn base_prefix(&self) -> u8
         ensures { result ≡ (raw self.now).byte layout.base_prefix }
     {
@@ -27,7 +25,6 @@ impl NumberFormat {
     }
 
     /// Returns the [base suffix][super::NumberFormatBuilder::base_suffix], or 0 if it is absent.
-    #[inline(always)]
     pub const fn base_suffix(&self) -> u8
         ensures { result ≡ (raw self.now).byte layout.base_suffix }
     {

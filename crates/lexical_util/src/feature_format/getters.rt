@@ -17,7 +17,6 @@ impl NumberFormat {
 
     /// Returns whether the format requires digits before the decimal point.
     #[must_use]
-    #[inline(always)]
     pub const fn required_integer_digits(&self) -> bool
         ensures { result ≡ (raw self.now).flag layout.required_integer_digits }
     {
@@ -26,7 +25,6 @@ impl NumberFormat {
 
     /// Returns whether the format requires digits after a decimal point.
     #[must_use]
-    #[inline(always)]
     pub const fn required_fraction_digits(&self) -> bool
         ensures { result ≡ (raw self.now).flag layout.required_fraction_digits }
     {
@@ -35,7 +33,6 @@ impl NumberFormat {
 
     /// Returns whether the format requires digits after an exponent character.
     #[must_use]
-    #[inline(always)]
     pub const fn required_exponent_digits(&self) -> bool
         ensures { result ≡ (raw self.now).flag layout.required_exponent_digits }
     {
@@ -44,7 +41,6 @@ impl NumberFormat {
 
     /// Returns whether the format requires a digit in the mantissa of a float.
     #[must_use]
-    #[inline(always)]
     pub const fn required_mantissa_digits(&self) -> bool
         ensures { result ≡ (raw self.now).flag layout.required_mantissa_digits }
     {
@@ -53,7 +49,6 @@ impl NumberFormat {
 
     /// Returns whether any of the flags that require digits is set.
     #[must_use]
-    #[inline(always)]
     pub const fn required_digits(&self) -> bool
         ensures any { result ≡ any_flag self.now layout.required_digits }
         ensures common { IsTrue result ↔ (common self.now constants.REQUIRED_DIGITS ≢ 0) }
@@ -63,7 +58,6 @@ impl NumberFormat {
 
     /// Returns whether the format forbids a `+` before an integer or a float.
     #[must_use]
-    #[inline(always)]
     pub const fn no_positive_mantissa_sign(&self) -> bool
         ensures { result ≡ (raw self.now).flag layout.no_positive_mantissa_sign }
     {
@@ -72,7 +66,6 @@ impl NumberFormat {
 
     /// Returns whether the format requires a sign before an integer or a float.
     #[must_use]
-    #[inline(always)]
     pub const fn required_mantissa_sign(&self) -> bool
         ensures { result ≡ (raw self.now).flag layout.required_mantissa_sign }
     {
@@ -81,7 +74,6 @@ impl NumberFormat {
 
     /// Returns whether the format forbids an exponent in a float.
     #[must_use]
-    #[inline(always)]
     pub const fn no_exponent_notation(&self) -> bool
         ensures { result ≡ (raw self.now).flag layout.no_exponent_notation }
     {
@@ -90,7 +82,6 @@ impl NumberFormat {
 
     /// Returns whether the format forbids a `+` in the exponent.
     #[must_use]
-    #[inline(always)]
     pub const fn no_positive_exponent_sign(&self) -> bool
         ensures { result ≡ (raw self.now).flag layout.no_positive_exponent_sign }
     {
@@ -99,7 +90,6 @@ impl NumberFormat {
 
     /// Returns whether the format requires a sign in the exponent.
     #[must_use]
-    #[inline(always)]
     pub const fn required_exponent_sign(&self) -> bool
         ensures { result ≡ (raw self.now).flag layout.required_exponent_sign }
     {
@@ -108,7 +98,6 @@ impl NumberFormat {
 
     /// Returns whether the format requires a decimal point before an exponent.
     #[must_use]
-    #[inline(always)]
     pub const fn no_exponent_without_fraction(&self) -> bool
         ensures { result ≡ (raw self.now).flag layout.no_exponent_without_fraction }
     {
@@ -117,7 +106,6 @@ impl NumberFormat {
 
     /// Returns whether the format forbids all special values.
     #[must_use]
-    #[inline(always)]
     pub const fn no_special(&self) -> bool
         ensures { result ≡ (raw self.now).flag layout.no_special }
     {
@@ -126,7 +114,6 @@ impl NumberFormat {
 
     /// Returns whether special values are case-sensitive.
     #[must_use]
-    #[inline(always)]
     pub const fn case_sensitive_special(&self) -> bool
         ensures { result ≡ (raw self.now).flag layout.case_sensitive_special }
     {
@@ -135,7 +122,6 @@ impl NumberFormat {
 
     /// Returns whether the format forbids leading zeros in an integer.
     #[must_use]
-    #[inline(always)]
     pub const fn no_integer_leading_zeros(&self) -> bool
         ensures { result ≡ (raw self.now).flag layout.no_integer_leading_zeros }
     {
@@ -144,7 +130,6 @@ impl NumberFormat {
 
     /// Returns whether the format forbids leading zeros in a float.
     #[must_use]
-    #[inline(always)]
     pub const fn no_float_leading_zeros(&self) -> bool
         ensures { result ≡ (raw self.now).flag layout.no_float_leading_zeros }
     {
@@ -153,7 +138,6 @@ impl NumberFormat {
 
     /// Returns whether the format requires an exponent in a float.
     #[must_use]
-    #[inline(always)]
     pub const fn required_exponent_notation(&self) -> bool
         ensures { result ≡ (raw self.now).flag layout.required_exponent_notation }
     {
@@ -162,7 +146,6 @@ impl NumberFormat {
 
     /// Returns whether the exponent character is case-sensitive.
     #[must_use]
-    #[inline(always)]
     pub const fn case_sensitive_exponent(&self) -> bool
         ensures { result ≡ (raw self.now).flag layout.case_sensitive_exponent }
     {
@@ -171,7 +154,6 @@ impl NumberFormat {
 
     /// Returns whether the base prefix is case-sensitive.
     #[must_use]
-    #[inline(always)]
     pub const fn case_sensitive_base_prefix(&self) -> bool
         ensures { result ≡ (raw self.now).flag layout.case_sensitive_base_prefix }
     {
@@ -180,7 +162,6 @@ impl NumberFormat {
 
     /// Returns whether the base suffix is case-sensitive.
     #[must_use]
-    #[inline(always)]
     pub const fn case_sensitive_base_suffix(&self) -> bool
         ensures { result ≡ (raw self.now).flag layout.case_sensitive_base_suffix }
     {
@@ -191,7 +172,6 @@ impl NumberFormat {
 
     /// Returns whether the format allows a digit separator between integer digits.
     #[must_use]
-    #[inline(always)]
     pub const fn integer_internal_digit_separator(&self) -> bool
         ensures { result ≡ (raw self.now).flag layout.integer_internal_digit_separator }
     {
@@ -200,7 +180,6 @@ impl NumberFormat {
 
     /// Returns whether the format allows a digit separator between fraction digits.
     #[must_use]
-    #[inline(always)]
     pub const fn fraction_internal_digit_separator(&self) -> bool
         ensures { result ≡ (raw self.now).flag layout.fraction_internal_digit_separator }
     {
@@ -209,7 +188,6 @@ impl NumberFormat {
 
     /// Returns whether the format allows a digit separator between exponent digits.
     #[must_use]
-    #[inline(always)]
     pub const fn exponent_internal_digit_separator(&self) -> bool
         ensures { result ≡ (raw self.now).flag layout.exponent_internal_digit_separator }
     {
@@ -218,7 +196,6 @@ impl NumberFormat {
 
     /// Returns whether the format allows a digit separator before the integer digits.
     #[must_use]
-    #[inline(always)]
     pub const fn integer_leading_digit_separator(&self) -> bool
         ensures { result ≡ (raw self.now).flag layout.integer_leading_digit_separator }
     {
@@ -227,7 +204,6 @@ impl NumberFormat {
 
     /// Returns whether the format allows a digit separator before the fraction digits.
     #[must_use]
-    #[inline(always)]
     pub const fn fraction_leading_digit_separator(&self) -> bool
         ensures { result ≡ (raw self.now).flag layout.fraction_leading_digit_separator }
     {
@@ -236,7 +212,6 @@ impl NumberFormat {
 
     /// Returns whether the format allows a digit separator before the exponent digits.
     #[must_use]
-    #[inline(always)]
     pub const fn exponent_leading_digit_separator(&self) -> bool
         ensures { result ≡ (raw self.now).flag layout.exponent_leading_digit_separator }
     {
@@ -245,7 +220,6 @@ impl NumberFormat {
 
     /// Returns whether the format allows a digit separator after the integer digits.
     #[must_use]
-    #[inline(always)]
     pub const fn integer_trailing_digit_separator(&self) -> bool
         ensures { result ≡ (raw self.now).flag layout.integer_trailing_digit_separator }
     {
@@ -254,7 +228,6 @@ impl NumberFormat {
 
     /// Returns whether the format allows a digit separator after the fraction digits.
     #[must_use]
-    #[inline(always)]
     pub const fn fraction_trailing_digit_separator(&self) -> bool
         ensures { result ≡ (raw self.now).flag layout.fraction_trailing_digit_separator }
     {
@@ -263,7 +236,6 @@ impl NumberFormat {
 
     /// Returns whether the format allows a digit separator after the exponent digits.
     #[must_use]
-    #[inline(always)]
     pub const fn exponent_trailing_digit_separator(&self) -> bool
         ensures { result ≡ (raw self.now).flag layout.exponent_trailing_digit_separator }
     {
@@ -272,7 +244,6 @@ impl NumberFormat {
 
     /// Returns whether the format allows consecutive digit separators in the integer part.
     #[must_use]
-    #[inline(always)]
     pub const fn integer_consecutive_digit_separator(&self) -> bool
         ensures { result ≡ (raw self.now).flag layout.integer_consecutive_digit_separator }
     {
@@ -281,7 +252,6 @@ impl NumberFormat {
 
     /// Returns whether the format allows consecutive digit separators in the fraction.
     #[must_use]
-    #[inline(always)]
     pub const fn fraction_consecutive_digit_separator(&self) -> bool
         ensures { result ≡ (raw self.now).flag layout.fraction_consecutive_digit_separator }
     {
@@ -290,7 +260,6 @@ impl NumberFormat {
 
     /// Returns whether the format allows consecutive digit separators in the exponent.
     #[must_use]
-    #[inline(always)]
     pub const fn exponent_consecutive_digit_separator(&self) -> bool
         ensures { result ≡ (raw self.now).flag layout.exponent_consecutive_digit_separator }
     {
@@ -299,7 +268,6 @@ impl NumberFormat {
 
     /// Returns whether any of the flags that allow a digit separator between digits is set.
     #[must_use]
-    #[inline(always)]
     pub const fn internal_digit_separator(&self) -> bool
         ensures any { result ≡ any_flag self.now layout.internal_digit_separator }
         ensures common { IsTrue result ↔ (common self.now constants.INTERNAL_DIGIT_SEPARATOR ≢ 0) }
@@ -309,7 +277,6 @@ impl NumberFormat {
 
     /// Returns whether any of the flags that allow a digit separator before digits is set.
     #[must_use]
-    #[inline(always)]
     pub const fn leading_digit_separator(&self) -> bool
         ensures any { result ≡ any_flag self.now layout.leading_digit_separator }
         ensures common { IsTrue result ↔ (common self.now constants.LEADING_DIGIT_SEPARATOR ≢ 0) }
@@ -319,7 +286,6 @@ impl NumberFormat {
 
     /// Returns whether any of the flags that allow a digit separator after digits is set.
     #[must_use]
-    #[inline(always)]
     pub const fn trailing_digit_separator(&self) -> bool
         ensures any { result ≡ any_flag self.now layout.trailing_digit_separator }
         ensures common { IsTrue result ↔ (common self.now constants.TRAILING_DIGIT_SEPARATOR ≢ 0) }
@@ -329,7 +295,6 @@ impl NumberFormat {
 
     /// Returns whether any of the flags that allow consecutive digit separators is set.
     #[must_use]
-    #[inline(always)]
     pub const fn consecutive_digit_separator(&self) -> bool
         ensures any { result ≡ any_flag self.now layout.consecutive_digit_separator }
         ensures common { IsTrue result ↔ (common self.now constants.CONSECUTIVE_DIGIT_SEPARATOR ≢ 0) }
@@ -339,7 +304,6 @@ impl NumberFormat {
 
     /// Returns whether the format allows digit separators in special values.
     #[must_use]
-    #[inline(always)]
     pub const fn special_digit_separator(&self) -> bool
         ensures { result ≡ (raw self.now).flag layout.special_digit_separator }
     {
@@ -350,7 +314,6 @@ impl NumberFormat {
 
     /// Returns the flags of the word. All other bits of the result are 0.
     #[must_use]
-    #[inline(always)]
     pub const fn flags(&self) -> u128
         ensures bits { result ≡ bits_of self.now layout.flags }
         ensures common { result ≡ common self.now constants.FLAG_MASK }
@@ -360,7 +323,6 @@ impl NumberFormat {
 
     /// Returns the bitwise AND of the word and [`INTERFACE_FLAG_MASK`][flags::INTERFACE_FLAG_MASK].
     #[must_use]
-    #[inline(always)]
     pub const fn interface_flags(&self) -> u128
         ensures bits { result ≡ bits_of self.now masks.interface_flags }
         ensures common { result ≡ common self.now constants.INTERFACE_FLAG_MASK }
@@ -370,7 +332,6 @@ impl NumberFormat {
 
     /// Returns the digit separator flags of the word. All other bits of the result are 0.
     #[must_use]
-    #[inline(always)]
     pub const fn digit_separator_flags(&self) -> u128
         ensures bits { result ≡ bits_of self.now layout.digit_separator_flags }
         ensures common { result ≡ common self.now constants.DIGIT_SEPARATOR_FLAG_MASK }
@@ -381,7 +342,6 @@ impl NumberFormat {
     /// Returns the bitwise AND of the word and [`EXPONENT_FLAG_MASK`][flags::EXPONENT_FLAG_MASK], which does not contain
     /// the flag `case_sensitive_exponent`.
     #[must_use]
-    #[inline(always)]
     pub const fn exponent_flags(&self) -> u128
         ensures bits { result ≡ bits_of self.now masks.exponent_flags }
         ensures common { result ≡ common self.now constants.EXPONENT_FLAG_MASK }
@@ -391,7 +351,6 @@ impl NumberFormat {
 
     /// Returns the flags that allow digit separators in the integer part. All other bits of the result are 0.
     #[must_use]
-    #[inline(always)]
     pub const fn integer_digit_separator_flags(&self) -> u128
         ensures bits { result ≡ bits_of self.now layout.integer_digit_separator_flags }
         ensures common { result ≡ common self.now constants.INTEGER_DIGIT_SEPARATOR_FLAG_MASK }
@@ -401,7 +360,6 @@ impl NumberFormat {
 
     /// Returns the flags that allow digit separators in the fraction. All other bits of the result are 0.
     #[must_use]
-    #[inline(always)]
     pub const fn fraction_digit_separator_flags(&self) -> u128
         ensures bits { result ≡ bits_of self.now layout.fraction_digit_separator_flags }
         ensures common { result ≡ common self.now constants.FRACTION_DIGIT_SEPARATOR_FLAG_MASK }
@@ -411,7 +369,6 @@ impl NumberFormat {
 
     /// Returns the flags that allow digit separators in the exponent. All other bits of the result are 0.
     #[must_use]
-    #[inline(always)]
     pub const fn exponent_digit_separator_flags(&self) -> u128
         ensures bits { result ≡ bits_of self.now layout.exponent_digit_separator_flags }
         ensures common { result ≡ common self.now constants.EXPONENT_DIGIT_SEPARATOR_FLAG_MASK }

@@ -52,7 +52,6 @@ impl NumberFormat {
     /// Returns the value of `byte` as a digit of the mantissa, or `None` if `byte` is not a digit in the mantissa radix.
     /// The case of a letter does not matter. The value is at most 35, and below the mantissa radix.
     #[must_use]
-    #[inline(always)]
     pub const fn mantissa_digit(&self, byte: u8) -> Option<u32>
         ensures { result ≡ digit_of byte ((raw self.now).byte layout.mantissa_radix) }
     {
@@ -63,7 +62,6 @@ impl NumberFormat {
     /// which is the mantissa radix if the exponent radix byte is 0. The case of a letter does not matter. The value is
     /// at most 35, and below the exponent radix.
     #[must_use]
-    #[inline(always)]
     pub const fn exponent_digit(&self, byte: u8) -> Option<u32>
         ensures { result ≡ digit_of byte (effective_exponent_radix (raw self.now)) }
     {
@@ -73,7 +71,6 @@ impl NumberFormat {
     /// Returns whether `byte` is the digit separator, and some flag allows a digit separator. [`Self::separators`]
     /// returns where one is allowed.
     #[must_use]
-    #[inline(always)]
     pub const fn is_separator(&self, byte: u8) -> bool
         ensures { result ≡ used_separator (raw self.now) byte }
     {
@@ -84,7 +81,6 @@ impl NumberFormat {
     /// Returns whether `byte` is the base prefix. A base prefix that is a letter matches both cases unless
     /// `case_sensitive_base_prefix` is set. Without a base prefix, the result is `false`.
     #[must_use]
-    #[inline(always)]
     pub const fn is_base_prefix(&self, byte: u8) -> bool
         ensures { result ≡ prefix (raw self.now) byte }
     {
@@ -95,7 +91,6 @@ impl NumberFormat {
     /// Returns whether `byte` is the base suffix. A base suffix that is a letter matches both cases unless
     /// `case_sensitive_base_suffix` is set. Without a base suffix, the result is `false`.
     #[must_use]
-    #[inline(always)]
     pub const fn is_base_suffix(&self, byte: u8) -> bool
         ensures { result ≡ suffix (raw self.now) byte }
     {
@@ -106,7 +101,6 @@ impl NumberFormat {
     /// Returns whether `byte` is the exponent character `exponent`, which options choose. An exponent character that is
     /// a letter matches both cases unless `case_sensitive_exponent` is set. If `exponent` is 0, the result is `false`.
     #[must_use]
-    #[inline(always)]
     pub const fn is_exponent_character(&self, exponent: u8, byte: u8) -> bool
         ensures { result ≡ exponent_set (raw self.now) exponent byte }
     {
@@ -115,7 +109,6 @@ impl NumberFormat {
 
     /// Returns where digit separators are allowed in `part` of a number.
     #[must_use]
-    #[inline(always)]
     pub const fn separators(&self, part: Part) -> Separators
         ensures { map (raw self.now).flag (separator_flags part)
             ≡ result.internal ∷ result.leading ∷ result.trailing ∷ result.consecutive ∷ [] }
@@ -187,7 +180,6 @@ impl NumberFormat {
 }
 
 // Returns whether `byte` is a sign.
-#[inline(always)]
 const fn is_sign(byte: u8) -> bool
     ensures { result ≡ signs byte }
 {
@@ -196,7 +188,6 @@ const fn is_sign(byte: u8) -> bool
 
 // Returns whether `byte` is `own` or, if `case_sensitive` is false, the same letter in the other case. Returns `false`
 // if `own` is 0, which means absent.
-#[inline(always)]
 #[tactic(auto, unfolding(lexical_flags::specs::Roles::cased))]
 const fn is_byte(own: u8, case_sensitive: bool, byte: u8) -> bool
     ensures { result ≡ cased case_sensitive own byte }

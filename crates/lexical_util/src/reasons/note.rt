@@ -21,7 +21,6 @@ use lexical_builder::format_builder::{NonZeroU8, NumberFormatBuilder};
 use lexical_flags::format_flags as flags;
 
 /// The maximum number of notes on a format word.
-#[doc(hidden)]
 pub const MAX_NOTES: usize = 3;
 
 /// A note on a field that is set but has no effect on any number. The rules may still read the field.
@@ -64,7 +63,6 @@ impl Note {
 ///
 /// A note is not an error, so a lawful word may have notes. A field that a reason [blames][Reason] has no note.
 #[must_use]
-#[doc(hidden)]
 pub const fn notes(format: u128) -> [Option<Note>; MAX_NOTES]
     ensures each { result ≡ map if_applicable (notes_beside format (raw format)) }
 
@@ -96,7 +94,6 @@ pub const fn notes(format: u128) -> [Option<Note>; MAX_NOTES]
 ///
 /// A digit separator that no flag allows has a note, although the builder does not pack it.
 #[must_use]
-#[doc(hidden)]
 pub const fn notes_of_fields(builder: &NumberFormatBuilder) -> [Option<Note>; MAX_NOTES]
     ensures { result ≡ map if_applicable (notes_beside (pack builder.now) builder.now) }
 {
