@@ -12,9 +12,6 @@ import sys
 
 MODULES = ["ascii", "digit", "error", "feature_format", "format", "format_builder", "format_flags"]
 
-# In the library, these are not `const`.
-NOT_CONST = {"is_valid_ascii_slice", "is_valid_letter_slice"}
-
 # A value for each type of an argument.
 VALUES = {
     "u8": "0", "u32": "2", "i32": "0", "u128": "STANDARD", "bool": "true", "&[u8]": 'b""', "OptionU8": "None",
@@ -30,7 +27,7 @@ def uses(text, path):
         types = [it.split(": ")[-1].strip() for it in arguments.split(",") if it.strip()]
         value = "Error::Success" if path == "Error" else f"{path}::new()"
         values = [VALUES[it].replace("{}::new()", value) for it in types]
-        yield f"{path}::{name}{'::<STANDARD>' if generic else ''}({', '.join(values)})", const and name not in NOT_CONST
+        yield f"{path}::{name}{'::<STANDARD>' if generic else ''}({', '.join(values)})", bool(const)
     yield from ((f"{path}::{name}", True) for name in re.findall(r"pub const (\w+): ", text))
     yield from ((f"Error::{name}(&Error::Success)", True) for name in re.findall(r"is_error_type!\(\s*(\w+),", text))
 

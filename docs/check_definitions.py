@@ -4,9 +4,9 @@
     docs/check_definitions.py edit_word    prints what the contract of `edit_word` cites, directly or by definitions
     docs/check_definitions.py              names the calls, each with the number of lines that this prints
 
-A contract cites the definitions that the `use` lines of its file bring, and a definition also those of its own file. No
-two definitions have the same name. The status is 1 if a call reaches a constant of the program, or an addition: a
-definition in a folder of specs/ or in Private.antt. Such definitions serve other calls.
+A contract cites the definitions that the `use` lines of its file bring, and a definition also those of its own file. A
+definition is found by its name and that of its file. The status is 1 if a call reaches a constant of the program, or an
+addition: a definition in a folder of specs/ or in Private.antt. Such definitions serve other calls.
 """
 import pathlib
 import re
@@ -49,18 +49,25 @@ class File:
 
 
 FILES = [File(path) for path in sorted(TOP.glob("crates/lexical_*/specs/**/*.antt"))]
-FILE_OF = {name: file for file in FILES for name in file.lines}
+FILE_OF = {f"{file.path.stem}.{name}": file for file in FILES for name in file.lines}
+NAMED = {path.split(".")[1]: path for path in FILE_OF}
 SOURCES = {path.relative_to(TOP): path.read_text() for path in sorted(TOP.glob("crates/lexical_*/src/**/*.rt"))}
 
 
-def cited(text, own, imported):
+def found_at(path):
+    """Returns the file and the name of the definition at a path, which may be that of a file that re-exports it."""
+    *_, file, name = ["", *path.split(".")]
+    return f"{file}.{name}" if f"{file}.{name}" in FILE_OF else NAMED.get(name, name)
+
+
+def cited(text, imported, own=None):
     """Returns what a text cites: names of definitions, and the paths of constants of the program."""
     found = {}
     for word in WORD.findall(LEFT_OUT.sub("", text)):
         head, _, rest = word.partition(".")
-        path = f"Own.{head}" if head in own else imported.get(head, "std.")
+        path = f"{own.path.stem}.{head}" if own and head in own.lines else imported.get(head, "std.")
         path += rest * path.endswith(".")
-        name = path.split(".")[-1]
+        name = found_at(path)
         if "TheConstants" in path:
             found[path] = True
         elif ".declared." not in path and "std." not in path and name in FILE_OF:
@@ -73,7 +80,7 @@ def reached_from(starts):
     reached, waiting = dict.fromkeys(starts, "its contract"), list(starts)
     for name in waiting:
         if file := FILE_OF.get(name):
-            names = cited("\n".join(file.lines[name]), file.lines, file.imports)
+            names = cited("\n".join(file.lines[name.split(".")[1]]), file.imports, file)
             waiting += [it for it in names if it not in reached]
             reached = dict.fromkeys(names, name) | reached
     return reached
@@ -86,7 +93,7 @@ def reading_order():
     def read(file):
         begun.add(file)
         for path in file.imports.values():
-            above = FILE_OF.get(path.split(".")[-1])
+            above = FILE_OF.get(found_at(path))
             if above and above not in begun:
                 read(above)
         done.append(file)
@@ -108,10 +115,10 @@ def contracts(call):
 def text_of(call):
     """Returns the lines to read for a call, and why its contract is unfit."""
     found = list(contracts(call))
-    reached = reached_from([it for path, _, clauses in found for it in cited(clauses, {}, imports(SOURCES[path]))])
+    reached = reached_from([it for path, _, clauses in found for it in cited(clauses, imports(SOURCES[path]))])
     lines = []
     for file in reading_order():
-        names = [name for name in file.lines if name in reached]
+        names = [name for name in file.lines if f"{file.path.stem}.{name}" in reached]
         lines += [f"==== {file.path}", *file.header] if names else []
         lines += [line for name in names for line in ["", *file.lines[name]]]
     lines += [f"==== {path}\n{text}" for path, text, _ in found]

@@ -19,7 +19,6 @@ pub(crate) use text::Fault;
 pub use text::{byte_from_decimal, SettingError, SettingErrorKind};
 
 /// Calls the setter of `edit` on `builder`, and returns the new builder.
-#[must_use]
 #[inline(always)]
 pub const fn apply(builder: NumberFormatBuilder, edit: Edit) -> NumberFormatBuilder {
     match edit {
@@ -49,19 +48,6 @@ const fn apply_flag(
 /// To build a new format, apply the edits to a new builder, and call
 /// [`build_strict`][NumberFormatBuilder::build_strict]. The mantissa radix is used in place of an exponent base or
 /// exponent radix that no edit sets.
-///
-/// # Proved
-///
-/// For all arguments:
-///
-/// - The result has the fields of the builder `after` the writes of all edits (`all_writes`).
-/// - Each value that an edit writes fits its field (`IsLegal`).
-///
-/// ```text
-/// ensures fields { result ≡ after builder (all_writes edits.now) }
-/// ensures legal { All IsLegal (all_writes edits.now) }
-/// ```
-#[must_use]
 #[inline(always)]
 pub const fn apply_all(mut builder: NumberFormatBuilder, edits: &[Edit]) -> NumberFormatBuilder {
     let mut index = 0;
@@ -101,36 +87,11 @@ pub const fn apply_all(mut builder: NumberFormatBuilder, edits: &[Edit]) -> Numb
 /// assert_eq!(edit_word(STANDARD, &edits), 0x0A0A1000_00000000_00000000_0000040C);
 /// ```
 ///
-/// # Proved
+/// # Proved of the source
 ///
-/// For all arguments:
-///
-/// - The result is the word as `edited` by the writes of all edits (`all_writes`).
-/// - The fields of the result (`raw`) are the fields of the word, filled (`fill`), overwritten in order
-///   (`after`), and trimmed (`trim`).
-/// - The reserved bits of the result are 0 (`IsClean`).
-/// - No other word whose reserved bits are 0 has these fields.
-/// - Any legal writes (`IsLegal`) that give each field the same last value as the edits do (`SameWrites`) have
-///   the same result as the edits. So edits of different fields can be in any order, and a group edit is
-///   equivalent to the edits of its flags in any order.
-/// - Each value that an edit writes fits its field (`IsLegal`).
-///
-/// ```text
-/// ensures word { result ≡ edited format (all_writes edits.now) }
-/// ensures fields { raw result ≡ trim (after (fill (raw format)) (all_writes edits.now)) }
-/// ensures clean { IsClean result }
-///
-/// // No other word with clear reserved bits has these fields.
-/// ensures unique { (other : ℕ) → other < 2 ^ 128 → IsClean other
-///     → raw other ≡ trim (after (fill (raw format)) (all_writes edits.now)) → other ≡ result }
-///
-/// // Only the last write to each field matters. So edits of different fields can be in any order, and a group edit is
-/// // equivalent to the edits of its flags in any order.
-/// ensures same_writes { (writes : List Write) → All IsLegal writes
-///     → SameWrites writes (all_writes edits.now) → edited format writes ≡ result }
-///
-/// ensures legal { All IsLegal (all_writes edits.now) }
-/// ```
+/// - The result has the fields of the four steps, and is the only word with these fields and without reserved bits.
+/// - Only the last write to each field matters. So edits of different fields can be in any order, and a group edit is
+///   equivalent to the edits of its flags.
 #[must_use]
 #[inline]
 pub const fn edit_word(format: u128, edits: &[Edit]) -> u128 {
@@ -144,56 +105,11 @@ pub const fn edit_word(format: u128, edits: &[Edit]) -> u128 {
 /// if no flag allows one, and the reserved bits, which hold no field, are 0. All other fields are unchanged. Two words
 /// are equivalent if they have the same normal form.
 ///
-/// # Proved
+/// # Proved of the source
 ///
-/// For all arguments:
-///
-/// - The result is the word as edited by an empty list of writes (`normal_form_of`).
-/// - The fields of the result (`raw`) are the fields of the word, filled (`fill`) and trimmed (`trim`).
-/// - The reserved bits of the result are 0 (`IsClean`).
-/// - No other word whose reserved bits are 0 has these fields.
-/// - The normal form of the result is the result itself.
-/// - A word is its own normal form if and only if it is normal (`IsNormal`).
-/// - The word and its normal form are equivalent (`SameFormat`).
-/// - For each list of flags, the word and its normal form agree on whether any of the flags is set (`any_flag`).
-/// - For each list of flags, the bits of these flags are the same in the word and its normal form (`bits_of`).
-/// - The normal form of a `Lawful` word is lawful.
-/// - If neither a reserved bit nor a separator is dropped (`IsClean`, `SeparatorAllowedOrAbsent`), the word and
-///   its normal form have the same error (`IsErrorOf`).
-/// - If no separator is dropped, any writes whose values fit their fields (`IsLegal`) turn the word and its
-///   normal form into the same word (`edited`).
-/// - The result is normal (`IsNormal`).
-///
-/// ```text
-/// ensures word { result ≡ normal_form_of format }
-/// ensures fields { raw result ≡ trim (fill (raw format)) }
-/// ensures clean { IsClean result }
-///
-/// // No other word with clear reserved bits has these fields.
-/// ensures unique { (other : ℕ) → other < 2 ^ 128 → IsClean other
-///     → raw other ≡ trim (fill (raw format)) → other ≡ result }
-///
-/// // The normal form of the result is the result itself.
-/// ensures idempotent { normal_form_of result ≡ result }
-/// ensures unchanged { (result ≡ format) ↔ IsNormal format }
-///
-/// // The word and its normal form are equivalent. Their effective fields are equal, except for a separator that no
-/// // flag allows. For each list of flags, both have the same bits.
-/// ensures same { SameFormat (raw format) (raw result) }
-/// ensures groups { (fs : List Flag) → any_flag format fs ≡ any_flag result fs }
-/// ensures flags { (fs : List Flag) → bits_of format fs ≡ bits_of result fs }
-///
-/// // The normal form of a lawful word is lawful. Both words have the same error if neither a reserved bit nor a
-/// // separator is dropped.
-/// ensures lawful { Lawful format → Lawful result }
-/// ensures error { IsClean format → SeparatorAllowedOrAbsent (raw format)
-///     → (error : Error) → IsErrorOf format error ↔ IsErrorOf result error }
-///
-/// // If no separator is dropped, the same writes turn both words into the same word.
-/// ensures edits { SeparatorAllowedOrAbsent (raw format) → (writes : List Write) → All IsLegal writes
-///     → edited result writes ≡ edited format writes }
-/// ensures normal { IsNormal result }
-/// ```
+/// - The normal form of the result is the result itself. It is equivalent to `format`.
+/// - The normal form of a lawful word is lawful. If no separator is dropped and no reserved bit, it has the same error.
+/// - If no separator is dropped, all edits turn `format` and the result into the same word.
 #[must_use]
 #[inline(always)]
 pub const fn normal_form(format: u128) -> u128 {
@@ -218,46 +134,11 @@ pub const fn normal_form(format: u128) -> u128 {
 /// assert_eq!(migrate(0x00000A00_00000000_00000000_8000000C), Ok(0x0A0A0A00_00000000_00000000_0000000C));
 /// assert_eq!(migrate(0x00000A00_00000000_00000000_0000003C), Err(Error::InvalidMantissaSign));
 /// ```
-///
-/// # Proved
-///
-/// For all arguments:
-///
-/// - The result is `Ok` if and only if the normal form (`normal_form_of`) is `Lawful`. An `Ok` holds the normal
-///   form.
-/// - A returned word has the fields (`raw`) of the given word, filled (`fill`) and trimmed (`trim`).
-/// - A returned word is normal (`IsNormal`).
-/// - A returned word is equivalent to the given word (`SameFormat`).
-/// - An `Err` holds the error of the first rule that the normal form breaks (`IsErrorOf`).
-/// - The result is never `Err(Success)`.
-/// - The result is never `Err(InvalidFlags)`, since reserved bits are dropped.
-///
-/// ```text
-/// ensures lawful { OkIff result (Lawful (normal_form_of format)) (normal_form_of format) }
-/// ensures fields { IfOk result (λ word. raw word ≡ trim (fill (raw format))) }
-/// ensures normal { IfOk result IsNormal }
-/// ensures same { IfOk result (λ word. SameFormat (raw format) (raw word)) }
-/// ensures error { IfErr result (IsErrorOf (normal_form_of format)) }
-/// ensures not_success { result ≢ Err Error.Success }
-/// ensures not_flags { result ≢ Err Error.InvalidFlags }
-/// ```
 pub const fn migrate(format: u128) -> Result<u128, Error> {
     check(normal_form(format))
 }
 
 /// Returns whether two words are equivalent, that is, whether they have the same [normal form][normal_form].
-///
-/// # Proved
-///
-/// For all arguments:
-///
-/// - The result is true if and only if the words have the same normal form (`normal_form_of`).
-/// - The result is true if and only if the fields of the words (`raw`) are equivalent (`SameFormat`).
-///
-/// ```text
-/// ensures normal_forms { IsTrue result ↔ (normal_form_of a ≡ normal_form_of b) }
-/// ensures fields { IsTrue result ↔ SameFormat (raw a) (raw b) }
-/// ```
 #[must_use]
 pub const fn same_format(a: u128, b: u128) -> bool {
     normal_form(a) == normal_form(b)

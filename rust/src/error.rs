@@ -6,10 +6,12 @@
 
 use core::fmt;
 
+mod decimal;
 mod short_text;
 mod sink;
+mod traits;
 
-use short_text::put_decimal;
+use decimal::put_decimal;
 pub use short_text::{Piece, ShortText, EMPTY_PIECE};
 pub use sink::Sink;
 
@@ -21,7 +23,7 @@ pub use sink::Sink;
 /// The *rank* of a variant is its index in the list of variants, from 0 to 48. Values are ordered by rank, then by the
 /// index that they hold. This order is total, and only identical values compare as equal. Each of the 49 `is_` methods
 /// tests for a different variant, so exactly one of them returns `true`.
-#[derive(Clone, Copy, Debug, PartialEq, Eq, PartialOrd, Ord, Hash)]
+#[derive(Clone, Copy, PartialEq, Eq, PartialOrd, Ord, Hash, Debug)]
 #[non_exhaustive]
 pub enum Error {
     // Parse errors. Each holds the index of the offending byte.
@@ -538,8 +540,8 @@ impl Error {
 
     /// Returns the rank of the variant: its index in the list of the 49 variants, from 0 to 48.
     #[must_use]
-    #[inline(always)]
     #[doc(hidden)]
+    #[inline(always)]
     pub const fn rank(&self) -> u8 {
         match self {
             Error::Overflow(_) => 0,
@@ -598,8 +600,8 @@ impl Error {
     ///
     /// If it is a parse error, it holds `index`. Otherwise, `index` is ignored.
     #[must_use]
-    #[inline(always)]
     #[doc(hidden)]
+    #[inline(always)]
     pub const fn from_rank(rank: u8, index: usize) -> Option<Error> {
         match rank {
             0 => Some(Error::Overflow(index)),

@@ -42,7 +42,6 @@ impl<const FORMAT: u128> NumberFormat<FORMAT> {
     }
 
     /// Returns a new builder, which does not depend on any word.
-    #[must_use]
     #[inline]
     pub const fn builder() -> NumberFormatBuilder {
         NumberFormatBuilder::new()
@@ -50,7 +49,6 @@ impl<const FORMAT: u128> NumberFormat<FORMAT> {
 
     /// Returns a builder with the fields of the word. An exponent base or exponent radix of 0 becomes the mantissa
     /// radix.
-    #[must_use]
     #[inline]
     pub const fn rebuild() -> NumberFormatBuilder {
         Self::VIEW.rebuild()

@@ -7,10 +7,10 @@ use crate::format_flags as flags;
 use crate::format_flags::check;
 
 mod getters;
-
+mod non_zero;
 mod setters;
 
-pub use core::num::NonZeroU8;
+pub use non_zero::NonZeroU8;
 
 // The bit at which the digit separator flags of a builder start. In a format word, they start at bit 32.
 const FIRST_SEPARATOR: u32 = u128::count_ones(flags::FLAG_MASK % (1 << 32));
@@ -75,6 +75,7 @@ pub type OptionU8 = Option<NonZeroU8>;
 /// assert_eq!(grouped.build_strict(), Ok(0x00000A00_0000005F_00000007_0000000C));
 /// ```
 #[derive(Clone, Copy, PartialEq, Eq, Hash)]
+#[must_use]
 pub struct NumberFormatBuilder {
     flags: u32,
     // An absent byte is 0.
@@ -96,7 +97,6 @@ impl NumberFormatBuilder {
     /// The mantissa radix is 10. The digit separator, the base prefix, the base suffix, the exponent base and the
     /// exponent radix are absent. The flags `required_exponent_digits` and `required_mantissa_digits` are true, and all
     /// other flags are false.
-    #[must_use]
     #[inline(always)]
     pub const fn new() -> Self {
         NumberFormatBuilder {
@@ -151,28 +151,6 @@ impl NumberFormatBuilder {
     ///
     /// If no flag allows digit separators in numbers or special values, the digit separator is dropped: its byte in the
     /// word is 0. All other fields are packed as they are.
-    ///
-    /// # Proved
-    ///
-    /// For all arguments:
-    ///
-    /// - The result is the word into which the builder's fields are packed (`pack`).
-    /// - The fields of the result (`raw`) are those of the builder, without a separator that no flag allows (`trim`).
-    /// - The reserved bits of the result are 0 (`IsClean`).
-    /// - Each byte of the builder is between 0 and 255 (`HasBytes`).
-    /// - A record whose bytes are between 0 and 255 (`HasBytes`) packs into this word if and only if its trimmed
-    ///   fields (`trim`) equal those of the builder.
-    ///
-    /// ```text
-    /// ensures word { result ≡ pack self.now }
-    /// ensures fields { raw result ≡ trim self.now }
-    /// ensures clean { IsClean result }
-    /// ensures bytes { HasBytes self.now }
-    ///
-    /// // Two builders pack into the same word if and only if they have the same fields. A separator that no flag
-    /// // allows is ignored.
-    /// ensures alike { (s : Record) → HasBytes s → (pack s ≡ result) ↔ (trim s ≡ trim self.now) }
-    /// ```
     #[must_use]
     #[inline(always)]
     pub const fn build_unchecked(&self) -> u128 {
@@ -190,33 +168,18 @@ impl NumberFormatBuilder {
 
     /// Packs the fields into a format word, and returns the word if it is [lawful][flags::Rule].
     ///
-    /// In `lexical-util`, this method panics instead of returning an error. Call
-    /// [`build_or_panic`][Self::build_or_panic] in constants, where a `Result` cannot be unwrapped.
+    /// In `lexical-util`, this method panics instead of returning an error. Call [`build_or_panic`][Self::build_or_panic]
+    /// in constants, where a `Result` cannot be unwrapped.
     ///
     /// # Errors
     ///
-    /// If the word is not lawful, returns the error of the first rule that the word breaks. The error is never
-    /// `Success`.
+    /// If the word is not lawful, returns the error of the first rule that the word breaks.
     ///
-    /// # Proved
+    /// # Proved of the source
     ///
-    /// For all arguments:
-    ///
-    /// - The result is `Ok` if and only if the packed word (`pack`) is `Lawful`. An `Ok` holds this word.
-    /// - A returned word has the fields (`raw`) of the builder, without a separator that no flag allows (`trim`).
-    /// - An `Err` holds the error of the first rule that the word breaks (`IsErrorOf`).
-    /// - The result is never `Err(Success)`.
-    /// - The result is never `Err(InvalidFlags)`, since the builder sets no reserved bit.
-    ///
-    /// ```text
-    /// ensures lawful { OkIff result (Lawful (pack self.now)) (pack self.now) }
-    /// ensures fields { IfOk result (λ word. raw word ≡ trim self.now) }
-    /// ensures error { IfErr result (IsErrorOf (pack self.now)) }
-    /// ensures not_success { result ≢ Err Error.Success }
-    ///
-    /// // A packed word has no reserved bit set.
-    /// ensures not_flags { result ≢ Err Error.InvalidFlags }
-    /// ```
+    /// - The result is `Ok` if and only if the packed word is lawful.
+    /// - A returned word has the fields of the builder, without a separator that no flag allows.
+    /// - The error is that of the first broken rule. It is never `Success`, nor `InvalidFlags`.
     #[inline(always)]
     pub const fn build_strict(&self) -> Result<u128, Error> {
         check(self.build_unchecked())
@@ -224,18 +187,9 @@ impl NumberFormatBuilder {
 
     /// Packs the fields into a format word, as [`build_unchecked`][Self::build_unchecked] does. In `lexical-util`,
     /// `build` is deprecated.
-    ///
-    /// # Proved
-    ///
-    /// For all arguments:
-    ///
-    /// - The result is the word into which the builder's fields are packed (`pack`).
-    ///
-    /// ```text
-    /// ensures { result ≡ pack self.now }
-    /// ```
     #[must_use]
     #[inline(always)]
+    #[deprecated = "Use `build_strict` or `build_unchecked` instead."]
     pub const fn build(&self) -> u128 {
         self.build_unchecked()
     }
@@ -254,17 +208,6 @@ impl NumberFormatBuilder {
     /// let octal = NumberFormatBuilder::from_word(hexadecimal).mantissa_radix(8).build_unchecked();
     /// assert_eq!(octal, 0x00000800_00000000_00000000_0000000C);
     /// ```
-    ///
-    /// # Proved
-    ///
-    /// For all arguments:
-    ///
-    /// - The fields of the result are those of the word (`raw`).
-    ///
-    /// ```text
-    /// ensures { result ≡ raw word }
-    /// ```
-    #[must_use]
     #[inline(always)]
     pub const fn from_word(word: u128) -> Self {
         let upper = (word >> 64) as u64;
@@ -287,18 +230,6 @@ impl NumberFormatBuilder {
     /// The exponent base and the exponent radix are therefore not affected by later changes to the mantissa radix. If
     /// the mantissa radix is 0 too, an exponent base or exponent radix of 0 stays 0. The digit separator is kept even
     /// if no flag allows one. The reserved bits, which hold no field, are dropped.
-    ///
-    /// # Proved
-    ///
-    /// For all arguments:
-    ///
-    /// - The fields of the result are those of the word (`raw`), with absent exponent bytes replaced by the mantissa
-    ///   radix (`fill`).
-    ///
-    /// ```text
-    /// ensures { result ≡ fill (raw format) }
-    /// ```
-    #[must_use]
     #[inline(always)]
     pub const fn rebuild(format: u128) -> Self {
         let high = (format >> 64) as u64;
@@ -323,9 +254,8 @@ impl NumberFormatBuilder {
     /// Returns a builder with the given flags and bytes, laid out as [`to_parts`][Self::to_parts] returns them.
     ///
     /// Bits of `flags` above the last flag are ignored.
-    #[must_use]
-    #[inline(always)]
     #[doc(hidden)]
+    #[inline(always)]
     pub const fn from_parts(flags: u32, bytes: [u8; 6]) -> Self {
         NumberFormatBuilder {
             flags: flags & (LOW_FLAGS | SEPARATOR_FLAGS),
@@ -339,17 +269,16 @@ impl NumberFormatBuilder {
     /// order, the digit separator, the base prefix, the base suffix, the mantissa radix, the exponent base and the
     /// exponent radix. An absent byte is 0.
     #[must_use]
-    #[inline(always)]
     #[doc(hidden)]
+    #[inline(always)]
     pub const fn to_parts(&self) -> (u32, [u8; 6]) {
         (self.flags, self.bytes)
     }
 
     /// Sets every flag in `mask` to `value`. A flag is in `mask` if its bit in a format word is 1 in `mask`. The other
     /// bits of `mask` have no effect.
-    #[must_use]
-    #[inline(always)]
     #[doc(hidden)]
+    #[inline(always)]
     pub const fn with_flags(mut self, mask: u128, value: bool) -> Self {
         self.flags = replace_bits(self.flags, builder_flags(mask), value);
         self

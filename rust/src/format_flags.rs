@@ -1,11 +1,12 @@
 // Made by rust/tools/erase.py from crates/lexical_flags/src/format_flags.rt: change that file.
 
-//! The layout of a format word, and the functions that read its flags and bytes.
+//! The layout of a format word, and the functions that read its flags and bytes and check its rules.
 //!
 //! A format word is a `u128`. Its lower 64 bits hold 31 flags in two runs, which start at bit 0 and at bit 32. Its
 //! upper 64 bits hold six bytes: the digit separator, base prefix, base suffix, mantissa radix, exponent base and
 //! exponent radix. A *field* is a flag or one of these bytes. The other bits are *reserved*: they belong to no field. A
-//! word is *lawful* if it satisfies every [`Rule`]. The reserved bits of a lawful word are 0.
+//! word is *lawful* if it satisfies every [`Rule`]. The reserved bits of a lawful word are 0. The setters of
+//! [`NumberFormatBuilder`][crate::format_builder::NumberFormatBuilder] have an example of each flag's effect.
 
 mod all_rules;
 mod parts;
@@ -22,153 +23,114 @@ pub use crate::format_flags::rules::{
 
 // FLAGS OTHER THAN DIGIT SEPARATOR FLAGS
 
-/// The flag that requires digits before the decimal point. If it is set, a parser rejects `.5`. See the
-/// [setter][crate::format_builder::NumberFormatBuilder::required_integer_digits].
+/// The flag that requires digits before the decimal point.
 pub const REQUIRED_INTEGER_DIGITS: u128 = 0x1;
 
-/// The flag that requires digits after a decimal point. If it is set, a parser rejects `1.` but accepts `1`. See the
-/// [setter][crate::format_builder::NumberFormatBuilder::required_fraction_digits].
+/// The flag that requires digits after a decimal point.
 pub const REQUIRED_FRACTION_DIGITS: u128 = 0x2;
 
-/// The flag that requires digits after an exponent character. If it is set, a parser rejects `1e`. See the
-/// [setter][crate::format_builder::NumberFormatBuilder::required_exponent_digits].
+/// The flag that requires digits after an exponent character.
 pub const REQUIRED_EXPONENT_DIGITS: u128 = 0x4;
 
-/// The flag that requires a digit in the mantissa of a float. If it is set, a parser rejects `.`. See the
-/// [setter][crate::format_builder::NumberFormatBuilder::required_mantissa_digits].
+/// The flag that requires a digit in the mantissa of a float.
 pub const REQUIRED_MANTISSA_DIGITS: u128 = 0x8;
 
-/// The mask of all flags that require digits. See the
-/// [setter][crate::format_builder::NumberFormatBuilder::required_digits].
+/// The mask of all flags that require digits.
 pub const REQUIRED_DIGITS: u128 = 0xF;
 
-/// The flag that forbids a `+` before an integer or a float. If it is set, a parser rejects `+1` but accepts `-1`. See
-/// the [setter][crate::format_builder::NumberFormatBuilder::no_positive_mantissa_sign].
+/// The flag that forbids a `+` before an integer or a float.
 pub const NO_POSITIVE_MANTISSA_SIGN: u128 = 0x10;
 
-/// The flag that requires a sign before an integer or a float. If it is set, a parser rejects `1`, and a writer writes
-/// `+1`. See the [setter][crate::format_builder::NumberFormatBuilder::required_mantissa_sign].
+/// The flag that requires a sign before an integer or a float.
 pub const REQUIRED_MANTISSA_SIGN: u128 = 0x20;
 
-/// The flag that forbids an exponent in a float. If it is set, a parser rejects `1e5`, and a writer writes out all
-/// digits. See the [setter][crate::format_builder::NumberFormatBuilder::no_exponent_notation].
+/// The flag that forbids an exponent in a float.
 pub const NO_EXPONENT_NOTATION: u128 = 0x40;
 
-/// The flag that forbids a `+` in the exponent. If it is set, a parser rejects `1e+5` but accepts `1e5` and `1e-5`.
-/// See the [setter][crate::format_builder::NumberFormatBuilder::no_positive_exponent_sign].
+/// The flag that forbids a `+` in the exponent.
 pub const NO_POSITIVE_EXPONENT_SIGN: u128 = 0x80;
 
-/// The flag that requires a sign in the exponent. If it is set, a parser rejects `1e5`, and a writer writes `1e+5`.
-/// See the [setter][crate::format_builder::NumberFormatBuilder::required_exponent_sign].
+/// The flag that requires a sign in the exponent.
 pub const REQUIRED_EXPONENT_SIGN: u128 = 0x100;
 
-/// The flag that requires a decimal point before an exponent. If it is set, a parser rejects `1e5` but accepts
-/// `1.0e5`. See the [setter][crate::format_builder::NumberFormatBuilder::no_exponent_without_fraction].
+/// The flag that requires a decimal point before an exponent.
 pub const NO_EXPONENT_WITHOUT_FRACTION: u128 = 0x200;
 
-/// The flag that forbids all special values. If it is set, a parser rejects `NaN` and `inf`. See the
-/// [setter][crate::format_builder::NumberFormatBuilder::no_special].
+/// The flag that forbids all special values.
 pub const NO_SPECIAL: u128 = 0x400;
 
-/// The flag that makes special values case-sensitive. If it is set, a parser rejects `nan` when the spelling of NaN is
-/// `NaN`. See the [setter][crate::format_builder::NumberFormatBuilder::case_sensitive_special].
+/// The flag that makes special values case-sensitive.
 pub const CASE_SENSITIVE_SPECIAL: u128 = 0x800;
 
-/// The flag that forbids leading zeros in an integer. If it is set, a parser rejects the integer `01` but accepts `0`.
-/// See the [setter][crate::format_builder::NumberFormatBuilder::no_integer_leading_zeros].
+/// The flag that forbids leading zeros in an integer.
 pub const NO_INTEGER_LEADING_ZEROS: u128 = 0x1000;
 
-/// The flag that forbids leading zeros in a float. If it is set, a parser rejects `01.0` but accepts `0.1`. See the
-/// [setter][crate::format_builder::NumberFormatBuilder::no_float_leading_zeros].
+/// The flag that forbids leading zeros in a float.
 pub const NO_FLOAT_LEADING_ZEROS: u128 = 0x2000;
 
-/// The flag that requires an exponent in a float. If it is set, a parser rejects `1.0`, and a writer writes every
-/// float with an exponent. See the [setter][crate::format_builder::NumberFormatBuilder::required_exponent_notation].
+/// The flag that requires an exponent in a float.
 pub const REQUIRED_EXPONENT_NOTATION: u128 = 0x4000;
 
-/// The flag that makes the exponent character case-sensitive. If it is set, a parser rejects `1E5` when the exponent
-/// character is `e`. See the [setter][crate::format_builder::NumberFormatBuilder::case_sensitive_exponent].
+/// The flag that makes the exponent character case-sensitive.
 pub const CASE_SENSITIVE_EXPONENT: u128 = 0x8000;
 
-/// The flag that makes the base prefix case-sensitive. If it is set, a parser rejects `0X1F` when the base prefix is
-/// `x`. See the [setter][crate::format_builder::NumberFormatBuilder::case_sensitive_base_prefix].
+/// The flag that makes the base prefix case-sensitive.
 pub const CASE_SENSITIVE_BASE_PREFIX: u128 = 0x1_0000;
 
-/// The flag that makes the base suffix case-sensitive. If it is set, a parser rejects `1FH` when the base suffix is
-/// `h`. See the [setter][crate::format_builder::NumberFormatBuilder::case_sensitive_base_suffix].
+/// The flag that makes the base suffix case-sensitive.
 pub const CASE_SENSITIVE_BASE_SUFFIX: u128 = 0x2_0000;
 
 // DIGIT SEPARATOR FLAGS
 
-/// The flag that allows a digit separator between integer digits. If it is set, a parser accepts `1_2`. See the
-/// [setter][crate::format_builder::NumberFormatBuilder::integer_internal_digit_separator].
+/// The flag that allows a digit separator between integer digits.
 pub const INTEGER_INTERNAL_DIGIT_SEPARATOR: u128 = 0x1_0000_0000;
 
-/// The flag that allows a digit separator between fraction digits. If it is set, a parser accepts `0.1_2`. See the
-/// [setter][crate::format_builder::NumberFormatBuilder::fraction_internal_digit_separator].
+/// The flag that allows a digit separator between fraction digits.
 pub const FRACTION_INTERNAL_DIGIT_SEPARATOR: u128 = 0x2_0000_0000;
 
-/// The flag that allows a digit separator between exponent digits. If it is set, a parser accepts `1e1_2`. See the
-/// [setter][crate::format_builder::NumberFormatBuilder::exponent_internal_digit_separator].
+/// The flag that allows a digit separator between exponent digits.
 pub const EXPONENT_INTERNAL_DIGIT_SEPARATOR: u128 = 0x4_0000_0000;
 
-/// The flag that allows a digit separator before the integer digits. If it is set, a parser accepts `_12`. See the
-/// [setter][crate::format_builder::NumberFormatBuilder::integer_leading_digit_separator].
+/// The flag that allows a digit separator before the integer digits.
 pub const INTEGER_LEADING_DIGIT_SEPARATOR: u128 = 0x8_0000_0000;
 
-/// The flag that allows a digit separator before the fraction digits. If it is set, a parser accepts `0._12`. See the
-/// [setter][crate::format_builder::NumberFormatBuilder::fraction_leading_digit_separator].
+/// The flag that allows a digit separator before the fraction digits.
 pub const FRACTION_LEADING_DIGIT_SEPARATOR: u128 = 0x10_0000_0000;
 
-/// The flag that allows a digit separator before the exponent digits. If it is set, a parser accepts `1e_12`. See the
-/// [setter][crate::format_builder::NumberFormatBuilder::exponent_leading_digit_separator].
+/// The flag that allows a digit separator before the exponent digits.
 pub const EXPONENT_LEADING_DIGIT_SEPARATOR: u128 = 0x20_0000_0000;
 
-/// The flag that allows a digit separator after the integer digits. If it is set, a parser accepts `12_`. See the
-/// [setter][crate::format_builder::NumberFormatBuilder::integer_trailing_digit_separator].
+/// The flag that allows a digit separator after the integer digits.
 pub const INTEGER_TRAILING_DIGIT_SEPARATOR: u128 = 0x40_0000_0000;
 
-/// The flag that allows a digit separator after the fraction digits. If it is set, a parser accepts `0.12_`. See the
-/// [setter][crate::format_builder::NumberFormatBuilder::fraction_trailing_digit_separator].
+/// The flag that allows a digit separator after the fraction digits.
 pub const FRACTION_TRAILING_DIGIT_SEPARATOR: u128 = 0x80_0000_0000;
 
-/// The flag that allows a digit separator after the exponent digits. If it is set, a parser accepts `1e12_`. See the
-/// [setter][crate::format_builder::NumberFormatBuilder::exponent_trailing_digit_separator].
+/// The flag that allows a digit separator after the exponent digits.
 pub const EXPONENT_TRAILING_DIGIT_SEPARATOR: u128 = 0x100_0000_0000;
 
-/// The flag that allows consecutive digit separators in the integer part. If it is set, a parser accepts several
-/// separators in a row wherever it accepts a single one: `1__2`, `__12`, `12__`. See the
-/// [setter][crate::format_builder::NumberFormatBuilder::integer_consecutive_digit_separator].
+/// The flag that allows consecutive digit separators in the integer part.
 pub const INTEGER_CONSECUTIVE_DIGIT_SEPARATOR: u128 = 0x200_0000_0000;
 
-/// The flag that allows consecutive digit separators in the fraction. If it is set, a parser accepts several
-/// separators in a row wherever it accepts a single one: `0.1__2`, `0.__12`, `0.12__`. See the
-/// [setter][crate::format_builder::NumberFormatBuilder::fraction_consecutive_digit_separator].
+/// The flag that allows consecutive digit separators in the fraction.
 pub const FRACTION_CONSECUTIVE_DIGIT_SEPARATOR: u128 = 0x400_0000_0000;
 
-/// The flag that allows consecutive digit separators in the exponent. If it is set, a parser accepts several
-/// separators in a row wherever it accepts a single one: `1e1__2`, `1e__12`, `1e12__`. See the
-/// [setter][crate::format_builder::NumberFormatBuilder::exponent_consecutive_digit_separator].
+/// The flag that allows consecutive digit separators in the exponent.
 pub const EXPONENT_CONSECUTIVE_DIGIT_SEPARATOR: u128 = 0x800_0000_0000;
 
-/// The mask of all flags that allow a digit separator between digits. See the
-/// [setter][crate::format_builder::NumberFormatBuilder::internal_digit_separator].
+/// The mask of all flags that allow a digit separator between digits.
 pub const INTERNAL_DIGIT_SEPARATOR: u128 = 0x7_0000_0000;
 
-/// The mask of all flags that allow a digit separator before digits. See the
-/// [setter][crate::format_builder::NumberFormatBuilder::leading_digit_separator].
+/// The mask of all flags that allow a digit separator before digits.
 pub const LEADING_DIGIT_SEPARATOR: u128 = 0x38_0000_0000;
 
-/// The mask of all flags that allow a digit separator after digits. See the
-/// [setter][crate::format_builder::NumberFormatBuilder::trailing_digit_separator].
+/// The mask of all flags that allow a digit separator after digits.
 pub const TRAILING_DIGIT_SEPARATOR: u128 = 0x1C0_0000_0000;
 
-/// The mask of all flags that allow consecutive digit separators. See the
-/// [setter][crate::format_builder::NumberFormatBuilder::consecutive_digit_separator].
+/// The mask of all flags that allow consecutive digit separators.
 pub const CONSECUTIVE_DIGIT_SEPARATOR: u128 = 0xE00_0000_0000;
 
-/// The flag that allows digit separators in special values. If it is set, a parser accepts `N__a_N_` as `NaN`. See the
-/// [setter][crate::format_builder::NumberFormatBuilder::special_digit_separator].
+/// The flag that allows digit separators in special values.
 pub const SPECIAL_DIGIT_SEPARATOR: u128 = 0x1000_0000_0000;
 
 // BYTES
@@ -227,23 +189,19 @@ pub const FLAG_MASK: u128 = 0x1FFF_0003_FFFF;
 /// [`CASE_SENSITIVE_EXPONENT`] and [`SPECIAL_DIGIT_SEPARATOR`].
 pub const INTERFACE_FLAG_MASK: u128 = 0xFFF_0000_63CF;
 
-/// The mask of all flags that allow digit separators, including the flag that allows them in special values. See the
-/// [setter][crate::format_builder::NumberFormatBuilder::digit_separator_flags].
+/// The mask of all flags that allow digit separators, including the flag that allows them in special values.
 pub const DIGIT_SEPARATOR_FLAG_MASK: u128 = 0x1FFF_0000_0000;
 
 /// The mask of all flags that affect exponents, except [`CASE_SENSITIVE_EXPONENT`].
 pub const EXPONENT_FLAG_MASK: u128 = 0x924_0000_43C4;
 
-/// The mask of all flags that allow digit separators in the integer part. See the
-/// [setter][crate::format_builder::NumberFormatBuilder::integer_digit_separator_flags].
+/// The mask of all flags that allow digit separators in the integer part.
 pub const INTEGER_DIGIT_SEPARATOR_FLAG_MASK: u128 = 0x249_0000_0000;
 
-/// The mask of all flags that allow digit separators in the fraction. See the
-/// [setter][crate::format_builder::NumberFormatBuilder::fraction_digit_separator_flags].
+/// The mask of all flags that allow digit separators in the fraction.
 pub const FRACTION_DIGIT_SEPARATOR_FLAG_MASK: u128 = 0x492_0000_0000;
 
-/// The mask of all flags that allow digit separators in the exponent. See the
-/// [setter][crate::format_builder::NumberFormatBuilder::exponent_digit_separator_flags].
+/// The mask of all flags that allow digit separators in the exponent.
 pub const EXPONENT_DIGIT_SEPARATOR_FLAG_MASK: u128 = 0x924_0000_0000;
 
 // The mask of the reserved bits: all bits except the flags, the digit separator, and the bits from the lowest bit of
@@ -315,16 +273,16 @@ pub const fn exponent_radix(format: u128) -> u32 {
 
 /// Returns the exponent base that `format` stores, or 0 if it is absent.
 #[must_use]
-#[inline(always)]
 #[doc(hidden)]
+#[inline(always)]
 pub const fn raw_exponent_base(format: u128) -> u8 {
     ((format & EXPONENT_BASE) >> EXPONENT_BASE_SHIFT) as u8
 }
 
 /// Returns the exponent radix that `format` stores, or 0 if it is absent.
 #[must_use]
-#[inline(always)]
 #[doc(hidden)]
+#[inline(always)]
 pub const fn raw_exponent_radix(format: u128) -> u8 {
     ((format & EXPONENT_RADIX) >> EXPONENT_RADIX_SHIFT) as u8
 }
@@ -336,8 +294,7 @@ pub const fn raw_exponent_radix(format: u128) -> u8 {
 ///
 /// # Panics
 ///
-/// If `shift` is not in this range, panics if overflow checks are enabled, and otherwise returns an unspecified
-/// result.
+/// If `shift` is not in this range, panics if overflow checks are enabled, and otherwise returns an unspecified result.
 #[must_use]
 #[inline(always)]
 pub const fn radix_from_flags(format: u128, mask: u128, shift: i32) -> u32 {

@@ -119,7 +119,6 @@ impl Format {
 
     /// Returns a builder with the fields of the format. An absent exponent base or exponent radix becomes the mantissa
     /// radix.
-    #[must_use]
     pub const fn rebuild(&self) -> NumberFormatBuilder {
         self.view.rebuild()
     }

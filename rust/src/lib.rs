@@ -70,7 +70,6 @@
 //! - `build_strict` returns a `Result`. In a constant, call `build_or_panic` instead.
 //! - A base prefix, base suffix or exponent character that is a letter matches both cases, unless a flag makes it
 //!   case-sensitive. A word in which a reserved bit is set is not lawful.
-//! - The functions of [`ascii`] that test whole slices are not `const`, and `build` is not deprecated.
 //! - The prebuilt formats of `lexical-util`, such as `JSON`, are not included. To copy one, see `examples/recipes.rs`.
 //!
 //! [`Format`], [`FormatView`], [`FormatError`], [`edits`], [`Reason`], [`Note`] and [`source`] are new.
@@ -79,19 +78,17 @@
 //!
 //! The library is written in Rattle, which is Rust with contracts. A prover verified that every function meets its
 //! contract. From this code, a program in the repository generated the files that begin with `Made by`. In the
-//! documentation, the sections named `Proved` state contracts. `specs/` in the repository defines their terms.
+//! documentation, `Proved of the source` heads what the contracts of a call state.
 //!
 //! The following parts are written by hand: [`Format`], [`NumberFormat`], the iterators and conversions,
-//! `Display`, `FromStr` and `Debug` of words, `build_or_panic`, and the private modules `decimal`, `lanes` and
-//! `chunks`. A build of this crate proves nothing. You trust the program that generated the files, the handwritten
-//! parts, and `rustc`.
+//! `Display`, `FromStr` and `Debug` of words, `build_or_panic`, the tests of slices in [`ascii`], and the printing of
+//! numbers in decimal. A build of this crate proves nothing. You trust the program that generated the files, the
+//! handwritten parts, and `rustc`.
 #![no_std]
 #![forbid(unsafe_code)]
 
 pub mod ascii;
-mod chunks;
 mod debug;
-mod decimal;
 #[allow(clippy::redundant_pattern_matching, reason = "as it is proved")]
 pub mod digit;
 #[allow(
@@ -107,7 +104,6 @@ pub mod format_builder;
 mod format_error;
 #[doc(hidden)]
 pub mod format_flags;
-mod lanes;
 mod lawful;
 mod lists;
 mod numeral;

@@ -186,8 +186,8 @@ pub const fn options_reasons(
         point: decimal_point,
     };
     [
-        options.byte_reason(None, Byte::ExponentCharacter),
-        options.byte_reason(None, Byte::DecimalPoint),
+        byte_reason(format, None, options.named(Byte::ExponentCharacter)),
+        byte_reason(format, None, options.named(Byte::DecimalPoint)),
         options.clash(None, Byte::ExponentCharacter, Byte::DecimalPoint),
         options.clash(None, Byte::ExponentCharacter, Byte::DigitSeparator),
         options.clash(None, Byte::ExponentCharacter, Byte::BasePrefix),
@@ -280,26 +280,11 @@ impl Characters {
     // Returns the reason for a byte that is neither absent nor punctuation, if it is not.
     #[inline(always)]
     const fn present_reason(&self, rule: Option<Rule>, name: Byte) -> Option<Reason> {
-        if self.named(name).value == 0 {
+        let byte = self.named(name);
+        if byte.value == 0 {
             None
         } else {
-            self.byte_reason(rule, name)
-        }
-    }
-
-    // Returns the reason for a byte that is not punctuation, if it is not.
-    const fn byte_reason(&self, rule: Option<Rule>, name: Byte) -> Option<Reason> {
-        let byte = self.named(name);
-        let cause = if !is_valid_ascii(byte.value) {
-            Some(Cause::NotText(byte))
-        } else if (byte.value == b'+') | (byte.value == b'-') {
-            Some(Cause::IsSign(byte))
-        } else {
-            digit_cause(self.format, byte)
-        };
-        match cause {
-            Some(cause) => Some(Reason::new(self.format, rule, cause)),
-            None => None,
+            byte_reason(self.format, rule, byte)
         }
     }
 
@@ -373,6 +358,21 @@ const fn case_flag(byte: Byte) -> Option<FlagSetter> {
         Byte::BaseSuffix => Some(FlagSetter::CaseSensitiveBaseSuffix),
         Byte::ExponentCharacter => Some(FlagSetter::CaseSensitiveExponent),
         _ => None,
+    }
+}
+
+// Returns the reason for a byte that is not punctuation, if it is not.
+const fn byte_reason(format: u128, rule: Option<Rule>, byte: NamedByte) -> Option<Reason> {
+    let cause = if !is_valid_ascii(byte.value) {
+        Some(Cause::NotText(byte))
+    } else if (byte.value == b'+') | (byte.value == b'-') {
+        Some(Cause::IsSign(byte))
+    } else {
+        digit_cause(format, byte)
+    };
+    match cause {
+        Some(cause) => Some(Reason::new(format, rule, cause)),
+        None => None,
     }
 }
 

@@ -12,8 +12,6 @@ use crate::reasons::Reason;
 use crate::view::FormatView;
 use crate::word_text::{parse_word, word_text};
 
-impl core::error::Error for Error {}
-
 impl core::error::Error for SettingError {}
 
 impl core::error::Error for Reason {}

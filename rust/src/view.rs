@@ -24,10 +24,8 @@ pub use crate::view::roles::{Role, Separators};
 /// A view of a format word. It reads the fields of the word, and checks the word.
 ///
 /// Every method works on any word, whether or not the word is [lawful][flags::Rule]. The word may be known only at run
-/// time. For a word that is known at compile time, [`NumberFormat`][crate::feature_format::NumberFormat] also has each
-/// field as a constant. Views are compared, ordered and hashed by their words.
-/// [`same_format`][crate::edits::same_format] returns whether two words are equivalent.
-#[derive(Clone, Copy, PartialEq, Eq, Hash, PartialOrd, Ord)]
+/// time. Getters of fields have the names of the setters of [`NumberFormatBuilder`], which have examples.
+#[derive(Clone, Copy, PartialEq, Eq, PartialOrd, Ord, Hash)]
 pub struct FormatView {
     format: u128,
 }
@@ -67,22 +65,13 @@ impl FormatView {
         self.error().is_success()
     }
 
-    /// Returns the error of the first rule that the word breaks, in the order of the variants of
-    /// [`Rule`][crate::format_flags::Rule], or `Success` if the word is lawful.
+    /// Returns the error of the first rule that the word breaks, in the order of the variants of [`Rule`][flags::Rule], or
+    /// `Success` if the word is lawful.
     ///
-    /// # Proved
+    /// # Proved of the source
     ///
-    /// For all arguments:
-    ///
-    /// - The result is the error of the first rule that the word breaks, or `Success` (`IsErrorOf`).
-    /// - The result is `Success` if and only if the word is `Lawful`.
-    /// - No other error satisfies `IsErrorOf`.
-    ///
-    /// ```text
-    /// ensures first { IsErrorOf self.now result }
-    /// ensures lawful { (result ≡ Error.Success) ↔ Lawful self.now }
-    /// ensures unique { (other : Error) → IsErrorOf self.now other → other ≡ result }
-    /// ```
+    /// - The result is `Success` if and only if the word satisfies every rule.
+    /// - No other error is that of the first broken rule.
     #[must_use]
     #[inline(always)]
     pub const fn error(&self) -> Error {
@@ -189,7 +178,6 @@ impl FormatView {
     // BUILDERS
 
     /// Returns a new builder, which does not depend on any word.
-    #[must_use]
     #[inline(always)]
     pub const fn builder() -> NumberFormatBuilder {
         NumberFormatBuilder::new()
@@ -197,18 +185,6 @@ impl FormatView {
 
     /// Returns a builder with the fields of the word. An exponent base or exponent radix of 0 becomes the mantissa
     /// radix.
-    ///
-    /// # Proved
-    ///
-    /// For all arguments:
-    ///
-    /// - The fields of the result are those of the word (`raw`), with absent exponent bytes replaced by the mantissa
-    ///   radix (`fill`).
-    ///
-    /// ```text
-    /// ensures { result ≡ fill (raw self.now) }
-    /// ```
-    #[must_use]
     #[inline(always)]
     pub const fn rebuild(&self) -> NumberFormatBuilder {
         NumberFormatBuilder::rebuild(self.format)

@@ -1,7 +1,7 @@
 #!/usr/bin/env python3
 """Tests that each generated file has the source's words in their order, without whole ghost items, and except for
-the tables of erase.py. Comments are not words. The order of imports, and commas and braces that rustfmt adds, do not
-matter.
+the tables of erase.py. A line of documentation is a word, and another comment is none. The order of imports, and commas
+and braces that rustfmt adds, do not matter.
 
 This test reads the sources by itself and takes only the tables from erase.py. It prints each file that differs.
 """
@@ -16,13 +16,15 @@ OPENS, CLOSES = "([{", ")]}"
 
 
 def words_of(text):
-    """The words, signs, strings and characters of a text, without comments."""
+    """The words, signs, strings, characters and lines of documentation of a text, without other comments."""
     words, at = [], 0
     while at < len(text):
         end = at + 1
         quote = at + 1 if text[at] == "b" and text[at + 1 : at + 2] in "\"'" else at
         if text.startswith("//", at):
-            at = text.index("\n", at)
+            end = text.index("\n", at)
+            words += [text[at:end]] * text.startswith(("///", "//!"), at)
+            at = end
             continue
         if text[quote] == '"' or (text[quote] == "'" and (text[quote + 1] == "\\" or text[quote + 2] == "'")):
             end = quote + 1
@@ -75,19 +77,15 @@ def law_names():
 LAWS = law_names()
 
 
-def plain(words, file):
+def plain(words):
     """The words of a source without ghost items."""
     kept, at, laws = [], 0, set()
     while at < len(words):
         word, ahead = words[at], words[at : at + 8]
-        if word == "ghost" or ahead[:2] == ["pub", "ghost"]:
-            at = until(words, at, ";") + 1
-        elif "".join(ahead) == "usestd::marker::Model":
+        if word == "ghost" or ahead[:2] == ["pub", "ghost"] or "".join(ahead) == "usestd::marker::Model":
             at = until(words, at, ";") + 1
         elif ahead[:3] == ["#", "[", "tactic"] or ahead[:4] == ["#", "!", "[", "tactic"]:
             at = close(words, at + ahead.index("["))
-        elif any(ahead[: len(item.split())] == item.split() for name, item in erase.ITEMS if name == file):
-            at = close(words, until(words, at, "{"))
         elif ahead[:3] == ["impl", "Model", "for"]:
             at = close(words, until(words, at, "{"))
         elif word == "use" and "laws" in words[at : until(words, at, ";", "{")]:
@@ -110,55 +108,28 @@ def plain(words, file):
     return kept
 
 
-ITEM = ["fn", "const", "enum", "struct", "trait", "type"]
-
-
-def with_attributes(words, name):
-    """The words with the attributes of the tables HIDDEN, GROWING and DERIVED."""
-    hidden, found, derived, variants = erase.HIDDEN.get(name, "").split(), [], None, set()
-    for at, word in enumerate(words):
-        if words[at : at + 2] == ["pub", "enum"] and f"{words[at + 2]}::*" in hidden:
-            start = at + 4
-            while words[start] != "}":
-                variants.add(start)
-                start = until(words, start, ",", "}")
-                start += words[start] == ","
-        found += ["#", "[", "doc", "(", "hidden", ")", "]"] * (at in variants)
-        if words[at : at + 3] == ["#", "[", "derive"]:
-            derived = len(found) + 4
-        if word == "pub" and words[at + 1] in ITEM:
-            kind, item = (words[at + 1], words[at + 2]) if words[at + 2] != "fn" else ("fn", words[at + 3])
-            more = erase.DERIVED.get(item, "").split(", ") if kind in ("enum", "struct") else [""]
-            if more != [""]:
-                end = close(found, derived - 1) - 1
-                found[end:end] = [it for name in more for it in (",", name)]
-            found += ["#", "[", "doc", "(", "hidden", ")", "]"] * (item in hidden)
-            found += ["#", "[", "non_exhaustive", "]"] * (kind == "enum" and item in erase.GROWING)
-        found.append(word)
-    return words_of(" ".join(found).replace("# [ doc ( inline ) ] ", "") + "\n")
-
-
 def wanted_words(path, place):
     """The words that the generated file of a source must have."""
     text = path.read_text()
-    for file, old, new in erase.SUBSTITUTIONS:
-        if file == path.name:
-            text = text.replace(old, new)
-    for old, new in erase.EVERYWHERE:
+    rows = [(old, new) for file, old, new in erase.REPLACED + erase.ATTRIBUTES if file == path.name]
+    for old, new in rows + erase.EVERYWHERE:
         text = text.replace(old, new)
     folder, root, std = place
-    words = plain(words_of(text), path.name)
+    words = plain(words_of(text))
     for at, word in enumerate(words):
+        if word.startswith("//"):
+            line = re.sub("lexical_(base|flags|builder|util)::", f"{root}::", word).replace("std::", f"{std}::")
+            words[at] = re.sub(rf"\b{erase.VIEW[0]}\b", erase.VIEW[1], line)
+            continue
         if words[at + 1 : at + 3] == [":", ":"]:
             words[at] = root if re.fullmatch("lexical_(base|flags|builder|util)", word) else std if word == "std" else word
         if words[at - 3 : at] == [root, ":", ":"]:
             words[at] = erase.MODULES.get(words[at], words[at])
         words[at] = erase.VIEW[1] if words[at] == erase.VIEW[0] else words[at]
-    is_library = place == erase.LIBRARY
-    return with_attributes(words, str(path).rpartition("/src/")[2]) if is_library else words
+    return words
 
 
-IMPORT = re.compile(r"(?:# \[ [^\]]* \] )*(?:pub (?:\( \w+ \) )?)?(?:use [^;]*|mod \w+) ;")
+IMPORT = re.compile(r"(?:# \[ [^\]]* \] )*(?:pub (?:\( \w+ \) )?)?(?<!\S)(?:use [^;]*|mod \w+) ;")
 
 
 def import_of(text):
@@ -172,8 +143,8 @@ def import_of(text):
 
 
 def normal(words):
-    """The imports, sorted, and the other words without what rustfmt and the eraser add."""
-    text = " ".join(words).replace("# [ must_use ] ", "")
+    """The imports, sorted, and the other words without what rustfmt adds."""
+    text = " ".join(words)
     imports = sorted(import_of(it) for it in IMPORT.findall(text))
     rest = re.sub(r" +", " ", re.sub(r", (?=[)\]}])", "", IMPORT.sub("", text)))
     return imports, rest.split()
@@ -181,30 +152,20 @@ def normal(words):
 
 def same_words(wanted, made):
     """Returns whether two lists of words are equal, except for braces around an arm of a `match`."""
-    at, added = 0, []
+    at, depth, added = 0, 0, []
     for index, word in enumerate(made):
-        if at < len(wanted) and wanted[at] == word and not (word == "}" and added and added[-1] == depth_of(made, index)):
+        depth -= word == "}"
+        if word == "}" and added and added[-1] == depth:
+            added.pop()
+            at += wanted[at : at + 1] == [","]
+        elif wanted[at : at + 1] == [word]:
             at += 1
         elif word == "{" and made[index - 2 : index] == ["=", ">"]:
-            added.append(depth_of(made, index))
-        elif word == "}" and added and added[-1] == depth_of(made, index):
-            added.pop()
-            at += at < len(wanted) and wanted[at] == ","
+            added.append(depth)
         else:
             return False
+        depth += word == "{"
     return at == len(wanted) and not added
-
-
-def depth_of(words, index, cache={}):
-    """Returns the number of open braces around the brace at an index."""
-    if cache.get("words") is not words:
-        depth, depths = 0, []
-        for word in words:
-            depth -= word == "}"
-            depths.append(depth)
-            depth += word == "{"
-        cache.update(words=words, depths=depths)
-    return cache["depths"][index]
 
 
 def are_same(wanted, made):
@@ -218,21 +179,15 @@ def pairs():
         top = erase.CRATES / crate / "src"
         for path in sorted(top.rglob("*.rt")):
             name = path.relative_to(top)
-            if not erase.LEFT_OUT.fullmatch(str(name)):
+            if not erase.LEFT_OUT.fullmatch(str(name)) and str(name) not in erase.BY_HAND:
                 first, *rest = name.with_suffix(".rs").parts
                 if crate == "lexical_util":
                     first = erase.MODULES.get(first.removesuffix(".rs"), first.removesuffix(".rs")) + first[-3:] * first.endswith(".rs")
                 yield path, erase.RUST.joinpath(place[0], first, *rest), place
 
 
-def made_files():
-    """Yields each generated file with the expected words and the actual ones."""
-    for path, made, place in pairs():
-        yield made, wanted_words(path, place), words_of(made.read_text())
-
-
 def main():
-    files = list(made_files())
+    files = [(made, wanted_words(path, place), words_of(made.read_text())) for path, made, place in pairs()]
     found = [str(path.relative_to(erase.RUST)) for path, wanted, made in files if not are_same(wanted, made)]
     sys.exit(f"not the words of the source: {', '.join(found)}" if found or not files else 0)
 

@@ -1,140 +1,93 @@
--- Lemmas that all bytes are in the two ranges if and only if the largest distance of each lane is within the bound.
-use Rattle.std.proofs.Common.{◌≡◌, ℕ, zero, suc, ◌+◌, ◌-◌, ◌*◌, ◌^◌, ◌<◌, ◌≤◌, ◌%◌, Bool, true, false, cond, not, eqb, ltb}
-use Rattle.std.proofs.Common.{◌&&◌, ◌||◌, List, [], ◌∷◌, map, length, replicate, bit_and, refl, subst, ap, ap₂, ◌∙◌, arith, Fits, w8}
-use Rattle.std.specs.Prelude.{nat_le}
-use Rattle.std.specs.List.{list_all}
-use Rattle.std.specs.Simd.Lanes.{zip2, sel_l, mask_l, top, Each1}
+-- Lemmas that a test of every byte of a slice is a test of its lanes and of the rest.
+use Rattle.std.proofs.Common.{◌≡◌, ℕ, zero, suc, ◌+◌, ◌-◌, ◌*◌, ◌^◌, ◌%◌, ◌≤◌, Bool, true, false, cond, eqb, leb, ◌&&◌, ◌||◌}
+use Rattle.std.proofs.Common.{List, [], ◌∷◌, map, length, replicate, take, drop, bit_and, bit_or, refl, sym, ap, ◌∙◌, arith, IsTrue, ◌↔◌}
+use Rattle.std.proofs.Math.Bool.{and_assoc}
+use Rattle.std.proofs.Math.Pow.{suc_ones}
+use Rattle.std.specs.List.{list_all, AllPass}
+use Rattle.std.specs.Simd.{first_chunks}
+use Rattle.std.specs.Simd.Lanes.{zip2, mask_l, top}
 use Rattle.std.proofs.lemmas.Bool.Decides.{nat_tests}
-use Rattle.std.proofs.lemmas.List.{length-map}
-use Rattle.std.proofs.lemmas.Nat.{and_le_l}
-use Rattle.std.proofs.lemmas.Simd.{mask_l-mod, tops_compared, zip2_splat_left}
-use Rattle.lexical_base.specs.Ascii.{between}
-use Rattle.lexical_base.specs.Private.{in_two_ranges, AreTwoRanges}
+use Rattle.std.proofs.lemmas.List.{take-append-drop, drop-drop, length-map}
+use Rattle.std.proofs.lemmas.List.Folds.{list_all-append}
+use Rattle.std.proofs.lemmas.List.Sums.{AllPass-from_list_all, list_all-from_AllPass}
+use Rattle.std.proofs.lemmas.Simd.{mask_l-mod}
+use Rattle.lexical_base.specs.Private.{in_two_ranges}
 
--- These are the operations on two lanes, as the compiler translates them: `-`, `+`, and the mask of `simd_lt`.
-abbrev minus : ℕ → ℕ → ℕ
-minus a b = (a + (2 ^ 8 - b)) % 2 ^ 8
+-- Every element of a list passes if and only if each of the first k chunks passes and the rest of the list passes.
+by_chunks : (p : ℕ → Bool) (n k : ℕ) (xs : List ℕ)
+    → list_all p xs ≡ (list_all (list_all p) (first_chunks n k xs) && list_all p (drop (k * n) xs))
+by_chunks p n zero xs =
+    let none : 0 * n ≡ 0 = omega arith in
+    rw none refl
+by_chunks p n (suc k) xs =
+    let next = drop n xs in
+    let further : drop (k * n) next ≡ drop (suc k * n) xs = drop-drop (k * n) n xs
+    ∙ ap (λ i. drop i xs) (let e : n + k * n ≡ suc k * n = omega arith in e) in
+    let split : list_all p xs ≡ (list_all p (take n xs) && list_all p next) =
+    ap (list_all p) (sym (take-append-drop n xs)) ∙ list_all-append p (take n xs) next in
+    split ∙ rw (by_chunks p n k next, further) (sym (and_assoc (list_all p (take n xs))
+    (list_all (list_all p) (first_chunks n k next)) (list_all p (drop (suc k * n) xs))))
 
-abbrev plus : ℕ → ℕ → ℕ
-plus a b = (a + b) % 2 ^ 8
+-- If `passes` and `rest_passes` are the tests of the whole chunks and of the rest, then both are true if and only if
+-- every element of the list passes.
+pub chunks_and_rest : (p : ℕ → Bool) (n k : ℕ) (xs : List ℕ) {whole : List (List ℕ)} {rest : List ℕ}
+    {passes rest_passes : Bool} → whole ≡ first_chunks n k xs → rest ≡ drop (k * n) xs
+    → passes ≡ list_all (list_all p) whole → rest_passes ≡ list_all p rest → IsTrue (passes && rest_passes) ↔ AllPass p xs
+chunks_and_rest p n k xs {passes = passes} {rest_passes = rest_passes} front back tested rest_tested =
+    let same : (passes && rest_passes) ≡ list_all p xs = rw (tested, rest_tested, front, back) (sym (by_chunks p n k xs)) in (
+      λ passed. AllPass-from_list_all p xs (sym same ∙ passed),
+      λ all. same ∙ list_all-from_AllPass p xs all,
+    )
 
-abbrev below : ℕ → ℕ → ℕ
-below a b = cond (ltb a b) 255 0
+-- A lane of a comparison has all bits set, or none.
+abbrev lane : Bool → ℕ
+lane test = cond test 255 0
 
--- `minima`, `maxima` and `sums` are what `simd_min`, `simd_max` and `saturating_add` return.
-abbrev minima : List ℕ → List ℕ → List ℕ
-minima xs ys = sel_l (map (top 7) (zip2 below xs ys)) xs ys
+and_lanes : (p q : Bool) → bit_and (lane p) (lane q) ≡ lane (p && q)
+and_lanes true true = refl
+and_lanes true false = refl
+and_lanes false true = refl
+and_lanes false false = refl
 
-abbrev maxima : List ℕ → List ℕ → List ℕ
-maxima xs ys = sel_l (map (top 7) (zip2 below xs ys)) ys xs
+top_of_lanes : (p q : Bool) → top 7 (bit_or (lane p) (lane q)) ≡ (p || q)
+top_of_lanes true true = refl
+top_of_lanes true false = refl
+top_of_lanes false true = refl
+top_of_lanes false false = refl
 
-abbrev sums : List ℕ → List ℕ → List ℕ
-sums xs ys = zip2 plus xs (minima ys (map (λ a. 2 ^ 8 - 1 - a) xs))
+-- `in_ranges first second n bytes` is the mask that the code computes of the lanes.
+abbrev in_ranges : ℕ × ℕ → ℕ × ℕ → ℕ → List ℕ → List Bool
+in_ranges first second n bytes =
+    let least = λ (a b : ℕ). lane (leb a b) in
+    let inside = λ (range : ℕ × ℕ). zip2 bit_and (zip2 least (replicate n range.0) bytes) (zip2 least bytes (replicate n range.1)) in
+    map (top 7) (zip2 bit_or (inside first) (inside second))
 
-chosen : (b : Bool) (x y : ℕ) → cond (top 7 (cond b 255 0)) x y ≡ cond b x y
-chosen true x y = refl
-chosen false x y = refl
+lanes_tested : (first second : ℕ × ℕ) (bytes : List ℕ)
+    → in_ranges first second (length bytes) bytes ≡ map (in_two_ranges first second) bytes
+lanes_tested first second [] = refl
+lanes_tested first second (byte ∷ bytes) =
+    rw (
+      and_lanes (leb first.0 byte) (leb byte first.1),
+      and_lanes (leb second.0 byte) (leb byte second.1),
+      top_of_lanes (leb first.0 byte && leb byte first.1) (leb second.0 byte && leb byte second.1),
+      lanes_tested first second bytes,
+    ) refl
 
-min_le : (a b last : ℕ) → nat_le (cond (ltb a b) a b) last ≡ (nat_le a last || nat_le b last)
-min_le a b last = grind (arith, nat_tests)
-
-max_le : (a b last : ℕ) → nat_le (cond (ltb a b) b a) last ≡ (nat_le a last && nat_le b last)
-max_le a b last = grind (arith, nat_tests)
-
--- A byte is in a range if and only if its distance from the lowest byte is at most the distance of the highest byte.
-distance : (low high byte : ℕ) → low ≤ high → high < 256 → byte < 256
-    → nat_le (minus byte low) (high - low) ≡ between low high byte
-distance low high byte some fits byte_fits = grind (arith, nat_tests)
-
--- If `longer` is added to a distance and to a bound below 255, then the comparison of the two does not change.
-raised : (d width longer : ℕ) → d < 256 → width + longer < 255
-    → nat_le (plus d (cond (ltb longer (255 - d)) longer (255 - d))) (width + longer) ≡ nat_le d width
-raised d width longer fits room = grind (arith, nat_tests)
-
-and_swap : (b c p q : Bool) → ((b && c) && (p && q)) ≡ ((b && p) && (c && q))
-and_swap true true p q = refl
-and_swap true false true q = refl
-and_swap true false false q = refl
-and_swap false c p q = refl
-
-module _ (first second : ℕ × ℕ) (ranges : AreTwoRanges first second) where
-  abbrev last : ℕ
-  last = second.1 - second.0
-
-  abbrev longer : ℕ
-  longer = last - (first.1 - first.0)
-
-  -- After a byte is joined to a lane, the lane is within the bound if and only if it was and the byte is in a range.
-  joined_lane : (largest byte : ℕ) → byte < 256
-      → (let d = minus byte first.0 in
-      let s = plus d (cond (top 7 (below longer (255 - d))) longer (255 - d)) in
-      let m = cond (top 7 (below s (minus byte second.0))) s (minus byte second.0) in
-      nat_le (cond (top 7 (below largest m)) m largest) last
-      ≡ (nat_le largest last && (between first.0 first.1 byte || between second.0 second.1 byte)))
-  joined_lane largest byte fits =
-      let d = minus byte first.0 in
-      let e = minus byte second.0 in
-      let s = plus d (cond (ltb longer (255 - d)) longer (255 - d)) in
-      let m = cond (ltb s e) s e in
-      let width = first.1 - first.0 in
-      let whole : width + longer ≡ last = omega (arith, ranges.some, ranges.longer) in
-      let room : width + longer < 255 = omega (arith, ranges.some, ranges.longer, ranges.narrow) in
-      let in_first : nat_le s last ≡ between first.0 first.1 byte = subst (λ k. nat_le s k ≡ nat_le d width) whole
-      (raised d width longer (omega arith) room)
-      ∙ distance first.0 first.1 byte ranges.some ranges.first_bytes fits in
-      let in_second : nat_le e last ≡ between second.0 second.1 byte =
-      distance second.0 second.1 byte (omega (arith, ranges.longer, ranges.some)) ranges.second_bytes fits in
-      rw (
-        chosen (ltb longer (255 - d)) longer (255 - d),
-        chosen (ltb s e) s e,
-        chosen (ltb largest m) m largest,
-      )
-      (max_le largest m last
-      ∙ ap (λ b. nat_le largest last && b) (min_le s e last ∙ ap₂ (λ p q. p || q) in_first in_second))
-
-  -- `distances n mask bytes` lists the distances of the `n` bytes from the two ranges, after the bits that `mask` lacks
-  -- are cleared.
-  abbrev distances : ℕ → ℕ → List ℕ → List ℕ
-  distances n mask bytes =
-      let cleared = zip2 bit_and bytes (replicate n mask) in
-      minima (sums (zip2 minus cleared (replicate n first.0)) (replicate n longer))
-      (zip2 minus cleared (replicate n second.0))
-
-  pub joined_lanes : (mask : ℕ) (largest bytes : List ℕ) → length largest ≡ length bytes → Each1 (Fits w8) bytes
-      → list_all (λ lane. nat_le lane last) (maxima largest (distances (length bytes) mask bytes))
-      ≡ (list_all (λ lane. nat_le lane last) largest && list_all (in_two_ranges mask first second) bytes)
-  joined_lanes mask [] [] same fits = refl
-  joined_lanes mask [] (byte ∷ bytes) same fits = absurd (omega (arith, same))
-  joined_lanes mask (lane ∷ largest) [] same fits = absurd (omega (arith, same))
-  joined_lanes mask (lane ∷ largest) (byte ∷ bytes) same fits =
-      ap₂ (λ p q. p && q) (joined_lane lane (bit_and byte mask) (omega (arith, and_le_l byte mask, fits.0.fits)))
-      (joined_lanes mask largest bytes (omega (arith, same)) fits.1)
-      ∙ and_swap (nat_le lane last) (in_two_ranges mask first second byte) (list_all (λ lane. nat_le lane last) largest)
-      (list_all (in_two_ranges mask first second) bytes)
-
--- Before the first chunk, every lane is 0, so no lane is above the bound.
-pub none_joined : (last n : ℕ) → list_all (λ lane. nat_le lane last) (replicate n 0) ≡ true
-none_joined last zero = refl
-none_joined last (suc n) = rw (none_joined last n) (grind (arith, nat_tests))
-
-clear_mask : (last : ℕ) (lanes : List ℕ)
-    → not (not (eqb (mask_l (map (λ lane. ltb last lane) lanes)) 0)) ≡ list_all (λ lane. nat_le lane last) lanes
-clear_mask last [] = refl
-clear_mask last (lane ∷ lanes) =
-    one lane (mask_l (map (λ lane. ltb last lane) lanes))
-    ∙ ap (λ rest. nat_le lane last && rest) (clear_mask last lanes)
+-- A mask has all its bits if and only if every lane passes.
+full_mask : (p : ℕ → Bool) (bytes : List ℕ) → eqb (mask_l (map p bytes)) (2 ^ length bytes - 1) ≡ list_all p bytes
+full_mask p [] = refl
+full_mask p (byte ∷ bytes) = one (p byte) (mask_l (map p bytes)) (length bytes)
+    ∙ ap (λ rest. p byte && rest) (full_mask p bytes)
   where
-    one : (lane m : ℕ)
-        → not (not (eqb (cond (ltb last lane) 1 0 + 2 * m) 0)) ≡ (nat_le lane last && not (not (eqb m 0)))
-    one lane m = grind (arith, nat_tests)
+    one : (b : Bool) (m n : ℕ) → eqb (cond b 1 0 + 2 * m) (2 ^ suc n - 1) ≡ (b && eqb m (2 ^ n - 1))
+    one b m n = grind (arith, nat_tests, suc_ones n)
 
--- `!lanes.simd_gt(last).any()` returns whether every lane is at most `last`.
-pub none_above : (last n : ℕ) (lanes : List ℕ) → length lanes ≡ n → n ≤ 64
-    → not (not (eqb (mask_l (map (top 7) (zip2 below (replicate n last) lanes)) % 2 ^ 64) 0))
-    ≡ list_all (λ lane. nat_le lane last) lanes
-none_above last n lanes long narrow =
-    let tests : List Bool = map (λ lane. ltb last lane) lanes in
-    let few : length tests ≤ 64 = omega (arith, length-map lanes (λ lane. ltb last lane), long, narrow) in
-    let mask = ap (λ bs. mask_l bs % 2 ^ 64) (tops_compared w8 ltb (replicate n last) lanes
-    ∙ zip2_splat_left ltb last n lanes long) ∙ mask_l-mod tests 64 few in
-    ap (λ m. not (not (eqb m 0))) mask ∙ clear_mask last lanes
+-- The call `all` returns whether every lane is in one of the two ranges.
+pub all_lanes : (first second : ℕ × ℕ) (bytes : List ℕ) → length bytes ≡ 32
+    → eqb (mask_l (in_ranges first second 32 bytes) % 2 ^ 64) (2 ^ 32 - 1) ≡ list_all (in_two_ranges first second) bytes
+all_lanes first second bytes long =
+    let passes = in_two_ranges first second in
+    let few : length (map passes bytes) ≤ 64 = omega (arith, length-map bytes passes, long) in
+    let tested = ap (λ n. in_ranges first second n bytes) (sym long) ∙ lanes_tested first second bytes in
+    ap (λ ms. eqb (mask_l ms % 2 ^ 64) (2 ^ 32 - 1)) tested ∙ ap (λ m. eqb m (2 ^ 32 - 1)) (mask_l-mod (map passes bytes) 64 few)
+    ∙ ap (λ n. eqb (mask_l (map passes bytes)) (2 ^ n - 1)) (sym long) ∙ full_mask passes bytes

@@ -43,6 +43,7 @@ const fn byte_value(c: u8) -> u32
 ///
 /// `radix` may be any number. If it is at most 10, the result is `c.wrapping_sub(b'0')`. If it is above 10, the result
 /// is between 0 and 35 for a digit character, and 255 for any other byte.
+#[must_use]
 #[inline(always)]
 pub const fn char_to_valid_digit_const(c: u8, radix: u32) -> u32
     ensures small { radix ≤ 10 → result ≡ (c + 208) % 256 }
@@ -60,6 +61,7 @@ pub const fn char_to_valid_digit_const(c: u8, radix: u32) -> u32
 /// The digits `0` to `9` have the values 0 to 9, and the letters of either case have the values 10 to 35. `radix` may
 /// be any number. If it is at least 36, all these characters are digits. If it is above 255, every other byte is also a
 /// digit, and has the value 255.
+#[must_use]
 #[inline(always)]
 pub const fn char_to_digit_const(c: u8, radix: u32) -> Option<u32>
     ensures digit { result ≡ digit_of c radix }
@@ -71,6 +73,7 @@ pub const fn char_to_digit_const(c: u8, radix: u32) -> Option<u32>
 }
 
 /// Returns whether the byte `c` is a digit in the given radix, that is, whether [`char_to_digit_const`] returns `Some`.
+#[must_use]
 #[inline(always)]
 pub const fn char_is_digit_const(c: u8, radix: u32) -> bool
     ensures { IsTrue result ↔ IsSome (digit_of c radix) }
@@ -85,8 +88,8 @@ pub const fn char_is_digit_const(c: u8, radix: u32) -> bool
 ///
 /// # Panics
 ///
-/// The contract requires `digit` to be below 36. In plain Rust, the result for any other `digit` is unspecified, and
-/// the call may panic if overflow checks are enabled.
+/// If `digit` is 36 or more, the result is unspecified, and the call may panic if overflow checks are enabled.
+#[must_use]
 #[inline(always)]
 #[tactic(auto, using(crate::proofs::ValueLemmas::values))]
 pub const fn digit_to_char_const(digit: u32, radix: u32) -> u8
@@ -108,6 +111,7 @@ pub const fn digit_to_char_const(digit: u32, radix: u32) -> u8
 /// Returns the value of the byte `c` as a digit in the given radix, or `None` if it is not such a digit.
 ///
 /// [`char_to_digit_const`] returns the same result. Use `char_to_digit` for a radix that is known only at run time.
+#[must_use]
 #[inline(always)]
 pub const fn char_to_digit(c: u8, radix: u32) -> Option<u32>
     ensures digit { result ≡ digit_of c radix }
@@ -119,6 +123,7 @@ pub const fn char_to_digit(c: u8, radix: u32) -> Option<u32>
 }
 
 /// Returns whether the byte `c` is a digit in the given radix, that is, whether [`char_to_digit`] returns `Some`.
+#[must_use]
 #[inline(always)]
 pub const fn char_is_digit(c: u8, radix: u32) -> bool
     ensures { IsTrue result ↔ IsSome (digit_of c radix) }
@@ -132,7 +137,8 @@ pub const fn char_is_digit(c: u8, radix: u32) -> bool
 ///
 /// # Panics
 ///
-/// The contract requires `digit` to be below 36. In plain Rust, a call with any other `digit` panics.
+/// Panics if `digit` is 36 or more.
+#[must_use]
 #[inline(always)]
 pub const fn digit_to_char(digit: u32) -> u8
     requires { digit < 36 }

@@ -1,27 +1,22 @@
 //! The type [`Error`], which represents parse errors, format errors and option errors.
 //!
-//! A parser or a checker returns an [`Error`], which is [`Error::Success`] if nothing is wrong. This crate only defines
-//! the errors. The crates that depend on it return them.
+//! A parser or a checker returns an [`Error`], which is [`Error::Success`] if nothing is wrong.
 
 ghost use Rattle.std.specs.Prelude.{◌≡◌, ◌↔◌, ◌<◌, ◌+◌, length, IsTrue, IsSome, IfSome, IsErr, OnOk, Some};
 ghost use Rattle.std.specs.Fmt.{WritesInCalls, decimal};
 ghost use Rattle.std.specs.Option.{option_copied};
-ghost use Rattle.std.specs.Cmp.{partial_order_from_own_ties};
-ghost use Rattle.std.specs.Cmp.Rules.{comparing};
-ghost use Rattle.std.specs.Ordering.{as_partial_cmp, ordering_reverse};
-ghost use Rattle.std.proofs.Common.{rules};
 ghost use Rattle.lexical_base.specs.Outcomes.{rank_of, index_of, IsAt, class_of, start_of_class};
 ghost use Rattle.lexical_base.specs.Outcomes.{description_of, printed_text};
 ghost use Rattle.lexical_base.specs.declared.error.Error.TheVariants as errors;
-ghost use Rattle.lexical_base.specs.OutcomeOrder.{compare_outcomes, same_outcome};
 
-use std::cmp::Ordering;
 use std::fmt;
 
+mod decimal;
 mod short_text;
 mod sink;
+mod traits;
 
-use short_text::put_decimal;
+use decimal::put_decimal;
 pub use short_text::{EMPTY_PIECE, Piece, ShortText};
 pub use sink::Sink;
 
@@ -149,7 +144,8 @@ pub enum Error {
 }
 
 /// The class of an [`Error`].
-#[derive(Clone, Copy, Debug, PartialEq, Eq)]
+#[derive(Clone, Copy, Debug, PartialEq, Eq, PartialOrd, Ord, Hash)]
+#[non_exhaustive]
 pub enum Class {
     /// An error in the text that a parser reads.
     Parse,
@@ -218,6 +214,7 @@ impl Error {
     /// Returns the description of this [`Error`], in single quotes and without the index.
     ///
     /// See [`Error::index`] for the index, and `Display` for the whole text.
+    #[must_use]
     #[inline(always)]
     pub const fn description(&self) -> &'static str
         ensures text { result.now ≡ description_of self.now }
@@ -227,6 +224,7 @@ impl Error {
     }
 
     /// Returns the index of the offending byte if this is a parse error, and `None` otherwise.
+    #[must_use]
     #[inline(always)]
     pub const fn index(&self) -> Option<&usize>
         ensures value { option_copied result ≡ index_of self.now }
@@ -257,6 +255,7 @@ impl Error {
     }
 
     /// Returns whether this is [`Error::Overflow`], whatever its index.
+    #[must_use]
     pub const fn is_overflow(&self) -> bool
         ensures { IsTrue result ↔ (rank_of self.now ≡ rank_of (errors.Overflow 0)) }
     {
@@ -264,6 +263,7 @@ impl Error {
     }
 
     /// Returns whether this is [`Error::Underflow`], whatever its index.
+    #[must_use]
     pub const fn is_underflow(&self) -> bool
         ensures { IsTrue result ↔ (rank_of self.now ≡ rank_of (errors.Underflow 0)) }
     {
@@ -271,6 +271,7 @@ impl Error {
     }
 
     /// Returns whether this is [`Error::InvalidDigit`], whatever its index.
+    #[must_use]
     pub const fn is_invalid_digit(&self) -> bool
         ensures { IsTrue result ↔ (rank_of self.now ≡ rank_of (errors.InvalidDigit 0)) }
     {
@@ -278,6 +279,7 @@ impl Error {
     }
 
     /// Returns whether this is [`Error::Empty`], whatever its index.
+    #[must_use]
     pub const fn is_empty(&self) -> bool
         ensures { IsTrue result ↔ (rank_of self.now ≡ rank_of (errors.Empty 0)) }
     {
@@ -285,6 +287,7 @@ impl Error {
     }
 
     /// Returns whether this is [`Error::EmptyMantissa`], whatever its index.
+    #[must_use]
     pub const fn is_empty_mantissa(&self) -> bool
         ensures { IsTrue result ↔ (rank_of self.now ≡ rank_of (errors.EmptyMantissa 0)) }
     {
@@ -292,6 +295,7 @@ impl Error {
     }
 
     /// Returns whether this is [`Error::EmptyExponent`], whatever its index.
+    #[must_use]
     pub const fn is_empty_exponent(&self) -> bool
         ensures { IsTrue result ↔ (rank_of self.now ≡ rank_of (errors.EmptyExponent 0)) }
     {
@@ -299,6 +303,7 @@ impl Error {
     }
 
     /// Returns whether this is [`Error::EmptyInteger`], whatever its index.
+    #[must_use]
     pub const fn is_empty_integer(&self) -> bool
         ensures { IsTrue result ↔ (rank_of self.now ≡ rank_of (errors.EmptyInteger 0)) }
     {
@@ -306,6 +311,7 @@ impl Error {
     }
 
     /// Returns whether this is [`Error::EmptyFraction`], whatever its index.
+    #[must_use]
     pub const fn is_empty_fraction(&self) -> bool
         ensures { IsTrue result ↔ (rank_of self.now ≡ rank_of (errors.EmptyFraction 0)) }
     {
@@ -313,6 +319,7 @@ impl Error {
     }
 
     /// Returns whether this is [`Error::InvalidPositiveMantissaSign`], whatever its index.
+    #[must_use]
     pub const fn is_invalid_positive_mantissa_sign(&self) -> bool
         ensures { IsTrue result ↔ (rank_of self.now ≡ rank_of (errors.InvalidPositiveMantissaSign 0)) }
     {
@@ -320,6 +327,7 @@ impl Error {
     }
 
     /// Returns whether this is [`Error::MissingMantissaSign`], whatever its index.
+    #[must_use]
     pub const fn is_missing_mantissa_sign(&self) -> bool
         ensures { IsTrue result ↔ (rank_of self.now ≡ rank_of (errors.MissingMantissaSign 0)) }
     {
@@ -327,6 +335,7 @@ impl Error {
     }
 
     /// Returns whether this is [`Error::InvalidExponent`], whatever its index.
+    #[must_use]
     pub const fn is_invalid_exponent(&self) -> bool
         ensures { IsTrue result ↔ (rank_of self.now ≡ rank_of (errors.InvalidExponent 0)) }
     {
@@ -334,6 +343,7 @@ impl Error {
     }
 
     /// Returns whether this is [`Error::InvalidPositiveExponentSign`], whatever its index.
+    #[must_use]
     pub const fn is_invalid_positive_exponent_sign(&self) -> bool
         ensures { IsTrue result ↔ (rank_of self.now ≡ rank_of (errors.InvalidPositiveExponentSign 0)) }
     {
@@ -341,6 +351,7 @@ impl Error {
     }
 
     /// Returns whether this is [`Error::MissingExponentSign`], whatever its index.
+    #[must_use]
     pub const fn is_missing_exponent_sign(&self) -> bool
         ensures { IsTrue result ↔ (rank_of self.now ≡ rank_of (errors.MissingExponentSign 0)) }
     {
@@ -348,6 +359,7 @@ impl Error {
     }
 
     /// Returns whether this is [`Error::ExponentWithoutFraction`], whatever its index.
+    #[must_use]
     pub const fn is_exponent_without_fraction(&self) -> bool
         ensures { IsTrue result ↔ (rank_of self.now ≡ rank_of (errors.ExponentWithoutFraction 0)) }
     {
@@ -355,6 +367,7 @@ impl Error {
     }
 
     /// Returns whether this is [`Error::InvalidLeadingZeros`], whatever its index.
+    #[must_use]
     pub const fn is_invalid_leading_zeros(&self) -> bool
         ensures { IsTrue result ↔ (rank_of self.now ≡ rank_of (errors.InvalidLeadingZeros 0)) }
     {
@@ -362,6 +375,7 @@ impl Error {
     }
 
     /// Returns whether this is [`Error::MissingExponent`], whatever its index.
+    #[must_use]
     pub const fn is_missing_exponent(&self) -> bool
         ensures { IsTrue result ↔ (rank_of self.now ≡ rank_of (errors.MissingExponent 0)) }
     {
@@ -369,6 +383,7 @@ impl Error {
     }
 
     /// Returns whether this is [`Error::MissingSign`], whatever its index.
+    #[must_use]
     pub const fn is_missing_sign(&self) -> bool
         ensures { IsTrue result ↔ (rank_of self.now ≡ rank_of (errors.MissingSign 0)) }
     {
@@ -376,6 +391,7 @@ impl Error {
     }
 
     /// Returns whether this is [`Error::InvalidPositiveSign`], whatever its index.
+    #[must_use]
     pub const fn is_invalid_positive_sign(&self) -> bool
         ensures { IsTrue result ↔ (rank_of self.now ≡ rank_of (errors.InvalidPositiveSign 0)) }
     {
@@ -383,6 +399,7 @@ impl Error {
     }
 
     /// Returns whether this is [`Error::InvalidNegativeSign`], whatever its index.
+    #[must_use]
     pub const fn is_invalid_negative_sign(&self) -> bool
         ensures { IsTrue result ↔ (rank_of self.now ≡ rank_of (errors.InvalidNegativeSign 0)) }
     {
@@ -390,6 +407,7 @@ impl Error {
     }
 
     /// Returns whether this is [`Error::InvalidMantissaRadix`].
+    #[must_use]
     pub const fn is_invalid_mantissa_radix(&self) -> bool
         ensures { IsTrue result ↔ (rank_of self.now ≡ rank_of errors.InvalidMantissaRadix) }
     {
@@ -397,6 +415,7 @@ impl Error {
     }
 
     /// Returns whether this is [`Error::InvalidExponentBase`].
+    #[must_use]
     pub const fn is_invalid_exponent_base(&self) -> bool
         ensures { IsTrue result ↔ (rank_of self.now ≡ rank_of errors.InvalidExponentBase) }
     {
@@ -404,6 +423,7 @@ impl Error {
     }
 
     /// Returns whether this is [`Error::InvalidExponentRadix`].
+    #[must_use]
     pub const fn is_invalid_exponent_radix(&self) -> bool
         ensures { IsTrue result ↔ (rank_of self.now ≡ rank_of errors.InvalidExponentRadix) }
     {
@@ -411,6 +431,7 @@ impl Error {
     }
 
     /// Returns whether this is [`Error::InvalidDigitSeparator`].
+    #[must_use]
     pub const fn is_invalid_digit_separator(&self) -> bool
         ensures { IsTrue result ↔ (rank_of self.now ≡ rank_of errors.InvalidDigitSeparator) }
     {
@@ -418,6 +439,7 @@ impl Error {
     }
 
     /// Returns whether this is [`Error::InvalidDecimalPoint`].
+    #[must_use]
     pub const fn is_invalid_decimal_point(&self) -> bool
         ensures { IsTrue result ↔ (rank_of self.now ≡ rank_of errors.InvalidDecimalPoint) }
     {
@@ -425,6 +447,7 @@ impl Error {
     }
 
     /// Returns whether this is [`Error::InvalidExponentSymbol`].
+    #[must_use]
     pub const fn is_invalid_exponent_symbol(&self) -> bool
         ensures { IsTrue result ↔ (rank_of self.now ≡ rank_of errors.InvalidExponentSymbol) }
     {
@@ -432,6 +455,7 @@ impl Error {
     }
 
     /// Returns whether this is [`Error::InvalidBasePrefix`].
+    #[must_use]
     pub const fn is_invalid_base_prefix(&self) -> bool
         ensures { IsTrue result ↔ (rank_of self.now ≡ rank_of errors.InvalidBasePrefix) }
     {
@@ -439,6 +463,7 @@ impl Error {
     }
 
     /// Returns whether this is [`Error::InvalidBaseSuffix`].
+    #[must_use]
     pub const fn is_invalid_base_suffix(&self) -> bool
         ensures { IsTrue result ↔ (rank_of self.now ≡ rank_of errors.InvalidBaseSuffix) }
     {
@@ -446,6 +471,7 @@ impl Error {
     }
 
     /// Returns whether this is [`Error::InvalidPunctuation`].
+    #[must_use]
     pub const fn is_invalid_punctuation(&self) -> bool
         ensures { IsTrue result ↔ (rank_of self.now ≡ rank_of errors.InvalidPunctuation) }
     {
@@ -453,6 +479,7 @@ impl Error {
     }
 
     /// Returns whether this is [`Error::InvalidExponentFlags`].
+    #[must_use]
     pub const fn is_invalid_exponent_flags(&self) -> bool
         ensures { IsTrue result ↔ (rank_of self.now ≡ rank_of errors.InvalidExponentFlags) }
     {
@@ -460,6 +487,7 @@ impl Error {
     }
 
     /// Returns whether this is [`Error::InvalidMantissaSign`].
+    #[must_use]
     pub const fn is_invalid_mantissa_sign(&self) -> bool
         ensures { IsTrue result ↔ (rank_of self.now ≡ rank_of errors.InvalidMantissaSign) }
     {
@@ -467,6 +495,7 @@ impl Error {
     }
 
     /// Returns whether this is [`Error::InvalidExponentSign`].
+    #[must_use]
     pub const fn is_invalid_exponent_sign(&self) -> bool
         ensures { IsTrue result ↔ (rank_of self.now ≡ rank_of errors.InvalidExponentSign) }
     {
@@ -474,6 +503,7 @@ impl Error {
     }
 
     /// Returns whether this is [`Error::InvalidSpecial`].
+    #[must_use]
     pub const fn is_invalid_special(&self) -> bool
         ensures { IsTrue result ↔ (rank_of self.now ≡ rank_of errors.InvalidSpecial) }
     {
@@ -481,6 +511,7 @@ impl Error {
     }
 
     /// Returns whether this is [`Error::InvalidConsecutiveIntegerDigitSeparator`].
+    #[must_use]
     pub const fn is_invalid_consecutive_integer_digit_separator(&self) -> bool
         ensures { IsTrue result ↔ (rank_of self.now ≡ rank_of errors.InvalidConsecutiveIntegerDigitSeparator) }
     {
@@ -488,6 +519,7 @@ impl Error {
     }
 
     /// Returns whether this is [`Error::InvalidConsecutiveFractionDigitSeparator`].
+    #[must_use]
     pub const fn is_invalid_consecutive_fraction_digit_separator(&self) -> bool
         ensures { IsTrue result ↔ (rank_of self.now ≡ rank_of errors.InvalidConsecutiveFractionDigitSeparator) }
     {
@@ -495,6 +527,7 @@ impl Error {
     }
 
     /// Returns whether this is [`Error::InvalidConsecutiveExponentDigitSeparator`].
+    #[must_use]
     pub const fn is_invalid_consecutive_exponent_digit_separator(&self) -> bool
         ensures { IsTrue result ↔ (rank_of self.now ≡ rank_of errors.InvalidConsecutiveExponentDigitSeparator) }
     {
@@ -502,6 +535,7 @@ impl Error {
     }
 
     /// Returns whether this is [`Error::InvalidFlags`].
+    #[must_use]
     pub const fn is_invalid_flags(&self) -> bool
         ensures { IsTrue result ↔ (rank_of self.now ≡ rank_of errors.InvalidFlags) }
     {
@@ -509,6 +543,7 @@ impl Error {
     }
 
     /// Returns whether this is [`Error::InvalidNanString`].
+    #[must_use]
     pub const fn is_invalid_nan_string(&self) -> bool
         ensures { IsTrue result ↔ (rank_of self.now ≡ rank_of errors.InvalidNanString) }
     {
@@ -516,6 +551,7 @@ impl Error {
     }
 
     /// Returns whether this is [`Error::NanStringTooLong`].
+    #[must_use]
     pub const fn is_nan_string_too_long(&self) -> bool
         ensures { IsTrue result ↔ (rank_of self.now ≡ rank_of errors.NanStringTooLong) }
     {
@@ -523,6 +559,7 @@ impl Error {
     }
 
     /// Returns whether this is [`Error::InvalidInfString`].
+    #[must_use]
     pub const fn is_invalid_inf_string(&self) -> bool
         ensures { IsTrue result ↔ (rank_of self.now ≡ rank_of errors.InvalidInfString) }
     {
@@ -530,6 +567,7 @@ impl Error {
     }
 
     /// Returns whether this is [`Error::InfStringTooLong`].
+    #[must_use]
     pub const fn is_inf_string_too_long(&self) -> bool
         ensures { IsTrue result ↔ (rank_of self.now ≡ rank_of errors.InfStringTooLong) }
     {
@@ -537,6 +575,7 @@ impl Error {
     }
 
     /// Returns whether this is [`Error::InvalidInfinityString`].
+    #[must_use]
     pub const fn is_invalid_infinity_string(&self) -> bool
         ensures { IsTrue result ↔ (rank_of self.now ≡ rank_of errors.InvalidInfinityString) }
     {
@@ -544,6 +583,7 @@ impl Error {
     }
 
     /// Returns whether this is [`Error::InfinityStringTooLong`].
+    #[must_use]
     pub const fn is_infinity_string_too_long(&self) -> bool
         ensures { IsTrue result ↔ (rank_of self.now ≡ rank_of errors.InfinityStringTooLong) }
     {
@@ -551,6 +591,7 @@ impl Error {
     }
 
     /// Returns whether this is [`Error::InfinityStringTooShort`].
+    #[must_use]
     pub const fn is_infinity_string_too_short(&self) -> bool
         ensures { IsTrue result ↔ (rank_of self.now ≡ rank_of errors.InfinityStringTooShort) }
     {
@@ -558,6 +599,7 @@ impl Error {
     }
 
     /// Returns whether this is [`Error::InvalidFloatParseAlgorithm`].
+    #[must_use]
     pub const fn is_invalid_float_parse_algorithm(&self) -> bool
         ensures { IsTrue result ↔ (rank_of self.now ≡ rank_of errors.InvalidFloatParseAlgorithm) }
     {
@@ -565,6 +607,7 @@ impl Error {
     }
 
     /// Returns whether this is [`Error::InvalidRadix`].
+    #[must_use]
     pub const fn is_invalid_radix(&self) -> bool
         ensures { IsTrue result ↔ (rank_of self.now ≡ rank_of errors.InvalidRadix) }
     {
@@ -572,6 +615,7 @@ impl Error {
     }
 
     /// Returns whether this is [`Error::InvalidFloatPrecision`].
+    #[must_use]
     pub const fn is_invalid_float_precision(&self) -> bool
         ensures { IsTrue result ↔ (rank_of self.now ≡ rank_of errors.InvalidFloatPrecision) }
     {
@@ -579,6 +623,7 @@ impl Error {
     }
 
     /// Returns whether this is [`Error::InvalidNegativeExponentBreak`].
+    #[must_use]
     pub const fn is_invalid_negative_exponent_break(&self) -> bool
         ensures { IsTrue result ↔ (rank_of self.now ≡ rank_of errors.InvalidNegativeExponentBreak) }
     {
@@ -586,6 +631,7 @@ impl Error {
     }
 
     /// Returns whether this is [`Error::InvalidPositiveExponentBreak`].
+    #[must_use]
     pub const fn is_invalid_positive_exponent_break(&self) -> bool
         ensures { IsTrue result ↔ (rank_of self.now ≡ rank_of errors.InvalidPositiveExponentBreak) }
     {
@@ -593,6 +639,7 @@ impl Error {
     }
 
     /// Returns whether this is [`Error::Success`].
+    #[must_use]
     pub const fn is_success(&self) -> bool
         ensures rank { IsTrue result ↔ (rank_of self.now ≡ rank_of errors.Success) }
         ensures same { IsTrue result ↔ (self.now ≡ Error.Success) }
@@ -601,6 +648,8 @@ impl Error {
     }
 
     /// Returns the rank of the variant: its index in the list of the 49 variants, from 0 to 48.
+    #[must_use]
+    #[doc(hidden)]
     #[inline(always)]
     pub const fn rank(&self) -> u8
         ensures value { result ≡ rank_of self.now }
@@ -662,6 +711,8 @@ impl Error {
     /// Returns the [`Error`] whose [rank][Error::rank] is `rank`, or `None` if `rank` is 49 or more.
     ///
     /// If it is a parse error, it holds `index`. Otherwise, `index` is ignored.
+    #[must_use]
+    #[doc(hidden)]
     #[inline(always)]
     pub const fn from_rank(rank: u8, index: usize) -> Option<Error>
         ensures defined { IsSome result ↔ (rank < 49) }
@@ -724,6 +775,7 @@ impl Error {
     }
 
     /// Returns the class of this [`Error`].
+    #[must_use]
     pub const fn class(&self) -> Class
         ensures { result ≡ class_of self.now }
     {
@@ -741,6 +793,7 @@ impl Error {
     /// # Errors
     ///
     /// Returns an error if [`Sink::put`] returns one.
+    #[doc(hidden)]
     pub fn put_into<S: Sink>(&self, out: &mut S) -> Result<(), fmt::Error>
         ensures text { OnOk result (WritesInCalls S.takes out.old (printed_text self.now) out.new) }
         ensures failed { IsErr result → S.has_failed out.new }
@@ -770,60 +823,6 @@ impl Class {
             Class::Options => "lexical options error: ",
             Class::Success => "",
         }
-    }
-}
-
-impl PartialEq for Error {
-    ghost eq = { same_outcome };
-
-    ghost laws = { Prim.search (comparing, rules) };
-
-    fn eq(&self, other: &Error) -> bool
-        ensures value { result ≡ same_outcome self.now other.now }
-        ensures equal { IsTrue result ↔ (self.now ≡ other.now) }
-    {
-        self.rank() == other.rank()
-            && self.index().copied().unwrap_or(0) == other.index().copied().unwrap_or(0)
-    }
-}
-
-impl Eq for Error {
-    ghost laws = { Prim.search (comparing, rules) };
-}
-
-impl Ord for Error {
-    ghost cmp = { compare_outcomes };
-
-    // The order is total: it is transitive, and swapping the two values reverses the result.
-    ghost total = { Prim.search (comparing, rules) };
-
-    ghost matches_partial_cmp = { Prim.search (comparing, rules) };
-
-    ghost matches_eq = { Prim.search (comparing, rules) };
-
-    fn cmp(&self, other: &Error) -> Ordering
-        ensures value { result ≡ compare_outcomes self.now other.now }
-        ensures equal { (result ≡ Ordering.Equal) ↔ (self.now ≡ other.now) }
-        ensures reversed { compare_outcomes other.now self.now ≡ ordering_reverse result }
-    {
-        match self.rank().cmp(&other.rank()) {
-            Ordering::Equal => self
-                .index()
-                .copied()
-                .unwrap_or(0)
-                .cmp(&other.index().copied().unwrap_or(0)),
-            order => order,
-        }
-    }
-}
-
-impl PartialOrd for Error {
-    ghost partial_cmp = { as_partial_cmp compare_outcomes };
-
-    ghost laws = { partial_order_from_own_ties (Prim.search (comparing, rules)) (Prim.search (comparing, rules)) };
-
-    fn partial_cmp(&self, other: &Error) -> Option<Ordering> {
-        Some(self.cmp(other))
     }
 }
 

@@ -80,8 +80,6 @@ pub type OptionU8 = Option<NonZeroU8>;
 /// flags of one group, and returns the builder. It leaves every other field as it is. Setters of different fields can
 /// therefore be called in any order. If several calls set the same field, the last one wins.
 ///
-/// In plain Rust:
-///
 /// ```
 /// use peltzivar::format_builder::{NonZeroU8, NumberFormatBuilder};
 ///
@@ -146,6 +144,7 @@ impl NumberFormatBuilder {
     }
 
     /// Returns the format word for binary numbers, which is [`from_radix(2)`][Self::from_radix].
+    #[must_use]
     #[inline(always)]
     pub const fn binary() -> u128
         ensures word { result ≡ 0x02020200_00000000_00000000_0000000C }
@@ -155,6 +154,7 @@ impl NumberFormatBuilder {
     }
 
     /// Returns the format word for octal numbers, which is [`from_radix(8)`][Self::from_radix].
+    #[must_use]
     #[inline(always)]
     pub const fn octal() -> u128
         ensures word { result ≡ 0x08080800_00000000_00000000_0000000C }
@@ -164,6 +164,7 @@ impl NumberFormatBuilder {
     }
 
     /// Returns the format word for decimal numbers, which is [`from_radix(10)`][Self::from_radix].
+    #[must_use]
     #[inline(always)]
     pub const fn decimal() -> u128
         ensures word { result ≡ 0x0A0A0A00_00000000_00000000_0000000C }
@@ -173,6 +174,7 @@ impl NumberFormatBuilder {
     }
 
     /// Returns the format word for hexadecimal numbers, which is [`from_radix(16)`][Self::from_radix].
+    #[must_use]
     #[inline(always)]
     pub const fn hexadecimal() -> u128
         ensures word { result ≡ 0x10101000_00000000_00000000_0000000C }
@@ -185,6 +187,7 @@ impl NumberFormatBuilder {
     /// `radix`.
     ///
     /// The radix is not checked. The word is [lawful][flags::Rule] if and only if `radix` is between 2 and 36.
+    #[must_use]
     #[inline(always)]
     #[tactic(auto, unfolding(lexical_flags::specs::Record::word_of))]
     pub const fn from_radix(radix: u8) -> u128
@@ -203,6 +206,7 @@ impl NumberFormatBuilder {
     ///
     /// If no flag allows digit separators in numbers or special values, the digit separator is dropped: its byte in the
     /// word is 0. All other fields are packed as they are.
+    #[must_use]
     #[inline(always)]
     pub const fn build_unchecked(&self) -> u128
         ensures word { result ≡ pack self.now }
@@ -235,13 +239,18 @@ impl NumberFormatBuilder {
 
     /// Packs the fields into a format word, and returns the word if it is [lawful][flags::Rule].
     ///
-    /// In `lexical-util`, this method panics instead of returning an error. In plain Rust, call `build_or_panic` in
-    /// constants, where a `Result` cannot be unwrapped.
+    /// In `lexical-util`, this method panics instead of returning an error. Call [`build_or_panic`][Self::build_or_panic]
+    /// in constants, where a `Result` cannot be unwrapped.
     ///
     /// # Errors
     ///
-    /// If the word is not lawful, returns the error of the first rule that the word breaks. The error is never
-    /// `Success`.
+    /// If the word is not lawful, returns the error of the first rule that the word breaks.
+    ///
+    /// # Proved of the source
+    ///
+    /// - The result is `Ok` if and only if the packed word is lawful.
+    /// - A returned word has the fields of the builder, without a separator that no flag allows.
+    /// - The error is that of the first broken rule. It is never `Success`, nor `InvalidFlags`.
     #[inline(always)]
     pub const fn build_strict(&self) -> Result<u128, Error>
         ensures lawful { OkIff result (Lawful (pack self.now)) (pack self.now) }
@@ -257,6 +266,7 @@ impl NumberFormatBuilder {
 
     /// Packs the fields into a format word, as [`build_unchecked`][Self::build_unchecked] does. In `lexical-util`,
     /// `build` is deprecated.
+    #[must_use]
     #[inline(always)]
     pub const fn build(&self) -> u128
         ensures { result ≡ pack self.now }
@@ -269,8 +279,6 @@ impl NumberFormatBuilder {
     /// An exponent base or exponent radix of 0 stays absent, so a later change to the mantissa radix affects it too. To
     /// set it to the mantissa radix instead, call [`rebuild`][Self::rebuild]. The digit separator is kept even if no
     /// flag allows one. The reserved bits, which hold no field, are dropped.
-    ///
-    /// In plain Rust:
     ///
     /// ```
     /// use peltzivar::format_builder::NumberFormatBuilder;
@@ -330,6 +338,7 @@ impl NumberFormatBuilder {
     /// Returns a builder with the given flags and bytes, laid out as [`to_parts`][Self::to_parts] returns them.
     ///
     /// Bits of `flags` above the last flag are ignored.
+    #[doc(hidden)]
     #[inline(always)]
     pub const fn from_parts(flags: u32, bytes: [u8; 6]) -> Self
         ensures { result ≡ builder_record_of_parts (flags % 2 ^ length layout.flags) bytes }
@@ -345,6 +354,8 @@ impl NumberFormatBuilder {
     /// Bits 0 to 30 of the `u32` are the flags, in the order of their bits in a format word. The bytes are, in this
     /// order, the digit separator, the base prefix, the base suffix, the mantissa radix, the exponent base and the
     /// exponent radix. An absent byte is 0.
+    #[must_use]
+    #[doc(hidden)]
     #[inline(always)]
     pub const fn to_parts(&self) -> (u32, [u8; 6])
         ensures fields { builder_record_of_parts result.0 result.1 ≡ self.now }
@@ -355,6 +366,7 @@ impl NumberFormatBuilder {
 
     /// Sets every flag in `mask` to `value`. A flag is in `mask` if its bit in a format word is 1 in `mask`. The other
     /// bits of `mask` have no effect.
+    #[doc(hidden)]
     #[inline(always)]
     pub const fn with_flags(mut self, mask: u128, value: bool) -> Self
         ensures { result ≡ after self (write_flags (flags_with mask) value) }

@@ -1,10 +1,10 @@
-//! The layout of a format word, and the functions that read its flags and bytes. This module re-exports the rule checks
-//! from `format_flags/rules.rt`.
+//! The layout of a format word, and the functions that read its flags and bytes and check its rules.
 //!
 //! A format word is a `u128`. Its lower 64 bits hold 31 flags in two runs, which start at bit 0 and at bit 32. Its
 //! upper 64 bits hold six bytes: the digit separator, base prefix, base suffix, mantissa radix, exponent base and
 //! exponent radix. A *field* is a flag or one of these bytes. The other bits are *reserved*: they belong to no field. A
-//! word is *lawful* if it satisfies every [`Rule`]. The reserved bits of a lawful word are 0.
+//! word is *lawful* if it satisfies every [`Rule`]. The reserved bits of a lawful word are 0. The setters of
+//! [`NumberFormatBuilder`][lexical_builder::format_builder::NumberFormatBuilder] have an example of each flag's effect.
 #![tactic(auto, using(crate::proofs::ByteParts::byte_parts))]
 
 ghost use Rattle.std.specs.Prelude.{◌≡◌, ◌/◌, ◌%◌, ◌^◌, ◌≤ℤ◌, ◌<ℤ◌, pos, unsigned_abs};
@@ -28,116 +28,114 @@ pub use crate::format_flags::rules::{
 
 // FLAGS OTHER THAN DIGIT SEPARATOR FLAGS
 
-/// The mask of this [flag][lexical_builder::format_builder::NumberFormatBuilder::required_integer_digits].
+/// The flag that requires digits before the decimal point.
 pub const REQUIRED_INTEGER_DIGITS: u128 = 0x1;
 
-/// The mask of this [flag][lexical_builder::format_builder::NumberFormatBuilder::required_fraction_digits].
+/// The flag that requires digits after a decimal point.
 pub const REQUIRED_FRACTION_DIGITS: u128 = 0x2;
 
-/// The mask of this [flag][lexical_builder::format_builder::NumberFormatBuilder::required_exponent_digits].
+/// The flag that requires digits after an exponent character.
 pub const REQUIRED_EXPONENT_DIGITS: u128 = 0x4;
 
-/// The mask of this [flag][lexical_builder::format_builder::NumberFormatBuilder::required_mantissa_digits].
+/// The flag that requires a digit in the mantissa of a float.
 pub const REQUIRED_MANTISSA_DIGITS: u128 = 0x8;
 
-/// The mask of this [group][lexical_builder::format_builder::NumberFormatBuilder::required_digits].
+/// The mask of all flags that require digits.
 pub const REQUIRED_DIGITS: u128 = 0xF;
 
-/// The mask of this [flag][lexical_builder::format_builder::NumberFormatBuilder::no_positive_mantissa_sign].
+/// The flag that forbids a `+` before an integer or a float.
 pub const NO_POSITIVE_MANTISSA_SIGN: u128 = 0x10;
 
-/// The mask of this [flag][lexical_builder::format_builder::NumberFormatBuilder::required_mantissa_sign], which requires a
-/// sign: `+` or `-`.
+/// The flag that requires a sign before an integer or a float.
 pub const REQUIRED_MANTISSA_SIGN: u128 = 0x20;
 
-/// The mask of this [flag][lexical_builder::format_builder::NumberFormatBuilder::no_exponent_notation].
+/// The flag that forbids an exponent in a float.
 pub const NO_EXPONENT_NOTATION: u128 = 0x40;
 
-/// The mask of this [flag][lexical_builder::format_builder::NumberFormatBuilder::no_positive_exponent_sign].
+/// The flag that forbids a `+` in the exponent.
 pub const NO_POSITIVE_EXPONENT_SIGN: u128 = 0x80;
 
-/// The mask of this [flag][lexical_builder::format_builder::NumberFormatBuilder::required_exponent_sign], which requires a
-/// sign: `+` or `-`.
+/// The flag that requires a sign in the exponent.
 pub const REQUIRED_EXPONENT_SIGN: u128 = 0x100;
 
-/// The mask of this [flag][lexical_builder::format_builder::NumberFormatBuilder::no_exponent_without_fraction].
+/// The flag that requires a decimal point before an exponent.
 pub const NO_EXPONENT_WITHOUT_FRACTION: u128 = 0x200;
 
-/// The mask of this [flag][lexical_builder::format_builder::NumberFormatBuilder::no_special].
+/// The flag that forbids all special values.
 pub const NO_SPECIAL: u128 = 0x400;
 
-/// The mask of this [flag][lexical_builder::format_builder::NumberFormatBuilder::case_sensitive_special].
+/// The flag that makes special values case-sensitive.
 pub const CASE_SENSITIVE_SPECIAL: u128 = 0x800;
 
-/// The mask of this [flag][lexical_builder::format_builder::NumberFormatBuilder::no_integer_leading_zeros].
+/// The flag that forbids leading zeros in an integer.
 pub const NO_INTEGER_LEADING_ZEROS: u128 = 0x1000;
 
-/// The mask of this [flag][lexical_builder::format_builder::NumberFormatBuilder::no_float_leading_zeros].
+/// The flag that forbids leading zeros in a float.
 pub const NO_FLOAT_LEADING_ZEROS: u128 = 0x2000;
 
-/// The mask of this [flag][lexical_builder::format_builder::NumberFormatBuilder::required_exponent_notation].
+/// The flag that requires an exponent in a float.
 pub const REQUIRED_EXPONENT_NOTATION: u128 = 0x4000;
 
-/// The mask of this [flag][lexical_builder::format_builder::NumberFormatBuilder::case_sensitive_exponent].
+/// The flag that makes the exponent character case-sensitive.
 pub const CASE_SENSITIVE_EXPONENT: u128 = 0x8000;
 
-/// The mask of this [flag][lexical_builder::format_builder::NumberFormatBuilder::case_sensitive_base_prefix].
+/// The flag that makes the base prefix case-sensitive.
 pub const CASE_SENSITIVE_BASE_PREFIX: u128 = 0x1_0000;
 
-/// The mask of this [flag][lexical_builder::format_builder::NumberFormatBuilder::case_sensitive_base_suffix].
+/// The flag that makes the base suffix case-sensitive.
 pub const CASE_SENSITIVE_BASE_SUFFIX: u128 = 0x2_0000;
 
 // DIGIT SEPARATOR FLAGS
 
-/// The mask of this [flag][lexical_builder::format_builder::NumberFormatBuilder::integer_internal_digit_separator].
+/// The flag that allows a digit separator between integer digits.
 pub const INTEGER_INTERNAL_DIGIT_SEPARATOR: u128 = 0x1_0000_0000;
 
-/// The mask of this [flag][lexical_builder::format_builder::NumberFormatBuilder::fraction_internal_digit_separator].
+/// The flag that allows a digit separator between fraction digits.
 pub const FRACTION_INTERNAL_DIGIT_SEPARATOR: u128 = 0x2_0000_0000;
 
-/// The mask of this [flag][lexical_builder::format_builder::NumberFormatBuilder::exponent_internal_digit_separator].
+/// The flag that allows a digit separator between exponent digits.
 pub const EXPONENT_INTERNAL_DIGIT_SEPARATOR: u128 = 0x4_0000_0000;
 
-/// The mask of this [flag][lexical_builder::format_builder::NumberFormatBuilder::integer_leading_digit_separator].
+/// The flag that allows a digit separator before the integer digits.
 pub const INTEGER_LEADING_DIGIT_SEPARATOR: u128 = 0x8_0000_0000;
 
-/// The mask of this [flag][lexical_builder::format_builder::NumberFormatBuilder::fraction_leading_digit_separator].
+/// The flag that allows a digit separator before the fraction digits.
 pub const FRACTION_LEADING_DIGIT_SEPARATOR: u128 = 0x10_0000_0000;
 
-/// The mask of this [flag][lexical_builder::format_builder::NumberFormatBuilder::exponent_leading_digit_separator].
+/// The flag that allows a digit separator before the exponent digits.
 pub const EXPONENT_LEADING_DIGIT_SEPARATOR: u128 = 0x20_0000_0000;
 
-/// The mask of this [flag][lexical_builder::format_builder::NumberFormatBuilder::integer_trailing_digit_separator].
+/// The flag that allows a digit separator after the integer digits.
 pub const INTEGER_TRAILING_DIGIT_SEPARATOR: u128 = 0x40_0000_0000;
 
-/// The mask of this [flag][lexical_builder::format_builder::NumberFormatBuilder::fraction_trailing_digit_separator].
+/// The flag that allows a digit separator after the fraction digits.
 pub const FRACTION_TRAILING_DIGIT_SEPARATOR: u128 = 0x80_0000_0000;
 
-/// The mask of this [flag][lexical_builder::format_builder::NumberFormatBuilder::exponent_trailing_digit_separator].
+/// The flag that allows a digit separator after the exponent digits.
 pub const EXPONENT_TRAILING_DIGIT_SEPARATOR: u128 = 0x100_0000_0000;
 
-/// The mask of this [flag][lexical_builder::format_builder::NumberFormatBuilder::integer_consecutive_digit_separator].
+/// The flag that allows consecutive digit separators in the integer part.
 pub const INTEGER_CONSECUTIVE_DIGIT_SEPARATOR: u128 = 0x200_0000_0000;
 
-/// The mask of this [flag][lexical_builder::format_builder::NumberFormatBuilder::fraction_consecutive_digit_separator].
+/// The flag that allows consecutive digit separators in the fraction.
 pub const FRACTION_CONSECUTIVE_DIGIT_SEPARATOR: u128 = 0x400_0000_0000;
 
-/// The mask of this [flag][lexical_builder::format_builder::NumberFormatBuilder::exponent_consecutive_digit_separator].
+/// The flag that allows consecutive digit separators in the exponent.
 pub const EXPONENT_CONSECUTIVE_DIGIT_SEPARATOR: u128 = 0x800_0000_0000;
 
-/// The mask of this [group][lexical_builder::format_builder::NumberFormatBuilder::internal_digit_separator].
+/// The mask of all flags that allow a digit separator between digits.
 pub const INTERNAL_DIGIT_SEPARATOR: u128 = 0x7_0000_0000;
 
-/// The mask of this [group][lexical_builder::format_builder::NumberFormatBuilder::leading_digit_separator].
+/// The mask of all flags that allow a digit separator before digits.
 pub const LEADING_DIGIT_SEPARATOR: u128 = 0x38_0000_0000;
 
-/// The mask of this [group][lexical_builder::format_builder::NumberFormatBuilder::trailing_digit_separator].
+/// The mask of all flags that allow a digit separator after digits.
 pub const TRAILING_DIGIT_SEPARATOR: u128 = 0x1C0_0000_0000;
 
-/// The mask of this [group][lexical_builder::format_builder::NumberFormatBuilder::consecutive_digit_separator].
+/// The mask of all flags that allow consecutive digit separators.
 pub const CONSECUTIVE_DIGIT_SEPARATOR: u128 = 0xE00_0000_0000;
 
-/// The mask of this [flag][lexical_builder::format_builder::NumberFormatBuilder::special_digit_separator].
+/// The flag that allows digit separators in special values.
 pub const SPECIAL_DIGIT_SEPARATOR: u128 = 0x1000_0000_0000;
 
 // BYTES
@@ -196,19 +194,19 @@ pub const FLAG_MASK: u128 = 0x1FFF_0003_FFFF;
 /// [`CASE_SENSITIVE_EXPONENT`] and [`SPECIAL_DIGIT_SEPARATOR`].
 pub const INTERFACE_FLAG_MASK: u128 = 0xFFF_0000_63CF;
 
-/// The mask of this [group][lexical_builder::format_builder::NumberFormatBuilder::digit_separator_flags].
+/// The mask of all flags that allow digit separators, including the flag that allows them in special values.
 pub const DIGIT_SEPARATOR_FLAG_MASK: u128 = 0x1FFF_0000_0000;
 
 /// The mask of all flags that affect exponents, except [`CASE_SENSITIVE_EXPONENT`].
 pub const EXPONENT_FLAG_MASK: u128 = 0x924_0000_43C4;
 
-/// The mask of this [group][lexical_builder::format_builder::NumberFormatBuilder::integer_digit_separator_flags].
+/// The mask of all flags that allow digit separators in the integer part.
 pub const INTEGER_DIGIT_SEPARATOR_FLAG_MASK: u128 = 0x249_0000_0000;
 
-/// The mask of this [group][lexical_builder::format_builder::NumberFormatBuilder::fraction_digit_separator_flags].
+/// The mask of all flags that allow digit separators in the fraction.
 pub const FRACTION_DIGIT_SEPARATOR_FLAG_MASK: u128 = 0x492_0000_0000;
 
-/// The mask of this [group][lexical_builder::format_builder::NumberFormatBuilder::exponent_digit_separator_flags].
+/// The mask of all flags that allow digit separators in the exponent.
 pub const EXPONENT_DIGIT_SEPARATOR_FLAG_MASK: u128 = 0x924_0000_0000;
 
 // The mask of the reserved bits: all bits except the flags, the digit separator, and the bits from the lowest bit of
@@ -222,6 +220,7 @@ const RESERVED_MASK: u128 = !(FLAG_MASK | DIGIT_SEPARATOR | !0 << BASE_PREFIX_SH
 
 /// Returns the digit separator of `format`, or 0 if it is absent. The result does not depend on whether a flag
 /// allows a digit separator.
+#[must_use]
 #[inline(always)]
 pub const fn digit_separator(format: u128) -> u8
     ensures { result ≡ (raw format).byte layout.digit_separator }
@@ -230,6 +229,7 @@ pub const fn digit_separator(format: u128) -> u8
 }
 
 /// Returns the base prefix of `format`, or 0 if it is absent.
+#[must_use]
 #[inline(always)]
 pub const fn base_prefix(format: u128) -> u8
     ensures { result ≡ (raw format).byte layout.base_prefix }
@@ -238,6 +238,7 @@ pub const fn base_prefix(format: u128) -> u8
 }
 
 /// Returns the base suffix of `format`, or 0 if it is absent.
+#[must_use]
 #[inline(always)]
 pub const fn base_suffix(format: u128) -> u8
     ensures { result ≡ (raw format).byte layout.base_suffix }
@@ -247,6 +248,7 @@ pub const fn base_suffix(format: u128) -> u8
 
 /// Returns the mantissa radix of `format`. The result is at most 255. If `format` is [lawful][Rule], the
 /// result is between 2 and 36.
+#[must_use]
 #[inline(always)]
 pub const fn mantissa_radix(format: u128) -> u32
     ensures value { result ≡ (raw format).byte layout.mantissa_radix }
@@ -257,6 +259,7 @@ pub const fn mantissa_radix(format: u128) -> u32
 
 /// Returns the exponent base of `format`, or the mantissa radix if the exponent base is 0. If `format` is
 /// [lawful][Rule], the result is between 2 and 36.
+#[must_use]
 #[inline(always)]
 pub const fn exponent_base(format: u128) -> u32
     ensures value { result ≡ effective_exponent_base (raw format) }
@@ -269,6 +272,7 @@ pub const fn exponent_base(format: u128) -> u32
 
 /// Returns the exponent radix of `format`, or the mantissa radix if the exponent radix is 0. If `format` is
 /// [lawful][Rule], the result is between 2 and 36.
+#[must_use]
 #[inline(always)]
 pub const fn exponent_radix(format: u128) -> u32
     ensures value { result ≡ effective_exponent_radix (raw format) }
@@ -280,6 +284,8 @@ pub const fn exponent_radix(format: u128) -> u32
 }
 
 /// Returns the exponent base that `format` stores, or 0 if it is absent.
+#[must_use]
+#[doc(hidden)]
 #[inline(always)]
 pub const fn raw_exponent_base(format: u128) -> u8
     ensures { result ≡ (raw format).byte layout.exponent_base }
@@ -288,6 +294,8 @@ pub const fn raw_exponent_base(format: u128) -> u8
 }
 
 /// Returns the exponent radix that `format` stores, or 0 if it is absent.
+#[must_use]
+#[doc(hidden)]
 #[inline(always)]
 pub const fn raw_exponent_radix(format: u128) -> u8
     ensures { result ≡ (raw format).byte layout.exponent_radix }
@@ -302,8 +310,8 @@ pub const fn raw_exponent_radix(format: u128) -> u8
 ///
 /// # Panics
 ///
-/// The contract requires `shift` to be in this range. In plain Rust, a call with any other `shift` panics if overflow
-/// checks are enabled, and returns an unspecified number otherwise.
+/// If `shift` is not in this range, panics if overflow checks are enabled, and otherwise returns an unspecified result.
+#[must_use]
 #[inline(always)]
 #[tactic(auto, using(crate::proofs::ByteParts::byte_parts, crate::proofs::CommonLemmas::common_part))]
 pub const fn radix_from_flags(format: u128, mask: u128, shift: i32) -> u32

@@ -3,6 +3,7 @@ use lexical_util::error::Error;
 use lexical_util::format::{NonZeroU8, NumberFormatBuilder, format_error};
 
 #[test]
+#[allow(deprecated)]
 fn only_lawful_words_pass_the_strict_build(rt: HostRuntime) {
     for (builder, word, error) in &built() {
         let packed = [builder.build_unchecked(), builder.build()];

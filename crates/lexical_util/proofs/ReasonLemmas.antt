@@ -468,7 +468,7 @@ shape_explained (position_allowed part) word = (
 )
 shape_explained reserved_zero word = (
   if_true (Explains word 0 0 (Demand reserved_zero)) _ _ (λ set.
-      let some = λ none. true≢false (sym set ∙ ap not (eq-eqb _ 0 none)) in
+      let some : bit_and word reserved_mask ≢ 0 = λ none. true≢false (sym set ∙ ap not (eq-eqb _ 0 none)) in
       let inside = and_assoc reserved_mask word reserved_mask in
       let own = sym (and_assoc reserved_mask word word) ∙ ap (λ n. bit_and n reserved_mask) (and_self word) in
       (((own, tt), (some, inside)), λ w all d. not_clean w _ some inside all.0 d)),

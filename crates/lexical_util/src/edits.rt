@@ -96,8 +96,6 @@ pub const fn apply_all(mut builder: NumberFormatBuilder, edits: &[Edit]) -> Numb
 /// drops a digit separator if no flag allows one yet. The second call sets an exponent base or exponent radix to the
 /// mantissa radix if the first call set it to `None`.
 ///
-/// In plain Rust:
-///
 /// ```
 /// use peltzivar::edits::{edit_word, Edit, FlagSetter};
 /// use peltzivar::format::STANDARD;
@@ -106,6 +104,13 @@ pub const fn apply_all(mut builder: NumberFormatBuilder, edits: &[Edit]) -> Numb
 /// let edits = [Edit::MantissaRadix(16), Edit::Flag(FlagSetter::NoSpecial, true)];
 /// assert_eq!(edit_word(STANDARD, &edits), 0x0A0A1000_00000000_00000000_0000040C);
 /// ```
+///
+/// # Proved of the source
+///
+/// - The result has the fields of the four steps, and is the only word with these fields and without reserved bits.
+/// - Only the last write to each field matters. So edits of different fields can be in any order, and a group edit is
+///   equivalent to the edits of its flags.
+#[must_use]
 #[inline]
 pub const fn edit_word(format: u128, edits: &[Edit]) -> u128
     ensures word { result ≡ edited format (all_writes edits.now) }
@@ -132,6 +137,13 @@ pub const fn edit_word(format: u128, edits: &[Edit]) -> u128
 /// In the normal form, an exponent base or exponent radix of 0 is set to the mantissa radix. The digit separator is 0
 /// if no flag allows one, and the reserved bits, which hold no field, are 0. All other fields are unchanged. Two words
 /// are equivalent if they have the same normal form.
+///
+/// # Proved of the source
+///
+/// - The normal form of the result is the result itself. It is equivalent to `format`.
+/// - The normal form of a lawful word is lawful. If no separator is dropped and no reserved bit, it has the same error.
+/// - If no separator is dropped, all edits turn `format` and the result into the same word.
+#[must_use]
 #[inline(always)]
 pub const fn normal_form(format: u128) -> u128
     ensures word { result ≡ normal_form_of format }
@@ -177,8 +189,6 @@ pub const fn normal_form(format: u128) -> u128
 /// If the normal form is not lawful, returns the error of the first rule that it breaks. The error is never `Success`
 /// or `InvalidFlags`.
 ///
-/// In plain Rust:
-///
 /// ```
 /// use peltzivar::{edits::migrate, error::Error};
 ///
@@ -200,6 +210,7 @@ pub const fn migrate(format: u128) -> Result<u128, Error>
 }
 
 /// Returns whether two words are equivalent, that is, whether they have the same [normal form][normal_form].
+#[must_use]
 pub const fn same_format(a: u128, b: u128) -> bool
     ensures normal_forms { IsTrue result ↔ (normal_form_of a ≡ normal_form_of b) }
     ensures fields { IsTrue result ↔ SameFormat (raw a) (raw b) }

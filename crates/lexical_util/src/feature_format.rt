@@ -29,9 +29,8 @@ pub use crate::feature_format::roles::{Role, Separators};
 
 /// A view of a format word. It reads the fields of the word, and checks the word.
 ///
-/// Every method works on any word, whether or not the word is [lawful][flags::Rule]. The word is a value, which may be
-/// known only at run time. In `lexical-util`, the word is a const generic argument of the type instead, and each field
-/// is also an associated constant.
+/// Every method works on any word, whether or not the word is [lawful][flags::Rule]. The word may be known only at run
+/// time. Getters of fields have the names of the setters of [`NumberFormatBuilder`], which have examples.
 #[derive(Clone, Copy)]
 pub struct NumberFormat {
     format: u128,
@@ -74,6 +73,7 @@ impl NumberFormat {
     // CONSTRUCTORS
 
     /// Returns a view of `format`, which may be any word.
+    #[must_use]
     #[inline(always)]
     pub const fn new(format: u128) -> Self
         ensures { result ≡ format }
@@ -81,7 +81,8 @@ impl NumberFormat {
         NumberFormat { format }
     }
 
-    /// Returns the format word. `lexical-util` has no such function, since its word is part of the type.
+    /// Returns the format word.
+    #[must_use]
     #[inline(always)]
     pub const fn word(&self) -> u128
         ensures { result ≡ self.now }
@@ -93,6 +94,7 @@ impl NumberFormat {
 
     /// Returns whether the word is lawful, that is, whether it satisfies all the rules that [`error`][Self::error]
     /// checks.
+    #[must_use]
     #[inline(always)]
     pub const fn is_valid(&self) -> bool
         ensures { IsTrue result ↔ Lawful self.now }
@@ -100,8 +102,14 @@ impl NumberFormat {
         self.error().is_success()
     }
 
-    /// Returns the error of the first rule that the word breaks, in the order of [`format_error_impl`], or `Success` if
-    /// the word is lawful.
+    /// Returns the error of the first rule that the word breaks, in the order of the variants of [`Rule`][flags::Rule], or
+    /// `Success` if the word is lawful.
+    ///
+    /// # Proved of the source
+    ///
+    /// - The result is `Success` if and only if the word satisfies every rule.
+    /// - No other error is that of the first broken rule.
+    #[must_use]
     #[inline(always)]
     pub const fn error(&self) -> Error
         ensures first { IsErrorOf self.now result }
@@ -113,6 +121,7 @@ impl NumberFormat {
 
     /// Returns whether the mantissa radix, the exponent base and the exponent radix are all between 2 and 36. An
     /// exponent base or exponent radix of 0 means the mantissa radix.
+    #[must_use]
     #[inline(always)]
     pub const fn is_valid_radix(&self) -> bool
         ensures { IsTrue result ↔ IsFirstError radix_rules self.now Error.Success }
@@ -122,6 +131,7 @@ impl NumberFormat {
 
     /// Checks, in this order, whether the mantissa radix, the exponent base and the exponent radix are between 2 and
     /// 36. Returns the error of the first one that is not, or `Success`.
+    #[must_use]
     #[inline(always)]
     pub const fn error_radix(&self) -> Error
         ensures first { IsFirstError radix_rules self.now result }
@@ -133,6 +143,7 @@ impl NumberFormat {
     // BYTES
 
     /// Returns whether the digit separator byte is not 0.
+    #[must_use]
     #[inline(always)]
     pub const fn has_digit_separator(&self) -> bool
         ensures { IsTrue result ↔ ((raw self.now).byte layout.digit_separator ≢ 0) }
@@ -141,6 +152,7 @@ impl NumberFormat {
     }
 
     /// Returns whether the base prefix byte is not 0.
+    #[must_use]
     #[inline(always)]
     pub const fn has_base_prefix(&self) -> bool
         ensures { IsTrue result ↔ ((raw self.now).byte layout.base_prefix ≢ 0) }
@@ -149,6 +161,7 @@ impl NumberFormat {
     }
 
     /// Returns whether the base suffix byte is not 0.
+    #[must_use]
     #[inline(always)]
     pub const fn has_base_suffix(&self) -> bool
         ensures { IsTrue result ↔ ((raw self.now).byte layout.base_suffix ≢ 0) }
@@ -160,6 +173,7 @@ impl NumberFormat {
 
     /// Returns the [mantissa radix][NumberFormatBuilder::mantissa_radix], a number from 0 to 255. In a
     /// [lawful][flags::Rule] word, it is between 2 and 36.
+    #[must_use]
     #[inline(always)]
     pub const fn mantissa_radix(&self) -> u32
         ensures value { result ≡ (raw self.now).byte layout.mantissa_radix }
@@ -169,6 +183,7 @@ impl NumberFormat {
     }
 
     /// Returns the mantissa radix, as [`mantissa_radix`][Self::mantissa_radix] does.
+    #[must_use]
     #[inline(always)]
     pub const fn radix(&self) -> u32
         ensures value { result ≡ (raw self.now).byte layout.mantissa_radix }
@@ -178,6 +193,7 @@ impl NumberFormat {
     }
 
     /// Returns the square of the mantissa radix.
+    #[must_use]
     #[inline(always)]
     pub const fn radix2(&self) -> u32
         ensures { result ≡ (raw self.now).byte layout.mantissa_radix ^ 2 }
@@ -187,6 +203,7 @@ impl NumberFormat {
     }
 
     /// Returns the fourth power of the mantissa radix.
+    #[must_use]
     #[inline(always)]
     pub const fn radix4(&self) -> u32
         ensures { result ≡ (raw self.now).byte layout.mantissa_radix ^ 4 }
@@ -197,6 +214,7 @@ impl NumberFormat {
 
     /// Returns the eighth power of the mantissa radix modulo 2^32. The result is exact up to radix 15, and it is 0 for
     /// radix 16.
+    #[must_use]
     #[inline(always)]
     pub const fn radix8(&self) -> u32
         ensures { result ≡ (raw self.now).byte layout.mantissa_radix ^ 8 % 2 ^ 32 }
@@ -207,6 +225,7 @@ impl NumberFormat {
 
     /// Returns the [exponent base][NumberFormatBuilder::exponent_base], or the mantissa radix if the exponent base byte
     /// is 0. In a [lawful][flags::Rule] word, the result is between 2 and 36.
+    #[must_use]
     #[inline(always)]
     pub const fn exponent_base(&self) -> u32
         ensures value { result ≡ effective_exponent_base (raw self.now) }
@@ -217,6 +236,7 @@ impl NumberFormat {
 
     /// Returns the [exponent radix][NumberFormatBuilder::exponent_radix], or the mantissa radix if the exponent radix
     /// byte is 0. In a [lawful][flags::Rule] word, the result is between 2 and 36.
+    #[must_use]
     #[inline(always)]
     pub const fn exponent_radix(&self) -> u32
         ensures value { result ≡ effective_exponent_radix (raw self.now) }

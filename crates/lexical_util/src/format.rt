@@ -4,12 +4,9 @@
 ghost use Rattle.std.specs.Prelude.{◌≡◌, ◌↔◌, IsTrue};
 ghost use Rattle.lexical_flags.specs.Rules.{Lawful, IsErrorOf};
 
-#[doc(inline)]
 pub use crate::feature_format::{NumberFormat, Role, Separators};
 use lexical_base::error::Error;
-#[doc(inline)]
 pub use lexical_builder::format_builder::{NonZeroU8, NumberFormatBuilder, OptionU8};
-#[doc(inline)]
 pub use lexical_flags::format_flags::{
     BASE_PREFIX, BASE_PREFIX_SHIFT, BASE_SUFFIX, BASE_SUFFIX_SHIFT, CASE_SENSITIVE_BASE_PREFIX,
     CASE_SENSITIVE_BASE_SUFFIX, CASE_SENSITIVE_EXPONENT, CASE_SENSITIVE_SPECIAL,
@@ -43,6 +40,7 @@ pub use lexical_flags::format_flags::{
 pub const STANDARD: u128 = 0x00000A00_00000000_00000000_0000000C;
 
 /// Returns whether `format` is lawful, as [`NumberFormat::is_valid`] does.
+#[must_use]
 #[inline(always)]
 pub const fn format_is_valid(format: u128) -> bool
     ensures { IsTrue result ↔ Lawful format }
@@ -52,6 +50,7 @@ pub const fn format_is_valid(format: u128) -> bool
 
 /// Returns the error of the first rule that `format` breaks, or `Success`, as [`NumberFormat::error`]
 /// does.
+#[must_use]
 #[inline(always)]
 pub const fn format_error(format: u128) -> Error
     ensures first { IsErrorOf format result }

@@ -33,13 +33,16 @@ mod text;
 pub use note::{MAX_NOTES, Note, notes, notes_beside_reasons, notes_of_fields};
 
 /// The number of slots in the array that [`reasons`] returns.
+#[doc(hidden)]
 pub const MAX_REASONS: usize = 18;
 
 /// The number of slots in the array that [`options_reasons`] returns.
+#[doc(hidden)]
 pub const MAX_OPTIONS_REASONS: usize = 9;
 
 /// A byte of a format word, or a character that options choose.
 #[derive(Debug, Clone, Copy, PartialEq, Eq, Hash)]
+#[non_exhaustive]
 pub enum Byte {
     /// The digit separator.
     DigitSeparator,
@@ -86,7 +89,8 @@ pub struct NamedByte {
 }
 
 /// The cause of a [`Reason`]: the fields that are to blame, with their values.
-#[derive(Debug, Clone, Copy, PartialEq, Eq)]
+#[derive(Debug, Clone, Copy, PartialEq, Eq, Hash)]
+#[non_exhaustive]
 pub enum Cause {
     /// The mantissa radix, or an exponent base or exponent radix that is present, is not between 2 and 36.
     OutOfRange(NamedByte),
@@ -120,7 +124,7 @@ pub enum Cause {
 
 /// A reason why a format word breaks one or more rules, or why it does not accept an exponent character and a decimal
 /// point. A reason *blames* the bits on which it depends (see [`mask`][Self::mask]).
-#[derive(Debug, Clone, Copy, PartialEq, Eq)]
+#[derive(Debug, Clone, Copy, PartialEq, Eq, Hash)]
 pub struct Reason {
     // The first rule that a word breaks because of this reason.
     rule: Option<Rule>,
@@ -145,6 +149,8 @@ struct Characters {
 /// An absent exponent base or exponent radix is never a reason itself, since the mantissa radix is used in its place.
 /// [`Reason::breaks`] returns whether a word breaks a rule because of a reason, and [`Reason::mask`] returns the bits
 /// that a reason blames.
+#[must_use]
+#[doc(hidden)]
 pub const fn reasons(format: u128) -> [Option<Reason>; MAX_REASONS]
     ensures each { result ≡ reason_slots format }
     ensures lawful { Lawful format ↔ NoReason (reason_slots format) }
@@ -194,6 +200,8 @@ pub const fn reasons(format: u128) -> [Option<Reason>; MAX_REASONS]
 /// and only if [`is_valid_options_punctuation`][flags::is_valid_options_punctuation] accepts the two.
 ///
 /// For such a reason, [`Reason::rule`] returns `None`, and [`Reason::mask`] has only bits of the format word.
+#[must_use]
+#[doc(hidden)]
 pub const fn options_reasons(
     format: u128,
     exponent: u8,
@@ -213,8 +221,8 @@ pub const fn options_reasons(
         point: decimal_point,
     };
     [
-        options.byte_reason(None, Byte::ExponentCharacter),
-        options.byte_reason(None, Byte::DecimalPoint),
+        byte_reason(format, None, options.named(Byte::ExponentCharacter)),
+        byte_reason(format, None, options.named(Byte::DecimalPoint)),
         options.clash(None, Byte::ExponentCharacter, Byte::DecimalPoint),
         options.clash(None, Byte::ExponentCharacter, Byte::DigitSeparator),
         options.clash(None, Byte::ExponentCharacter, Byte::BasePrefix),
@@ -326,29 +334,11 @@ impl Characters {
             let byte = named r self.now.exponent self.now.point name in
             result ≡ slot r rule (if_present byte (byte_cause r byte)) }
     {
-        if self.named(name).value == 0 {
+        let byte = self.named(name);
+        if byte.value == 0 {
             None
         } else {
-            self.byte_reason(rule, name)
-        }
-    }
-
-    // Returns the reason for a byte that is not punctuation, if it is not.
-    const fn byte_reason(&self, rule: Option<Rule>, name: Byte) -> Option<Reason>
-        ensures { let r = raw self.now.format in
-            result ≡ slot r rule (byte_cause r (named r self.now.exponent self.now.point name)) }
-    {
-        let byte = self.named(name);
-        let cause = if !is_valid_ascii(byte.value) {
-            Some(Cause::NotText(byte))
-        } else if (byte.value == b'+') | (byte.value == b'-') {
-            Some(Cause::IsSign(byte))
-        } else {
-            digit_cause(self.format, byte)
-        };
-        match cause {
-            Some(cause) => Some(Reason::new(self.format, rule, cause)),
-            None => None,
+            byte_reason(self.format, rule, byte)
         }
     }
 
@@ -438,6 +428,23 @@ const fn case_flag(byte: Byte) -> Option<FlagSetter>
         Byte::BaseSuffix => Some(FlagSetter::CaseSensitiveBaseSuffix),
         Byte::ExponentCharacter => Some(FlagSetter::CaseSensitiveExponent),
         _ => None,
+    }
+}
+
+// Returns the reason for a byte that is not punctuation, if it is not.
+const fn byte_reason(format: u128, rule: Option<Rule>, byte: NamedByte) -> Option<Reason>
+    ensures { result ≡ slot (raw format) rule (byte_cause (raw format) byte) }
+{
+    let cause = if !is_valid_ascii(byte.value) {
+        Some(Cause::NotText(byte))
+    } else if (byte.value == b'+') | (byte.value == b'-') {
+        Some(Cause::IsSign(byte))
+    } else {
+        digit_cause(format, byte)
+    };
+    match cause {
+        Some(cause) => Some(Reason::new(format, rule, cause)),
+        None => None,
     }
 }
 

@@ -9,8 +9,6 @@ use std::fmt;
 /// packs the fields. Any word can be printed. The expression evaluates to the word if and only if
 /// [`is_built`][crate::edits::is_built] returns `true` for the word.
 ///
-/// In plain Rust:
-///
 /// ```
 /// use peltzivar::source::BuilderExpression;
 ///

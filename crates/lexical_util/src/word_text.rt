@@ -19,8 +19,6 @@ use lexical_base::error::Error;
 /// [`Error::InvalidDigit`] if it is any other byte. If no byte is unexpected but the text ends before the first digit,
 /// the error is [`Error::Empty`] with the length of the text.
 ///
-/// In plain Rust:
-///
 /// ```
 /// use peltzivar::error::Error;
 /// use peltzivar::word_text::parse_word;
@@ -43,6 +41,7 @@ pub fn parse_word(text: &str) -> Result<u128, Error>
 
 /// Returns `word` as text: `0x` followed by 32 uppercase hexadecimal digits. [`parse_word`] parses this text into the
 /// same word.
+#[must_use]
 pub fn word_text(word: u128) -> [u8; 34]
     ensures text { result ≡ printed word }
     ensures form { IsPrintedForm result }

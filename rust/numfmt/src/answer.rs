@@ -53,7 +53,6 @@ pub enum Refusal {
 
 impl Answer {
     /// Returns the exit status: 2 for a refusal, 1 if the answer is no, and 0 otherwise.
-    #[must_use]
     pub fn status(self) -> u8 {
         let is_no = match self {
             Answer::Fields(_) | Answer::Word(_) => false,

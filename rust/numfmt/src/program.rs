@@ -17,7 +17,6 @@ const MAX_EDITS: usize = 64;
 /// fails.
 ///
 /// All text is written to `out`, which is flushed at the end. After a write or a flush fails, nothing more is written.
-#[must_use]
 pub fn run<W: Write>(args: &[String], out: &mut W) -> u8 {
     let answer = match answer(args) {
         Ok(answer) => answer,

@@ -8,20 +8,9 @@ use crate::format_flags as flags;
 /// Returns whether a builder can build `format`. This is possible if and only if all reserved bits are 0, and the digit
 /// separator is absent or allowed by a flag.
 ///
-/// # Proved
+/// # Proved of the source
 ///
-/// For all arguments:
-///
-/// - The result is true if and only if the reserved bits are 0 and the digit separator is absent or allowed by a
-///   flag (`IsBuilt`).
-/// - The result is true if and only if setter calls on a new builder can build the word (`IsBuiltByWrites`).
-///
-/// ```text
-/// ensures rule { IsTrue result ↔ IsBuilt format }
-///
-/// // The result is true if and only if setter calls on a new builder can build the word.
-/// ensures image { IsTrue result ↔ IsBuiltByWrites format }
-/// ```
+/// - The result is true if and only if setter calls on a new builder can build `format`.
 #[must_use]
 pub const fn is_built(format: u128) -> bool {
     flags::is_clean(format) && is_separator_allowed_or_absent(format)
@@ -49,33 +38,6 @@ const fn is_separator_allowed_or_absent(format: u128) -> bool {
 /// let (edits, count) = edits_of(0x00001000_00000000_00000000_00000008);
 /// let needed = [Edit::Flag(FlagSetter::RequiredExponentDigits, false), Edit::MantissaRadix(16)];
 /// assert_eq!(edits[..count], needed);
-/// ```
-///
-/// # Proved
-///
-/// For all arguments:
-///
-/// - The edits in the array make the writes that the word needs (`needed_writes`), followed by the other writes
-///   (`other_writes`). There is one edit for each write (`IsEditOf`).
-/// - The returned number is the number of writes that the word needs (`needed_writes`).
-/// - Each value that an edit writes fits its field (`IsLegal`).
-/// - The needed writes, applied to a new builder (`after`, `new_record`), give the fields (`raw`) of the word.
-/// - All writes, applied to a new builder, also give the fields (`raw`) of the word.
-/// - Packing these fields (`pack`) gives the word if and only if a builder can build the word (`IsBuilt`).
-/// - No list of legal writes (`IsLegal`) with fewer entries than the returned number builds the word from a new
-///   builder.
-///
-/// ```text
-/// ensures list { AllZip IsEditOf (needed_writes (raw format) ++ other_writes (raw format)) result.0 }
-/// ensures number { result.1 ≡ length (needed_writes (raw format)) }
-/// ensures legal { All IsLegal (all_writes result.0) }
-///
-/// // The needed edits give the fields of the word, and so do all edits.
-/// ensures first { after new_record (all_writes (take result.1 result.0)) ≡ raw format }
-/// ensures whole { after new_record (all_writes result.0) ≡ raw format }
-/// ensures builds { (pack (raw format) ≡ format) ↔ IsBuilt format }
-/// ensures fewest { (writes : List Write) → All IsLegal writes
-///     → pack (after new_record writes) ≡ format → result.1 ≤ length writes }
 /// ```
 #[must_use]
 pub fn edits_of(format: u128) -> ([Edit; FIELD_COUNT], usize) {

@@ -62,143 +62,91 @@ macro_rules! with_setters {
     };
 }
 
-/// A setter of [`NumberFormatBuilder`][crate::format_builder::NumberFormatBuilder] that takes a `bool`. It sets one
-/// flag, or all flags of one of the nine flag groups. Each variant links to its setter.
+/// A setter of [`NumberFormatBuilder`][crate::format_builder::NumberFormatBuilder] that takes a `bool`. It
+/// sets one flag, or all flags of one of the nine flag groups. A variant has the name of its setter,
+/// whose documentation has an example.
 #[derive(Debug, Clone, Copy, PartialEq, Eq, Hash, PartialOrd, Ord)]
 #[non_exhaustive]
 pub enum FlagSetter {
-    /// Sets whether the format requires digits before the decimal point. If so, a parser rejects `.5`. See
-    /// [`required_integer_digits`][crate::format_builder::NumberFormatBuilder::required_integer_digits].
+    /// Sets whether the format requires digits before the decimal point.
     RequiredIntegerDigits,
-    /// Sets whether the format requires digits after a decimal point. If so, a parser rejects `1.` but accepts `1`.
-    /// See [`required_fraction_digits`][crate::format_builder::NumberFormatBuilder::required_fraction_digits].
+    /// Sets whether the format requires digits after a decimal point.
     RequiredFractionDigits,
-    /// Sets whether the format requires digits after an exponent character. If so, a parser rejects `1e`. See
-    /// [`required_exponent_digits`][crate::format_builder::NumberFormatBuilder::required_exponent_digits].
+    /// Sets whether the format requires digits after an exponent character.
     RequiredExponentDigits,
-    /// Sets whether the format requires a digit in the mantissa of a float. If so, a parser rejects `.`. See
-    /// [`required_mantissa_digits`][crate::format_builder::NumberFormatBuilder::required_mantissa_digits].
+    /// Sets whether the format requires a digit in the mantissa of a float.
     RequiredMantissaDigits,
-    /// Sets whether the format forbids a `+` before an integer or a float. If so, a parser rejects `+1` but accepts
-    /// `-1`. See [`no_positive_mantissa_sign`][crate::format_builder::NumberFormatBuilder::no_positive_mantissa_sign].
+    /// Sets whether the format forbids a `+` before an integer or a float.
     NoPositiveMantissaSign,
-    /// Sets whether the format requires a sign before an integer or a float. If so, a parser rejects `1`, and a writer
-    /// writes `+1`. See
-    /// [`required_mantissa_sign`][crate::format_builder::NumberFormatBuilder::required_mantissa_sign].
+    /// Sets whether the format requires a sign before an integer or a float.
     RequiredMantissaSign,
-    /// Sets whether the format forbids an exponent in a float. If so, a parser rejects `1e5`, and a writer writes out
-    /// all digits. See [`no_exponent_notation`][crate::format_builder::NumberFormatBuilder::no_exponent_notation].
+    /// Sets whether the format forbids an exponent in a float.
     NoExponentNotation,
-    /// Sets whether the format forbids a `+` in the exponent. If so, a parser rejects `1e+5` but accepts `1e5` and
-    /// `1e-5`. See
-    /// [`no_positive_exponent_sign`][crate::format_builder::NumberFormatBuilder::no_positive_exponent_sign].
+    /// Sets whether the format forbids a `+` in the exponent.
     NoPositiveExponentSign,
-    /// Sets whether the format requires a sign in the exponent. If so, a parser rejects `1e5`, and a writer writes
-    /// `1e+5`. See [`required_exponent_sign`][crate::format_builder::NumberFormatBuilder::required_exponent_sign].
+    /// Sets whether the format requires a sign in the exponent.
     RequiredExponentSign,
-    /// Sets whether the format requires a decimal point before an exponent. If so, a parser rejects `1e5` but accepts
-    /// `1.0e5`. See
-    /// [`no_exponent_without_fraction`][crate::format_builder::NumberFormatBuilder::no_exponent_without_fraction].
+    /// Sets whether the format requires a decimal point before an exponent.
     NoExponentWithoutFraction,
-    /// Sets whether the format forbids all special values. If so, a parser rejects `NaN` and `inf`. See
-    /// [`no_special`][crate::format_builder::NumberFormatBuilder::no_special].
+    /// Sets whether the format forbids all special values.
     NoSpecial,
-    /// Sets whether special values are case-sensitive. If so, a parser rejects `nan` when the spelling of NaN is
-    /// `NaN`. See [`case_sensitive_special`][crate::format_builder::NumberFormatBuilder::case_sensitive_special].
+    /// Sets whether special values are case-sensitive.
     CaseSensitiveSpecial,
-    /// Sets whether the format forbids leading zeros in an integer. If so, a parser rejects the integer `01` but
-    /// accepts `0`. See
-    /// [`no_integer_leading_zeros`][crate::format_builder::NumberFormatBuilder::no_integer_leading_zeros].
+    /// Sets whether the format forbids leading zeros in an integer.
     NoIntegerLeadingZeros,
-    /// Sets whether the format forbids leading zeros in a float. If so, a parser rejects `01.0` but accepts `0.1`. See
-    /// [`no_float_leading_zeros`][crate::format_builder::NumberFormatBuilder::no_float_leading_zeros].
+    /// Sets whether the format forbids leading zeros in a float.
     NoFloatLeadingZeros,
-    /// Sets whether the format requires an exponent in a float. If so, a parser rejects `1.0`, and a writer writes
-    /// every float with an exponent. See
-    /// [`required_exponent_notation`][crate::format_builder::NumberFormatBuilder::required_exponent_notation].
+    /// Sets whether the format requires an exponent in a float.
     RequiredExponentNotation,
-    /// Sets whether the exponent character is case-sensitive. If so, a parser rejects `1E5` when the exponent
-    /// character is `e`. See
-    /// [`case_sensitive_exponent`][crate::format_builder::NumberFormatBuilder::case_sensitive_exponent].
+    /// Sets whether the exponent character is case-sensitive.
     CaseSensitiveExponent,
-    /// Sets whether the base prefix is case-sensitive. If so, a parser rejects `0X1F` when the base prefix is `x`. See
-    /// [`case_sensitive_base_prefix`][crate::format_builder::NumberFormatBuilder::case_sensitive_base_prefix].
+    /// Sets whether the base prefix is case-sensitive.
     CaseSensitiveBasePrefix,
-    /// Sets whether the base suffix is case-sensitive. If so, a parser rejects `1FH` when the base suffix is `h`. See
-    /// [`case_sensitive_base_suffix`][crate::format_builder::NumberFormatBuilder::case_sensitive_base_suffix].
+    /// Sets whether the base suffix is case-sensitive.
     CaseSensitiveBaseSuffix,
-    /// Sets whether the format allows a digit separator between integer digits. If so, a parser accepts `1_2`. See
-    /// [`integer_internal_digit_separator`][crate::format_builder::NumberFormatBuilder::integer_internal_digit_separator].
+    /// Sets whether the format allows a digit separator between integer digits.
     IntegerInternalDigitSeparator,
-    /// Sets whether the format allows a digit separator between fraction digits. If so, a parser accepts `0.1_2`. See
-    /// [`fraction_internal_digit_separator`][crate::format_builder::NumberFormatBuilder::fraction_internal_digit_separator].
+    /// Sets whether the format allows a digit separator between fraction digits.
     FractionInternalDigitSeparator,
-    /// Sets whether the format allows a digit separator between exponent digits. If so, a parser accepts `1e1_2`. See
-    /// [`exponent_internal_digit_separator`][crate::format_builder::NumberFormatBuilder::exponent_internal_digit_separator].
+    /// Sets whether the format allows a digit separator between exponent digits.
     ExponentInternalDigitSeparator,
-    /// Sets whether the format allows a digit separator before the integer digits. If so, a parser accepts `_12`. See
-    /// [`integer_leading_digit_separator`][crate::format_builder::NumberFormatBuilder::integer_leading_digit_separator].
+    /// Sets whether the format allows a digit separator before the integer digits.
     IntegerLeadingDigitSeparator,
-    /// Sets whether the format allows a digit separator before the fraction digits. If so, a parser accepts `0._12`.
-    /// See
-    /// [`fraction_leading_digit_separator`][crate::format_builder::NumberFormatBuilder::fraction_leading_digit_separator].
+    /// Sets whether the format allows a digit separator before the fraction digits.
     FractionLeadingDigitSeparator,
-    /// Sets whether the format allows a digit separator before the exponent digits. If so, a parser accepts `1e_12`.
-    /// See
-    /// [`exponent_leading_digit_separator`][crate::format_builder::NumberFormatBuilder::exponent_leading_digit_separator].
+    /// Sets whether the format allows a digit separator before the exponent digits.
     ExponentLeadingDigitSeparator,
-    /// Sets whether the format allows a digit separator after the integer digits. If so, a parser accepts `12_`. See
-    /// [`integer_trailing_digit_separator`][crate::format_builder::NumberFormatBuilder::integer_trailing_digit_separator].
+    /// Sets whether the format allows a digit separator after the integer digits.
     IntegerTrailingDigitSeparator,
-    /// Sets whether the format allows a digit separator after the fraction digits. If so, a parser accepts `0.12_`.
-    /// See
-    /// [`fraction_trailing_digit_separator`][crate::format_builder::NumberFormatBuilder::fraction_trailing_digit_separator].
+    /// Sets whether the format allows a digit separator after the fraction digits.
     FractionTrailingDigitSeparator,
-    /// Sets whether the format allows a digit separator after the exponent digits. If so, a parser accepts `1e12_`.
-    /// See
-    /// [`exponent_trailing_digit_separator`][crate::format_builder::NumberFormatBuilder::exponent_trailing_digit_separator].
+    /// Sets whether the format allows a digit separator after the exponent digits.
     ExponentTrailingDigitSeparator,
-    /// Sets whether the format allows consecutive digit separators in the integer part. If so, a parser accepts
-    /// several separators in a row wherever it accepts a single one: `1__2`, `__12`, `12__`. See
-    /// [`integer_consecutive_digit_separator`][crate::format_builder::NumberFormatBuilder::integer_consecutive_digit_separator].
+    /// Sets whether the format allows consecutive digit separators in the integer part.
     IntegerConsecutiveDigitSeparator,
-    /// Sets whether the format allows consecutive digit separators in the fraction. If so, a parser accepts several
-    /// separators in a row wherever it accepts a single one: `0.1__2`, `0.__12`, `0.12__`. See
-    /// [`fraction_consecutive_digit_separator`][crate::format_builder::NumberFormatBuilder::fraction_consecutive_digit_separator].
+    /// Sets whether the format allows consecutive digit separators in the fraction.
     FractionConsecutiveDigitSeparator,
-    /// Sets whether the format allows consecutive digit separators in the exponent. If so, a parser accepts several
-    /// separators in a row wherever it accepts a single one: `1e1__2`, `1e__12`, `1e12__`. See
-    /// [`exponent_consecutive_digit_separator`][crate::format_builder::NumberFormatBuilder::exponent_consecutive_digit_separator].
+    /// Sets whether the format allows consecutive digit separators in the exponent.
     ExponentConsecutiveDigitSeparator,
-    /// Sets whether the format allows digit separators in special values. If so, a parser accepts `N__a_N_` as `NaN`.
-    /// See [`special_digit_separator`][crate::format_builder::NumberFormatBuilder::special_digit_separator].
+    /// Sets whether the format allows digit separators in special values.
     SpecialDigitSeparator,
-    /// Sets or clears all flags that require digits. See
-    /// [`required_digits`][crate::format_builder::NumberFormatBuilder::required_digits].
+    /// Sets or clears all flags that require digits.
     RequiredDigits,
-    /// Sets or clears all flags that allow a digit separator between digits. See
-    /// [`internal_digit_separator`][crate::format_builder::NumberFormatBuilder::internal_digit_separator].
+    /// Sets or clears all flags that allow a digit separator between digits.
     InternalDigitSeparator,
-    /// Sets or clears all flags that allow a digit separator before digits. See
-    /// [`leading_digit_separator`][crate::format_builder::NumberFormatBuilder::leading_digit_separator].
+    /// Sets or clears all flags that allow a digit separator before digits.
     LeadingDigitSeparator,
-    /// Sets or clears all flags that allow a digit separator after digits. See
-    /// [`trailing_digit_separator`][crate::format_builder::NumberFormatBuilder::trailing_digit_separator].
+    /// Sets or clears all flags that allow a digit separator after digits.
     TrailingDigitSeparator,
-    /// Sets or clears all flags that allow consecutive digit separators. See
-    /// [`consecutive_digit_separator`][crate::format_builder::NumberFormatBuilder::consecutive_digit_separator].
+    /// Sets or clears all flags that allow consecutive digit separators.
     ConsecutiveDigitSeparator,
     /// Sets or clears all flags that allow digit separators, including the flag that allows them in special values.
-    /// See [`digit_separator_flags`][crate::format_builder::NumberFormatBuilder::digit_separator_flags].
     DigitSeparatorFlags,
-    /// Sets or clears all flags that allow digit separators in the integer part. See
-    /// [`integer_digit_separator_flags`][crate::format_builder::NumberFormatBuilder::integer_digit_separator_flags].
+    /// Sets or clears all flags that allow digit separators in the integer part.
     IntegerDigitSeparatorFlags,
-    /// Sets or clears all flags that allow digit separators in the fraction. See
-    /// [`fraction_digit_separator_flags`][crate::format_builder::NumberFormatBuilder::fraction_digit_separator_flags].
+    /// Sets or clears all flags that allow digit separators in the fraction.
     FractionDigitSeparatorFlags,
-    /// Sets or clears all flags that allow digit separators in the exponent. See
-    /// [`exponent_digit_separator_flags`][crate::format_builder::NumberFormatBuilder::exponent_digit_separator_flags].
+    /// Sets or clears all flags that allow digit separators in the exponent.
     ExponentDigitSeparatorFlags,
 }
 

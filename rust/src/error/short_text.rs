@@ -2,6 +2,7 @@
 
 //! The type [`ShortText`]: short text that consists of five pieces.
 
+use crate::error::decimal::put_decimal;
 use crate::error::Sink;
 use core::fmt;
 
@@ -93,11 +94,6 @@ fn put_numbered<S: Sink>(out: &mut S, name: &str, byte: u8) -> fmt::Result {
     put_decimal(out, byte as usize)
 }
 
-// Puts `n` in decimal into the sink `out`.
-pub(crate) fn put_decimal<S: Sink>(out: &mut S, n: usize) -> fmt::Result {
-    out.put(crate::decimal::Decimal::new(n).text())
-}
-
 // Puts `n` in hexadecimal, with uppercase letters, into the sink `out`.
 fn put_hexadecimal<S: Sink>(out: &mut S, n: u128) -> fmt::Result {
     let has_front = n >= 16;
@@ -109,7 +105,7 @@ fn put_hexadecimal<S: Sink>(out: &mut S, n: u128) -> fmt::Result {
 
 // Returns the hexadecimal character that represents `digit`, which must be below 16. Letters are uppercase.
 #[inline(always)]
-const fn digit_text(digit: usize) -> &'static str {
+pub(crate) const fn digit_text(digit: usize) -> &'static str {
     match digit {
         0 => "0",
         1 => "1",

@@ -16,14 +16,12 @@ impl NumberFormatBuilder {
     /// The digit separator flags define where the digit separator is allowed. If none of these flags is set, the digit
     /// separator is not packed into the word. In a lawful format, it is punctuation: a byte that `is_valid_ascii`
     /// accepts and that is neither a sign nor a digit in the mantissa radix or the exponent radix.
-    #[must_use]
     #[inline(always)]
     pub const fn digit_separator(self, character: OptionU8) -> Self {
         self.with_byte(DIGIT_SEPARATOR, byte_or_zero(character))
     }
 
     /// Sets the mantissa radix. This method is the same as [`mantissa_radix`][Self::mantissa_radix].
-    #[must_use]
     #[inline(always)]
     pub const fn radix(self, radix: u8) -> Self {
         self.mantissa_radix(radix)
@@ -33,7 +31,6 @@ impl NumberFormatBuilder {
     ///
     /// It is also used in place of an absent exponent base or exponent radix. In a lawful format, the mantissa radix is
     /// between 2 and 36.
-    #[must_use]
     #[inline(always)]
     pub const fn mantissa_radix(self, radix: u8) -> Self {
         self.with_byte(MANTISSA_RADIX, radix)
@@ -43,7 +40,6 @@ impl NumberFormatBuilder {
     ///
     /// `None` means the mantissa radix. In a lawful format, the base is between 2 and 36. If it is 2 and the exponent
     /// character is `p`, then `1p3` means 1 × 2^3.
-    #[must_use]
     #[inline(always)]
     pub const fn exponent_base(self, base: OptionU8) -> Self {
         self.with_byte(EXPONENT_BASE, byte_or_zero(base))
@@ -52,7 +48,6 @@ impl NumberFormatBuilder {
     /// Sets the exponent radix: the radix of the exponent digits.
     ///
     /// `None` means the mantissa radix. In a lawful format, the radix is between 2 and 36.
-    #[must_use]
     #[inline(always)]
     pub const fn exponent_radix(self, radix: OptionU8) -> Self {
         self.with_byte(EXPONENT_RADIX, byte_or_zero(radix))
@@ -62,7 +57,6 @@ impl NumberFormatBuilder {
     ///
     /// In a lawful format, it is punctuation: a byte that `is_valid_ascii` accepts and that is neither a sign nor a
     /// digit in the mantissa radix or the exponent radix.
-    #[must_use]
     #[inline(always)]
     pub const fn base_prefix(self, base_prefix: OptionU8) -> Self {
         self.with_byte(BASE_PREFIX, byte_or_zero(base_prefix))
@@ -72,21 +66,18 @@ impl NumberFormatBuilder {
     ///
     /// In a lawful format, it is punctuation: a byte that `is_valid_ascii` accepts and that is neither a sign nor a
     /// digit in the mantissa radix or the exponent radix.
-    #[must_use]
     #[inline(always)]
     pub const fn base_suffix(self, base_suffix: OptionU8) -> Self {
         self.with_byte(BASE_SUFFIX, byte_or_zero(base_suffix))
     }
 
     /// Sets whether the format requires digits before the decimal point. If so, a parser rejects `.5`.
-    #[must_use]
     #[inline(always)]
     pub const fn required_integer_digits(self, flag: bool) -> Self {
         self.with_flags(flags::REQUIRED_INTEGER_DIGITS, flag)
     }
 
     /// Sets whether the format requires digits after a decimal point. If so, a parser rejects `1.` but accepts `1`.
-    #[must_use]
     #[inline(always)]
     pub const fn required_fraction_digits(self, flag: bool) -> Self {
         self.with_flags(flags::REQUIRED_FRACTION_DIGITS, flag)
@@ -94,7 +85,6 @@ impl NumberFormatBuilder {
 
     /// Sets whether the format requires digits after an exponent character. If so, a parser rejects `1e`. The default
     /// is `true`.
-    #[must_use]
     #[inline(always)]
     pub const fn required_exponent_digits(self, flag: bool) -> Self {
         self.with_flags(flags::REQUIRED_EXPONENT_DIGITS, flag)
@@ -102,14 +92,12 @@ impl NumberFormatBuilder {
 
     /// Sets whether the format requires a digit in the mantissa of a float. If so, a parser rejects `.`. Otherwise, `.`
     /// is parsed as 0. An empty string is always rejected. The default is `true`.
-    #[must_use]
     #[inline(always)]
     pub const fn required_mantissa_digits(self, flag: bool) -> Self {
         self.with_flags(flags::REQUIRED_MANTISSA_DIGITS, flag)
     }
 
     /// Sets or clears all flags that require digits. An integer parser always requires a digit.
-    #[must_use]
     #[inline(always)]
     pub const fn required_digits(self, flag: bool) -> Self {
         self.with_flags(flags::REQUIRED_DIGITS, flag)
@@ -117,7 +105,6 @@ impl NumberFormatBuilder {
 
     /// Sets whether the format forbids a `+` before an integer or a float. If so, a parser rejects `+1` but accepts
     /// `-1`.
-    #[must_use]
     #[inline(always)]
     pub const fn no_positive_mantissa_sign(self, flag: bool) -> Self {
         self.with_flags(flags::NO_POSITIVE_MANTISSA_SIGN, flag)
@@ -125,7 +112,6 @@ impl NumberFormatBuilder {
 
     /// Sets whether the format requires a sign before an integer or a float. If so, a parser rejects `1`, and a writer
     /// writes `+1`.
-    #[must_use]
     #[inline(always)]
     pub const fn required_mantissa_sign(self, flag: bool) -> Self {
         self.with_flags(flags::REQUIRED_MANTISSA_SIGN, flag)
@@ -133,7 +119,6 @@ impl NumberFormatBuilder {
 
     /// Sets whether the format forbids an exponent in a float. If so, a parser rejects `1e5`, and a writer writes out
     /// all digits.
-    #[must_use]
     #[inline(always)]
     pub const fn no_exponent_notation(self, flag: bool) -> Self {
         self.with_flags(flags::NO_EXPONENT_NOTATION, flag)
@@ -141,7 +126,6 @@ impl NumberFormatBuilder {
 
     /// Sets whether the format forbids a `+` in the exponent. If so, a parser rejects `1e+5` but accepts `1e5` and
     /// `1e-5`.
-    #[must_use]
     #[inline(always)]
     pub const fn no_positive_exponent_sign(self, flag: bool) -> Self {
         self.with_flags(flags::NO_POSITIVE_EXPONENT_SIGN, flag)
@@ -149,7 +133,6 @@ impl NumberFormatBuilder {
 
     /// Sets whether the format requires a sign in the exponent. If so, a parser rejects `1e5`, and a writer writes
     /// `1e+5`.
-    #[must_use]
     #[inline(always)]
     pub const fn required_exponent_sign(self, flag: bool) -> Self {
         self.with_flags(flags::REQUIRED_EXPONENT_SIGN, flag)
@@ -157,14 +140,12 @@ impl NumberFormatBuilder {
 
     /// Sets whether the format requires a decimal point before an exponent. If so, a parser rejects `1e5` but accepts
     /// `1.0e5`. No digit is required after that decimal point.
-    #[must_use]
     #[inline(always)]
     pub const fn no_exponent_without_fraction(self, flag: bool) -> Self {
         self.with_flags(flags::NO_EXPONENT_WITHOUT_FRACTION, flag)
     }
 
     /// Sets whether the format forbids all special values. If so, a parser rejects `NaN` and `inf`.
-    #[must_use]
     #[inline(always)]
     pub const fn no_special(self, flag: bool) -> Self {
         self.with_flags(flags::NO_SPECIAL, flag)
@@ -172,7 +153,6 @@ impl NumberFormatBuilder {
 
     /// Sets whether special values are case-sensitive. If so, a parser rejects `nan` when the spelling of NaN is `NaN`.
     /// Otherwise, it accepts any case.
-    #[must_use]
     #[inline(always)]
     pub const fn case_sensitive_special(self, flag: bool) -> Self {
         self.with_flags(flags::CASE_SENSITIVE_SPECIAL, flag)
@@ -180,7 +160,6 @@ impl NumberFormatBuilder {
 
     /// Sets whether the format forbids leading zeros in an integer. If so, a parser rejects the integer `01` but
     /// accepts `0`.
-    #[must_use]
     #[inline(always)]
     pub const fn no_integer_leading_zeros(self, flag: bool) -> Self {
         self.with_flags(flags::NO_INTEGER_LEADING_ZEROS, flag)
@@ -188,7 +167,6 @@ impl NumberFormatBuilder {
 
     /// Sets whether the format forbids leading zeros in a float. If so, a parser rejects `01.0` but accepts `0.1`. It
     /// also rejects `01` as a float.
-    #[must_use]
     #[inline(always)]
     pub const fn no_float_leading_zeros(self, flag: bool) -> Self {
         self.with_flags(flags::NO_FLOAT_LEADING_ZEROS, flag)
@@ -196,7 +174,6 @@ impl NumberFormatBuilder {
 
     /// Sets whether the format requires an exponent in a float. If so, a parser rejects `1.0`, and a writer writes
     /// every float with an exponent.
-    #[must_use]
     #[inline(always)]
     pub const fn required_exponent_notation(self, flag: bool) -> Self {
         self.with_flags(flags::REQUIRED_EXPONENT_NOTATION, flag)
@@ -204,7 +181,6 @@ impl NumberFormatBuilder {
 
     /// Sets whether the exponent character is case-sensitive. If so, a parser rejects `1E5` when the exponent character
     /// is `e`. Otherwise, it accepts both cases.
-    #[must_use]
     #[inline(always)]
     pub const fn case_sensitive_exponent(self, flag: bool) -> Self {
         self.with_flags(flags::CASE_SENSITIVE_EXPONENT, flag)
@@ -212,7 +188,6 @@ impl NumberFormatBuilder {
 
     /// Sets whether the base prefix is case-sensitive. If so, a parser rejects `0X1F` when the base prefix is `x`.
     /// Otherwise, it accepts both cases.
-    #[must_use]
     #[inline(always)]
     pub const fn case_sensitive_base_prefix(self, flag: bool) -> Self {
         self.with_flags(flags::CASE_SENSITIVE_BASE_PREFIX, flag)
@@ -220,91 +195,78 @@ impl NumberFormatBuilder {
 
     /// Sets whether the base suffix is case-sensitive. If so, a parser rejects `1FH` when the base suffix is `h`.
     /// Otherwise, it accepts both cases.
-    #[must_use]
     #[inline(always)]
     pub const fn case_sensitive_base_suffix(self, flag: bool) -> Self {
         self.with_flags(flags::CASE_SENSITIVE_BASE_SUFFIX, flag)
     }
 
     /// Sets whether the format allows a digit separator between integer digits. If so, a parser accepts `1_2`.
-    #[must_use]
     #[inline(always)]
     pub const fn integer_internal_digit_separator(self, flag: bool) -> Self {
         self.with_flags(flags::INTEGER_INTERNAL_DIGIT_SEPARATOR, flag)
     }
 
     /// Sets whether the format allows a digit separator between fraction digits. If so, a parser accepts `0.1_2`.
-    #[must_use]
     #[inline(always)]
     pub const fn fraction_internal_digit_separator(self, flag: bool) -> Self {
         self.with_flags(flags::FRACTION_INTERNAL_DIGIT_SEPARATOR, flag)
     }
 
     /// Sets whether the format allows a digit separator between exponent digits. If so, a parser accepts `1e1_2`.
-    #[must_use]
     #[inline(always)]
     pub const fn exponent_internal_digit_separator(self, flag: bool) -> Self {
         self.with_flags(flags::EXPONENT_INTERNAL_DIGIT_SEPARATOR, flag)
     }
 
     /// Sets or clears all flags that allow a digit separator between digits.
-    #[must_use]
     #[inline(always)]
     pub const fn internal_digit_separator(self, flag: bool) -> Self {
         self.with_flags(flags::INTERNAL_DIGIT_SEPARATOR, flag)
     }
 
     /// Sets whether the format allows a digit separator before the integer digits. If so, a parser accepts `_12`.
-    #[must_use]
     #[inline(always)]
     pub const fn integer_leading_digit_separator(self, flag: bool) -> Self {
         self.with_flags(flags::INTEGER_LEADING_DIGIT_SEPARATOR, flag)
     }
 
     /// Sets whether the format allows a digit separator before the fraction digits. If so, a parser accepts `0._12`.
-    #[must_use]
     #[inline(always)]
     pub const fn fraction_leading_digit_separator(self, flag: bool) -> Self {
         self.with_flags(flags::FRACTION_LEADING_DIGIT_SEPARATOR, flag)
     }
 
     /// Sets whether the format allows a digit separator before the exponent digits. If so, a parser accepts `1e_12`.
-    #[must_use]
     #[inline(always)]
     pub const fn exponent_leading_digit_separator(self, flag: bool) -> Self {
         self.with_flags(flags::EXPONENT_LEADING_DIGIT_SEPARATOR, flag)
     }
 
     /// Sets or clears all flags that allow a digit separator before digits.
-    #[must_use]
     #[inline(always)]
     pub const fn leading_digit_separator(self, flag: bool) -> Self {
         self.with_flags(flags::LEADING_DIGIT_SEPARATOR, flag)
     }
 
     /// Sets whether the format allows a digit separator after the integer digits. If so, a parser accepts `12_`.
-    #[must_use]
     #[inline(always)]
     pub const fn integer_trailing_digit_separator(self, flag: bool) -> Self {
         self.with_flags(flags::INTEGER_TRAILING_DIGIT_SEPARATOR, flag)
     }
 
     /// Sets whether the format allows a digit separator after the fraction digits. If so, a parser accepts `0.12_`.
-    #[must_use]
     #[inline(always)]
     pub const fn fraction_trailing_digit_separator(self, flag: bool) -> Self {
         self.with_flags(flags::FRACTION_TRAILING_DIGIT_SEPARATOR, flag)
     }
 
     /// Sets whether the format allows a digit separator after the exponent digits. If so, a parser accepts `1e12_`.
-    #[must_use]
     #[inline(always)]
     pub const fn exponent_trailing_digit_separator(self, flag: bool) -> Self {
         self.with_flags(flags::EXPONENT_TRAILING_DIGIT_SEPARATOR, flag)
     }
 
     /// Sets or clears all flags that allow a digit separator after digits.
-    #[must_use]
     #[inline(always)]
     pub const fn trailing_digit_separator(self, flag: bool) -> Self {
         self.with_flags(flags::TRAILING_DIGIT_SEPARATOR, flag)
@@ -313,7 +275,6 @@ impl NumberFormatBuilder {
     /// Sets whether the format allows consecutive digit separators in the integer part. If so, a parser accepts several
     /// separators in a row wherever it accepts a single one: `1__2`, `__12`, `12__`. In a lawful format, this flag is
     /// set only if the internal, leading or trailing separator flag of the integer part is set too.
-    #[must_use]
     #[inline(always)]
     pub const fn integer_consecutive_digit_separator(self, flag: bool) -> Self {
         self.with_flags(flags::INTEGER_CONSECUTIVE_DIGIT_SEPARATOR, flag)
@@ -322,7 +283,6 @@ impl NumberFormatBuilder {
     /// Sets whether the format allows consecutive digit separators in the fraction. If so, a parser accepts several
     /// separators in a row wherever it accepts a single one: `0.1__2`, `0.__12`, `0.12__`. In a lawful format, this
     /// flag is set only if the internal, leading or trailing separator flag of the fraction is set too.
-    #[must_use]
     #[inline(always)]
     pub const fn fraction_consecutive_digit_separator(self, flag: bool) -> Self {
         self.with_flags(flags::FRACTION_CONSECUTIVE_DIGIT_SEPARATOR, flag)
@@ -331,14 +291,12 @@ impl NumberFormatBuilder {
     /// Sets whether the format allows consecutive digit separators in the exponent. If so, a parser accepts several
     /// separators in a row wherever it accepts a single one: `1e1__2`, `1e__12`, `1e12__`. In a lawful format, this
     /// flag is set only if the internal, leading or trailing separator flag of the exponent is set too.
-    #[must_use]
     #[inline(always)]
     pub const fn exponent_consecutive_digit_separator(self, flag: bool) -> Self {
         self.with_flags(flags::EXPONENT_CONSECUTIVE_DIGIT_SEPARATOR, flag)
     }
 
     /// Sets or clears all flags that allow consecutive digit separators.
-    #[must_use]
     #[inline(always)]
     pub const fn consecutive_digit_separator(self, flag: bool) -> Self {
         self.with_flags(flags::CONSECUTIVE_DIGIT_SEPARATOR, flag)
@@ -346,35 +304,30 @@ impl NumberFormatBuilder {
 
     /// Sets whether the format allows digit separators in special values. If so, a parser accepts `N__a_N_` as `NaN`.
     /// Digit separators can be before, between and after the letters, and can be consecutive.
-    #[must_use]
     #[inline(always)]
     pub const fn special_digit_separator(self, flag: bool) -> Self {
         self.with_flags(flags::SPECIAL_DIGIT_SEPARATOR, flag)
     }
 
     /// Sets or clears all flags that allow digit separators, including the flag that allows them in special values.
-    #[must_use]
     #[inline(always)]
     pub const fn digit_separator_flags(self, flag: bool) -> Self {
         self.with_flags(flags::DIGIT_SEPARATOR_FLAG_MASK, flag)
     }
 
     /// Sets or clears all flags that allow digit separators in the integer part.
-    #[must_use]
     #[inline(always)]
     pub const fn integer_digit_separator_flags(self, flag: bool) -> Self {
         self.with_flags(flags::INTEGER_DIGIT_SEPARATOR_FLAG_MASK, flag)
     }
 
     /// Sets or clears all flags that allow digit separators in the fraction.
-    #[must_use]
     #[inline(always)]
     pub const fn fraction_digit_separator_flags(self, flag: bool) -> Self {
         self.with_flags(flags::FRACTION_DIGIT_SEPARATOR_FLAG_MASK, flag)
     }
 
     /// Sets or clears all flags that allow digit separators in the exponent.
-    #[must_use]
     #[inline(always)]
     pub const fn exponent_digit_separator_flags(self, flag: bool) -> Self {
         self.with_flags(flags::EXPONENT_DIGIT_SEPARATOR_FLAG_MASK, flag)

@@ -68,12 +68,12 @@ const fn is_case_pair(a: u8, b: u8) -> bool {
     a ^ 0x20 == b && is_valid_letter(a)
 }
 
-/// Returns whether no byte plays both the role of `a` and the role of `b`, such as the base prefix and the base
-/// suffix. If a role is not case-sensitive and its byte is a letter, both cases of the letter play the role. If the
-/// byte is 0, which means absent, no byte plays it.
+/// Returns whether no byte plays both the role of `a` and the role of `b`, such as the base prefix and the base suffix.
+/// If a role is not case-sensitive and its byte is a letter, both cases of the letter play the role. If the byte is 0,
+/// which means absent, no byte plays it. `lexical-util` has no such function.
 #[must_use]
-#[inline(always)]
 #[doc(hidden)]
+#[inline(always)]
 pub const fn roles_disjoint(a: u8, a_case_sensitive: bool, b: u8, b_case_sensitive: bool) -> bool {
     a == 0 || (a != b && (!is_case_pair(a, b) || (a_case_sensitive & b_case_sensitive)))
 }
@@ -225,21 +225,10 @@ const fn is_disjoint_from_format_roles(format: u128, byte: u8, case_sensitive: b
 /// assert!(!is_valid_options_punctuation(STANDARD, b'.', b'.')); // one byte for both
 /// ```
 ///
-/// # Proved
+/// # Proved of the source
 ///
-/// For all arguments:
-///
-/// - The result is true if and only if both bytes fit the format (`OptionsFit`).
-/// - For a `Lawful` word, the result is true if and only if both bytes are allowed ASCII, and no byte plays two
-///   roles (`OptionsHaveOneRole`).
-/// - For each `Lawful` word there is a pair of bytes that fits (`SomeOptionsFit`).
-///
-/// ```text
-/// ensures accepted { IsTrue result ↔ OptionsFit format exponent decimal_point }
-/// // In a lawful format, the options are accepted if and only if they are allowed ASCII and no byte plays two roles.
-/// ensures roles { Lawful format → (IsTrue result ↔ OptionsHaveOneRole format exponent decimal_point) }
-/// ensures exists { Lawful format → SomeOptionsFit format }
-/// ```
+/// - For a lawful format, the result is true if and only if both bytes are allowed ASCII, and no byte plays two roles.
+/// - Each lawful format accepts at least one pair of bytes.
 #[must_use]
 #[inline(always)]
 pub const fn is_valid_options_punctuation(format: u128, exponent: u8, decimal_point: u8) -> bool {
@@ -423,8 +412,8 @@ const fn first_broken(format: u128) -> Error {
 /// The radixes are tested in this order: the mantissa radix, the exponent base, the exponent radix. If the exponent
 /// base or the exponent radix is 0, the mantissa radix is tested instead.
 #[must_use]
-#[inline(always)]
 #[doc(hidden)]
+#[inline(always)]
 pub const fn radix_error_impl(format: u128) -> Error {
     if !is_valid_mantissa_radix(format) {
         Error::InvalidMantissaRadix
@@ -477,8 +466,8 @@ pub const fn format_error_impl(format: u128) -> Error {
 ///
 /// If `format` is not lawful, returns the error of the first rule that it breaks, as [`format_error_impl`] does. This
 /// error is never `Success`.
-#[inline(always)]
 #[doc(hidden)]
+#[inline(always)]
 pub const fn check(format: u128) -> Result<u128, Error> {
     match format_error_impl(format) {
         Error::Success => Ok(format),

@@ -109,6 +109,7 @@ const fn separator_note(format: u128, separator: u8) -> Option<Note> {
 }
 
 // Returns the note on the case flag of a byte, if any.
+#[inline(always)]
 const fn case_note(format: u128, flag: FlagSetter, byte: Byte) -> Option<Note> {
     let word = Characters {
         format,

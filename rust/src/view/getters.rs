@@ -8,152 +8,133 @@ use crate::format_flags as flags;
 impl FormatView {
     // FLAGS OTHER THAN DIGIT SEPARATOR FLAGS
 
-    /// Returns whether the format requires digits before the decimal point. If so, a parser rejects `.5`. See the
-    /// [setter][super::NumberFormatBuilder::required_integer_digits].
+    /// Returns whether the format requires digits before the decimal point.
     #[must_use]
     #[inline(always)]
     pub const fn required_integer_digits(&self) -> bool {
         has_any!(self, REQUIRED_INTEGER_DIGITS)
     }
 
-    /// Returns whether the format requires digits after a decimal point. If so, a parser rejects `1.` but accepts `1`.
-    /// See the [setter][super::NumberFormatBuilder::required_fraction_digits].
+    /// Returns whether the format requires digits after a decimal point.
     #[must_use]
     #[inline(always)]
     pub const fn required_fraction_digits(&self) -> bool {
         has_any!(self, REQUIRED_FRACTION_DIGITS)
     }
 
-    /// Returns whether the format requires digits after an exponent character. If so, a parser rejects `1e`. See the
-    /// [setter][super::NumberFormatBuilder::required_exponent_digits].
+    /// Returns whether the format requires digits after an exponent character.
     #[must_use]
     #[inline(always)]
     pub const fn required_exponent_digits(&self) -> bool {
         has_any!(self, REQUIRED_EXPONENT_DIGITS)
     }
 
-    /// Returns whether the format requires a digit in the mantissa of a float. If so, a parser rejects `.`. See the
-    /// [setter][super::NumberFormatBuilder::required_mantissa_digits].
+    /// Returns whether the format requires a digit in the mantissa of a float.
     #[must_use]
     #[inline(always)]
     pub const fn required_mantissa_digits(&self) -> bool {
         has_any!(self, REQUIRED_MANTISSA_DIGITS)
     }
 
-    /// Returns whether any of the flags that require digits is set. See the
-    /// [setter][super::NumberFormatBuilder::required_digits].
+    /// Returns whether any of the flags that require digits is set.
     #[must_use]
     #[inline(always)]
     pub const fn required_digits(&self) -> bool {
         has_any!(self, REQUIRED_DIGITS)
     }
 
-    /// Returns whether the format forbids a `+` before an integer or a float. If so, a parser rejects `+1` but accepts
-    /// `-1`. See the [setter][super::NumberFormatBuilder::no_positive_mantissa_sign].
+    /// Returns whether the format forbids a `+` before an integer or a float.
     #[must_use]
     #[inline(always)]
     pub const fn no_positive_mantissa_sign(&self) -> bool {
         has_any!(self, NO_POSITIVE_MANTISSA_SIGN)
     }
 
-    /// Returns whether the format requires a sign before an integer or a float. If so, a parser rejects `1`, and a
-    /// writer writes `+1`. See the [setter][super::NumberFormatBuilder::required_mantissa_sign].
+    /// Returns whether the format requires a sign before an integer or a float.
     #[must_use]
     #[inline(always)]
     pub const fn required_mantissa_sign(&self) -> bool {
         has_any!(self, REQUIRED_MANTISSA_SIGN)
     }
 
-    /// Returns whether the format forbids an exponent in a float. If so, a parser rejects `1e5`, and a writer writes
-    /// out all digits. See the [setter][super::NumberFormatBuilder::no_exponent_notation].
+    /// Returns whether the format forbids an exponent in a float.
     #[must_use]
     #[inline(always)]
     pub const fn no_exponent_notation(&self) -> bool {
         has_any!(self, NO_EXPONENT_NOTATION)
     }
 
-    /// Returns whether the format forbids a `+` in the exponent. If so, a parser rejects `1e+5` but accepts `1e5` and
-    /// `1e-5`. See the [setter][super::NumberFormatBuilder::no_positive_exponent_sign].
+    /// Returns whether the format forbids a `+` in the exponent.
     #[must_use]
     #[inline(always)]
     pub const fn no_positive_exponent_sign(&self) -> bool {
         has_any!(self, NO_POSITIVE_EXPONENT_SIGN)
     }
 
-    /// Returns whether the format requires a sign in the exponent. If so, a parser rejects `1e5`, and a writer writes
-    /// `1e+5`. See the [setter][super::NumberFormatBuilder::required_exponent_sign].
+    /// Returns whether the format requires a sign in the exponent.
     #[must_use]
     #[inline(always)]
     pub const fn required_exponent_sign(&self) -> bool {
         has_any!(self, REQUIRED_EXPONENT_SIGN)
     }
 
-    /// Returns whether the format requires a decimal point before an exponent. If so, a parser rejects `1e5` but
-    /// accepts `1.0e5`. See the [setter][super::NumberFormatBuilder::no_exponent_without_fraction].
+    /// Returns whether the format requires a decimal point before an exponent.
     #[must_use]
     #[inline(always)]
     pub const fn no_exponent_without_fraction(&self) -> bool {
         has_any!(self, NO_EXPONENT_WITHOUT_FRACTION)
     }
 
-    /// Returns whether the format forbids all special values. If so, a parser rejects `NaN` and `inf`. See the
-    /// [setter][super::NumberFormatBuilder::no_special].
+    /// Returns whether the format forbids all special values.
     #[must_use]
     #[inline(always)]
     pub const fn no_special(&self) -> bool {
         has_any!(self, NO_SPECIAL)
     }
 
-    /// Returns whether special values are case-sensitive. If so, a parser rejects `nan` when the spelling of NaN is
-    /// `NaN`. See the [setter][super::NumberFormatBuilder::case_sensitive_special].
+    /// Returns whether special values are case-sensitive.
     #[must_use]
     #[inline(always)]
     pub const fn case_sensitive_special(&self) -> bool {
         has_any!(self, CASE_SENSITIVE_SPECIAL)
     }
 
-    /// Returns whether the format forbids leading zeros in an integer. If so, a parser rejects the integer `01` but
-    /// accepts `0`. See the [setter][super::NumberFormatBuilder::no_integer_leading_zeros].
+    /// Returns whether the format forbids leading zeros in an integer.
     #[must_use]
     #[inline(always)]
     pub const fn no_integer_leading_zeros(&self) -> bool {
         has_any!(self, NO_INTEGER_LEADING_ZEROS)
     }
 
-    /// Returns whether the format forbids leading zeros in a float. If so, a parser rejects `01.0` but accepts `0.1`.
-    /// See the [setter][super::NumberFormatBuilder::no_float_leading_zeros].
+    /// Returns whether the format forbids leading zeros in a float.
     #[must_use]
     #[inline(always)]
     pub const fn no_float_leading_zeros(&self) -> bool {
         has_any!(self, NO_FLOAT_LEADING_ZEROS)
     }
 
-    /// Returns whether the format requires an exponent in a float. If so, a parser rejects `1.0`, and a writer writes
-    /// every float with an exponent. See the [setter][super::NumberFormatBuilder::required_exponent_notation].
+    /// Returns whether the format requires an exponent in a float.
     #[must_use]
     #[inline(always)]
     pub const fn required_exponent_notation(&self) -> bool {
         has_any!(self, REQUIRED_EXPONENT_NOTATION)
     }
 
-    /// Returns whether the exponent character is case-sensitive. If so, a parser rejects `1E5` when the exponent
-    /// character is `e`. See the [setter][super::NumberFormatBuilder::case_sensitive_exponent].
+    /// Returns whether the exponent character is case-sensitive.
     #[must_use]
     #[inline(always)]
     pub const fn case_sensitive_exponent(&self) -> bool {
         has_any!(self, CASE_SENSITIVE_EXPONENT)
     }
 
-    /// Returns whether the base prefix is case-sensitive. If so, a parser rejects `0X1F` when the base prefix is `x`.
-    /// See the [setter][super::NumberFormatBuilder::case_sensitive_base_prefix].
+    /// Returns whether the base prefix is case-sensitive.
     #[must_use]
     #[inline(always)]
     pub const fn case_sensitive_base_prefix(&self) -> bool {
         has_any!(self, CASE_SENSITIVE_BASE_PREFIX)
     }
 
-    /// Returns whether the base suffix is case-sensitive. If so, a parser rejects `1FH` when the base suffix is `h`.
-    /// See the [setter][super::NumberFormatBuilder::case_sensitive_base_suffix].
+    /// Returns whether the base suffix is case-sensitive.
     #[must_use]
     #[inline(always)]
     pub const fn case_sensitive_base_suffix(&self) -> bool {
@@ -162,139 +143,119 @@ impl FormatView {
 
     // DIGIT SEPARATOR FLAGS
 
-    /// Returns whether the format allows a digit separator between integer digits. If so, a parser accepts `1_2`. See
-    /// the [setter][super::NumberFormatBuilder::integer_internal_digit_separator].
+    /// Returns whether the format allows a digit separator between integer digits.
     #[must_use]
     #[inline(always)]
     pub const fn integer_internal_digit_separator(&self) -> bool {
         has_any!(self, INTEGER_INTERNAL_DIGIT_SEPARATOR)
     }
 
-    /// Returns whether the format allows a digit separator between fraction digits. If so, a parser accepts `0.1_2`.
-    /// See the [setter][super::NumberFormatBuilder::fraction_internal_digit_separator].
+    /// Returns whether the format allows a digit separator between fraction digits.
     #[must_use]
     #[inline(always)]
     pub const fn fraction_internal_digit_separator(&self) -> bool {
         has_any!(self, FRACTION_INTERNAL_DIGIT_SEPARATOR)
     }
 
-    /// Returns whether the format allows a digit separator between exponent digits. If so, a parser accepts `1e1_2`.
-    /// See the [setter][super::NumberFormatBuilder::exponent_internal_digit_separator].
+    /// Returns whether the format allows a digit separator between exponent digits.
     #[must_use]
     #[inline(always)]
     pub const fn exponent_internal_digit_separator(&self) -> bool {
         has_any!(self, EXPONENT_INTERNAL_DIGIT_SEPARATOR)
     }
 
-    /// Returns whether the format allows a digit separator before the integer digits. If so, a parser accepts `_12`.
-    /// See the [setter][super::NumberFormatBuilder::integer_leading_digit_separator].
+    /// Returns whether the format allows a digit separator before the integer digits.
     #[must_use]
     #[inline(always)]
     pub const fn integer_leading_digit_separator(&self) -> bool {
         has_any!(self, INTEGER_LEADING_DIGIT_SEPARATOR)
     }
 
-    /// Returns whether the format allows a digit separator before the fraction digits. If so, a parser accepts
-    /// `0._12`. See the [setter][super::NumberFormatBuilder::fraction_leading_digit_separator].
+    /// Returns whether the format allows a digit separator before the fraction digits.
     #[must_use]
     #[inline(always)]
     pub const fn fraction_leading_digit_separator(&self) -> bool {
         has_any!(self, FRACTION_LEADING_DIGIT_SEPARATOR)
     }
 
-    /// Returns whether the format allows a digit separator before the exponent digits. If so, a parser accepts
-    /// `1e_12`. See the [setter][super::NumberFormatBuilder::exponent_leading_digit_separator].
+    /// Returns whether the format allows a digit separator before the exponent digits.
     #[must_use]
     #[inline(always)]
     pub const fn exponent_leading_digit_separator(&self) -> bool {
         has_any!(self, EXPONENT_LEADING_DIGIT_SEPARATOR)
     }
 
-    /// Returns whether the format allows a digit separator after the integer digits. If so, a parser accepts `12_`.
-    /// See the [setter][super::NumberFormatBuilder::integer_trailing_digit_separator].
+    /// Returns whether the format allows a digit separator after the integer digits.
     #[must_use]
     #[inline(always)]
     pub const fn integer_trailing_digit_separator(&self) -> bool {
         has_any!(self, INTEGER_TRAILING_DIGIT_SEPARATOR)
     }
 
-    /// Returns whether the format allows a digit separator after the fraction digits. If so, a parser accepts `0.12_`.
-    /// See the [setter][super::NumberFormatBuilder::fraction_trailing_digit_separator].
+    /// Returns whether the format allows a digit separator after the fraction digits.
     #[must_use]
     #[inline(always)]
     pub const fn fraction_trailing_digit_separator(&self) -> bool {
         has_any!(self, FRACTION_TRAILING_DIGIT_SEPARATOR)
     }
 
-    /// Returns whether the format allows a digit separator after the exponent digits. If so, a parser accepts `1e12_`.
-    /// See the [setter][super::NumberFormatBuilder::exponent_trailing_digit_separator].
+    /// Returns whether the format allows a digit separator after the exponent digits.
     #[must_use]
     #[inline(always)]
     pub const fn exponent_trailing_digit_separator(&self) -> bool {
         has_any!(self, EXPONENT_TRAILING_DIGIT_SEPARATOR)
     }
 
-    /// Returns whether the format allows consecutive digit separators in the integer part. If so, a parser accepts
-    /// several separators in a row wherever it accepts a single one: `1__2`, `__12`, `12__`. See the
-    /// [setter][super::NumberFormatBuilder::integer_consecutive_digit_separator].
+    /// Returns whether the format allows consecutive digit separators in the integer part.
     #[must_use]
     #[inline(always)]
     pub const fn integer_consecutive_digit_separator(&self) -> bool {
         has_any!(self, INTEGER_CONSECUTIVE_DIGIT_SEPARATOR)
     }
 
-    /// Returns whether the format allows consecutive digit separators in the fraction. If so, a parser accepts several
-    /// separators in a row wherever it accepts a single one: `0.1__2`, `0.__12`, `0.12__`. See the
-    /// [setter][super::NumberFormatBuilder::fraction_consecutive_digit_separator].
+    /// Returns whether the format allows consecutive digit separators in the fraction.
     #[must_use]
     #[inline(always)]
     pub const fn fraction_consecutive_digit_separator(&self) -> bool {
         has_any!(self, FRACTION_CONSECUTIVE_DIGIT_SEPARATOR)
     }
 
-    /// Returns whether the format allows consecutive digit separators in the exponent. If so, a parser accepts several
-    /// separators in a row wherever it accepts a single one: `1e1__2`, `1e__12`, `1e12__`. See the
-    /// [setter][super::NumberFormatBuilder::exponent_consecutive_digit_separator].
+    /// Returns whether the format allows consecutive digit separators in the exponent.
     #[must_use]
     #[inline(always)]
     pub const fn exponent_consecutive_digit_separator(&self) -> bool {
         has_any!(self, EXPONENT_CONSECUTIVE_DIGIT_SEPARATOR)
     }
 
-    /// Returns whether any of the flags that allow a digit separator between digits is set. See the
-    /// [setter][super::NumberFormatBuilder::internal_digit_separator].
+    /// Returns whether any of the flags that allow a digit separator between digits is set.
     #[must_use]
     #[inline(always)]
     pub const fn internal_digit_separator(&self) -> bool {
         has_any!(self, INTERNAL_DIGIT_SEPARATOR)
     }
 
-    /// Returns whether any of the flags that allow a digit separator before digits is set. See the
-    /// [setter][super::NumberFormatBuilder::leading_digit_separator].
+    /// Returns whether any of the flags that allow a digit separator before digits is set.
     #[must_use]
     #[inline(always)]
     pub const fn leading_digit_separator(&self) -> bool {
         has_any!(self, LEADING_DIGIT_SEPARATOR)
     }
 
-    /// Returns whether any of the flags that allow a digit separator after digits is set. See the
-    /// [setter][super::NumberFormatBuilder::trailing_digit_separator].
+    /// Returns whether any of the flags that allow a digit separator after digits is set.
     #[must_use]
     #[inline(always)]
     pub const fn trailing_digit_separator(&self) -> bool {
         has_any!(self, TRAILING_DIGIT_SEPARATOR)
     }
 
-    /// Returns whether any of the flags that allow consecutive digit separators is set. See the
-    /// [setter][super::NumberFormatBuilder::consecutive_digit_separator].
+    /// Returns whether any of the flags that allow consecutive digit separators is set.
     #[must_use]
     #[inline(always)]
     pub const fn consecutive_digit_separator(&self) -> bool {
         has_any!(self, CONSECUTIVE_DIGIT_SEPARATOR)
     }
 
-    /// Returns whether the format allows digit separators in special values. If so, a parser accepts `N__a_N_` as
-    /// `NaN`. See the [setter][super::NumberFormatBuilder::special_digit_separator].
+    /// Returns whether the format allows digit separators in special values.
     #[must_use]
     #[inline(always)]
     pub const fn special_digit_separator(&self) -> bool {

@@ -124,6 +124,10 @@ impl FormatView {
     /// If the word is [lawful][flags::Rule] and accepts these options
     /// ([`is_valid_options_punctuation`][flags::is_valid_options_punctuation]), no byte plays two roles. For any other
     /// word or options, the result is the first role that `byte` plays, in the order of the variants of [`Role`].
+    ///
+    /// # Proved of the source
+    ///
+    /// - If the word is lawful and accepts these options, `byte` plays the returned role and no other.
     #[must_use]
     pub const fn role_of(&self, exponent: u8, decimal_point: u8, byte: u8) -> Option<Role> {
         self.first_role(exponent, decimal_point, byte)

@@ -5,6 +5,7 @@ use peltzivar::error::Error;
 use peltzivar::word::{format_error, NonZeroU8, NumberFormatBuilder};
 
 #[test]
+#[allow(deprecated)]
 fn only_lawful_words_pass_the_strict_build() {
     for (builder, word, error) in &built() {
         let packed = [builder.build_unchecked(), builder.build()];

@@ -1,9 +1,12 @@
-//! The code that plain Rust has in place of `std::simd`, and for numbers in decimal.
+//! The tests of slices and the digits of numbers, which plain Rust has by hand.
 
 use peltzivar::ascii::{
     is_valid_ascii, is_valid_ascii_slice, is_valid_letter, is_valid_letter_slice,
 };
 use peltzivar::Error;
+
+/// As in `lexical-util`, a constant can call the tests.
+const _: () = assert!(is_valid_ascii_slice(&[b'~'; 99]) && !is_valid_letter_slice(b"a0"));
 
 /// Each byte is tested in each lane of two blocks and in the bytes after them, and one byte in many blocks.
 #[test]

@@ -4,10 +4,12 @@ ghost use Rattle.std.specs.Prelude.{◌≡◌, ◌<◌, ◌∷◌, [], IsErr, On
 ghost use Rattle.std.specs.Fmt.{WritesInCalls, decimal, digit_glyph};
 
 use crate::error::Sink;
+use crate::error::decimal::put_decimal;
 use std::fmt;
 
 /// A piece of a [`ShortText`].
 #[derive(Clone, Copy)]
+#[doc(hidden)]
 pub enum Piece {
     /// Text that is written unchanged.
     Words(&'static str),
@@ -23,11 +25,13 @@ pub enum Piece {
 }
 
 /// A piece without text.
+#[doc(hidden)]
 pub const EMPTY_PIECE: Piece = Piece::Words("");
 
 /// Short text that consists of five pieces, each of which may be empty. The text of each `ShortText` that the library
 /// returns has fewer than 256 bytes.
 #[derive(Clone, Copy)]
+#[doc(hidden)]
 pub struct ShortText(pub Piece, pub Piece, pub Piece, pub Piece, pub Piece);
 
 impl ShortText {
@@ -36,6 +40,7 @@ impl ShortText {
     /// # Errors
     ///
     /// Returns an error if [`Sink::put`] returns one.
+    #[doc(hidden)]
     pub fn put_into<S: Sink>(&self, out: &mut S) -> Result<(), fmt::Error> {
         self.0.put_into(out)?;
         self.1.put_into(out)?;
@@ -90,18 +95,6 @@ fn put_numbered<S: Sink>(out: &mut S, name: &str, byte: u8) -> fmt::Result {
     put_decimal(out, byte as usize)
 }
 
-// Puts `n` in decimal into the sink `out`.
-pub(crate) fn put_decimal<S: Sink>(out: &mut S, n: usize) -> fmt::Result
-    ensures text { OnOk result (WritesInCalls S.takes out.old (decimal n) out.new) }
-    ensures failed { IsErr result → S.has_failed out.new }
-{
-    let has_front = n >= 10;
-    if has_front {
-        put_decimal(out, n / 10)?;
-    }
-    out.put(digit_text(n % 10))
-}
-
 // Puts `n` in hexadecimal, with uppercase letters, into the sink `out`.
 fn put_hexadecimal<S: Sink>(out: &mut S, n: u128) -> fmt::Result {
     let has_front = n >= 16;
@@ -113,7 +106,7 @@ fn put_hexadecimal<S: Sink>(out: &mut S, n: u128) -> fmt::Result {
 
 // Returns the hexadecimal character that represents `digit`, which must be below 16. Letters are uppercase.
 #[inline(always)]
-const fn digit_text(digit: usize) -> &'static str
+pub(crate) const fn digit_text(digit: usize) -> &'static str
     ensures { digit < 16 → result.now ≡ digit_glyph true digit ∷ [] }
 {
     match digit {

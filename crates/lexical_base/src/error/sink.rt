@@ -9,6 +9,7 @@ use std::fmt;
 ///
 /// Each implementation defines how a piece changes the sink, and what it means for the sink to have failed. A caller
 /// knows that a sink has failed only between a call to [`Sink::put`] that returned an error and the next call.
+#[doc(hidden)]
 pub trait Sink {
     // Relates the sink before a successful call to `put`, the bytes of the piece, and the sink after the call.
     ghost takes: { Self → List ℕ → Self → Type 0 };

@@ -14,6 +14,7 @@ impl NumberFormatBuilder {
     // GETTERS
 
     /// Returns the [digit separator][Self::digit_separator], or `None` if it is absent.
+    #[must_use]
     #[inline(always)]
     pub const fn get_digit_separator(&self) -> OptionU8
         ensures { result ≡ option_of_byte (self.now.byte layout.digit_separator) }
@@ -22,6 +23,7 @@ impl NumberFormatBuilder {
     }
 
     /// Returns the [mantissa radix][Self::mantissa_radix].
+    #[must_use]
     #[inline(always)]
     pub const fn get_mantissa_radix(&self) -> u8
         ensures { result ≡ self.now.byte layout.mantissa_radix }
@@ -31,6 +33,7 @@ impl NumberFormatBuilder {
 
     /// Returns the [exponent base][Self::exponent_base], or `None` if it is absent. In that case, the mantissa radix is
     /// used in its place.
+    #[must_use]
     #[inline(always)]
     pub const fn get_exponent_base(&self) -> OptionU8
         ensures { result ≡ option_of_byte (self.now.byte layout.exponent_base) }
@@ -40,6 +43,7 @@ impl NumberFormatBuilder {
 
     /// Returns the [exponent radix][Self::exponent_radix], or `None` if it is absent. In that case, the mantissa radix
     /// is used in its place.
+    #[must_use]
     #[inline(always)]
     pub const fn get_exponent_radix(&self) -> OptionU8
         ensures { result ≡ option_of_byte (self.now.byte layout.exponent_radix) }
@@ -48,6 +52,7 @@ impl NumberFormatBuilder {
     }
 
     /// Returns the [base prefix][Self::base_prefix], or `None` if it is absent.
+    #[must_use]
     #[inline(always)]
     pub const fn get_base_prefix(&self) -> OptionU8
         ensures { result ≡ option_of_byte (self.now.byte layout.base_prefix) }
@@ -56,6 +61,7 @@ impl NumberFormatBuilder {
     }
 
     /// Returns the [base suffix][Self::base_suffix], or `None` if it is absent.
+    #[must_use]
     #[inline(always)]
     pub const fn get_base_suffix(&self) -> OptionU8
         ensures { result ≡ option_of_byte (self.now.byte layout.base_suffix) }
@@ -64,6 +70,7 @@ impl NumberFormatBuilder {
     }
 
     /// Returns the flag that [`Self::required_integer_digits`] sets.
+    #[must_use]
     #[inline(always)]
     pub const fn get_required_integer_digits(&self) -> bool
         ensures { result ≡ self.now.flag layout.required_integer_digits }
@@ -72,6 +79,7 @@ impl NumberFormatBuilder {
     }
 
     /// Returns the flag that [`Self::required_fraction_digits`] sets.
+    #[must_use]
     #[inline(always)]
     pub const fn get_required_fraction_digits(&self) -> bool
         ensures { result ≡ self.now.flag layout.required_fraction_digits }
@@ -80,6 +88,7 @@ impl NumberFormatBuilder {
     }
 
     /// Returns the flag that [`Self::required_exponent_digits`] sets.
+    #[must_use]
     #[inline(always)]
     pub const fn get_required_exponent_digits(&self) -> bool
         ensures { result ≡ self.now.flag layout.required_exponent_digits }
@@ -88,6 +97,7 @@ impl NumberFormatBuilder {
     }
 
     /// Returns the flag that [`Self::required_mantissa_digits`] sets.
+    #[must_use]
     #[inline(always)]
     pub const fn get_required_mantissa_digits(&self) -> bool
         ensures { result ≡ self.now.flag layout.required_mantissa_digits }
@@ -96,6 +106,7 @@ impl NumberFormatBuilder {
     }
 
     /// Returns the flag that [`Self::no_positive_mantissa_sign`] sets.
+    #[must_use]
     #[inline(always)]
     pub const fn get_no_positive_mantissa_sign(&self) -> bool
         ensures { result ≡ self.now.flag layout.no_positive_mantissa_sign }
@@ -104,6 +115,7 @@ impl NumberFormatBuilder {
     }
 
     /// Returns the flag that [`Self::required_mantissa_sign`] sets.
+    #[must_use]
     #[inline(always)]
     pub const fn get_required_mantissa_sign(&self) -> bool
         ensures { result ≡ self.now.flag layout.required_mantissa_sign }
@@ -112,6 +124,7 @@ impl NumberFormatBuilder {
     }
 
     /// Returns the flag that [`Self::no_exponent_notation`] sets.
+    #[must_use]
     #[inline(always)]
     pub const fn get_no_exponent_notation(&self) -> bool
         ensures { result ≡ self.now.flag layout.no_exponent_notation }
@@ -120,6 +133,7 @@ impl NumberFormatBuilder {
     }
 
     /// Returns the flag that [`Self::no_positive_exponent_sign`] sets.
+    #[must_use]
     #[inline(always)]
     pub const fn get_no_positive_exponent_sign(&self) -> bool
         ensures { result ≡ self.now.flag layout.no_positive_exponent_sign }
@@ -128,6 +142,7 @@ impl NumberFormatBuilder {
     }
 
     /// Returns the flag that [`Self::required_exponent_sign`] sets.
+    #[must_use]
     #[inline(always)]
     pub const fn get_required_exponent_sign(&self) -> bool
         ensures { result ≡ self.now.flag layout.required_exponent_sign }
@@ -136,6 +151,7 @@ impl NumberFormatBuilder {
     }
 
     /// Returns the flag that [`Self::no_exponent_without_fraction`] sets.
+    #[must_use]
     #[inline(always)]
     pub const fn get_no_exponent_without_fraction(&self) -> bool
         ensures { result ≡ self.now.flag layout.no_exponent_without_fraction }
@@ -144,6 +160,7 @@ impl NumberFormatBuilder {
     }
 
     /// Returns the flag that [`Self::no_special`] sets.
+    #[must_use]
     #[inline(always)]
     pub const fn get_no_special(&self) -> bool
         ensures { result ≡ self.now.flag layout.no_special }
@@ -152,6 +169,7 @@ impl NumberFormatBuilder {
     }
 
     /// Returns the flag that [`Self::case_sensitive_special`] sets.
+    #[must_use]
     #[inline(always)]
     pub const fn get_case_sensitive_special(&self) -> bool
         ensures { result ≡ self.now.flag layout.case_sensitive_special }
@@ -160,6 +178,7 @@ impl NumberFormatBuilder {
     }
 
     /// Returns the flag that [`Self::no_integer_leading_zeros`] sets.
+    #[must_use]
     #[inline(always)]
     pub const fn get_no_integer_leading_zeros(&self) -> bool
         ensures { result ≡ self.now.flag layout.no_integer_leading_zeros }
@@ -168,6 +187,7 @@ impl NumberFormatBuilder {
     }
 
     /// Returns the flag that [`Self::no_float_leading_zeros`] sets.
+    #[must_use]
     #[inline(always)]
     pub const fn get_no_float_leading_zeros(&self) -> bool
         ensures { result ≡ self.now.flag layout.no_float_leading_zeros }
@@ -176,6 +196,7 @@ impl NumberFormatBuilder {
     }
 
     /// Returns the flag that [`Self::required_exponent_notation`] sets.
+    #[must_use]
     #[inline(always)]
     pub const fn get_required_exponent_notation(&self) -> bool
         ensures { result ≡ self.now.flag layout.required_exponent_notation }
@@ -184,6 +205,7 @@ impl NumberFormatBuilder {
     }
 
     /// Returns the flag that [`Self::case_sensitive_exponent`] sets.
+    #[must_use]
     #[inline(always)]
     pub const fn get_case_sensitive_exponent(&self) -> bool
         ensures { result ≡ self.now.flag layout.case_sensitive_exponent }
@@ -192,6 +214,7 @@ impl NumberFormatBuilder {
     }
 
     /// Returns the flag that [`Self::case_sensitive_base_prefix`] sets.
+    #[must_use]
     #[inline(always)]
     pub const fn get_case_sensitive_base_prefix(&self) -> bool
         ensures { result ≡ self.now.flag layout.case_sensitive_base_prefix }
@@ -200,6 +223,7 @@ impl NumberFormatBuilder {
     }
 
     /// Returns the flag that [`Self::case_sensitive_base_suffix`] sets.
+    #[must_use]
     #[inline(always)]
     pub const fn get_case_sensitive_base_suffix(&self) -> bool
         ensures { result ≡ self.now.flag layout.case_sensitive_base_suffix }
@@ -208,6 +232,7 @@ impl NumberFormatBuilder {
     }
 
     /// Returns the flag that [`Self::integer_internal_digit_separator`] sets.
+    #[must_use]
     #[inline(always)]
     pub const fn get_integer_internal_digit_separator(&self) -> bool
         ensures { result ≡ self.now.flag layout.integer_internal_digit_separator }
@@ -216,6 +241,7 @@ impl NumberFormatBuilder {
     }
 
     /// Returns the flag that [`Self::fraction_internal_digit_separator`] sets.
+    #[must_use]
     #[inline(always)]
     pub const fn get_fraction_internal_digit_separator(&self) -> bool
         ensures { result ≡ self.now.flag layout.fraction_internal_digit_separator }
@@ -224,6 +250,7 @@ impl NumberFormatBuilder {
     }
 
     /// Returns the flag that [`Self::exponent_internal_digit_separator`] sets.
+    #[must_use]
     #[inline(always)]
     pub const fn get_exponent_internal_digit_separator(&self) -> bool
         ensures { result ≡ self.now.flag layout.exponent_internal_digit_separator }
@@ -232,6 +259,7 @@ impl NumberFormatBuilder {
     }
 
     /// Returns the flag that [`Self::integer_leading_digit_separator`] sets.
+    #[must_use]
     #[inline(always)]
     pub const fn get_integer_leading_digit_separator(&self) -> bool
         ensures { result ≡ self.now.flag layout.integer_leading_digit_separator }
@@ -240,6 +268,7 @@ impl NumberFormatBuilder {
     }
 
     /// Returns the flag that [`Self::fraction_leading_digit_separator`] sets.
+    #[must_use]
     #[inline(always)]
     pub const fn get_fraction_leading_digit_separator(&self) -> bool
         ensures { result ≡ self.now.flag layout.fraction_leading_digit_separator }
@@ -248,6 +277,7 @@ impl NumberFormatBuilder {
     }
 
     /// Returns the flag that [`Self::exponent_leading_digit_separator`] sets.
+    #[must_use]
     #[inline(always)]
     pub const fn get_exponent_leading_digit_separator(&self) -> bool
         ensures { result ≡ self.now.flag layout.exponent_leading_digit_separator }
@@ -256,6 +286,7 @@ impl NumberFormatBuilder {
     }
 
     /// Returns the flag that [`Self::integer_trailing_digit_separator`] sets.
+    #[must_use]
     #[inline(always)]
     pub const fn get_integer_trailing_digit_separator(&self) -> bool
         ensures { result ≡ self.now.flag layout.integer_trailing_digit_separator }
@@ -264,6 +295,7 @@ impl NumberFormatBuilder {
     }
 
     /// Returns the flag that [`Self::fraction_trailing_digit_separator`] sets.
+    #[must_use]
     #[inline(always)]
     pub const fn get_fraction_trailing_digit_separator(&self) -> bool
         ensures { result ≡ self.now.flag layout.fraction_trailing_digit_separator }
@@ -272,6 +304,7 @@ impl NumberFormatBuilder {
     }
 
     /// Returns the flag that [`Self::exponent_trailing_digit_separator`] sets.
+    #[must_use]
     #[inline(always)]
     pub const fn get_exponent_trailing_digit_separator(&self) -> bool
         ensures { result ≡ self.now.flag layout.exponent_trailing_digit_separator }
@@ -280,6 +313,7 @@ impl NumberFormatBuilder {
     }
 
     /// Returns the flag that [`Self::integer_consecutive_digit_separator`] sets.
+    #[must_use]
     #[inline(always)]
     pub const fn get_integer_consecutive_digit_separator(&self) -> bool
         ensures { result ≡ self.now.flag layout.integer_consecutive_digit_separator }
@@ -288,6 +322,7 @@ impl NumberFormatBuilder {
     }
 
     /// Returns the flag that [`Self::fraction_consecutive_digit_separator`] sets.
+    #[must_use]
     #[inline(always)]
     pub const fn get_fraction_consecutive_digit_separator(&self) -> bool
         ensures { result ≡ self.now.flag layout.fraction_consecutive_digit_separator }
@@ -296,6 +331,7 @@ impl NumberFormatBuilder {
     }
 
     /// Returns the flag that [`Self::exponent_consecutive_digit_separator`] sets.
+    #[must_use]
     #[inline(always)]
     pub const fn get_exponent_consecutive_digit_separator(&self) -> bool
         ensures { result ≡ self.now.flag layout.exponent_consecutive_digit_separator }
@@ -304,6 +340,7 @@ impl NumberFormatBuilder {
     }
 
     /// Returns the flag that [`Self::special_digit_separator`] sets.
+    #[must_use]
     #[inline(always)]
     pub const fn get_special_digit_separator(&self) -> bool
         ensures { result ≡ self.now.flag layout.special_digit_separator }

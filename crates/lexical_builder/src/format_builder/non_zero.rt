@@ -23,6 +23,7 @@ impl Model for NonZeroU8 {
 
 impl NonZeroU8 {
     /// Returns `value` as a nonzero byte, or `None` if it is 0.
+    #[must_use]
     #[inline(always)]
     pub const fn new(value: u8) -> Option<NonZeroU8>
         ensures value { result ≡ option_of_byte value }
@@ -36,6 +37,7 @@ impl NonZeroU8 {
     }
 
     /// Returns the byte, which is between 1 and 255.
+    #[must_use]
     #[inline(always)]
     pub const fn get(self) -> u8
         ensures value { result ≡ self }

@@ -15,7 +15,8 @@ use lexical_base::error::Error;
 /// [`is_valid_ascii`][lexical_base::ascii::is_valid_ascii] accepts, except signs (`+` and `-`) and
 /// [digits][is_digit_of_either_radix] of the format. `Rule` does not implement `Display`. To explain why a word breaks a
 /// rule, print a [`Reason`][lexical_util::reasons::Reason].
-#[derive(Debug, Clone, Copy, PartialEq, Eq, Hash)]
+#[derive(Debug, Clone, Copy, PartialEq, Eq, Hash, PartialOrd, Ord)]
+#[non_exhaustive]
 pub enum Rule {
     /// The mantissa radix is between 2 and 36.
     MantissaRadixInRange,
@@ -55,6 +56,7 @@ pub enum Rule {
 }
 
 /// All rules, in the order in which they are checked.
+#[doc(hidden)]
 pub const RULES: [Rule; 16] = [
     Rule::MantissaRadixInRange,
     Rule::ExponentBaseInRange,
@@ -79,6 +81,7 @@ const DIGIT_RADIXES: u128 = MANTISSA_RADIX | EXPONENT_RADIX;
 
 impl Rule {
     /// Returns the error of a word whose first broken rule is this one.
+    #[must_use]
     pub const fn error(self) -> Error
         ensures { result ≡ error_of self }
     {
@@ -102,6 +105,7 @@ impl Rule {
     }
 
     /// Returns whether `format` satisfies this rule.
+    #[must_use]
     pub const fn is_kept(self, format: u128) -> bool
         ensures { IsTrue result ↔ Holds self format }
     {
@@ -128,6 +132,7 @@ impl Rule {
     /// Returns the mask of the bits that this rule reads. For [`Rule::ReservedBitsAreZero`], these are the reserved
     /// bits. For every other rule, they are the bits of the fields on which the rule depends. Two words that have the
     /// same values in these bits either both satisfy the rule or both break it.
+    #[must_use]
     pub const fn mask(self) -> u128
         ensures { result ≡ mask_read self }
     {

@@ -55,7 +55,7 @@ const fn larger(a: u32, b: u32) -> u32
 ///
 /// The case of a letter does not matter: in radix 16, both `f` and `F` are digits. If the exponent radix is 0, the
 /// mantissa radix replaces it. The exponent base does not affect the result. `format` need not be [lawful][Rule].
-/// `lexical-util` has no such function.
+#[must_use]
 #[inline(always)]
 pub const fn is_digit_of_either_radix(format: u128, byte: u8) -> bool
     ensures { IsTrue result ↔ IsTrue (digits (raw format) byte) }
@@ -94,6 +94,8 @@ const fn is_case_pair(a: u8, b: u8) -> bool
 /// Returns whether no byte plays both the role of `a` and the role of `b`, such as the base prefix and the base suffix.
 /// If a role is not case-sensitive and its byte is a letter, both cases of the letter play the role. If the byte is 0,
 /// which means absent, no byte plays it. `lexical-util` has no such function.
+#[must_use]
+#[doc(hidden)]
 #[inline(always)]
 #[tactic(auto, using(crate::proofs::CaseLemmas::same_clash, crate::proofs::CaseLemmas::differ_apart))]
 pub const fn roles_disjoint(a: u8, a_case_sensitive: bool, b: u8, b_case_sensitive: bool) -> bool
@@ -148,6 +150,7 @@ const fn exponent_is_case_sensitive(format: u128) -> bool
 // RADIXES
 
 /// Returns whether `radix` is between 2 and 36, inclusive.
+#[must_use]
 #[inline(always)]
 pub const fn is_valid_radix(radix: u32) -> bool
     ensures { IsTrue result ↔ IsRadix radix }
@@ -188,6 +191,7 @@ pub(crate) const fn is_valid_exponent_radix(format: u128) -> bool
 ///
 /// The flags do not affect the result: a digit is rejected even if no flag allows a separator, and 0 is accepted even
 /// if a flag allows one.
+#[must_use]
 #[inline(always)]
 pub const fn is_valid_digit_separator(format: u128) -> bool
     ensures { IsTrue result ↔ Holds rules.DigitSeparatorIsPunctuation format }
@@ -199,6 +203,7 @@ pub const fn is_valid_digit_separator(format: u128) -> bool
 ///
 /// A byte of 0 is *absent*. *Punctuation* is any byte that [`is_valid_ascii`][lexical_base::ascii::is_valid_ascii]
 /// accepts, except signs (`+` and `-`) and [digits][is_digit_of_either_radix] of `format`.
+#[must_use]
 #[inline(always)]
 pub const fn is_valid_base_prefix(format: u128) -> bool
     ensures { IsTrue result ↔ Holds rules.BasePrefixIsPunctuation format }
@@ -210,6 +215,7 @@ pub const fn is_valid_base_prefix(format: u128) -> bool
 ///
 /// A byte of 0 is *absent*. *Punctuation* is any byte that [`is_valid_ascii`][lexical_base::ascii::is_valid_ascii]
 /// accepts, except signs (`+` and `-`) and [digits][is_digit_of_either_radix] of `format`.
+#[must_use]
 #[inline(always)]
 pub const fn is_valid_base_suffix(format: u128) -> bool
     ensures { IsTrue result ↔ Holds rules.BaseSuffixIsPunctuation format }
@@ -224,6 +230,7 @@ pub const fn is_valid_base_suffix(format: u128) -> bool
 /// [`CASE_SENSITIVE_BASE_SUFFIX`] is set. So the prefix `h` and the suffix `H` count as different only if both flags
 /// are set. The digit separator is always case-sensitive. `lexical-util` compares the raw bytes, so it accepts the
 /// prefix `h` with the suffix `H` regardless of the flags.
+#[must_use]
 #[inline(always)]
 pub const fn is_valid_punctuation(format: u128) -> bool
     ensures { IsTrue result ↔ Holds rules.PunctuationDiffers format }
@@ -266,8 +273,6 @@ const fn is_disjoint_from_format_roles(format: u128, byte: u8, case_sensitive: b
 /// accepts at least one pair. With such a pair, no byte has two meanings in a number. `lexical-util` compares the raw
 /// bytes, so a letter matches only its own case there.
 ///
-/// In plain Rust:
-///
 /// ```
 /// use peltzivar::format::{is_valid_options_punctuation, STANDARD};
 ///
@@ -275,6 +280,12 @@ const fn is_disjoint_from_format_roles(format: u128, byte: u8, case_sensitive: b
 /// assert!(!is_valid_options_punctuation(STANDARD, b'5', b'.')); // a digit
 /// assert!(!is_valid_options_punctuation(STANDARD, b'.', b'.')); // one byte for both
 /// ```
+///
+/// # Proved of the source
+///
+/// - For a lawful format, the result is true if and only if both bytes are allowed ASCII, and no byte plays two roles.
+/// - Each lawful format accepts at least one pair of bytes.
+#[must_use]
 #[inline(always)]
 #[tactic(auto)]
 pub const fn is_valid_options_punctuation(format: u128, exponent: u8, decimal_point: u8) -> bool
@@ -301,8 +312,8 @@ pub const fn is_valid_options_punctuation(format: u128, exponent: u8, decimal_po
 /// 3. Otherwise, if the two match the same byte, or if either matches the same byte as the digit separator, the base
 ///    prefix or the base suffix, the result is `InvalidPunctuation`. [`is_valid_options_punctuation`] describes which
 ///    letters match both cases.
-///
-/// `lexical-util` has no such function.
+#[must_use]
+#[doc(hidden)]
 pub const fn options_error(format: u128, exponent: u8, decimal_point: u8) -> Error
     ensures first { IsOptionsError format exponent decimal_point result }
     ensures accepted { (result ≡ Error.Success) ↔ OptionsFit format exponent decimal_point }
@@ -331,6 +342,7 @@ const fn first_options_error(format: u128, exponent: u8, decimal_point: u8) -> E
 
 /// Returns `false` if both [`NO_EXPONENT_NOTATION`] and [`REQUIRED_EXPONENT_NOTATION`] are set in
 /// `format`, and `true` otherwise.
+#[must_use]
 #[inline(always)]
 pub const fn is_valid_exponent_flags(format: u128) -> bool
     ensures { IsTrue result ↔ Holds rules.ExponentFlagsAgree format }
@@ -398,7 +410,7 @@ pub(crate) const fn is_valid_exponent_consecutive_flags(format: u128) -> bool
 }
 
 /// Returns whether all reserved bits of `format` are 0. The reserved bits hold neither a flag nor a byte.
-/// `lexical-util` has no such function.
+#[must_use]
 #[inline(always)]
 pub const fn is_clean(format: u128) -> bool
     ensures { IsTrue result ↔ IsClean format }
@@ -407,7 +419,7 @@ pub const fn is_clean(format: u128) -> bool
 }
 
 /// Returns whether any flag of `format` allows a digit separator, in a number or in a special value (NaN or infinity).
-/// `lexical-util` has no such function.
+#[must_use]
 #[inline(always)]
 #[tactic(auto, using(crate::proofs::FlagBits::separator_flag_set, crate::proofs::FlagBits::no_separator_flag_set))]
 pub const fn is_separator_allowed(format: u128) -> bool
@@ -500,6 +512,8 @@ const fn first_broken(format: u128) -> Error
 ///
 /// The radixes are tested in this order: the mantissa radix, the exponent base, the exponent radix. If the exponent
 /// base or the exponent radix is 0, the mantissa radix is tested instead.
+#[must_use]
+#[doc(hidden)]
 #[inline(always)]
 #[tactic(auto)]
 pub const fn radix_error_impl(format: u128) -> Error
@@ -545,6 +559,8 @@ pub const fn radix_error_impl(format: u128) -> Error
 /// 16. All reserved bits are 0: `InvalidFlags`.
 ///
 /// `lexical-util` compares raw bytes in the seventh rule, and has no rule for reserved bits.
+#[must_use]
+#[doc(hidden)]
 pub const fn format_error_impl(format: u128) -> Error
     ensures first { IsErrorOf format result }
     ensures lawful { (result ≡ Error.Success) ↔ Lawful format }
@@ -562,6 +578,7 @@ pub const fn format_error_impl(format: u128) -> Error
 ///
 /// If `format` is not lawful, returns the error of the first rule that it breaks, as [`format_error_impl`] does. This
 /// error is never `Success`.
+#[doc(hidden)]
 #[inline(always)]
 pub const fn check(format: u128) -> Result<u128, Error>
     ensures lawful { OkIff result (Lawful format) format }

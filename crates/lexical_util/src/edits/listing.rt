@@ -13,6 +13,11 @@ use lexical_flags::format_flags as flags;
 
 /// Returns whether a builder can build `format`. This is possible if and only if all reserved bits are 0, and the digit
 /// separator is absent or allowed by a flag.
+///
+/// # Proved of the source
+///
+/// - The result is true if and only if setter calls on a new builder can build `format`.
+#[must_use]
 pub const fn is_built(format: u128) -> bool
     ensures rule { IsTrue result ↔ IsBuilt format }
 
@@ -39,8 +44,6 @@ const fn is_separator_allowed_or_absent(format: u128) -> bool
 /// edits are applied. If [`is_built`] returns `true` for `format`, this builder packs its fields into `format`, and a
 /// shorter list of edits builds `format` only if it contains an edit of a flag group.
 ///
-/// In plain Rust:
-///
 /// ```
 /// use peltzivar::edits::{edits_of, Edit, FlagSetter};
 ///
@@ -49,6 +52,7 @@ const fn is_separator_allowed_or_absent(format: u128) -> bool
 /// let needed = [Edit::Flag(FlagSetter::RequiredExponentDigits, false), Edit::MantissaRadix(16)];
 /// assert_eq!(edits[..count], needed);
 /// ```
+#[must_use]
 pub fn edits_of(format: u128) -> ([Edit; FIELD_COUNT], usize)
     ensures list { AllZip IsEditOf (needed_writes (raw format) ++ other_writes (raw format)) result.0 }
     ensures number { result.1 ≡ length (needed_writes (raw format)) }

@@ -70,94 +70,96 @@ macro_rules! with_setters {
 }
 
 /// A setter of [`NumberFormatBuilder`][lexical_builder::format_builder::NumberFormatBuilder] that takes a `bool`. It
-/// sets one flag, or all flags of one of the nine flag groups. The comment of a variant is the name of its setter.
-#[derive(Debug, Clone, Copy, PartialEq, Eq, Hash)]
+/// sets one flag, or all flags of one of the nine flag groups. A variant has the name of its setter,
+/// whose documentation has an example.
+#[derive(Debug, Clone, Copy, PartialEq, Eq, Hash, PartialOrd, Ord)]
+#[non_exhaustive]
 pub enum FlagSetter {
-    /// `required_integer_digits`
+    /// Sets whether the format requires digits before the decimal point.
     RequiredIntegerDigits,
-    /// `required_fraction_digits`
+    /// Sets whether the format requires digits after a decimal point.
     RequiredFractionDigits,
-    /// `required_exponent_digits`
+    /// Sets whether the format requires digits after an exponent character.
     RequiredExponentDigits,
-    /// `required_mantissa_digits`
+    /// Sets whether the format requires a digit in the mantissa of a float.
     RequiredMantissaDigits,
-    /// `no_positive_mantissa_sign`
+    /// Sets whether the format forbids a `+` before an integer or a float.
     NoPositiveMantissaSign,
-    /// `required_mantissa_sign`
+    /// Sets whether the format requires a sign before an integer or a float.
     RequiredMantissaSign,
-    /// `no_exponent_notation`
+    /// Sets whether the format forbids an exponent in a float.
     NoExponentNotation,
-    /// `no_positive_exponent_sign`
+    /// Sets whether the format forbids a `+` in the exponent.
     NoPositiveExponentSign,
-    /// `required_exponent_sign`
+    /// Sets whether the format requires a sign in the exponent.
     RequiredExponentSign,
-    /// `no_exponent_without_fraction`
+    /// Sets whether the format requires a decimal point before an exponent.
     NoExponentWithoutFraction,
-    /// `no_special`
+    /// Sets whether the format forbids all special values.
     NoSpecial,
-    /// `case_sensitive_special`
+    /// Sets whether special values are case-sensitive.
     CaseSensitiveSpecial,
-    /// `no_integer_leading_zeros`
+    /// Sets whether the format forbids leading zeros in an integer.
     NoIntegerLeadingZeros,
-    /// `no_float_leading_zeros`
+    /// Sets whether the format forbids leading zeros in a float.
     NoFloatLeadingZeros,
-    /// `required_exponent_notation`
+    /// Sets whether the format requires an exponent in a float.
     RequiredExponentNotation,
-    /// `case_sensitive_exponent`
+    /// Sets whether the exponent character is case-sensitive.
     CaseSensitiveExponent,
-    /// `case_sensitive_base_prefix`
+    /// Sets whether the base prefix is case-sensitive.
     CaseSensitiveBasePrefix,
-    /// `case_sensitive_base_suffix`
+    /// Sets whether the base suffix is case-sensitive.
     CaseSensitiveBaseSuffix,
-    /// `integer_internal_digit_separator`
+    /// Sets whether the format allows a digit separator between integer digits.
     IntegerInternalDigitSeparator,
-    /// `fraction_internal_digit_separator`
+    /// Sets whether the format allows a digit separator between fraction digits.
     FractionInternalDigitSeparator,
-    /// `exponent_internal_digit_separator`
+    /// Sets whether the format allows a digit separator between exponent digits.
     ExponentInternalDigitSeparator,
-    /// `integer_leading_digit_separator`
+    /// Sets whether the format allows a digit separator before the integer digits.
     IntegerLeadingDigitSeparator,
-    /// `fraction_leading_digit_separator`
+    /// Sets whether the format allows a digit separator before the fraction digits.
     FractionLeadingDigitSeparator,
-    /// `exponent_leading_digit_separator`
+    /// Sets whether the format allows a digit separator before the exponent digits.
     ExponentLeadingDigitSeparator,
-    /// `integer_trailing_digit_separator`
+    /// Sets whether the format allows a digit separator after the integer digits.
     IntegerTrailingDigitSeparator,
-    /// `fraction_trailing_digit_separator`
+    /// Sets whether the format allows a digit separator after the fraction digits.
     FractionTrailingDigitSeparator,
-    /// `exponent_trailing_digit_separator`
+    /// Sets whether the format allows a digit separator after the exponent digits.
     ExponentTrailingDigitSeparator,
-    /// `integer_consecutive_digit_separator`
+    /// Sets whether the format allows consecutive digit separators in the integer part.
     IntegerConsecutiveDigitSeparator,
-    /// `fraction_consecutive_digit_separator`
+    /// Sets whether the format allows consecutive digit separators in the fraction.
     FractionConsecutiveDigitSeparator,
-    /// `exponent_consecutive_digit_separator`
+    /// Sets whether the format allows consecutive digit separators in the exponent.
     ExponentConsecutiveDigitSeparator,
-    /// `special_digit_separator`
+    /// Sets whether the format allows digit separators in special values.
     SpecialDigitSeparator,
-    /// `required_digits`
+    /// Sets or clears all flags that require digits.
     RequiredDigits,
-    /// `internal_digit_separator`
+    /// Sets or clears all flags that allow a digit separator between digits.
     InternalDigitSeparator,
-    /// `leading_digit_separator`
+    /// Sets or clears all flags that allow a digit separator before digits.
     LeadingDigitSeparator,
-    /// `trailing_digit_separator`
+    /// Sets or clears all flags that allow a digit separator after digits.
     TrailingDigitSeparator,
-    /// `consecutive_digit_separator`
+    /// Sets or clears all flags that allow consecutive digit separators.
     ConsecutiveDigitSeparator,
-    /// `digit_separator_flags`
+    /// Sets or clears all flags that allow digit separators, including the flag that allows them in special values.
     DigitSeparatorFlags,
-    /// `integer_digit_separator_flags`
+    /// Sets or clears all flags that allow digit separators in the integer part.
     IntegerDigitSeparatorFlags,
-    /// `fraction_digit_separator_flags`
+    /// Sets or clears all flags that allow digit separators in the fraction.
     FractionDigitSeparatorFlags,
-    /// `exponent_digit_separator_flags`
+    /// Sets or clears all flags that allow digit separators in the exponent.
     ExponentDigitSeparatorFlags,
 }
 
 /// A setter of [`NumberFormatBuilder`][lexical_builder::format_builder::NumberFormatBuilder]. An [`Edit`] is a setter
 /// with its argument.
-#[derive(Debug, Clone, Copy, PartialEq, Eq, Hash)]
+#[derive(Debug, Clone, Copy, PartialEq, Eq, Hash, PartialOrd, Ord)]
 pub enum Setter {
     /// A setter that takes a `bool`.
     Flag(FlagSetter),
@@ -190,7 +192,7 @@ pub enum ArgumentKind {
 
 /// A call to a setter of [`NumberFormatBuilder`][lexical_builder::format_builder::NumberFormatBuilder], stored as a
 /// value. An edit holds the setter and its argument.
-#[derive(Debug, Clone, Copy, PartialEq, Eq, Hash)]
+#[derive(Debug, Clone, Copy, PartialEq, Eq, Hash, PartialOrd, Ord)]
 pub enum Edit {
     /// Sets a flag, or every flag of a group, to the given value.
     Flag(FlagSetter, bool),
@@ -222,10 +224,12 @@ macro_rules! variants {
 const FLAGS: usize = u128::count_ones(FLAG_MASK) as usize;
 
 /// The number of fields in a format word: 31 flags and six bytes.
+#[doc(hidden)]
 pub const FIELD_COUNT: usize = FLAGS + 6;
 
 /// All setters that take a `bool`, in the order of the variants of [`FlagSetter`]: first the flag setters, then the
 /// nine group setters.
+#[doc(hidden)]
 pub const SETTERS: [FlagSetter; FLAGS + 9] = with_setters!(variants());
 
 // Makes an array of all setters: the flag setters, the group setters, then the byte setters.
@@ -246,6 +250,7 @@ macro_rules! all_setters {
 }
 
 /// All setters: first those in [`SETTERS`], in the same order, then the seven byte setters.
+#[doc(hidden)]
 pub const ALL_SETTERS: [Setter; SETTERS.len() + 7] = with_setters!(all_setters());
 
 // Returns the mask of the flags that a setter writes. The mask is a `u64`, since all flags are in the lower 64 bits of
@@ -270,6 +275,7 @@ pub(crate) const fn mask_of(setter: FlagSetter) -> u64
 
 impl FlagSetter {
     /// Returns the name of the setter, which is the name of the variant in snake case.
+    #[must_use]
     pub const fn name(self) -> &'static str {
         macro_rules! names {
             (($setter:ident)
@@ -285,6 +291,7 @@ impl FlagSetter {
 
     /// Returns whether the flag of this setter is set in `format`. For a group setter, returns whether any flag of the
     /// group is set.
+    #[must_use]
     pub const fn is_set(self, format: u128) -> bool
         ensures { result ≡ any_flag format (flags_of self) }
     {
@@ -294,6 +301,7 @@ impl FlagSetter {
 
 impl Setter {
     /// Returns the setter with the given name, or `None` if there is no such setter.
+    #[must_use]
     pub fn from_name(name: &str) -> Option<Setter> {
         macro_rules! setters {
             (($name:ident)
@@ -316,6 +324,7 @@ impl Setter {
     }
 
     /// Returns the name of the setter.
+    #[must_use]
     pub const fn name(self) -> &'static str {
         match self {
             Setter::Flag(setter) => setter.name(),
@@ -330,6 +339,7 @@ impl Setter {
     }
 
     /// Returns the kind of argument that the setter takes.
+    #[must_use]
     pub const fn kind(self) -> ArgumentKind {
         match self {
             Setter::Flag(_) => ArgumentKind::Flag,
@@ -343,12 +353,15 @@ impl Setter {
     }
 
     /// Returns the mask of the bits that the setter writes in a format word.
+    #[must_use]
     pub const fn mask(self) -> u128 {
         self.with_byte(0).mask()
     }
 
     /// Returns the edit that calls the setter with the argument that `byte` represents. For a flag, any byte except 0
     /// means `true`. For a byte that may be absent, 0 means absent.
+    #[must_use]
+    #[doc(hidden)]
     pub const fn with_byte(self, byte: u8) -> Edit {
         match self {
             Setter::Flag(setter) => Edit::Flag(setter, byte != 0),
@@ -365,6 +378,7 @@ impl Setter {
 
 impl Edit {
     /// Returns the setter that the edit calls.
+    #[must_use]
     pub const fn setter(self) -> Setter {
         match self {
             Edit::Flag(setter, _) => Setter::Flag(setter),
@@ -379,12 +393,15 @@ impl Edit {
     }
 
     /// Returns the name of the setter that the edit calls.
+    #[must_use]
     pub const fn name(self) -> &'static str {
         self.setter().name()
     }
 
     /// Returns the argument of the edit as a byte. This is 1 for `true`, 0 for `false` or an absent byte, and otherwise
     /// the byte itself.
+    #[must_use]
+    #[doc(hidden)]
     pub const fn argument_byte(self) -> u8
         ensures { result ≡ argument_byte self }
     {
@@ -403,6 +420,7 @@ impl Edit {
     }
 
     /// Returns the mask of the bits that the edit writes in a format word.
+    #[must_use]
     pub const fn mask(self) -> u128
         ensures { result ≡ mask_of_edit self }
     {
@@ -420,6 +438,8 @@ impl Edit {
 
 /// Returns one edit for each field. The edit sets the field to its value in `format`. The edits are in the order of the
 /// bits that they write.
+#[must_use]
+#[doc(hidden)]
 pub const fn field_edits_of(format: u128) -> [Edit; FIELD_COUNT]
     ensures { result ≡ field_edits (raw format) }
 {

@@ -23,6 +23,7 @@ pub(crate) enum Fault {
 
 /// What is wrong with a string that is not a setting.
 #[derive(Debug, Clone, Copy, PartialEq, Eq, Hash)]
+#[non_exhaustive]
 pub enum SettingErrorKind {
     /// The string has no `=`.
     NoEquals,
@@ -34,6 +35,7 @@ pub enum SettingErrorKind {
 
 impl SettingError {
     /// Returns what is wrong.
+    #[must_use]
     pub const fn kind(&self) -> SettingErrorKind {
         match self.0 {
             Fault::NoEquals => SettingErrorKind::NoEquals,
@@ -43,6 +45,7 @@ impl SettingError {
     }
 
     /// Returns the name of the setter that does not take the value. Returns `None` for any other kind of error.
+    #[must_use]
     pub const fn name(&self) -> Option<&'static str> {
         match self.0 {
             Fault::NoEquals | Fault::UnknownName => None,
@@ -160,6 +163,7 @@ impl Edit {
     ///
     /// Returns a [`SettingError`] if `text` has no `=`, if no setter has the name, or if the setter does not take the
     /// value.
+    #[doc(hidden)]
     pub fn from_text(text: &str) -> Result<Edit, SettingError> {
         match text.split_once('=') {
             Some((name, value)) => Edit::from_setting(name, value),
@@ -191,6 +195,8 @@ fn byte_from_text(text: &str) -> Option<u8> {
 }
 
 /// Parses one to three decimal digits as a number of at most 255. Returns `None` for any other string.
+#[must_use]
+#[doc(hidden)]
 pub fn byte_from_decimal(text: &str) -> Option<u8> {
     byte_from_digits(text.as_bytes(), 10, 3)
 }

@@ -15,7 +15,8 @@ use lexical_flags::format_flags as flags;
 impl NumberFormat {
     // FLAGS OTHER THAN DIGIT SEPARATOR FLAGS
 
-    /// Returns whether this [flag][super::NumberFormatBuilder::required_integer_digits] is set.
+    /// Returns whether the format requires digits before the decimal point.
+    #[must_use]
     #[inline(always)]
     pub const fn required_integer_digits(&self) -> bool
         ensures { result ≡ (raw self.now).flag layout.required_integer_digits }
@@ -23,7 +24,8 @@ impl NumberFormat {
         has_any!(self, REQUIRED_INTEGER_DIGITS)
     }
 
-    /// Returns whether this [flag][super::NumberFormatBuilder::required_fraction_digits] is set.
+    /// Returns whether the format requires digits after a decimal point.
+    #[must_use]
     #[inline(always)]
     pub const fn required_fraction_digits(&self) -> bool
         ensures { result ≡ (raw self.now).flag layout.required_fraction_digits }
@@ -31,7 +33,8 @@ impl NumberFormat {
         has_any!(self, REQUIRED_FRACTION_DIGITS)
     }
 
-    /// Returns whether this [flag][super::NumberFormatBuilder::required_exponent_digits] is set.
+    /// Returns whether the format requires digits after an exponent character.
+    #[must_use]
     #[inline(always)]
     pub const fn required_exponent_digits(&self) -> bool
         ensures { result ≡ (raw self.now).flag layout.required_exponent_digits }
@@ -39,7 +42,8 @@ impl NumberFormat {
         has_any!(self, REQUIRED_EXPONENT_DIGITS)
     }
 
-    /// Returns whether this [flag][super::NumberFormatBuilder::required_mantissa_digits] is set.
+    /// Returns whether the format requires a digit in the mantissa of a float.
+    #[must_use]
     #[inline(always)]
     pub const fn required_mantissa_digits(&self) -> bool
         ensures { result ≡ (raw self.now).flag layout.required_mantissa_digits }
@@ -47,7 +51,8 @@ impl NumberFormat {
         has_any!(self, REQUIRED_MANTISSA_DIGITS)
     }
 
-    /// Returns whether any flag of this [group][super::NumberFormatBuilder::required_digits] is set.
+    /// Returns whether any of the flags that require digits is set.
+    #[must_use]
     #[inline(always)]
     pub const fn required_digits(&self) -> bool
         ensures any { result ≡ any_flag self.now layout.required_digits }
@@ -56,7 +61,8 @@ impl NumberFormat {
         has_any!(self, REQUIRED_DIGITS)
     }
 
-    /// Returns whether this [flag][super::NumberFormatBuilder::no_positive_mantissa_sign] is set.
+    /// Returns whether the format forbids a `+` before an integer or a float.
+    #[must_use]
     #[inline(always)]
     pub const fn no_positive_mantissa_sign(&self) -> bool
         ensures { result ≡ (raw self.now).flag layout.no_positive_mantissa_sign }
@@ -64,7 +70,8 @@ impl NumberFormat {
         has_any!(self, NO_POSITIVE_MANTISSA_SIGN)
     }
 
-    /// Returns whether this [flag][super::NumberFormatBuilder::required_mantissa_sign] is set.
+    /// Returns whether the format requires a sign before an integer or a float.
+    #[must_use]
     #[inline(always)]
     pub const fn required_mantissa_sign(&self) -> bool
         ensures { result ≡ (raw self.now).flag layout.required_mantissa_sign }
@@ -72,7 +79,8 @@ impl NumberFormat {
         has_any!(self, REQUIRED_MANTISSA_SIGN)
     }
 
-    /// Returns whether this [flag][super::NumberFormatBuilder::no_exponent_notation] is set.
+    /// Returns whether the format forbids an exponent in a float.
+    #[must_use]
     #[inline(always)]
     pub const fn no_exponent_notation(&self) -> bool
         ensures { result ≡ (raw self.now).flag layout.no_exponent_notation }
@@ -80,7 +88,8 @@ impl NumberFormat {
         has_any!(self, NO_EXPONENT_NOTATION)
     }
 
-    /// Returns whether this [flag][super::NumberFormatBuilder::no_positive_exponent_sign] is set.
+    /// Returns whether the format forbids a `+` in the exponent.
+    #[must_use]
     #[inline(always)]
     pub const fn no_positive_exponent_sign(&self) -> bool
         ensures { result ≡ (raw self.now).flag layout.no_positive_exponent_sign }
@@ -88,7 +97,8 @@ impl NumberFormat {
         has_any!(self, NO_POSITIVE_EXPONENT_SIGN)
     }
 
-    /// Returns whether this [flag][super::NumberFormatBuilder::required_exponent_sign] is set.
+    /// Returns whether the format requires a sign in the exponent.
+    #[must_use]
     #[inline(always)]
     pub const fn required_exponent_sign(&self) -> bool
         ensures { result ≡ (raw self.now).flag layout.required_exponent_sign }
@@ -96,7 +106,8 @@ impl NumberFormat {
         has_any!(self, REQUIRED_EXPONENT_SIGN)
     }
 
-    /// Returns whether this [flag][super::NumberFormatBuilder::no_exponent_without_fraction] is set.
+    /// Returns whether the format requires a decimal point before an exponent.
+    #[must_use]
     #[inline(always)]
     pub const fn no_exponent_without_fraction(&self) -> bool
         ensures { result ≡ (raw self.now).flag layout.no_exponent_without_fraction }
@@ -104,7 +115,8 @@ impl NumberFormat {
         has_any!(self, NO_EXPONENT_WITHOUT_FRACTION)
     }
 
-    /// Returns whether this [flag][super::NumberFormatBuilder::no_special] is set.
+    /// Returns whether the format forbids all special values.
+    #[must_use]
     #[inline(always)]
     pub const fn no_special(&self) -> bool
         ensures { result ≡ (raw self.now).flag layout.no_special }
@@ -112,8 +124,8 @@ impl NumberFormat {
         has_any!(self, NO_SPECIAL)
     }
 
-    /// Returns whether this [flag][super::NumberFormatBuilder::case_sensitive_special] is set. If so, `NaN` and `nan` are
-    /// different.
+    /// Returns whether special values are case-sensitive.
+    #[must_use]
     #[inline(always)]
     pub const fn case_sensitive_special(&self) -> bool
         ensures { result ≡ (raw self.now).flag layout.case_sensitive_special }
@@ -121,7 +133,8 @@ impl NumberFormat {
         has_any!(self, CASE_SENSITIVE_SPECIAL)
     }
 
-    /// Returns whether this [flag][super::NumberFormatBuilder::no_integer_leading_zeros] is set.
+    /// Returns whether the format forbids leading zeros in an integer.
+    #[must_use]
     #[inline(always)]
     pub const fn no_integer_leading_zeros(&self) -> bool
         ensures { result ≡ (raw self.now).flag layout.no_integer_leading_zeros }
@@ -129,7 +142,8 @@ impl NumberFormat {
         has_any!(self, NO_INTEGER_LEADING_ZEROS)
     }
 
-    /// Returns whether this [flag][super::NumberFormatBuilder::no_float_leading_zeros] is set.
+    /// Returns whether the format forbids leading zeros in a float.
+    #[must_use]
     #[inline(always)]
     pub const fn no_float_leading_zeros(&self) -> bool
         ensures { result ≡ (raw self.now).flag layout.no_float_leading_zeros }
@@ -137,7 +151,8 @@ impl NumberFormat {
         has_any!(self, NO_FLOAT_LEADING_ZEROS)
     }
 
-    /// Returns whether this [flag][super::NumberFormatBuilder::required_exponent_notation] is set.
+    /// Returns whether the format requires an exponent in a float.
+    #[must_use]
     #[inline(always)]
     pub const fn required_exponent_notation(&self) -> bool
         ensures { result ≡ (raw self.now).flag layout.required_exponent_notation }
@@ -145,7 +160,8 @@ impl NumberFormat {
         has_any!(self, REQUIRED_EXPONENT_NOTATION)
     }
 
-    /// Returns whether this [flag][super::NumberFormatBuilder::case_sensitive_exponent] is set.
+    /// Returns whether the exponent character is case-sensitive.
+    #[must_use]
     #[inline(always)]
     pub const fn case_sensitive_exponent(&self) -> bool
         ensures { result ≡ (raw self.now).flag layout.case_sensitive_exponent }
@@ -153,7 +169,8 @@ impl NumberFormat {
         has_any!(self, CASE_SENSITIVE_EXPONENT)
     }
 
-    /// Returns whether this [flag][super::NumberFormatBuilder::case_sensitive_base_prefix] is set.
+    /// Returns whether the base prefix is case-sensitive.
+    #[must_use]
     #[inline(always)]
     pub const fn case_sensitive_base_prefix(&self) -> bool
         ensures { result ≡ (raw self.now).flag layout.case_sensitive_base_prefix }
@@ -161,7 +178,8 @@ impl NumberFormat {
         has_any!(self, CASE_SENSITIVE_BASE_PREFIX)
     }
 
-    /// Returns whether this [flag][super::NumberFormatBuilder::case_sensitive_base_suffix] is set.
+    /// Returns whether the base suffix is case-sensitive.
+    #[must_use]
     #[inline(always)]
     pub const fn case_sensitive_base_suffix(&self) -> bool
         ensures { result ≡ (raw self.now).flag layout.case_sensitive_base_suffix }
@@ -171,7 +189,8 @@ impl NumberFormat {
 
     // DIGIT SEPARATOR FLAGS
 
-    /// Returns whether this [flag][super::NumberFormatBuilder::integer_internal_digit_separator] is set.
+    /// Returns whether the format allows a digit separator between integer digits.
+    #[must_use]
     #[inline(always)]
     pub const fn integer_internal_digit_separator(&self) -> bool
         ensures { result ≡ (raw self.now).flag layout.integer_internal_digit_separator }
@@ -179,7 +198,8 @@ impl NumberFormat {
         has_any!(self, INTEGER_INTERNAL_DIGIT_SEPARATOR)
     }
 
-    /// Returns whether this [flag][super::NumberFormatBuilder::fraction_internal_digit_separator] is set.
+    /// Returns whether the format allows a digit separator between fraction digits.
+    #[must_use]
     #[inline(always)]
     pub const fn fraction_internal_digit_separator(&self) -> bool
         ensures { result ≡ (raw self.now).flag layout.fraction_internal_digit_separator }
@@ -187,7 +207,8 @@ impl NumberFormat {
         has_any!(self, FRACTION_INTERNAL_DIGIT_SEPARATOR)
     }
 
-    /// Returns whether this [flag][super::NumberFormatBuilder::exponent_internal_digit_separator] is set.
+    /// Returns whether the format allows a digit separator between exponent digits.
+    #[must_use]
     #[inline(always)]
     pub const fn exponent_internal_digit_separator(&self) -> bool
         ensures { result ≡ (raw self.now).flag layout.exponent_internal_digit_separator }
@@ -195,7 +216,8 @@ impl NumberFormat {
         has_any!(self, EXPONENT_INTERNAL_DIGIT_SEPARATOR)
     }
 
-    /// Returns whether this [flag][super::NumberFormatBuilder::integer_leading_digit_separator] is set.
+    /// Returns whether the format allows a digit separator before the integer digits.
+    #[must_use]
     #[inline(always)]
     pub const fn integer_leading_digit_separator(&self) -> bool
         ensures { result ≡ (raw self.now).flag layout.integer_leading_digit_separator }
@@ -203,8 +225,8 @@ impl NumberFormat {
         has_any!(self, INTEGER_LEADING_DIGIT_SEPARATOR)
     }
 
-    /// Returns whether this [flag][super::NumberFormatBuilder::fraction_leading_digit_separator] is set. If so, a digit
-    /// separator is allowed before the fraction digits.
+    /// Returns whether the format allows a digit separator before the fraction digits.
+    #[must_use]
     #[inline(always)]
     pub const fn fraction_leading_digit_separator(&self) -> bool
         ensures { result ≡ (raw self.now).flag layout.fraction_leading_digit_separator }
@@ -212,7 +234,8 @@ impl NumberFormat {
         has_any!(self, FRACTION_LEADING_DIGIT_SEPARATOR)
     }
 
-    /// Returns whether this [flag][super::NumberFormatBuilder::exponent_leading_digit_separator] is set.
+    /// Returns whether the format allows a digit separator before the exponent digits.
+    #[must_use]
     #[inline(always)]
     pub const fn exponent_leading_digit_separator(&self) -> bool
         ensures { result ≡ (raw self.now).flag layout.exponent_leading_digit_separator }
@@ -220,7 +243,8 @@ impl NumberFormat {
         has_any!(self, EXPONENT_LEADING_DIGIT_SEPARATOR)
     }
 
-    /// Returns whether this [flag][super::NumberFormatBuilder::integer_trailing_digit_separator] is set.
+    /// Returns whether the format allows a digit separator after the integer digits.
+    #[must_use]
     #[inline(always)]
     pub const fn integer_trailing_digit_separator(&self) -> bool
         ensures { result ≡ (raw self.now).flag layout.integer_trailing_digit_separator }
@@ -228,7 +252,8 @@ impl NumberFormat {
         has_any!(self, INTEGER_TRAILING_DIGIT_SEPARATOR)
     }
 
-    /// Returns whether this [flag][super::NumberFormatBuilder::fraction_trailing_digit_separator] is set.
+    /// Returns whether the format allows a digit separator after the fraction digits.
+    #[must_use]
     #[inline(always)]
     pub const fn fraction_trailing_digit_separator(&self) -> bool
         ensures { result ≡ (raw self.now).flag layout.fraction_trailing_digit_separator }
@@ -236,7 +261,8 @@ impl NumberFormat {
         has_any!(self, FRACTION_TRAILING_DIGIT_SEPARATOR)
     }
 
-    /// Returns whether this [flag][super::NumberFormatBuilder::exponent_trailing_digit_separator] is set.
+    /// Returns whether the format allows a digit separator after the exponent digits.
+    #[must_use]
     #[inline(always)]
     pub const fn exponent_trailing_digit_separator(&self) -> bool
         ensures { result ≡ (raw self.now).flag layout.exponent_trailing_digit_separator }
@@ -244,7 +270,8 @@ impl NumberFormat {
         has_any!(self, EXPONENT_TRAILING_DIGIT_SEPARATOR)
     }
 
-    /// Returns whether this [flag][super::NumberFormatBuilder::integer_consecutive_digit_separator] is set.
+    /// Returns whether the format allows consecutive digit separators in the integer part.
+    #[must_use]
     #[inline(always)]
     pub const fn integer_consecutive_digit_separator(&self) -> bool
         ensures { result ≡ (raw self.now).flag layout.integer_consecutive_digit_separator }
@@ -252,7 +279,8 @@ impl NumberFormat {
         has_any!(self, INTEGER_CONSECUTIVE_DIGIT_SEPARATOR)
     }
 
-    /// Returns whether this [flag][super::NumberFormatBuilder::fraction_consecutive_digit_separator] is set.
+    /// Returns whether the format allows consecutive digit separators in the fraction.
+    #[must_use]
     #[inline(always)]
     pub const fn fraction_consecutive_digit_separator(&self) -> bool
         ensures { result ≡ (raw self.now).flag layout.fraction_consecutive_digit_separator }
@@ -260,7 +288,8 @@ impl NumberFormat {
         has_any!(self, FRACTION_CONSECUTIVE_DIGIT_SEPARATOR)
     }
 
-    /// Returns whether this [flag][super::NumberFormatBuilder::exponent_consecutive_digit_separator] is set.
+    /// Returns whether the format allows consecutive digit separators in the exponent.
+    #[must_use]
     #[inline(always)]
     pub const fn exponent_consecutive_digit_separator(&self) -> bool
         ensures { result ≡ (raw self.now).flag layout.exponent_consecutive_digit_separator }
@@ -268,7 +297,8 @@ impl NumberFormat {
         has_any!(self, EXPONENT_CONSECUTIVE_DIGIT_SEPARATOR)
     }
 
-    /// Returns whether any flag of this [group][super::NumberFormatBuilder::internal_digit_separator] is set.
+    /// Returns whether any of the flags that allow a digit separator between digits is set.
+    #[must_use]
     #[inline(always)]
     pub const fn internal_digit_separator(&self) -> bool
         ensures any { result ≡ any_flag self.now layout.internal_digit_separator }
@@ -277,7 +307,8 @@ impl NumberFormat {
         has_any!(self, INTERNAL_DIGIT_SEPARATOR)
     }
 
-    /// Returns whether any flag of this [group][super::NumberFormatBuilder::leading_digit_separator] is set.
+    /// Returns whether any of the flags that allow a digit separator before digits is set.
+    #[must_use]
     #[inline(always)]
     pub const fn leading_digit_separator(&self) -> bool
         ensures any { result ≡ any_flag self.now layout.leading_digit_separator }
@@ -286,7 +317,8 @@ impl NumberFormat {
         has_any!(self, LEADING_DIGIT_SEPARATOR)
     }
 
-    /// Returns whether any flag of this [group][super::NumberFormatBuilder::trailing_digit_separator] is set.
+    /// Returns whether any of the flags that allow a digit separator after digits is set.
+    #[must_use]
     #[inline(always)]
     pub const fn trailing_digit_separator(&self) -> bool
         ensures any { result ≡ any_flag self.now layout.trailing_digit_separator }
@@ -295,7 +327,8 @@ impl NumberFormat {
         has_any!(self, TRAILING_DIGIT_SEPARATOR)
     }
 
-    /// Returns whether any flag of this [group][super::NumberFormatBuilder::consecutive_digit_separator] is set.
+    /// Returns whether any of the flags that allow consecutive digit separators is set.
+    #[must_use]
     #[inline(always)]
     pub const fn consecutive_digit_separator(&self) -> bool
         ensures any { result ≡ any_flag self.now layout.consecutive_digit_separator }
@@ -304,7 +337,8 @@ impl NumberFormat {
         has_any!(self, CONSECUTIVE_DIGIT_SEPARATOR)
     }
 
-    /// Returns whether this [flag][super::NumberFormatBuilder::special_digit_separator] is set.
+    /// Returns whether the format allows digit separators in special values.
+    #[must_use]
     #[inline(always)]
     pub const fn special_digit_separator(&self) -> bool
         ensures { result ≡ (raw self.now).flag layout.special_digit_separator }
@@ -315,6 +349,7 @@ impl NumberFormat {
     // FLAG GROUPS
 
     /// Returns the flags of the word. All other bits of the result are 0.
+    #[must_use]
     #[inline(always)]
     pub const fn flags(&self) -> u128
         ensures bits { result ≡ bits_of self.now layout.flags }
@@ -324,6 +359,7 @@ impl NumberFormat {
     }
 
     /// Returns the bitwise AND of the word and [`INTERFACE_FLAG_MASK`][flags::INTERFACE_FLAG_MASK].
+    #[must_use]
     #[inline(always)]
     pub const fn interface_flags(&self) -> u128
         ensures bits { result ≡ bits_of self.now masks.interface_flags }
@@ -333,6 +369,7 @@ impl NumberFormat {
     }
 
     /// Returns the digit separator flags of the word. All other bits of the result are 0.
+    #[must_use]
     #[inline(always)]
     pub const fn digit_separator_flags(&self) -> u128
         ensures bits { result ≡ bits_of self.now layout.digit_separator_flags }
@@ -343,6 +380,7 @@ impl NumberFormat {
 
     /// Returns the bitwise AND of the word and [`EXPONENT_FLAG_MASK`][flags::EXPONENT_FLAG_MASK], which does not contain
     /// the flag `case_sensitive_exponent`.
+    #[must_use]
     #[inline(always)]
     pub const fn exponent_flags(&self) -> u128
         ensures bits { result ≡ bits_of self.now masks.exponent_flags }
@@ -352,6 +390,7 @@ impl NumberFormat {
     }
 
     /// Returns the flags that allow digit separators in the integer part. All other bits of the result are 0.
+    #[must_use]
     #[inline(always)]
     pub const fn integer_digit_separator_flags(&self) -> u128
         ensures bits { result ≡ bits_of self.now layout.integer_digit_separator_flags }
@@ -361,6 +400,7 @@ impl NumberFormat {
     }
 
     /// Returns the flags that allow digit separators in the fraction. All other bits of the result are 0.
+    #[must_use]
     #[inline(always)]
     pub const fn fraction_digit_separator_flags(&self) -> u128
         ensures bits { result ≡ bits_of self.now layout.fraction_digit_separator_flags }
@@ -370,6 +410,7 @@ impl NumberFormat {
     }
 
     /// Returns the flags that allow digit separators in the exponent. All other bits of the result are 0.
+    #[must_use]
     #[inline(always)]
     pub const fn exponent_digit_separator_flags(&self) -> u128
         ensures bits { result ≡ bits_of self.now layout.exponent_digit_separator_flags }

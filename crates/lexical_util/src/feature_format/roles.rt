@@ -51,6 +51,7 @@ pub struct Separators {
 impl NumberFormat {
     /// Returns the value of `byte` as a digit of the mantissa, or `None` if `byte` is not a digit in the mantissa radix.
     /// The case of a letter does not matter. The value is at most 35, and below the mantissa radix.
+    #[must_use]
     #[inline(always)]
     pub const fn mantissa_digit(&self, byte: u8) -> Option<u32>
         ensures { result ≡ digit_of byte ((raw self.now).byte layout.mantissa_radix) }
@@ -61,6 +62,7 @@ impl NumberFormat {
     /// Returns the value of `byte` as a digit of the exponent, or `None` if `byte` is not a digit in the exponent radix,
     /// which is the mantissa radix if the exponent radix byte is 0. The case of a letter does not matter. The value is
     /// at most 35, and below the exponent radix.
+    #[must_use]
     #[inline(always)]
     pub const fn exponent_digit(&self, byte: u8) -> Option<u32>
         ensures { result ≡ digit_of byte (effective_exponent_radix (raw self.now)) }
@@ -70,6 +72,7 @@ impl NumberFormat {
 
     /// Returns whether `byte` is the digit separator, and some flag allows a digit separator. [`Self::separators`]
     /// returns where one is allowed.
+    #[must_use]
     #[inline(always)]
     pub const fn is_separator(&self, byte: u8) -> bool
         ensures { result ≡ used_separator (raw self.now) byte }
@@ -80,6 +83,7 @@ impl NumberFormat {
 
     /// Returns whether `byte` is the base prefix. A base prefix that is a letter matches both cases unless
     /// `case_sensitive_base_prefix` is set. Without a base prefix, the result is `false`.
+    #[must_use]
     #[inline(always)]
     pub const fn is_base_prefix(&self, byte: u8) -> bool
         ensures { result ≡ prefix (raw self.now) byte }
@@ -90,6 +94,7 @@ impl NumberFormat {
 
     /// Returns whether `byte` is the base suffix. A base suffix that is a letter matches both cases unless
     /// `case_sensitive_base_suffix` is set. Without a base suffix, the result is `false`.
+    #[must_use]
     #[inline(always)]
     pub const fn is_base_suffix(&self, byte: u8) -> bool
         ensures { result ≡ suffix (raw self.now) byte }
@@ -100,6 +105,7 @@ impl NumberFormat {
 
     /// Returns whether `byte` is the exponent character `exponent`, which options choose. An exponent character that is
     /// a letter matches both cases unless `case_sensitive_exponent` is set. If `exponent` is 0, the result is `false`.
+    #[must_use]
     #[inline(always)]
     pub const fn is_exponent_character(&self, exponent: u8, byte: u8) -> bool
         ensures { result ≡ exponent_set (raw self.now) exponent byte }
@@ -108,6 +114,7 @@ impl NumberFormat {
     }
 
     /// Returns where digit separators are allowed in `part` of a number.
+    #[must_use]
     #[inline(always)]
     pub const fn separators(&self, part: Part) -> Separators
         ensures { map (raw self.now).flag (separator_flags part)
@@ -141,6 +148,11 @@ impl NumberFormat {
     /// If the word is [lawful][flags::Rule] and accepts these options
     /// ([`is_valid_options_punctuation`][flags::is_valid_options_punctuation]), no byte plays two roles. For any other
     /// word or options, the result is the first role that `byte` plays, in the order of the variants of [`Role`].
+    ///
+    /// # Proved of the source
+    ///
+    /// - If the word is lawful and accepts these options, `byte` plays the returned role and no other.
+    #[must_use]
     pub const fn role_of(&self, exponent: u8, decimal_point: u8, byte: u8) -> Option<Role>
         ensures first { result ≡ first_role (raw self.now) exponent decimal_point byte }
         ensures only { Lawful self.now → OptionsFit self.now exponent decimal_point

@@ -13,6 +13,7 @@ use lexical_flags::format_flags::{Part, Rule};
 
 impl Byte {
     /// Returns the mask of the byte in a format word. The mask of a character that options choose is 0.
+    #[must_use]
     pub const fn mask(self) -> u128
         ensures { result ≡ mask_of_byte self }
     {
@@ -33,6 +34,7 @@ impl Reason {
     /// breaks no rule.
     ///
     /// [`options_reasons`]: crate::reasons::options_reasons
+    #[must_use]
     pub const fn rule(&self) -> Option<Rule>
         ensures { result ≡ self.now.rule }
     {
@@ -40,6 +42,7 @@ impl Reason {
     }
 
     /// Returns the cause: the fields that are to blame, with their values.
+    #[must_use]
     pub const fn cause(&self) -> Cause
         ensures { result ≡ self.now.cause }
     {
@@ -49,6 +52,7 @@ impl Reason {
     /// Returns whether a word breaks `rule` because of this reason. If the mantissa radix is out of range and the
     /// exponent base or the exponent radix is absent, the rule for the absent byte is broken too. Every other reason
     /// explains at most one broken rule.
+    #[must_use]
     pub const fn breaks(&self, rule: Rule) -> bool
         ensures { IsTrue result ↔ Breaks self.now rule }
     {
@@ -64,6 +68,7 @@ impl Reason {
     /// of all flags that allow digit separators in the same part of the number. In a word that was built from settings,
     /// a setting is to blame if its [`Edit::mask`][crate::edits::Edit::mask] and this mask share a bit that no later
     /// setting overrides.
+    #[must_use]
     pub const fn mask(&self) -> u128
         ensures { result ≡ mask_of_reason self.now }
     {

@@ -18,13 +18,15 @@ use lexical_builder::format_builder::NumberFormatBuilder;
 use lexical_flags::format_flags as flags;
 
 /// The maximum number of notes on a format word.
+#[doc(hidden)]
 pub const MAX_NOTES: usize = 3;
 
 /// A note on a field that is set but has no effect on any number. The rules may still read the field.
 ///
 /// Only the fields that the variants name can have a note. For example, an exponent flag has no note, even if the
 /// format forbids exponents.
-#[derive(Debug, Clone, Copy, PartialEq, Eq)]
+#[derive(Debug, Clone, Copy, PartialEq, Eq, Hash)]
+#[non_exhaustive]
 pub enum Note {
     /// The digit separator is set, but no flag allows one. Packing the fields of a builder drops the separator, and the
     /// normal form has none. Options still cannot use the same byte.
@@ -39,6 +41,7 @@ pub enum Note {
 
 impl Note {
     /// Returns the mask of the bits of a format word that the note describes.
+    #[must_use]
     pub const fn mask(&self) -> u128
         ensures { result ≡ mask_of_note self.now }
     {
@@ -55,6 +58,8 @@ impl Note {
 /// Returns the notes on a format word, each in its own slot. A slot without a note is `None`.
 ///
 /// A note is not an error, so a lawful word may have notes. A field that a reason [blames][Reason] has no note.
+#[must_use]
+#[doc(hidden)]
 pub const fn notes(format: u128) -> [Option<Note>; MAX_NOTES]
     ensures each { result ≡ notes_beside (blamed (reason_slots format)) (raw format) }
 
@@ -83,6 +88,8 @@ pub const fn notes(format: u128) -> [Option<Note>; MAX_NOTES]
 }
 
 /// Returns the notes on a format word for which [`reasons`] returns `reasons`, as [`notes`] does.
+#[must_use]
+#[doc(hidden)]
 pub const fn notes_beside_reasons(
     format: u128,
     reasons: &[Option<Reason>],
@@ -95,6 +102,8 @@ pub const fn notes_beside_reasons(
 /// Returns the notes on the fields of a builder, as [`notes`] does for a format word.
 ///
 /// A digit separator that no flag allows has a note, although the builder does not pack it.
+#[must_use]
+#[doc(hidden)]
 pub const fn notes_of_fields(builder: &NumberFormatBuilder) -> [Option<Note>; MAX_NOTES]
     ensures { result ≡ notes_beside (blamed (reason_slots (pack builder.now))) builder.now }
 {
@@ -143,6 +152,7 @@ const fn separator_note(format: u128, separator: u8) -> Option<Note>
 }
 
 // Returns the note on the case flag of a byte, if any.
+#[inline(always)]
 const fn case_note(format: u128, flag: FlagSetter, byte: Byte) -> Option<Note>
     ensures { result ≡ case_note (raw format) flag byte }
 {

@@ -8,6 +8,8 @@ use std::fmt;
 
 impl Reason {
     /// Returns the reason as a sentence without a full stop, such as `the base prefix 'b' is a digit in radix 16`.
+    #[must_use]
+    #[doc(hidden)]
     pub const fn text(&self) -> ShortText {
         match &self.cause {
             Cause::OutOfRange(byte) => followed(byte.numbered(), " is not between 2 and 36"),
@@ -52,6 +54,8 @@ impl Reason {
 
 impl Note {
     /// Returns the note as a sentence without a full stop, such as `no flag allows the digit separator '_'`.
+    #[must_use]
+    #[doc(hidden)]
     pub const fn text(&self) -> ShortText {
         match self {
             Note::SeparatorWithoutFlag(byte) => between("", "no flag allows ", byte.quoted(), ""),

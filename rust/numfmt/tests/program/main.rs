@@ -83,7 +83,7 @@ fn shown_arguments(line: &str) -> Option<Vec<&str>> {
 #[test]
 fn prints_what_the_pages_show() {
     let mut runs = 0;
-    for page in ["README", "docs/CALLING", "docs/FORMAT", "docs/RUST"] {
+    for page in ["README", "docs/FORMAT", "docs/RUST"] {
         let text = fs::read_to_string(format!("{TOP}/{page}.md")).unwrap();
         let mut lines = text.lines().peekable();
         while let Some(line) = lines.next() {

@@ -3,8 +3,8 @@ use Rattle.std.specs.Fmt.{decimal, WritesInCalls}
 use Rattle.std.specs.Result.{OnOk}
 use Rattle.std.proofs.lemmas.Fmt.{decimal_digit, decimal_step}
 use Rattle.lexical_base.proofs.PieceLemmas.{last, more}
-use Rattle.lexical_base.proofs.error.short_text.+put_decimal.Goals.{then-has_front+in_ok-put_decimal, else-has_front}
-use Rattle.lexical_base.proofs.error.short_text.+put_decimal.Goals as goal
+use Rattle.lexical_base.proofs.error.decimal.+put_decimal.Goals.{then-has_front+in_ok-put_decimal, else-has_front}
+use Rattle.lexical_base.proofs.error.decimal.+put_decimal.Goals as goal
 
 pub returns-clause-text : goal.returns-clause-text
 returns-clause-text g t c =

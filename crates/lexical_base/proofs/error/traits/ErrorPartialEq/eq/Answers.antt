@@ -1,7 +1,7 @@
 use Rattle.std.proofs.Common.{rules, tests, arith}
 use Rattle.std.proofs.lemmas.Grind.{common_steps}
 use Rattle.lexical_base.proofs.OutcomeLemmas.{same}
-use Rattle.lexical_base.proofs.error.ErrorPartialEq.eq.Goals as goal
+use Rattle.lexical_base.proofs.error.traits.ErrorPartialEq.eq.Goals as goal
 
 -- The check also proves these goals, but only after a search through all pairs of outcomes.
 pub returns-then-rank : goal.returns-then-rank

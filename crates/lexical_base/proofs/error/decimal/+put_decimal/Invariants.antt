@@ -1,4 +1,4 @@
-use Rattle.lexical_base.proofs.error.short_text.+put_decimal.Given as goal
+use Rattle.lexical_base.proofs.error.decimal.+put_decimal.Given as goal
 
 -- The kit proposed this measure from the argument of the recursive call.
 abbrev pub decreases-put_decimal : goal.decreases-put_decimal

@@ -1,6 +1,6 @@
 use Rattle.std.proofs.Common.{rules}
 use Rattle.lexical_base.proofs.OutcomeLemmas.{tied, reversed}
-use Rattle.lexical_base.proofs.error.ErrorOrd.cmp.Goals as goal
+use Rattle.lexical_base.proofs.error.traits.ErrorOrd.cmp.Goals as goal
 
 -- The clauses `equal` and `reversed` follow from this one.
 pub returns-in-Equal-clause-value : goal.returns-in-Equal-clause-value

@@ -1,0 +1,3 @@
+//! The type of bytes that are not 0.
+
+pub use core::num::NonZeroU8;
