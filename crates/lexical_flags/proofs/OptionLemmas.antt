@@ -6,7 +6,7 @@ use Rattle.std.proofs.lemmas.Bool.Decides.{nat_tests}
 use Rattle.lexical_base.specs.Ascii.{ByteSet, allowed_ascii}
 use Rattle.lexical_flags.specs.Layout as layout
 use Rattle.lexical_flags.specs.Record.{Record, raw}
-use Rattle.lexical_flags.specs.Roles.{Disjoint, cased, digits, signs, exponent, point, format_roles, five_roles}
+use Rattle.lexical_flags.specs.Roles.{Disjoint, cased, digits, signs, format_roles, five_roles}
 use Rattle.lexical_flags.specs.Rules.{IsPunctuation, Lawful}
 use Rattle.lexical_base.specs.declared.error.Error.{Error}
 use Rattle.lexical_base.specs.declared.error.Error.TheVariants.{Success}
@@ -27,11 +27,6 @@ IsPunctuation-from_apart r counts b text (digits_apart, (signs_apart, own)) =
     let out : (A : ByteSet) → Disjoint (cased counts b) A → IsTrue (A b) → ⊥ =
     λ A apart. not_in A counts b (Disjoint-sym _ _ apart) (grind (arith, nat_tests)) (text-positive b text) in
     (text, out (digits r) digits_apart, out signs signs_apart)
-
--- If a set is disjoint from the five roles of a format, then it is disjoint from separator, prefix and suffix.
-own_from_five : (r : Record) (A : ByteSet) → AllByRecursion (Disjoint A) (five_roles r)
-    → AllByRecursion (Disjoint A) (format_roles r)
-own_from_five r A (digits_apart, (signs_apart, own)) = own
 
 -- If a byte is punctuation and its role is disjoint from separator, prefix and suffix, then its role is disjoint from
 -- the five roles.
@@ -54,8 +49,8 @@ accepted_from_roles word e p h =
       exponent_is_punctuation = IsPunctuation-from_apart r (r.flag layout.case_sensitive_exponent) e h.exponent_is_text of_exponent.1;
       point_is_punctuation = IsPunctuation-from_apart r true p h.point_is_text others.0;
       apart = of_exponent.0;
-      exponent_is_new = own_from_five r (exponent r e) of_exponent.1;
-      point_is_new = own_from_five r (point p) others.0;
+      exponent_is_new = of_exponent.1.1.1;
+      point_is_new = others.0.1.1;
     }
 
 -- If options are accepted in a lawful word, then no byte plays two of the seven roles.

@@ -179,7 +179,8 @@ pack-clean r h = word_of-clean (trim r) (HasBytes-trim r h)
 pub pack-lt : (r : Record) → HasBytes r → pack r < 2 ^ 128
 pack-lt r h = word_of-lt (trim r) (HasBytes-trim r h)
 
-kept_same : (b : Bool) (n : ℕ) → IsTrue b ⊎ (n ≡ 0) → (if b then n else 0) ≡ n
+-- If a separator is allowed or absent, then trimming does not change it.
+pub kept_same : (b : Bool) (n : ℕ) → IsTrue b ⊎ (n ≡ 0) → (if b then n else 0) ≡ n
 kept_same true n h = refl
 kept_same false n (inl on) = cc
 kept_same false n (inr absent) = sym absent
@@ -191,7 +192,8 @@ trim-same r h = record_same _ _ (λ f. refl) on_byte where
   on_byte layout.digit_separator = kept_same (separator_allowed r) (r.byte layout.digit_separator) h
   on_byte _ = refl
 
-trimmed_unused : (b : Bool) (n : ℕ) → n ≡ (if b then n else 0) → IsTrue b ⊎ (n ≡ 0)
+-- If trimming does not change a separator, then it is allowed or absent.
+pub trimmed_unused : (b : Bool) (n : ℕ) → n ≡ (if b then n else 0) → IsTrue b ⊎ (n ≡ 0)
 trimmed_unused true n e = inl refl
 trimmed_unused false n e = inr e
 

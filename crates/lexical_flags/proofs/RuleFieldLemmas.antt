@@ -1,12 +1,12 @@
 -- Lemmas that a rule depends only on the bits that it reads.
-use Rattle.std.proofs.Common.{ℕ, ◌≡◌, ◌-◌, ◌*◌, ◌/◌, ◌^◌, ◌==◌, ◌⊎◌, ◌&&◌, ◌||◌, not, true, false, IsTrue, IsFalse, Bool, List, [], ◌∷◌}
+use Rattle.std.proofs.Common.{ℕ, ◌≡◌, ◌-◌, ◌*◌, ◌/◌, ◌^◌, ◌==◌, ◌⊎◌, ◌&&◌, ◌||◌, not, true, IsTrue, IsFalse, List, [], ◌∷◌}
 use Rattle.std.proofs.Common.{bit_and, map, refl, ap, sym, subst, ◌∙◌}
 use Rattle.std.proofs.lemmas.Nat.{and_assoc}
 use Rattle.lexical_base.specs.Ascii.{allowed_ascii}
 use Rattle.lexical_base.specs.Digits.{digits_of}
 use Rattle.lexical_flags.specs.Layout as layout
 use Rattle.lexical_flags.specs.Layout.{Flag, Byte, part, bit, shift}
-use Rattle.lexical_flags.specs.Record.{Record, raw, effective}
+use Rattle.lexical_flags.specs.Record.{raw, effective}
 use Rattle.lexical_flags.specs.Roles.{AreDisjoint, cased, signs}
 use Rattle.lexical_flags.specs.Rules.{IsRadix, IsPunctuation, Shape, radix_in_range, absent_or_punctuation}
 use Rattle.lexical_flags.specs.Rules.{roles_differ, not_both, position_allowed, reserved_zero, shape_of}

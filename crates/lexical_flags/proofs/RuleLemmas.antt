@@ -1,5 +1,5 @@
 -- Lemmas that a word is lawful if and only if it satisfies every rule, and that it has one error.
-use Rattle.std.proofs.Common.{◌≡◌, ℕ, ◌≢◌, ◌↔◌, inl, inr, Bool, true, IsTrue, List, [], ◌∷◌, ◌++◌, sym, ◌∙◌}
+use Rattle.std.proofs.Common.{◌≡◌, ℕ, ◌≢◌, ◌↔◌, inl, inr, Bool, true, IsTrue, List, [], ◌∷◌, sym, ◌∙◌}
 use Rattle.std.proofs.Common.{subst, arith}
 use Rattle.std.specs.List.{AllByRecursion}
 use Rattle.std.proofs.lemmas.Bool.{cases_eq}
@@ -172,14 +172,6 @@ IsFirstError-unique word (rule ∷ rules) a b h k = ErrorUnless-unique (IsFirstE
 pub IsErrorOf-unique : (word : ℕ) (a b : Error) → IsErrorOf word a → IsErrorOf word b → a ≡ b
 unfolding IsErrorOf
 IsErrorOf-unique word = IsFirstError-unique word rules_in_order
-
--- If the rules in front of a list have an error, then it is the error of the whole list.
-pub first_in_front : (word : ℕ) (error : Error) → error ≢ Success → (front rest : List Rule)
-    → IsFirstError front word error → IsFirstError (front ++ rest) word error
-first_in_front word error some [] rest h = absurd (some h)
-first_in_front word error some (rule ∷ front) rest (inl broken) = inl broken
-first_in_front word error some (rule ∷ front) rest (inr kept) =
-    inr (kept.0, first_in_front word error some front rest kept.1)
 
 -- Words that satisfy the same rules have the same error.
 IsFirstError-same : (v w : ℕ) → ((rule : Rule) → Holds rule v ↔ Holds rule w) → (rules : List Rule) (error : Error)

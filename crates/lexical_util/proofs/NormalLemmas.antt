@@ -1,5 +1,5 @@
 -- Lemmas on normal forms: the words that are their own normal form, what a normal form keeps, and when two are equal.
-use Rattle.std.proofs.Common.{◌≡◌, ℕ, ◌<◌, ◌^◌, ◌⊎◌, inl, inr, Bool, true, false, cond, IsTrue}
+use Rattle.std.proofs.Common.{◌≡◌, ℕ, ◌<◌, ◌^◌, Bool, cond, IsTrue}
 use Rattle.std.proofs.Common.{arith, refl, sym, ap, ◌∙◌, subst, List, [], sum_by, if◌then◌else◌}
 use Rattle.std.specs.List.{list_any}
 use Rattle.std.proofs.lemmas.Bool.{cond-true}
@@ -10,7 +10,7 @@ use Rattle.lexical_flags.specs.Layout as layout
 use Rattle.lexical_flags.specs.Record.{Record, raw, trim, fill, pack, word_of, effective}
 use Rattle.lexical_flags.specs.Record.{separator_allowed, SeparatorAllowedOrAbsent}
 use Rattle.lexical_flags.proofs.RecordLemmas.{record_same}
-use Rattle.lexical_flags.proofs.Packing.{raw-injective}
+use Rattle.lexical_flags.proofs.Packing.{raw-injective, kept_same, trimmed_unused}
 use Rattle.lexical_builder.specs.Writes.{Write, IsLegal, after}
 use Rattle.lexical_builder.proofs.WriteLemmas.{after_none}
 use Rattle.lexical_util.proofs.EditLemmas.{edited-fields, edited-clean, edited-fits}
@@ -85,17 +85,6 @@ unfilled own radix e z = grind (arith, nat_tests)
 pub full : (own radix : ℕ) → (own ≡ 0 → radix ≡ 0) → effective own radix ≡ own
 full own radix h = grind (arith, nat_tests)
 
--- If trimming does not change a separator, then it is allowed or absent.
-pub unused : (t : Bool) (n : ℕ) → cond t n 0 ≡ n → IsTrue t ⊎ (n ≡ 0)
-unused true n e = inl refl
-unused false n e = inr (sym e)
-
--- If a separator is allowed or absent, then trimming does not change it.
-pub kept : (t : Bool) (n : ℕ) → IsTrue t ⊎ (n ≡ 0) → cond t n 0 ≡ n
-kept true n k = refl
-kept false n (inl k) = cc
-kept false n (inr k) = sym k
-
 -- A record is equivalent to itself after it is filled and trimmed.
 pub SameFormat-normal : (R : Record) → SameFormat R (trim (fill R))
 SameFormat-normal R = record {
@@ -132,7 +121,7 @@ module _ (w : ℕ) where
       let fields : trim (fill R) ≡ R = sym (raw_normal w) ∙ ap raw e in
       record {
         clean = subst IsClean e clean_normal;
-        separator_used = unused (separator_allowed R) (R.byte layout.digit_separator) (ap (λ (S : Record). S.byte layout.digit_separator) fields);
+        separator_used = trimmed_unused (separator_allowed R) (R.byte layout.digit_separator) (ap (λ (S : Record). S.byte layout.digit_separator) (sym fields));
         exponent_base = unfilled (R.byte layout.exponent_base) (R.byte layout.mantissa_radix) (ap (λ (S : Record). S.byte layout.exponent_base) fields);
         exponent_radix = unfilled (R.byte layout.exponent_radix) (R.byte layout.mantissa_radix) (ap (λ (S : Record). S.byte layout.exponent_radix) fields);
       }
@@ -141,7 +130,7 @@ module _ (w : ℕ) where
   fixed_from_normal fits n = raw-injective (normal_form_of w) w normal_fits fits clean_normal n.clean
       (raw_normal w ∙ record_same (trim (fill (raw w))) (raw w) (λ f. refl) on_byte) where
         on_byte : (b : Byte) → (trim (fill (raw w))).byte b ≡ (raw w).byte b
-        on_byte layout.digit_separator = kept (separator_allowed (raw w)) ((raw w).byte layout.digit_separator) n.separator_used
+        on_byte layout.digit_separator = kept_same (separator_allowed (raw w)) ((raw w).byte layout.digit_separator) n.separator_used
         on_byte layout.exponent_base = full ((raw w).byte layout.exponent_base) ((raw w).byte layout.mantissa_radix) n.exponent_base
         on_byte layout.exponent_radix = full ((raw w).byte layout.exponent_radix) ((raw w).byte layout.mantissa_radix) n.exponent_radix
         on_byte _ = refl
@@ -158,7 +147,7 @@ module _ (w : ℕ) where
 filled_again : (R : Record) → SeparatorAllowedOrAbsent R → fill (trim (fill R)) ≡ fill R
 filled_again R used = record_same _ _ (λ f. refl) on_byte where
   on_byte : (b : Byte) → (fill (trim (fill R))).byte b ≡ (fill R).byte b
-  on_byte layout.digit_separator = kept (separator_allowed R) (R.byte layout.digit_separator) used
+  on_byte layout.digit_separator = kept_same (separator_allowed R) (R.byte layout.digit_separator) used
   on_byte layout.exponent_base = sym (effective_again (R.byte layout.exponent_base) (R.byte layout.mantissa_radix))
   on_byte layout.exponent_radix = sym (effective_again (R.byte layout.exponent_radix) (R.byte layout.mantissa_radix))
   on_byte _ = refl

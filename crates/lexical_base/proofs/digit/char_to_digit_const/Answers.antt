@@ -1,4 +1,3 @@
--- Search also proves these goals, but later.
 use Rattle.std.proofs.Common.{arith}
 use Rattle.lexical_base.proofs.ValueLemmas.{small_digit}
 use Rattle.lexical_base.proofs.digit.char_to_digit_const.Goals as goal

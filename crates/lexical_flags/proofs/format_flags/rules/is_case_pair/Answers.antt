@@ -2,8 +2,6 @@ use Rattle.std.proofs.Common.{sym, ◌∙◌, eqb-true}
 use Rattle.lexical_flags.proofs.CaseLemmas.{flipped}
 use Rattle.lexical_flags.proofs.format_flags.rules.is_case_pair.Goals as goal
 
--- Search also proves these goals. The answers are given so that the must-fail edit
--- is_case_pair_accepts_non_letters.edit fails soon.
 pub returns-then-a-b : goal.returns-then-a-b
 returns-then-a-b c =
     let letter = c.is_valid_letter.ensures in (

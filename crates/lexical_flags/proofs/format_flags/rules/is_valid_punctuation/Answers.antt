@@ -1,8 +1,7 @@
-use Rattle.std.proofs.Common.{◌↔◌, IsTrue, true, not, ap, rules}
+use Rattle.std.proofs.Common.{not, ap}
 use Rattle.std.proofs.Math.Nat.{mod-lt}
 use Rattle.std.proofs.lemmas.Nat.{pow_pos}
 use Rattle.lexical_flags.specs.Record.{raw}
-use Rattle.lexical_flags.specs.Roles.{Disjoint, cased}
 use Rattle.lexical_flags.specs.Rules.{Holds}
 use Rattle.lexical_flags.proofs.CaseLemmas.{own_roles_apart}
 use Rattle.lexical_flags.proofs.format_flags.rules.is_valid_punctuation.Goals as goal
@@ -15,19 +14,3 @@ returns-then-not-is_near c =
     (mod-lt _ (pow_pos 8)) (mod-lt _ (pow_pos 8))
     c.may_clash.ensures c.may_clash-2.ensures c.may_clash-3.ensures c.if-not-is_near.true in
     (λ _. apart, λ _. ap not c.if-not-is_near.true)
-
--- Search also proves these goals. The answers are given so that the must-fail edit
--- is_valid_punctuation_ignores_the_case_flags.edit fails soon.
-pub returns-then-roles_disjoint-2 : goal.returns-then-roles_disjoint-2
-unfolding Holds
-returns-then-roles_disjoint-2 c =
-    let first : IsTrue c.roles_disjoint.result ↔ Disjoint (cased true c.digit_separator-separator.result)
-    (cased c.prefix_is_case_sensitive-prefix_case.result c.base_prefix-prefix.result) = c.roles_disjoint.ensures in
-    search rules
-
-pub returns-else-roles_disjoint-2 : goal.returns-else-roles_disjoint-2
-unfolding Holds
-returns-else-roles_disjoint-2 c =
-    let first : IsTrue c.roles_disjoint.result ↔ Disjoint (cased true c.digit_separator-separator.result)
-    (cased c.prefix_is_case_sensitive-prefix_case.result c.base_prefix-prefix.result) = c.roles_disjoint.ensures in
-    search rules
