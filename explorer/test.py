@@ -200,7 +200,8 @@ class Walk(unittest.TestCase):
         self.type("#mantissa_radix", "16")
         self.assertEqual(self.value(), "0x0000100078000000000000000000000C")
         self.assertEqual(self.text("#verdict"), "Lawful, but an option does not fit")
-        self.assertEqual(self.texts(".reason .link"), ["exponent character"])
+        self.assertEqual(self.texts(".reason strong"), ["the exponent character 'e' is a digit in radix 16"])
+        self.assertEqual(self.texts(".reason .link"), ["exponent character", "mantissa_radix"])
         self.type("#exponent", "p")
         self.assertEqual((self.text("#verdict"), self.texts(".reason")), ("Lawful", []))
         self.type("#point", "p")
@@ -253,7 +254,7 @@ class Walk(unittest.TestCase):
 
     def test_groups_of_separator_flags_and_a_note(self):
         self.type("#digit_separator", "_")
-        self.assertIn("no number can have the digit separator '_'", self.text("#notes"))
+        self.assertIn("no flag allows the digit separator '_'", self.text("#notes"))
         self.click("#internal_digit_separator")
         self.assertEqual((self.value(), self.text("#notes")), ("0x00000A000000005F000000070000000C", ""))
         self.assertIn("integer 1_9_0", self.parts())

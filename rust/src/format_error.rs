@@ -4,7 +4,7 @@ use core::fmt;
 
 use crate::digit::digit_to_char;
 use crate::error::{Error, Piece, ShortText};
-use crate::reasons::{reasons, Reason, CANDIDATE_COUNT};
+use crate::reasons::{options_reasons, reasons, Reason, MAX_REASONS};
 
 /// Why a word is not a [`Format`][crate::Format], why a text is not one, or why a format does not accept options.
 ///
@@ -49,16 +49,27 @@ impl FormatError {
         self.code
     }
 
-    /// Returns the reasons why the word is not lawful, as [`FormatView::reasons`][crate::FormatView::reasons] does. The
-    /// iterator is empty if a text or options are rejected.
+    /// Returns the reasons why the word is not lawful, as [`FormatView::reasons`][crate::FormatView::reasons] does, or why
+    /// it does not accept the options, as [`FormatView::options_reasons`][crate::FormatView::options_reasons] does. The
+    /// iterator is empty if a text is rejected.
     pub fn reasons(&self) -> impl Iterator<Item = Reason> + Clone {
         self.candidates().into_iter().flatten()
     }
 
-    const fn candidates(&self) -> [Option<Reason>; CANDIDATE_COUNT] {
+    const fn candidates(&self) -> [Option<Reason>; MAX_REASONS] {
+        let mut all = [None; MAX_REASONS];
         match self.cause {
+            Cause::Text => all,
             Cause::Word(word) => reasons(word),
-            Cause::Text | Cause::Options(..) => [None; CANDIDATE_COUNT],
+            Cause::Options(word, exponent, decimal_point) => {
+                let found = options_reasons(word, exponent, decimal_point);
+                let mut index = 0;
+                while index < found.len() {
+                    all[index] = found[index];
+                    index += 1;
+                }
+                all
+            }
         }
     }
 
@@ -81,12 +92,13 @@ impl FormatError {
         };
         message.put(self.code.description());
         if let Some(reason) = self.first_reason() {
-            let ShortText(first, second, third, fourth) = reason.text();
+            let ShortText(first, second, third, fourth, fifth) = reason.text();
             message.put(": ");
             message.put_piece(first);
             message.put_piece(second);
             message.put_piece(third);
             message.put_piece(fourth);
+            message.put_piece(fifth);
         }
         message
     }

@@ -18,10 +18,10 @@ pub use crate::format_flags::all_rules::{Rule, RULES};
 pub use crate::format_flags::parts::Part;
 #[doc(no_inline)]
 pub use crate::format_flags::rules::{
-    check, clashes, format_error_impl, is_clean, is_digit_of_either_radix, is_separator_allowed,
+    check, format_error_impl, is_clean, is_digit_of_either_radix, is_separator_allowed,
     is_valid_base_prefix, is_valid_base_suffix, is_valid_digit_separator, is_valid_exponent_flags,
     is_valid_options_punctuation, is_valid_punctuation, is_valid_radix, options_error,
-    radix_error_impl,
+    radix_error_impl, roles_disjoint,
 };
 
 // FLAGS OTHER THAN DIGIT SEPARATOR FLAGS

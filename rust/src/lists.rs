@@ -3,7 +3,7 @@
 use crate::edits::{apply, edits_of, Edit, FlagSetter, Setter, ALL_SETTERS, SETTERS};
 use crate::format_builder::NumberFormatBuilder;
 use crate::format_flags::{Rule, RULES};
-use crate::reasons::{notes, notes_of_fields, reasons, Note, Reason};
+use crate::reasons::{notes, notes_of_fields, options_reasons, reasons, Note, Reason};
 use crate::view::FormatView;
 
 impl FormatView {
@@ -27,8 +27,27 @@ impl FormatView {
     ///     "no_positive_mantissa_sign and required_mantissa_sign cannot both be set",
     /// ]);
     /// ```
+    #[inline]
     pub fn reasons(&self) -> impl Iterator<Item = Reason> + Clone {
         reasons(self.word()).into_iter().flatten()
+    }
+
+    /// Returns the reasons why numbers in the format cannot have the exponent character `exponent` and the decimal point
+    /// `decimal_point`. The iterator is empty if and only if the view accepts them.
+    ///
+    /// ```
+    /// let view = peltzivar::FormatView::new(0x00001000_00000000_00000000_0000000C);
+    /// let reasons: Vec<String> = view.options_reasons(b'e', b'.').map(|reason| reason.to_string()).collect();
+    /// assert_eq!(reasons, ["the exponent character 'e' is a digit in radix 16"]);
+    /// ```
+    pub fn options_reasons(
+        &self,
+        exponent: u8,
+        decimal_point: u8,
+    ) -> impl Iterator<Item = Reason> + Clone {
+        options_reasons(self.word(), exponent, decimal_point)
+            .into_iter()
+            .flatten()
     }
 
     /// Returns notes on the fields that are set but have no effect on any number. A lawful word may have notes.

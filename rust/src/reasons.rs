@@ -1,271 +1,398 @@
 // Made by rust/tools/erase.py from crates/lexical_util/src/reasons.rt: change that file.
 
-//! The reasons why a format word breaks rules, and notes on fields that have no effect on any number.
+//! The reasons why a format word breaks rules or does not accept options, and notes on fields that have no effect on any
+//! number.
 
 use crate::ascii::is_valid_ascii;
 use crate::digit::char_is_digit;
-use crate::edits::{Edit, FlagSetter};
-use crate::format_builder::NonZeroU8;
+use crate::edits::FlagSetter;
 use crate::format_flags as flags;
-use crate::format_flags::{raw_exponent_base, raw_exponent_radix, Rule};
+use crate::format_flags::{raw_exponent_base, raw_exponent_radix, roles_disjoint, Part, Rule};
 use crate::view::FormatView;
 
 mod mask;
 mod note;
 mod text;
 
-pub use note::{notes, notes_of_fields, Note, MAX_NOTES};
+pub use note::{notes, notes_beside_reasons, notes_of_fields, Note, MAX_NOTES};
 
-/// The maximum number of reasons why a format word can break a single rule.
-pub const MAX_REASONS: usize = 3;
+/// The number of slots in the array that [`reasons`] returns.
+#[doc(hidden)]
+pub const MAX_REASONS: usize = 18;
 
-/// The number of slots in the array that [`reasons`] returns. There is one slot for each reason that a format word can
-/// have.
-pub const CANDIDATE_COUNT: usize = 24;
+/// The number of slots in the array that [`options_reasons`] returns.
+#[doc(hidden)]
+pub const MAX_OPTIONS_REASONS: usize = 9;
 
-/// A reason why a format word breaks one or more rules. If the reason concerns a byte of the word, it holds the
-/// [`Edit`] that sets the byte to its value in the word. A reason *blames* the bits on which it depends (see
-/// [`mask`][Self::mask]).
+/// A byte of a format word, or a character that options choose.
 #[derive(Debug, Clone, Copy, PartialEq, Eq, Hash)]
 #[non_exhaustive]
-pub enum Reason {
-    /// The mantissa radix is not between 2 and 36. The first `bool` is `true` if the exponent base is absent, and the
-    /// second `bool` is `true` if the exponent radix is absent. The mantissa radix is used in place of an absent
-    /// exponent base or exponent radix, so the rule for the absent byte is broken too.
-    MantissaRadixOutOfRange(u8, bool, bool),
-    /// The exponent base or the exponent radix is present, but it is not between 2 and 36.
-    OutOfRange(Edit),
-    /// A byte is present, but it is not an allowed ASCII byte. The bytes from 9 to 13 and from 32 to 126 are allowed.
-    NotText(Edit),
+pub enum Byte {
+    /// The digit separator.
+    DigitSeparator,
+    /// The base prefix.
+    BasePrefix,
+    /// The base suffix.
+    BaseSuffix,
+    /// The mantissa radix.
+    MantissaRadix,
+    /// The exponent base.
+    ExponentBase,
+    /// The exponent radix.
+    ExponentRadix,
+    /// The exponent character, which options choose.
+    ExponentCharacter,
+    /// The decimal point, which options choose.
+    DecimalPoint,
+}
+
+/// The radixes of a format word in which a byte is a digit, with their values. An absent exponent radix follows the
+/// mantissa radix, so it is not listed.
+#[derive(Debug, Clone, Copy, PartialEq, Eq, Hash)]
+pub enum Radixes {
+    /// The byte is a digit only in the mantissa radix.
+    Mantissa(u8),
+    /// The byte is a digit only in the exponent radix.
+    Exponent(u8),
+    /// The byte is a digit in both radixes.
+    Both {
+        /// The mantissa radix.
+        mantissa: u8,
+        /// The exponent radix.
+        exponent: u8,
+    },
+}
+
+/// A byte with its value.
+#[derive(Debug, Clone, Copy, PartialEq, Eq, Hash)]
+pub struct NamedByte {
+    /// Which byte this is.
+    pub name: Byte,
+    /// The value of the byte.
+    pub value: u8,
+}
+
+/// The cause of a [`Reason`]: the fields that are to blame, with their values.
+#[derive(Debug, Clone, Copy, PartialEq, Eq, Hash)]
+#[non_exhaustive]
+pub enum Cause {
+    /// The mantissa radix, or an exponent base or exponent radix that is present, is not between 2 and 36.
+    OutOfRange(NamedByte),
+    /// A byte is not an allowed ASCII byte. The bytes from 9 to 13 and from 32 to 126 are allowed.
+    NotText(NamedByte),
     /// A byte is a sign: `+` or `-`.
-    IsSign(Edit),
-    /// The byte of the first edit is a digit in the radix of the second edit. The second edit sets the exponent radix
-    /// if the byte is a digit only in that radix, and otherwise the mantissa radix.
-    IsDigit(Edit, Edit),
-    /// Two bytes are equal, or they are the two cases of one letter. If they are equal, the flag is `None`. Otherwise,
-    /// they clash at least until the flag is set. Setting it makes the base prefix or the base suffix case-sensitive.
-    Clash(Edit, Edit, Option<FlagSetter>),
+    IsSign(NamedByte),
+    /// A byte is a digit in these radixes.
+    IsDigit(NamedByte, Radixes),
+    /// Two bytes are the same.
+    Same(NamedByte, NamedByte),
+    /// Two bytes are the two cases of one letter, and not both are case-sensitive.
+    DifferInCase {
+        /// The first byte.
+        first: NamedByte,
+        /// The flag that makes the first byte case-sensitive, if it is not set.
+        first_flag: Option<FlagSetter>,
+        /// The second byte.
+        second: NamedByte,
+        /// The flag that makes the second byte case-sensitive, if it is not set.
+        second_flag: Option<FlagSetter>,
+    },
     /// Two flags are both set, but they contradict each other.
-    Contradict(FlagSetter, FlagSetter),
-    /// The flag allows consecutive digit separators in a part of the number, but no flag allows internal, leading or
+    BothSet(FlagSetter, FlagSetter),
+    /// A flag allows consecutive digit separators in a part of the number, but no flag allows internal, leading or
     /// trailing ones in that part.
-    NeedsPosition(FlagSetter),
+    NeedsPosition(Part),
     /// These reserved bits are set, although they hold no field.
     ReservedBits(u128),
+}
+
+/// A reason why a format word breaks one or more rules, or why it does not accept an exponent character and a decimal
+/// point. A reason *blames* the bits on which it depends (see [`mask`][Self::mask]).
+#[derive(Debug, Clone, Copy, PartialEq, Eq, Hash)]
+pub struct Reason {
+    // The first rule that a word breaks because of this reason.
+    rule: Option<Rule>,
+    // The rules of absent exponent bytes that the word breaks too.
+    followers: (Option<Rule>, Option<Rule>),
+    cause: Cause,
+}
+
+// A format word, with an exponent character and a decimal point that options choose.
+#[derive(Clone, Copy)]
+struct Characters {
+    format: u128,
+    exponent: u8,
+    point: u8,
 }
 
 /// Returns the reasons why a format word breaks rules. Each possible reason has its own slot, which is `None` if the
 /// word does not have this reason. The slots are sorted by the rule that [`Reason::rule`] returns for each reason. All
 /// slots are `None` if and only if the word is lawful.
 ///
+/// A byte that is present but not [punctuation][Rule] has one reason: it is outside allowed ASCII, a sign, or a digit.
 /// An absent exponent base or exponent radix is never a reason itself, since the mantissa radix is used in its place.
-/// [`Reason::breaks`] returns whether a word breaks a rule because of a reason, and [`Reason::mask`] returns the
-/// bits that a reason blames.
+/// [`Reason::breaks`] returns whether a word breaks a rule because of a reason, and [`Reason::mask`] returns the bits
+/// that a reason blames.
 #[must_use]
-pub const fn reasons(format: u128) -> [Option<Reason>; CANDIDATE_COUNT] {
-    let separator = reasons_of(Rule::DigitSeparatorIsPunctuation, format);
-    let prefix = reasons_of(Rule::BasePrefixIsPunctuation, format);
-    let suffix = reasons_of(Rule::BaseSuffixIsPunctuation, format);
-    let clash = reasons_of(Rule::PunctuationDiffers, format);
-    [
-        reasons_of(Rule::MantissaRadixInRange, format)[0],
-        reasons_of(Rule::ExponentBaseInRange, format)[1],
-        reasons_of(Rule::ExponentRadixInRange, format)[1],
-        separator[0],
-        separator[1],
-        separator[2],
-        prefix[0],
-        prefix[1],
-        prefix[2],
-        suffix[0],
-        suffix[1],
-        suffix[2],
-        clash[0],
-        clash[1],
-        clash[2],
-        reasons_of(Rule::ExponentFlagsAgree, format)[0],
-        reasons_of(Rule::MantissaSignFlagsAgree, format)[0],
-        reasons_of(Rule::ExponentSignFlagsAgree, format)[0],
-        reasons_of(Rule::SpecialCaseFlagsAgree, format)[0],
-        reasons_of(Rule::SpecialSeparatorFlagsAgree, format)[0],
-        reasons_of(Rule::IntegerConsecutiveIsAllowed, format)[0],
-        reasons_of(Rule::FractionConsecutiveIsAllowed, format)[0],
-        reasons_of(Rule::ExponentConsecutiveIsAllowed, format)[0],
-        reasons_of(Rule::ReservedBitsAreZero, format)[0],
-    ]
-}
-
-/// Returns the reasons why a format word breaks `rule`. All entries are `None` if and only if the word satisfies the
-/// rule.
-///
-/// For a byte that is present but not [punctuation][Rule], there is one of three reasons: it is outside allowed ASCII,
-/// it is a sign, or it is a digit. [`Rule::PunctuationDiffers`] has one reason for each pair of bytes that clash. Every
-/// other rule has at most one reason.
-#[must_use]
-pub const fn reasons_of(rule: Rule, format: u128) -> [Option<Reason>; MAX_REASONS] {
-    match rule {
-        Rule::MantissaRadixInRange => [mantissa_reason(format), None, None],
-        Rule::ExponentBaseInRange => {
-            let base = raw_exponent_base(format);
-            exponent_reasons(format, base, &Edit::ExponentBase(NonZeroU8::new(base)))
-        }
-        Rule::ExponentRadixInRange => {
-            let radix = raw_exponent_radix(format);
-            exponent_reasons(format, radix, &Edit::ExponentRadix(NonZeroU8::new(radix)))
-        }
-        Rule::DigitSeparatorIsPunctuation => punctuation_reasons(
-            format,
-            flags::digit_separator(format),
-            &separator_edit(format),
-        ),
-        Rule::BasePrefixIsPunctuation => {
-            punctuation_reasons(format, flags::base_prefix(format), &prefix_edit(format))
-        }
-        Rule::BaseSuffixIsPunctuation => {
-            punctuation_reasons(format, flags::base_suffix(format), &suffix_edit(format))
-        }
-        Rule::PunctuationDiffers => clash_reasons(format),
-        Rule::ReservedBitsAreZero => {
-            let bits = format & Rule::ReservedBitsAreZero.mask();
-            [some_if(bits != 0, Reason::ReservedBits(bits)), None, None]
-        }
-        _ => [
-            some_if(!rule.is_kept(format), flag_reason(rule)),
-            None,
-            None,
-        ],
-    }
-}
-
-// Returns the reason for a mantissa radix that is not between 2 and 36, or `None` if the mantissa radix is in this
-// range.
-const fn mantissa_reason(format: u128) -> Option<Reason> {
-    let radix = flags::mantissa_radix(format);
-    let base_follows = raw_exponent_base(format) == 0;
-    let exponent_follows = raw_exponent_radix(format) == 0;
-    some_if(
-        !flags::is_valid_radix(radix),
-        Reason::MantissaRadixOutOfRange(radix as u8, base_follows, exponent_follows),
-    )
-}
-
-// Returns the reason for an exponent byte that is not between 2 and 36. `edit` is the edit that writes the byte. If the
-// byte is absent, returns the reason for the mantissa radix instead.
-const fn exponent_reasons(format: u128, byte: u8, edit: &Edit) -> [Option<Reason>; MAX_REASONS] {
-    if byte == 0 {
-        [mantissa_reason(format), None, None]
-    } else {
-        [
-            None,
-            some_if(
-                !flags::is_valid_radix(byte as u32),
-                Reason::OutOfRange(*edit),
-            ),
-            None,
-        ]
-    }
-}
-
-// Returns the reasons why a byte is present but not punctuation. `edit` is the edit that writes the byte.
-const fn punctuation_reasons(format: u128, byte: u8, edit: &Edit) -> [Option<Reason>; MAX_REASONS] {
-    [
-        some_if((byte != 0) & !is_valid_ascii(byte), Reason::NotText(*edit)),
-        some_if((byte == b'+') | (byte == b'-'), Reason::IsSign(*edit)),
-        some_if(
-            flags::is_digit_of_either_radix(format, byte),
-            Reason::IsDigit(*edit, radix_of_digit(format, byte)),
-        ),
-    ]
-}
-
-// Returns the reasons why bytes clash.
-const fn clash_reasons(format: u128) -> [Option<Reason>; MAX_REASONS] {
-    let clashes = flags::clashes(format);
-    [
-        some_if(
-            clashes[0],
-            clash(
-                &separator_edit(format),
-                &prefix_edit(format),
-                FlagSetter::CaseSensitiveBasePrefix,
-            ),
-        ),
-        some_if(
-            clashes[1],
-            clash(
-                &separator_edit(format),
-                &suffix_edit(format),
-                FlagSetter::CaseSensitiveBaseSuffix,
-            ),
-        ),
-        some_if(
-            clashes[2],
-            clash(
-                &prefix_edit(format),
-                &suffix_edit(format),
-                case_flag(format),
-            ),
-        ),
-    ]
-}
-
-// Returns the reason for two bytes that clash. If the bytes differ, the reason contains the flag.
-const fn clash(a: &Edit, b: &Edit, flag: FlagSetter) -> Reason {
-    if b.argument_byte() == a.argument_byte() {
-        Reason::Clash(*a, *b, None)
-    } else {
-        Reason::Clash(*a, *b, Some(flag))
-    }
-}
-
-// Returns the case flag of the base prefix if it is not set, and otherwise the case flag of the base suffix.
-const fn case_flag(format: u128) -> FlagSetter {
-    if FormatView::new(format).case_sensitive_base_prefix() {
-        FlagSetter::CaseSensitiveBaseSuffix
-    } else {
-        FlagSetter::CaseSensitiveBasePrefix
-    }
-}
-
-// Returns the reason with the flags for which a rule on flags is broken.
-const fn flag_reason(rule: Rule) -> Reason {
-    let (a, b) = match rule {
-        Rule::ExponentFlagsAgree => (
-            FlagSetter::NoExponentNotation,
-            FlagSetter::RequiredExponentNotation,
-        ),
-        Rule::MantissaSignFlagsAgree => (
-            FlagSetter::NoPositiveMantissaSign,
-            FlagSetter::RequiredMantissaSign,
-        ),
-        Rule::ExponentSignFlagsAgree => (
-            FlagSetter::NoPositiveExponentSign,
-            FlagSetter::RequiredExponentSign,
-        ),
-        Rule::SpecialCaseFlagsAgree => (FlagSetter::NoSpecial, FlagSetter::CaseSensitiveSpecial),
-        Rule::SpecialSeparatorFlagsAgree => {
-            (FlagSetter::NoSpecial, FlagSetter::SpecialDigitSeparator)
-        }
-        Rule::IntegerConsecutiveIsAllowed => {
-            return Reason::NeedsPosition(FlagSetter::IntegerConsecutiveDigitSeparator);
-        }
-        Rule::FractionConsecutiveIsAllowed => {
-            return Reason::NeedsPosition(FlagSetter::FractionConsecutiveDigitSeparator);
-        }
-        _ => return Reason::NeedsPosition(FlagSetter::ExponentConsecutiveDigitSeparator),
+#[doc(hidden)]
+pub const fn reasons(format: u128) -> [Option<Reason>; MAX_REASONS] {
+    let word = Characters {
+        format,
+        exponent: 0,
+        point: 0,
     };
-    Reason::Contradict(a, b)
+    macro_rules! slots {
+        ($($Rule:ident $reason:ident($($argument:expr),*);)*) => {
+            [$(word.$reason(Some(Rule::$Rule), $($argument),*)),*]
+        };
+    }
+    slots! {
+        MantissaRadixInRange radix_reason(Byte::MantissaRadix);
+        ExponentBaseInRange exponent_reason(Byte::ExponentBase);
+        ExponentRadixInRange exponent_reason(Byte::ExponentRadix);
+        DigitSeparatorIsPunctuation present_reason(Byte::DigitSeparator);
+        BasePrefixIsPunctuation present_reason(Byte::BasePrefix);
+        BaseSuffixIsPunctuation present_reason(Byte::BaseSuffix);
+        PunctuationDiffers clash(Byte::DigitSeparator, Byte::BasePrefix);
+        PunctuationDiffers clash(Byte::DigitSeparator, Byte::BaseSuffix);
+        PunctuationDiffers clash(Byte::BasePrefix, Byte::BaseSuffix);
+        ExponentFlagsAgree both_set(FlagSetter::NoExponentNotation, FlagSetter::RequiredExponentNotation);
+        MantissaSignFlagsAgree both_set(FlagSetter::NoPositiveMantissaSign, FlagSetter::RequiredMantissaSign);
+        ExponentSignFlagsAgree both_set(FlagSetter::NoPositiveExponentSign, FlagSetter::RequiredExponentSign);
+        SpecialCaseFlagsAgree both_set(FlagSetter::NoSpecial, FlagSetter::CaseSensitiveSpecial);
+        SpecialSeparatorFlagsAgree both_set(FlagSetter::NoSpecial, FlagSetter::SpecialDigitSeparator);
+        IntegerConsecutiveIsAllowed needs_position(Part::Integer);
+        FractionConsecutiveIsAllowed needs_position(Part::Fraction);
+        ExponentConsecutiveIsAllowed needs_position(Part::Exponent);
+        ReservedBitsAreZero reserved_bits();
+    }
 }
 
-// Returns the edit of the radix in which a byte is a digit. If the byte is a digit in both radixes, this is the edit of
-// the mantissa radix.
-const fn radix_of_digit(format: u128, byte: u8) -> Edit {
-    let radix = flags::mantissa_radix(format);
-    if char_is_digit(byte, radix) {
-        Edit::MantissaRadix(radix as u8)
-    } else {
-        Edit::ExponentRadix(NonZeroU8::new(raw_exponent_radix(format)))
+/// Returns the reasons why numbers in `format` cannot have the exponent character `exponent` and the decimal point
+/// `decimal_point`. Each possible reason has its own slot, which is `None` if it does not apply. All slots are `None` if
+/// and only if [`is_valid_options_punctuation`][flags::is_valid_options_punctuation] accepts the two.
+///
+/// For such a reason, [`Reason::rule`] returns `None`, and [`Reason::mask`] has only bits of the format word.
+#[must_use]
+#[doc(hidden)]
+pub const fn options_reasons(
+    format: u128,
+    exponent: u8,
+    decimal_point: u8,
+) -> [Option<Reason>; MAX_OPTIONS_REASONS] {
+    let options = Characters {
+        format,
+        exponent,
+        point: decimal_point,
+    };
+    [
+        byte_reason(format, None, options.named(Byte::ExponentCharacter)),
+        byte_reason(format, None, options.named(Byte::DecimalPoint)),
+        options.clash(None, Byte::ExponentCharacter, Byte::DecimalPoint),
+        options.clash(None, Byte::ExponentCharacter, Byte::DigitSeparator),
+        options.clash(None, Byte::ExponentCharacter, Byte::BasePrefix),
+        options.clash(None, Byte::ExponentCharacter, Byte::BaseSuffix),
+        options.clash(None, Byte::DecimalPoint, Byte::DigitSeparator),
+        options.clash(None, Byte::DecimalPoint, Byte::BasePrefix),
+        options.clash(None, Byte::DecimalPoint, Byte::BaseSuffix),
+    ]
+}
+
+impl Reason {
+    // Returns the reason why a word breaks `rule`, or why options do not fit if it is `None`. The function is not inlined,
+    // so that a slot without a reason costs few instructions.
+    #[inline(never)]
+    const fn new(format: u128, rule: Option<Rule>, cause: Cause) -> Reason {
+        let followers = match rule {
+            Some(Rule::MantissaRadixInRange) => (
+                some_if(raw_exponent_base(format) == 0, Rule::ExponentBaseInRange),
+                some_if(raw_exponent_radix(format) == 0, Rule::ExponentRadixInRange),
+            ),
+            _ => (None, None),
+        };
+        Reason {
+            rule,
+            followers,
+            cause,
+        }
     }
+}
+
+impl Characters {
+    // Returns a byte with its value.
+    #[inline(always)]
+    const fn named(&self, name: Byte) -> NamedByte {
+        let value = match name {
+            Byte::DigitSeparator => flags::digit_separator(self.format),
+            Byte::BasePrefix => flags::base_prefix(self.format),
+            Byte::BaseSuffix => flags::base_suffix(self.format),
+            Byte::MantissaRadix => flags::mantissa_radix(self.format) as u8,
+            Byte::ExponentBase => raw_exponent_base(self.format),
+            Byte::ExponentRadix => raw_exponent_radix(self.format),
+            Byte::ExponentCharacter => self.exponent,
+            Byte::DecimalPoint => self.point,
+        };
+        NamedByte { name, value }
+    }
+
+    // Returns whether a byte matches only itself. Otherwise, a letter matches both cases.
+    #[inline(always)]
+    const fn is_cased(&self, name: Byte) -> bool {
+        match name {
+            Byte::BasePrefix => FormatView::new(self.format).case_sensitive_base_prefix(),
+            Byte::BaseSuffix => FormatView::new(self.format).case_sensitive_base_suffix(),
+            Byte::ExponentCharacter => FormatView::new(self.format).case_sensitive_exponent(),
+            _ => true,
+        }
+    }
+
+    // Returns the case flag of a byte if it is not set.
+    #[inline(always)]
+    const fn unset_flag(&self, name: Byte) -> Option<FlagSetter> {
+        if self.is_cased(name) {
+            None
+        } else {
+            case_flag(name)
+        }
+    }
+
+    // Returns the reason for a radix that is not between 2 and 36, if it is not.
+    #[inline(always)]
+    const fn radix_reason(&self, rule: Option<Rule>, name: Byte) -> Option<Reason> {
+        let byte = self.named(name);
+        if flags::is_valid_radix(byte.value as u32) {
+            None
+        } else {
+            Some(Reason::new(self.format, rule, Cause::OutOfRange(byte)))
+        }
+    }
+
+    // Returns the reason for an exponent byte that is present but not between 2 and 36, if it is.
+    #[inline(always)]
+    const fn exponent_reason(&self, rule: Option<Rule>, name: Byte) -> Option<Reason> {
+        if self.named(name).value == 0 {
+            None
+        } else {
+            self.radix_reason(rule, name)
+        }
+    }
+
+    // Returns the reason for a byte that is neither absent nor punctuation, if it is not.
+    #[inline(always)]
+    const fn present_reason(&self, rule: Option<Rule>, name: Byte) -> Option<Reason> {
+        let byte = self.named(name);
+        if byte.value == 0 {
+            None
+        } else {
+            byte_reason(self.format, rule, byte)
+        }
+    }
+
+    // Returns the reason for two bytes that match the same byte, if they do.
+    #[inline(always)]
+    const fn clash(&self, rule: Option<Rule>, first: Byte, second: Byte) -> Option<Reason> {
+        let (a, b) = (self.named(first), self.named(second));
+        if roles_disjoint(
+            a.value,
+            self.is_cased(first),
+            b.value,
+            self.is_cased(second),
+        ) {
+            None
+        } else {
+            Some(Reason::new(self.format, rule, self.clash_cause(a, b)))
+        }
+    }
+
+    // Returns the cause for two bytes that match the same byte.
+    const fn clash_cause(&self, first: NamedByte, second: NamedByte) -> Cause {
+        if second.value == first.value {
+            Cause::Same(first, second)
+        } else {
+            Cause::DifferInCase {
+                first,
+                first_flag: self.unset_flag(first.name),
+                second,
+                second_flag: self.unset_flag(second.name),
+            }
+        }
+    }
+
+    // Returns the reason for two flags that are both set, if they are.
+    #[inline(always)]
+    const fn both_set(&self, rule: Option<Rule>, a: FlagSetter, b: FlagSetter) -> Option<Reason> {
+        if a.is_set(self.format) & b.is_set(self.format) {
+            Some(Reason::new(self.format, rule, Cause::BothSet(a, b)))
+        } else {
+            None
+        }
+    }
+
+    // Returns the reason for consecutive digit separators in a part that has no position for one, if there is none.
+    #[inline(always)]
+    const fn needs_position(&self, rule: Option<Rule>, part: Part) -> Option<Reason> {
+        let allowed = FormatView::new(self.format).separators(part);
+        if allowed.consecutive & !(allowed.internal | allowed.leading | allowed.trailing) {
+            Some(Reason::new(self.format, rule, Cause::NeedsPosition(part)))
+        } else {
+            None
+        }
+    }
+
+    // Returns the reason for reserved bits that are set, if any.
+    #[inline(always)]
+    const fn reserved_bits(&self, rule: Option<Rule>) -> Option<Reason> {
+        let bits = self.format & Rule::ReservedBitsAreZero.mask();
+        if bits == 0 {
+            None
+        } else {
+            Some(Reason::new(self.format, rule, Cause::ReservedBits(bits)))
+        }
+    }
+}
+
+// Returns the flag that makes a byte case-sensitive, if there is one.
+const fn case_flag(byte: Byte) -> Option<FlagSetter> {
+    match byte {
+        Byte::BasePrefix => Some(FlagSetter::CaseSensitiveBasePrefix),
+        Byte::BaseSuffix => Some(FlagSetter::CaseSensitiveBaseSuffix),
+        Byte::ExponentCharacter => Some(FlagSetter::CaseSensitiveExponent),
+        _ => None,
+    }
+}
+
+// Returns the reason for a byte that is not punctuation, if it is not.
+const fn byte_reason(format: u128, rule: Option<Rule>, byte: NamedByte) -> Option<Reason> {
+    let cause = if !is_valid_ascii(byte.value) {
+        Some(Cause::NotText(byte))
+    } else if (byte.value == b'+') | (byte.value == b'-') {
+        Some(Cause::IsSign(byte))
+    } else {
+        digit_cause(format, byte)
+    };
+    match cause {
+        Some(cause) => Some(Reason::new(format, rule, cause)),
+        None => None,
+    }
+}
+
+// Returns the cause for a byte that is a digit, if it is.
+const fn digit_cause(format: u128, byte: NamedByte) -> Option<Cause> {
+    let mantissa = flags::mantissa_radix(format);
+    let exponent = raw_exponent_radix(format);
+    let radixes = match (
+        char_is_digit(byte.value, mantissa),
+        char_is_digit(byte.value, exponent as u32),
+    ) {
+        (true, true) => Radixes::Both {
+            mantissa: mantissa as u8,
+            exponent,
+        },
+        (true, false) => Radixes::Mantissa(mantissa as u8),
+        (false, true) => Radixes::Exponent(exponent),
+        (false, false) => return None,
+    };
+    Some(Cause::IsDigit(byte, radixes))
 }
 
 // Returns `Some(value)` if `condition` is true, and `None` if it is false.
@@ -275,19 +402,4 @@ const fn some_if<T: Copy>(condition: bool, value: T) -> Option<T> {
     } else {
         None
     }
-}
-
-// Returns the edit that writes the digit separator of a word.
-const fn separator_edit(format: u128) -> Edit {
-    Edit::DigitSeparator(NonZeroU8::new(flags::digit_separator(format)))
-}
-
-// Returns the edit that writes the base prefix of a word.
-const fn prefix_edit(format: u128) -> Edit {
-    Edit::BasePrefix(NonZeroU8::new(flags::base_prefix(format)))
-}
-
-// Returns the edit that writes the base suffix of a word.
-const fn suffix_edit(format: u128) -> Edit {
-    Edit::BaseSuffix(NonZeroU8::new(flags::base_suffix(format)))
 }

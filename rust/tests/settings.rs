@@ -18,7 +18,7 @@ fn all_mistakes_are_found_in_one_round() {
         "line 6: the exponent base 1 is not between 2 and 36",
         "lines 3, 11: the base prefix 'b' is a digit in radix 12",
         "lines 7, 9: no_positive_mantissa_sign and required_mantissa_sign cannot both be set",
-        "line 10: no number can have the digit separator '_': no flag allows one",
+        "line 10: no flag allows the digit separator '_'",
     ];
     assert_eq!(
         format_of(file.as_bytes()),
@@ -37,7 +37,7 @@ fn problems_have_exactly_their_lines() {
         (b"mantissa_radix=37", &["line 1: the mantissa radix 37 is not between 2 and 36"]),
         (b"radix=10\nexponent_radix=16\nbase_prefix='b'", &["lines 2, 3: the base prefix 'b' is a digit in radix 16"]),
         (b"base_prefix='b'\r\n\r\nbase_suffix='B'\r\ncase_sensitive_base_suffix=true\r\n",
-            &["lines 1, 3: the base prefix 'b' and the base suffix 'B' differ only in case, and they are not both case-sensitive"]),
+            &["lines 1, 3: the base prefix 'b' and the base suffix 'B' differ only in case, which requires case_sensitive_base_prefix"]),
         // Later lines overwrite all bits of the second line under the mask of the reason.
         (b"digit_separator='_'\ndigit_separator_flags=true\ninteger_digit_separator_flags=false\ninteger_consecutive_digit_separator=true",
             &["lines 3, 4: integer_consecutive_digit_separator requires an internal, leading or trailing flag for the same part of the number"]),

@@ -8,8 +8,6 @@ mod ImageLemmas
 mod Fewest
 mod FieldWrites
 pub mod ReasonLemmas
-mod AllReasons
-mod BlameLemmas
 mod NoteLemmas
 pub mod NumeralLemmas
 mod WordTextLemmas

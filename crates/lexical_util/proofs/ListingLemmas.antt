@@ -77,7 +77,7 @@ legal-both R h =
     (All-filter (λ x. not (changes new_record x)) IsLegal (field_writes R) legal))
 
 -- Each flag setter writes only its flag. Each case is computed.
-setter_alone : (f : Flag) → flags_of (setter_of f) ≡ f ∷ []
+pub setter_alone : (f : Flag) → flags_of (setter_of f) ≡ f ∷ []
 setter_alone layout.required_integer_digits = refl
 setter_alone _ = refl
 

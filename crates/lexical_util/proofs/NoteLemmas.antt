@@ -1,6 +1,6 @@
 -- Lemmas on the fields that notes describe: clearing them leaves the normal form, or rules and options, the same.
 use Rattle.std.proofs.Common.{ℕ, ◌≡◌, ◌≢◌, ◌↔◌, ◌==◌, if◌then◌else◌, ◌&&◌, Bool, true, false, []}
-use Rattle.std.proofs.Common.{◌∷◌, refl, sym, subst, ap, ◌∙◌, arith}
+use Rattle.std.proofs.Common.{◌∷◌, refl, sym, subst, ap, ◌∙◌, arith, bit_and}
 use Rattle.lexical_flags.specs.Layout as layout
 use Rattle.lexical_flags.specs.Layout.{digit_separator_flags}
 use Rattle.std.specs.List.{AllByRecursion}
@@ -15,12 +15,9 @@ use Rattle.lexical_flags.specs.declared.format_flags.all_rules.Rule.TheVariants 
 use Rattle.lexical_flags.specs.Options.{OptionsFit}
 use Rattle.lexical_builder.specs.Writes.{after}
 use Rattle.lexical_util.specs.NormalForm.{normal_form_of}
-use Rattle.lexical_util.specs.Additions.Reasons.{if_applicable}
-use Rattle.lexical_util.specs.declared.edits.setters.Edit.{Edit}
-use Rattle.lexical_util.specs.declared.edits.setters.FlagSetter.{FlagSetter}
-use Rattle.lexical_util.specs.declared.reasons.note.Note.TheVariants as notes
-use Rattle.lexical_util.proofs.ReasonLemmas.{not_true}
-use Rattle.lexical_util.specs.Additions.Notes.{case_candidate, unblamed, without_separator, set_flags, ReplacesFields}
+use Rattle.lexical_flags.specs.Additions.Masks.{mask_of}
+use Rattle.lexical_flags.specs.Additions.RuleFields.{mask_read}
+use Rattle.lexical_util.specs.Additions.Notes.{without_separator, set_flags, ReplacesFields}
 use Rattle.lexical_util.specs.Additions.Notes.{SameRules, SameOtherRules}
 
 -- If a byte is the same in both cases, then its role has the same bytes, whether it is case-sensitive or not.
@@ -121,34 +118,16 @@ without_suffix_case v w none like =
 pub without_separator_flags : (v w : ℕ) → ReplacesFields (set_flags (raw v) digit_separator_flags false) v w
     → SameOtherRules v w
 unfolding IsPunctuation
-without_separator_flags v w like =
-    let keeps : (rule : Rule) → Meets (shape_of rule) (raw v) ≡ Meets (shape_of rule) (set_flags (raw v) digit_separator_flags false)
-    → Holds rule v ↔ Holds rule w = Holds-alike _ v w like in
-    record {
-      rules = (
-        keeps _ refl,
-        (
-          keeps _ refl,
-          (
-            keeps _ refl,
-            (
-              keeps _ refl,
-              (
-                keeps _ refl,
-                (
-                  keeps _ refl,
-                  (
-                    keeps _ refl,
-                    (keeps _ refl, (keeps _ refl, (keeps _ refl, (keeps _ refl, (keeps _ refl, tt))))),
-                  ),
-                ),
-              ),
-            ),
-          ),
-        ),
-      );
-      options = same_options _ v w (record { punctuation = refl; exponents = refl; own = refl }) like.fields_are;
-    }
+without_separator_flags v w like = record {
+  rules = kept;
+  options = same_options _ v w (record { punctuation = refl; exponents = refl; own = refl }) like.fields_are;
+} where
+  kept : (rule : Rule) → bit_and (mask_read rule) (mask_of digit_separator_flags) ≡ 0 → Holds rule v ↔ Holds rule w
+  kept rules.SpecialSeparatorFlagsAgree apart = absurd (omega (arith, apart))
+  kept rules.IntegerConsecutiveIsAllowed apart = absurd (omega (arith, apart))
+  kept rules.FractionConsecutiveIsAllowed apart = absurd (omega (arith, apart))
+  kept rules.ExponentConsecutiveIsAllowed apart = absurd (omega (arith, apart))
+  kept rule apart = Holds-alike _ v w like rule refl
 
 -- If no flag allows a separator, then removing it does not change the normal form.
 pub normal_without_separator : (v w : ℕ) → separator_allowed (raw v) ≡ false → raw w ≡ without_separator (raw v)
@@ -158,18 +137,3 @@ normal_without_separator v w off fields =
     ap (λ r. pack (fill r)) fields
     ∙ ap (λ n. word_of (set_byte (fill (raw v)) layout.digit_separator n))
     (cond-false (separator_allowed (raw v)) 0 0 off ∙ sym (cond-false (separator_allowed (raw v)) _ 0 off))
-
--- If the byte of a case flag is present, then the note that the code computes is the note of the definition.
-pub case_note_present : (word : ℕ) (is_set none : Bool) (byte own : ℕ) (setter : FlagSetter) (edit : Edit) → byte ≡ own
-    → byte ≢ 0 → none ≡ (other_case byte == byte)
-    → if_applicable (unblamed word (is_set && none, notes.CaseFlagOfNonLetter setter edit))
-    ≡ if_applicable (unblamed word (case_candidate is_set own setter edit))
-case_note_present word is_set none byte own setter edit same some is =
-    subst (λ n. if_applicable (unblamed word (is_set && none, notes.CaseFlagOfNonLetter setter edit))
-    ≡ if_applicable (unblamed word (case_candidate is_set n setter edit))) same
-    (λ i. if_applicable (unblamed word (is_set && is i, present i))) where
-      present : notes.CaseFlagOfNonLetter setter edit
-          ≡ (if byte == 0 then notes.CaseFlagWithoutByte setter edit else notes.CaseFlagOfNonLetter setter edit)
-      present =
-          sym (cond-false (byte == 0) (notes.CaseFlagWithoutByte setter edit) (notes.CaseFlagOfNonLetter setter edit)
-          (not_true (byte == 0) (λ zero. some (eqb-true byte 0 zero))))

@@ -14,13 +14,21 @@ use Rattle.lexical_flags.proofs.Masks.{ascends, and_all}
 use Rattle.lexical_flags.proofs.FlagBits.{flag_by_mask, mask_test}
 use Rattle.lexical_flags.specs.Common.{common}
 use Rattle.lexical_flags.proofs.CommonLemmas.{common-bit_and}
+use Rattle.lexical_util.specs.Edits.{flags_of}
 use Rattle.lexical_util.specs.Groups.{any_flag, bits_of}
+use Rattle.lexical_util.specs.declared.edits.setters.FlagSetter.{FlagSetter}
+use Rattle.lexical_util.specs.declared.edits.setters.FlagSetter.TheVariants as setters
 
 -- The test of a word under the mask of some flags is the test that one of these flags is set.
 pub any_by_mask : (word mask : ℕ) (fs : List Flag) → mask ≡ mask_of fs → ascends bit 1 0 fs ≡ true
     → not (bit_and word mask == 0) ≡ any_flag word fs
 unfolding any_flag
 any_by_mask word mask fs is up = rw is (mask_test fs word up)
+
+-- The flags of a setter are in the order of their bits. Each case is computed.
+pub flags_ascend : (setter : FlagSetter) → ascends bit 1 0 (flags_of setter) ≡ true
+flags_ascend setters.RequiredIntegerDigits = refl
+flags_ascend _ = refl
 
 one_bit : (n k : ℕ) → n < 2 → n * 2 ^ k ≡ (if n == 1 then 2 ^ k else 0)
 one_bit zero k small = omega arith

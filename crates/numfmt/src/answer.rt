@@ -8,7 +8,7 @@ use lexical_util::error::{EMPTY_PIECE, Error, Piece, ShortText};
 use lexical_util::format::format_is_valid;
 use lexical_util::format_flags as flags;
 use lexical_util::format_flags::Rule;
-use lexical_util::reasons::{Reason, notes, reasons};
+use lexical_util::reasons::{Reason, notes_beside_reasons, reasons};
 use lexical_util::source::BuilderExpression;
 use std::io;
 use std::io::Write;
@@ -127,7 +127,7 @@ fn print_source<W: Write>(word: u128, out: &mut W) -> io::Result<()> {
     let separator = flags::digit_separator(word);
     if separator != 0 && !flags::is_separator_allowed(word) {
         let name = Piece::QuotedByte("digit separator", separator);
-        let name = ShortText(EMPTY_PIECE, EMPTY_PIECE, EMPTY_PIECE, name);
+        let name = ShortText(EMPTY_PIECE, EMPTY_PIECE, EMPTY_PIECE, EMPTY_PIECE, name);
         writeln!(
             out,
             "// This code makes another word, without {name}: no flag allows one"
@@ -138,12 +138,13 @@ fn print_source<W: Write>(word: u128, out: &mut W) -> io::Result<()> {
 
 // Writes each reason why `word` breaks rules, then each note on it.
 fn print_explanation<W: Write>(word: u128, out: &mut W) -> io::Result<()> {
-    for reason in &reasons(word) {
+    let reasons = reasons(word);
+    for reason in &reasons {
         if let Some(reason) = reason {
             print_reason(word, reason, out)?;
         }
     }
-    for note in &notes(word) {
+    for note in &notes_beside_reasons(word, &reasons) {
         if let Some(note) = note {
             writeln!(out, "note: {note}")?;
         }

@@ -7,7 +7,7 @@ use peltzivar::edits::{field_edits_of, is_built};
 use peltzivar::error::{Error, Piece, ShortText, EMPTY_PIECE};
 use peltzivar::format_flags as flags;
 use peltzivar::format_flags::Rule;
-use peltzivar::reasons::{notes, reasons, Reason};
+use peltzivar::reasons::{notes_beside_reasons, reasons, Reason};
 use peltzivar::source::BuilderExpression;
 use peltzivar::word::format_is_valid;
 use std::io;
@@ -125,7 +125,7 @@ fn print_source<W: Write>(word: u128, out: &mut W) -> io::Result<()> {
     let separator = flags::digit_separator(word);
     if separator != 0 && !flags::is_separator_allowed(word) {
         let name = Piece::QuotedByte("digit separator", separator);
-        let name = ShortText(EMPTY_PIECE, EMPTY_PIECE, EMPTY_PIECE, name);
+        let name = ShortText(EMPTY_PIECE, EMPTY_PIECE, EMPTY_PIECE, EMPTY_PIECE, name);
         writeln!(
             out,
             "// This code makes another word, without {name}: no flag allows one"
@@ -136,12 +136,13 @@ fn print_source<W: Write>(word: u128, out: &mut W) -> io::Result<()> {
 
 // Writes each reason why `word` breaks rules, then each note on it.
 fn print_explanation<W: Write>(word: u128, out: &mut W) -> io::Result<()> {
-    for reason in &reasons(word) {
+    let reasons = reasons(word);
+    for reason in &reasons {
         if let Some(reason) = reason {
             print_reason(word, reason, out)?;
         }
     }
-    for note in &notes(word) {
+    for note in &notes_beside_reasons(word, &reasons) {
         if let Some(note) = note {
             writeln!(out, "note: {note}")?;
         }

@@ -1,6 +1,6 @@
 // Made by rust/tools/erase.py from crates/lexical_base/src/error/short_text.rt: change that file.
 
-//! The type [`ShortText`]: short text that consists of four pieces.
+//! The type [`ShortText`]: short text that consists of five pieces.
 
 use crate::error::decimal::put_decimal;
 use crate::error::Sink;
@@ -27,11 +27,11 @@ pub enum Piece {
 #[doc(hidden)]
 pub const EMPTY_PIECE: Piece = Piece::Words("");
 
-/// Short text that consists of four pieces, each of which may be empty. The text of each `ShortText` that the library
+/// Short text that consists of five pieces, each of which may be empty. The text of each `ShortText` that the library
 /// returns has fewer than 256 bytes.
 #[derive(Clone, Copy)]
 #[doc(hidden)]
-pub struct ShortText(pub Piece, pub Piece, pub Piece, pub Piece);
+pub struct ShortText(pub Piece, pub Piece, pub Piece, pub Piece, pub Piece);
 
 impl ShortText {
     /// Puts the text into the sink `out`, piece by piece.
@@ -44,7 +44,8 @@ impl ShortText {
         self.0.put_into(out)?;
         self.1.put_into(out)?;
         self.2.put_into(out)?;
-        self.3.put_into(out)
+        self.3.put_into(out)?;
+        self.4.put_into(out)
     }
 }
 

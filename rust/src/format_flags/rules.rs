@@ -68,10 +68,13 @@ const fn is_case_pair(a: u8, b: u8) -> bool {
     a ^ 0x20 == b && is_valid_letter(a)
 }
 
-// Returns whether no byte plays both the role of `a` and the role of `b`. If a role is not case-sensitive and its byte
-// is a letter, both cases of the letter play the role. If the byte is 0, which means absent, no byte plays it.
+/// Returns whether no byte plays both the role of `a` and the role of `b`, such as the base prefix and the base suffix.
+/// If a role is not case-sensitive and its byte is a letter, both cases of the letter play the role. If the byte is 0,
+/// which means absent, no byte plays it. `lexical-util` has no such function.
+#[must_use]
+#[doc(hidden)]
 #[inline]
-const fn roles_disjoint(a: u8, a_case_sensitive: bool, b: u8, b_case_sensitive: bool) -> bool {
+pub const fn roles_disjoint(a: u8, a_case_sensitive: bool, b: u8, b_case_sensitive: bool) -> bool {
     a == 0 || (a != b && (!is_case_pair(a, b) || (a_case_sensitive & b_case_sensitive)))
 }
 
@@ -197,23 +200,6 @@ pub const fn is_valid_punctuation(format: u128) -> bool {
         || (roles_disjoint(separator, true, prefix, prefix_case)
             && roles_disjoint(separator, true, suffix, suffix_case)
             && roles_disjoint(prefix, prefix_case, suffix, suffix_case))
-}
-
-/// Returns which pairs of the digit separator, the base prefix and the base suffix clash, that is, match the same byte.
-/// The pairs are, in this order: separator and prefix, separator and suffix, prefix and suffix. A word breaks
-/// [`Rule::PunctuationDiffers`] if and only if some entry is `true`.
-#[must_use]
-pub const fn clashes(format: u128) -> [bool; 3] {
-    let separator = digit_separator(format);
-    let prefix = base_prefix(format);
-    let suffix = base_suffix(format);
-    let prefix_case = prefix_is_case_sensitive(format);
-    let suffix_case = suffix_is_case_sensitive(format);
-    [
-        !roles_disjoint(separator, true, prefix, prefix_case),
-        !roles_disjoint(separator, true, suffix, suffix_case),
-        !roles_disjoint(prefix, prefix_case, suffix, suffix_case),
-    ]
 }
 
 // Returns whether the role of `byte` is disjoint from the roles of the digit separator, the base prefix and the base

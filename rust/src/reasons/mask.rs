@@ -2,109 +2,118 @@
 
 //! The rules that a word breaks because of a reason, and the bits that the reason blames.
 
-use crate::edits::{mask_of, Edit, FlagSetter};
+use crate::edits::{mask_of, FlagSetter};
 use crate::format_flags as flags;
-use crate::format_flags::Rule;
-use crate::reasons::Reason;
+use crate::format_flags::{Part, Rule};
+use crate::reasons::{Byte, Cause, Radixes, Reason};
+
+impl Byte {
+    /// Returns the mask of the byte in a format word. The mask of a character that options choose is 0.
+    #[must_use]
+    pub const fn mask(self) -> u128 {
+        match self {
+            Byte::DigitSeparator => flags::DIGIT_SEPARATOR,
+            Byte::BasePrefix => flags::BASE_PREFIX,
+            Byte::BaseSuffix => flags::BASE_SUFFIX,
+            Byte::MantissaRadix => flags::MANTISSA_RADIX,
+            Byte::ExponentBase => flags::EXPONENT_BASE,
+            Byte::ExponentRadix => flags::EXPONENT_RADIX,
+            Byte::ExponentCharacter | Byte::DecimalPoint => 0,
+        }
+    }
+}
 
 impl Reason {
-    /// Returns the first rule that a word breaks because of this reason.
+    /// Returns the first rule that a word breaks because of this reason. A reason that [`options_reasons`] returns
+    /// breaks no rule.
+    ///
+    /// [`options_reasons`]: crate::reasons::options_reasons
     #[must_use]
-    pub const fn rule(&self) -> Rule {
-        match self {
-            Reason::MantissaRadixOutOfRange(_, _, _) => Rule::MantissaRadixInRange,
-            Reason::OutOfRange(edit) => radix_rule(*edit),
-            Reason::NotText(edit) | Reason::IsSign(edit) | Reason::IsDigit(edit, _) => {
-                punctuation_rule(*edit)
-            }
-            Reason::Clash(_, _, _) => Rule::PunctuationDiffers,
-            Reason::Contradict(a, b) => rule_of_flags(*a, *b),
-            Reason::NeedsPosition(flag) => position_rule(*flag),
-            Reason::ReservedBits(_) => Rule::ReservedBitsAreZero,
-        }
+    pub const fn rule(&self) -> Option<Rule> {
+        self.rule
+    }
+
+    /// Returns the cause: the fields that are to blame, with their values.
+    #[must_use]
+    pub const fn cause(&self) -> Cause {
+        self.cause
     }
 
     /// Returns whether a word breaks `rule` because of this reason. If the mantissa radix is out of range and the
     /// exponent base or the exponent radix is absent, the rule for the absent byte is broken too. Every other reason
-    /// explains only one broken rule.
+    /// explains at most one broken rule.
     #[must_use]
     pub const fn breaks(&self, rule: Rule) -> bool {
-        match self {
-            Reason::MantissaRadixOutOfRange(_, base_follows, exponent_follows) => match rule {
-                Rule::ExponentBaseInRange => *base_follows,
-                Rule::ExponentRadixInRange => *exponent_follows,
-                _ => is_rule(rule, Rule::MantissaRadixInRange),
-            },
-            Reason::OutOfRange(_)
-            | Reason::NotText(_)
-            | Reason::IsSign(_)
-            | Reason::IsDigit(_, _)
-            | Reason::Clash(_, _, _)
-            | Reason::Contradict(_, _)
-            | Reason::NeedsPosition(_)
-            | Reason::ReservedBits(_) => is_rule(rule, self.rule()),
-        }
+        is_rule(self.rule, rule)
+            || is_rule(self.followers.0, rule)
+            || is_rule(self.followers.1, rule)
     }
 
     /// Returns the mask of the bits that the reason blames: the bits on which it depends. The reason applies to every
-    /// format word that has the same values in these bits.
+    /// format word that has the same values in these bits, for the same options.
     ///
-    /// The mask has the bits of every byte and every flag in the variant. For [`Reason::NeedsPosition`], it has the
-    /// bits of all flags that allow digit separators in the same part of the number. In a word that was built from
-    /// settings, a setting is to blame if its [`Edit::mask`] and this mask share a bit that no later setting overrides.
+    /// The mask has the bits of every byte and every flag in the cause. For [`Cause::NeedsPosition`], it has the bits
+    /// of all flags that allow digit separators in the same part of the number. In a word that was built from settings,
+    /// a setting is to blame if its [`Edit::mask`][crate::edits::Edit::mask] and this mask share a bit that no later
+    /// setting overrides.
     #[must_use]
     pub const fn mask(&self) -> u128 {
+        self.cause.mask()
+    }
+}
+
+impl Cause {
+    // Returns the mask of the bits on which the cause depends.
+    const fn mask(&self) -> u128 {
         match self {
-            Reason::MantissaRadixOutOfRange(_, _, _) => flags::MANTISSA_RADIX,
-            Reason::OutOfRange(edit) | Reason::NotText(edit) | Reason::IsSign(edit) => edit.mask(),
-            Reason::IsDigit(edit, radix) => edit.mask() | radix.mask(),
-            Reason::Clash(a, b, None) => a.mask() | b.mask(),
-            Reason::Clash(a, b, Some(flag)) => a.mask() | b.mask() | mask_of(*flag) as u128,
-            Reason::Contradict(a, b) => mask_of(*a) as u128 | mask_of(*b) as u128,
-            Reason::NeedsPosition(flag) => position_rule(*flag).mask(),
-            Reason::ReservedBits(bits) => *bits,
+            Cause::OutOfRange(byte) | Cause::NotText(byte) | Cause::IsSign(byte) => {
+                byte.name.mask()
+            }
+            Cause::IsDigit(byte, Radixes::Mantissa(_)) => byte.name.mask() | flags::MANTISSA_RADIX,
+            Cause::IsDigit(byte, Radixes::Exponent(_)) => byte.name.mask() | flags::EXPONENT_RADIX,
+            Cause::IsDigit(byte, Radixes::Both { .. }) => {
+                byte.name.mask() | flags::MANTISSA_RADIX | flags::EXPONENT_RADIX
+            }
+            Cause::Same(first, second) => first.name.mask() | second.name.mask(),
+            Cause::DifferInCase {
+                first,
+                first_flag,
+                second,
+                second_flag,
+            } => {
+                first.name.mask()
+                    | second.name.mask()
+                    | unset_mask(*first_flag)
+                    | unset_mask(*second_flag)
+            }
+            Cause::BothSet(first, second) => mask_of(*first) as u128 | mask_of(*second) as u128,
+            Cause::NeedsPosition(part) => position_mask(*part),
+            Cause::ReservedBits(bits) => *bits,
         }
     }
 }
 
-// Returns whether two rules are equal.
-const fn is_rule(a: Rule, b: Rule) -> bool {
-    a as u8 == b as u8
-}
-
-// Returns the radix rule for the exponent byte that an edit writes.
-const fn radix_rule(edit: Edit) -> Rule {
-    match edit {
-        Edit::ExponentBase(_) => Rule::ExponentBaseInRange,
-        _ => Rule::ExponentRadixInRange,
-    }
-}
-
-// Returns the punctuation rule for the byte that an edit writes.
-const fn punctuation_rule(edit: Edit) -> Rule {
-    match edit {
-        Edit::DigitSeparator(_) => Rule::DigitSeparatorIsPunctuation,
-        Edit::BasePrefix(_) => Rule::BasePrefixIsPunctuation,
-        _ => Rule::BaseSuffixIsPunctuation,
-    }
-}
-
-// Returns the rule that two flags break if both are set.
-const fn rule_of_flags(a: FlagSetter, b: FlagSetter) -> Rule {
-    match (a, b) {
-        (FlagSetter::NoExponentNotation, _) => Rule::ExponentFlagsAgree,
-        (FlagSetter::NoPositiveMantissaSign, _) => Rule::MantissaSignFlagsAgree,
-        (FlagSetter::NoPositiveExponentSign, _) => Rule::ExponentSignFlagsAgree,
-        (_, FlagSetter::CaseSensitiveSpecial) => Rule::SpecialCaseFlagsAgree,
-        _ => Rule::SpecialSeparatorFlagsAgree,
-    }
-}
-
-// Returns the rule for a flag that allows consecutive digit separators.
-const fn position_rule(flag: FlagSetter) -> Rule {
+// Returns the mask of a flag, or 0 if there is none.
+const fn unset_mask(flag: Option<FlagSetter>) -> u128 {
     match flag {
-        FlagSetter::IntegerConsecutiveDigitSeparator => Rule::IntegerConsecutiveIsAllowed,
-        FlagSetter::FractionConsecutiveDigitSeparator => Rule::FractionConsecutiveIsAllowed,
-        _ => Rule::ExponentConsecutiveIsAllowed,
+        Some(flag) => mask_of(flag) as u128,
+        None => 0,
+    }
+}
+
+// Returns the mask of the flags that allow digit separators in a part of the number.
+const fn position_mask(part: Part) -> u128 {
+    match part {
+        Part::Integer => flags::INTEGER_DIGIT_SEPARATOR_FLAG_MASK,
+        Part::Fraction => flags::FRACTION_DIGIT_SEPARATOR_FLAG_MASK,
+        Part::Exponent => flags::EXPONENT_DIGIT_SEPARATOR_FLAG_MASK,
+    }
+}
+
+// Returns whether `own` is `rule`.
+const fn is_rule(own: Option<Rule>, rule: Rule) -> bool {
+    match own {
+        Some(own) => own as u8 == rule as u8,
+        None => false,
     }
 }

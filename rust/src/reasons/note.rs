@@ -2,11 +2,10 @@
 
 //! Notes on fields that are set but have no effect on any number.
 
-use crate::edits::{mask_of, Edit, FlagSetter};
-use crate::format_builder::{NonZeroU8, NumberFormatBuilder};
+use crate::edits::{mask_of, FlagSetter};
+use crate::format_builder::NumberFormatBuilder;
 use crate::format_flags as flags;
-use crate::reasons::{prefix_edit, reasons, suffix_edit, Reason};
-use crate::view::FormatView;
+use crate::reasons::{reasons, some_if, Byte, Characters, NamedByte, Reason};
 
 /// The maximum number of notes on a format word.
 pub const MAX_NOTES: usize = 3;
@@ -19,14 +18,14 @@ pub const MAX_NOTES: usize = 3;
 #[non_exhaustive]
 pub enum Note {
     /// The digit separator is set, but no flag allows one. Packing the fields of a builder drops the separator, and the
-    /// normal form has none.
-    SeparatorWithoutFlag(Edit),
+    /// normal form has none. Options still cannot use the same byte.
+    SeparatorWithoutFlag(NamedByte),
     /// One or more flags allow digit separators, but the digit separator is absent.
     FlagsWithoutSeparator,
     /// A case-sensitivity flag is set, but the base prefix or base suffix to which it applies is absent.
-    CaseFlagWithoutByte(FlagSetter, Edit),
+    CaseFlagWithoutByte(FlagSetter, Byte),
     /// A case-sensitivity flag is set, but the base prefix or base suffix to which it applies is not a letter.
-    CaseFlagOfNonLetter(FlagSetter, Edit),
+    CaseFlagOfNonLetter(FlagSetter, NamedByte),
 }
 
 impl Note {
@@ -34,13 +33,11 @@ impl Note {
     #[must_use]
     pub const fn mask(&self) -> u128 {
         match self {
-            Note::SeparatorWithoutFlag(edit) => flags::DIGIT_SEPARATOR_FLAG_MASK | edit.mask(),
-            Note::FlagsWithoutSeparator => {
+            Note::SeparatorWithoutFlag(_) | Note::FlagsWithoutSeparator => {
                 flags::DIGIT_SEPARATOR_FLAG_MASK | flags::DIGIT_SEPARATOR
             }
-            Note::CaseFlagWithoutByte(flag, edit) | Note::CaseFlagOfNonLetter(flag, edit) => {
-                mask_of(*flag) as u128 | edit.mask()
-            }
+            Note::CaseFlagWithoutByte(flag, byte) => mask_of(*flag) as u128 | byte.mask(),
+            Note::CaseFlagOfNonLetter(flag, byte) => mask_of(*flag) as u128 | byte.name.mask(),
         }
     }
 }
@@ -50,7 +47,17 @@ impl Note {
 /// A note is not an error, so a lawful word may have notes. A field that a reason [blames][Reason] has no note.
 #[must_use]
 pub const fn notes(format: u128) -> [Option<Note>; MAX_NOTES] {
-    notes_beside(format, flags::digit_separator(format))
+    notes_beside_reasons(format, &reasons(format))
+}
+
+/// Returns the notes on a format word for which [`reasons`] returns `reasons`, as [`notes`] does.
+#[must_use]
+#[doc(hidden)]
+pub const fn notes_beside_reasons(
+    format: u128,
+    reasons: &[Option<Reason>],
+) -> [Option<Note>; MAX_NOTES] {
+    notes_beside(blamed(reasons), format, flags::digit_separator(format))
 }
 
 /// Returns the notes on the fields of a builder, as [`notes`] does for a format word.
@@ -62,57 +69,57 @@ pub const fn notes_of_fields(builder: &NumberFormatBuilder) -> [Option<Note>; MA
         Some(byte) => byte.get(),
         None => 0,
     };
-    notes_beside(builder.build_unchecked(), separator)
+    let format = builder.build_unchecked();
+    notes_beside(blamed(&reasons(format)), format, separator)
 }
 
-// Returns the notes on a word in which the digit separator is replaced by `separator`.
-const fn notes_beside(format: u128, separator: u8) -> [Option<Note>; MAX_NOTES] {
-    let view = FormatView::new(format);
+// Returns the notes on a word in which the digit separator is replaced by `separator`, except those on `blamed` bits.
+const fn notes_beside(blamed: u128, format: u128, separator: u8) -> [Option<Note>; MAX_NOTES] {
+    let prefix = case_note(
+        format,
+        FlagSetter::CaseSensitiveBasePrefix,
+        Byte::BasePrefix,
+    );
+    let suffix = case_note(
+        format,
+        FlagSetter::CaseSensitiveBaseSuffix,
+        Byte::BaseSuffix,
+    );
     [
-        separator_note(format, separator),
-        case_note(
-            format,
-            view.case_sensitive_base_prefix(),
-            FlagSetter::CaseSensitiveBasePrefix,
-            &prefix_edit(format),
-        ),
-        case_note(
-            format,
-            view.case_sensitive_base_suffix(),
-            FlagSetter::CaseSensitiveBaseSuffix,
-            &suffix_edit(format),
-        ),
+        unless_blamed(blamed, separator_note(format, separator)),
+        unless_blamed(blamed, prefix),
+        unless_blamed(blamed, suffix),
     ]
 }
 
 // Returns the note on a digit separator and its flags, if any.
 const fn separator_note(format: u128, separator: u8) -> Option<Note> {
+    let byte = NamedByte {
+        name: Byte::DigitSeparator,
+        value: separator,
+    };
     if flags::is_separator_allowed(format) {
-        unless_blamed(format, separator == 0, Note::FlagsWithoutSeparator)
+        some_if(separator == 0, Note::FlagsWithoutSeparator)
     } else {
-        let edit = Edit::DigitSeparator(NonZeroU8::new(separator));
-        unless_blamed(format, separator != 0, Note::SeparatorWithoutFlag(edit))
+        some_if(separator != 0, Note::SeparatorWithoutFlag(byte))
     }
 }
 
-// Returns the note on a case flag and the byte of an edit, if any.
-const fn case_note(format: u128, is_set: bool, flag: FlagSetter, edit: &Edit) -> Option<Note> {
-    let byte = edit.argument_byte();
-    if byte == 0 {
-        unless_blamed(format, is_set, Note::CaseFlagWithoutByte(flag, *edit))
+// Returns the note on the case flag of a byte, if any.
+#[inline(always)]
+const fn case_note(format: u128, flag: FlagSetter, byte: Byte) -> Option<Note> {
+    let word = Characters {
+        format,
+        exponent: 0,
+        point: 0,
+    };
+    let named = word.named(byte);
+    let note = if named.value == 0 {
+        Note::CaseFlagWithoutByte(flag, byte)
     } else {
-        let applies = is_set & has_no_case(byte);
-        unless_blamed(format, applies, Note::CaseFlagOfNonLetter(flag, *edit))
-    }
-}
-
-// Returns a note if it applies and no reason of the word blames its bits.
-const fn unless_blamed(format: u128, applies: bool, note: Note) -> Option<Note> {
-    if applies && !is_blamed(format, note.mask()) {
-        Some(note)
-    } else {
-        None
-    }
+        Note::CaseFlagOfNonLetter(flag, named)
+    };
+    some_if(word.is_cased(byte) & has_no_case(named.value), note)
 }
 
 // Returns whether a byte is the same in both cases.
@@ -120,16 +127,19 @@ const fn has_no_case(byte: u8) -> bool {
     !byte.is_ascii_alphabetic()
 }
 
-// Returns whether a reason of the word blames a bit under the mask.
-const fn is_blamed(format: u128, mask: u128) -> bool {
-    some_blames(&reasons(format), mask)
+// Returns a note if it describes no blamed bit.
+const fn unless_blamed(blamed: u128, note: Option<Note>) -> Option<Note> {
+    match note {
+        Some(note) => some_if(blamed & note.mask() == 0, note),
+        None => None,
+    }
 }
 
-// Returns whether one of these reasons blames a bit under the mask.
-const fn some_blames(reasons: &[Option<Reason>], mask: u128) -> bool {
+// Returns the mask of the bits that these reasons blame.
+const fn blamed(reasons: &[Option<Reason>]) -> u128 {
     match reasons {
-        [] => false,
-        [None, rest @ ..] => some_blames(rest, mask),
-        [Some(reason), rest @ ..] => reason.mask() & mask != 0 || some_blames(rest, mask),
+        [] => 0,
+        [None, rest @ ..] => blamed(rest),
+        [Some(reason), rest @ ..] => reason.mask() | blamed(rest),
     }
 }

@@ -2,9 +2,10 @@
 
 //! Prints reasons and notes as sentences.
 
-use crate::edits::{Edit, FlagSetter};
+use crate::edits::FlagSetter;
 use crate::error::{Piece, ShortText, EMPTY_PIECE};
-use crate::reasons::{Note, Reason};
+use crate::format_flags::Part;
+use crate::reasons::{Byte, Cause, NamedByte, Note, Radixes, Reason};
 use core::fmt;
 
 impl Reason {
@@ -12,77 +13,66 @@ impl Reason {
     #[must_use]
     #[doc(hidden)]
     pub const fn text(&self) -> ShortText {
-        match self {
-            Reason::MantissaRadixOutOfRange(radix, _, _) => {
-                not_in_range(Piece::NumberedByte("mantissa radix", *radix))
+        match &self.cause {
+            Cause::OutOfRange(byte) => followed(byte.numbered(), " is not between 2 and 36"),
+            Cause::NotText(byte) => followed(byte.quoted(), " is not an allowed ASCII character"),
+            Cause::IsSign(byte) => followed(byte.quoted(), " is a sign (+ or -)"),
+            Cause::IsDigit(byte, radixes) => digit_text(byte.quoted(), *radixes),
+            Cause::Same(first, second) => {
+                joined(first.quoted(), second.quoted(), " are the same", "")
             }
-            Reason::OutOfRange(edit) => {
-                not_in_range(Piece::NumberedByte(label(*edit), edit.argument_byte()))
+            Cause::DifferInCase {
+                first,
+                first_flag,
+                second,
+                second_flag,
+            } => {
+                let (end, flag) = case_text(*first_flag, *second_flag);
+                joined(first.quoted(), second.quoted(), end, flag)
             }
-            Reason::NotText(edit) => {
-                followed(described(edit), " is not an allowed ASCII character")
-            }
-            Reason::IsSign(edit) => followed(described(edit), " is a sign (+ or -)"),
-            Reason::IsDigit(edit, radix) => ShortText(
-                EMPTY_PIECE,
-                described(edit),
-                Piece::Words(" is a digit in radix "),
-                Piece::Number(radix.argument_byte() as usize),
+            Cause::BothSet(first, second) => joined(
+                words(first.name()),
+                words(second.name()),
+                " cannot both be set",
+                "",
             ),
-            Reason::Clash(a, b, flag) => ShortText(
-                described(a),
-                Piece::Words(" and "),
-                described(b),
-                Piece::Words(clash_text(*a, *b, *flag)),
-            ),
-            Reason::Contradict(a, b) => ShortText(
-                named(*a),
-                Piece::Words(" and "),
-                named(*b),
-                Piece::Words(" cannot both be set"),
-            ),
-            Reason::NeedsPosition(flag) => followed(
-                named(*flag),
+            Cause::NeedsPosition(part) => followed(
+                words(consecutive_flag(*part).name()),
                 " requires an internal, leading or trailing flag for the same part of the number",
             ),
-            Reason::ReservedBits(bits) => ShortText(
+            Cause::ReservedBits(bits) => ShortText(
                 EMPTY_PIECE,
                 EMPTY_PIECE,
-                Piece::Words("reserved bits are set: "),
+                words("reserved bits are set: "),
                 Piece::Hexadecimal(*bits),
+                words(", which any edit clears"),
             ),
         }
     }
 }
 
 impl Note {
-    /// Returns the note as a sentence without a full stop, such as `no number can have the digit separator '_': no flag
-    /// allows one`.
+    /// Returns the note as a sentence without a full stop, such as `no flag allows the digit separator '_'`.
     #[must_use]
     #[doc(hidden)]
     pub const fn text(&self) -> ShortText {
         match self {
-            Note::SeparatorWithoutFlag(edit) => ShortText(
-                EMPTY_PIECE,
-                Piece::Words("no number can have "),
-                described(edit),
-                Piece::Words(": no flag allows one"),
-            ),
+            Note::SeparatorWithoutFlag(byte) => between("", "no flag allows ", byte.quoted(), ""),
             Note::FlagsWithoutSeparator => followed(
                 EMPTY_PIECE,
-                "the digit separator flags allow nothing: there is no digit separator",
+                "digit separator flags are set, but there is no digit separator",
             ),
-            Note::CaseFlagWithoutByte(flag, byte) => ShortText(
-                EMPTY_PIECE,
-                named(*flag),
-                Piece::Words(" changes nothing: there is no "),
-                Piece::Words(label(*byte)),
+            Note::CaseFlagWithoutByte(flag, byte) => between(
+                flag.name(),
+                " is set, but there is no ",
+                words(byte.label()),
+                "",
             ),
-            Note::CaseFlagOfNonLetter(flag, byte) => ShortText(
-                named(*flag),
-                Piece::Words(" changes nothing: "),
-                described(byte),
-                Piece::Words(" is not a letter"),
+            Note::CaseFlagOfNonLetter(flag, byte) => between(
+                flag.name(),
+                " is set, but ",
+                byte.quoted(),
+                " is not a letter",
             ),
         }
     }
@@ -100,50 +90,110 @@ impl fmt::Display for Note {
     }
 }
 
-// Returns the sentence for a radix or a base that is out of range.
-const fn not_in_range(piece: Piece) -> ShortText {
-    followed(piece, " is not between 2 and 36")
+impl Byte {
+    // Returns the name of the byte, as it appears in sentences.
+    const fn label(self) -> &'static str {
+        match self {
+            Byte::DigitSeparator => "digit separator",
+            Byte::BasePrefix => "base prefix",
+            Byte::BaseSuffix => "base suffix",
+            Byte::MantissaRadix => "mantissa radix",
+            Byte::ExponentBase => "exponent base",
+            Byte::ExponentRadix => "exponent radix",
+            Byte::ExponentCharacter => "exponent character",
+            Byte::DecimalPoint => "decimal point",
+        }
+    }
+}
+
+impl NamedByte {
+    // Returns the name of the byte, and its value in decimal.
+    const fn numbered(&self) -> Piece {
+        Piece::NumberedByte(self.name.label(), self.value)
+    }
+
+    // Returns the name of the byte, and its value in quotes.
+    const fn quoted(&self) -> Piece {
+        Piece::QuotedByte(self.name.label(), self.value)
+    }
 }
 
 // Returns a text that has a piece and the words that follow it.
 const fn followed(piece: Piece, end: &'static str) -> ShortText {
-    ShortText(EMPTY_PIECE, EMPTY_PIECE, piece, Piece::Words(end))
+    ShortText(
+        EMPTY_PIECE,
+        EMPTY_PIECE,
+        EMPTY_PIECE,
+        piece,
+        Piece::Words(end),
+    )
 }
 
-// Returns the label of the field of an edit, and its byte.
-const fn described(edit: &Edit) -> Piece {
-    Piece::QuotedByte(label(*edit), edit.argument_byte())
+// Returns a text that has two pieces joined by `and`, and the words that follow them.
+const fn joined(first: Piece, second: Piece, end: &'static str, last: &'static str) -> ShortText {
+    ShortText(
+        first,
+        Piece::Words(" and "),
+        second,
+        Piece::Words(end),
+        Piece::Words(last),
+    )
 }
 
-// Returns the name of a flag.
-const fn named(flag: FlagSetter) -> Piece {
-    Piece::Words(flag.name())
+// Returns a text that has a piece between words.
+const fn between(
+    name: &'static str,
+    start: &'static str,
+    piece: Piece,
+    end: &'static str,
+) -> ShortText {
+    ShortText(EMPTY_PIECE, words(name), words(start), piece, words(end))
 }
 
-// Returns the end of the sentence for two bytes that clash.
-const fn clash_text(a: Edit, b: Edit, flag: Option<FlagSetter>) -> &'static str {
-    match (a, b, flag) {
-        (_, _, None) => " are the same",
-        (Edit::DigitSeparator(_), Edit::BasePrefix(_), Some(_)) => {
-            " differ only in case, and the base prefix is not case-sensitive"
-        }
-        (Edit::DigitSeparator(_), _, Some(_)) => {
-            " differ only in case, and the base suffix is not case-sensitive"
-        }
-        _ => " differ only in case, and they are not both case-sensitive",
+// Returns a piece of words.
+const fn words(words: &'static str) -> Piece {
+    Piece::Words(words)
+}
+
+// Returns the sentence for a byte that is a digit in these radixes.
+const fn digit_text(byte: Piece, radixes: Radixes) -> ShortText {
+    match radixes {
+        Radixes::Mantissa(radix) | Radixes::Exponent(radix) => ShortText(
+            EMPTY_PIECE,
+            EMPTY_PIECE,
+            byte,
+            Piece::Words(" is a digit in radix "),
+            Piece::Number(radix as usize),
+        ),
+        Radixes::Both { mantissa, exponent } => ShortText(
+            byte,
+            words(" is a digit in "),
+            Piece::NumberedByte("mantissa radix", mantissa),
+            words(" and "),
+            Piece::NumberedByte("exponent radix", exponent),
+        ),
     }
 }
 
-// Returns the name of the field of an edit, as it appears in sentences.
-const fn label(edit: Edit) -> &'static str {
-    match edit {
-        Edit::Flag(_, _) => "flag",
-        Edit::DigitSeparator(_) => "digit separator",
-        Edit::BasePrefix(_) => "base prefix",
-        Edit::BaseSuffix(_) => "base suffix",
-        Edit::MantissaRadix(_) => "mantissa radix",
-        Edit::Radix(_) => "radix",
-        Edit::ExponentBase(_) => "exponent base",
-        Edit::ExponentRadix(_) => "exponent radix",
+// Returns the end of the sentence for two bytes that differ in case, of which these case flags are not set.
+const fn case_text(
+    first: Option<FlagSetter>,
+    second: Option<FlagSetter>,
+) -> (&'static str, &'static str) {
+    match (first, second) {
+        (Some(_), Some(_)) => (" differ only in case, and neither is case-sensitive", ""),
+        (Some(flag), None) | (None, Some(flag)) => {
+            (" differ only in case, which requires ", flag.name())
+        }
+        (None, None) => (" differ only in case", ""),
+    }
+}
+
+// Returns the flag that allows consecutive digit separators in a part of the number.
+const fn consecutive_flag(part: Part) -> FlagSetter {
+    match part {
+        Part::Integer => FlagSetter::IntegerConsecutiveDigitSeparator,
+        Part::Fraction => FlagSetter::FractionConsecutiveDigitSeparator,
+        Part::Exponent => FlagSetter::ExponentConsecutiveDigitSeparator,
     }
 }

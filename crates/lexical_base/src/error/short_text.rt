@@ -1,4 +1,4 @@
-//! The type [`ShortText`]: short text that consists of four pieces.
+//! The type [`ShortText`]: short text that consists of five pieces.
 
 ghost use Rattle.std.specs.Prelude.{◌≡◌, ◌<◌, ◌∷◌, [], IsErr, OnOk, true};
 ghost use Rattle.std.specs.Fmt.{WritesInCalls, decimal, digit_glyph};
@@ -28,11 +28,11 @@ pub enum Piece {
 #[doc(hidden)]
 pub const EMPTY_PIECE: Piece = Piece::Words("");
 
-/// Short text that consists of four pieces, each of which may be empty. The text of each `ShortText` that the library
+/// Short text that consists of five pieces, each of which may be empty. The text of each `ShortText` that the library
 /// returns has fewer than 256 bytes.
 #[derive(Clone, Copy)]
 #[doc(hidden)]
-pub struct ShortText(pub Piece, pub Piece, pub Piece, pub Piece);
+pub struct ShortText(pub Piece, pub Piece, pub Piece, pub Piece, pub Piece);
 
 impl ShortText {
     /// Puts the text into the sink `out`, piece by piece.
@@ -45,7 +45,8 @@ impl ShortText {
         self.0.put_into(out)?;
         self.1.put_into(out)?;
         self.2.put_into(out)?;
-        self.3.put_into(out)
+        self.3.put_into(out)?;
+        self.4.put_into(out)
     }
 }
 

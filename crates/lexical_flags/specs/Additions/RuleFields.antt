@@ -1,10 +1,8 @@
--- The bits that a rule reads, and the roles that clash, for `Rule::mask` and `clashes`.
-use Rattle.std.specs.Prelude.{ℕ, ◌+◌, Bool, not, List, [], ◌∷◌, sum_by}
+-- The bits that a rule reads, for `Rule::mask`.
+use Rattle.std.specs.Prelude.{ℕ, ◌+◌, List, [], ◌∷◌, sum_by}
 use Rattle.lexical_flags.specs.Layout.{Flag, Byte}
 use Rattle.lexical_flags.specs.Layout as layout
 use Rattle.lexical_flags.specs.Additions.Masks.{byte_mask, mask_of, reserved_mask}
-use Rattle.lexical_flags.specs.Record.{Record}
-use Rattle.lexical_flags.specs.Roles.{are_disjoint, separator, prefix, suffix}
 use Rattle.lexical_flags.specs.Rules.{separator_flags}
 use Rattle.lexical_flags.specs.Rules.{Shape, radix_in_range, absent_or_punctuation, roles_differ, not_both}
 use Rattle.lexical_flags.specs.Rules.{position_allowed, shape_of}
@@ -30,12 +28,3 @@ bytes_of _ = []
 abbrev pub mask_read : Rule → ℕ
 mask_read rules.ReservedBitsAreZero = reserved_mask
 mask_read rule = mask_of (flags_of (shape_of rule)) + sum_by byte_mask (bytes_of (shape_of rule))
-
--- `clashes r` lists, for each of three pairs of roles, whether the two share a byte: separator and prefix,
--- separator and suffix, and prefix and suffix.
-abbrev pub clashes : Record → List Bool
-clashes r =
-    not (are_disjoint (separator r) (prefix r))
-    ∷ not (are_disjoint (separator r) (suffix r))
-    ∷ not (are_disjoint (prefix r) (suffix r))
-    ∷ []

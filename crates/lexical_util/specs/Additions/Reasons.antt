@@ -1,269 +1,319 @@
--- The reasons why a word breaks a rule, and the bits that they blame, for `reasons`, `reasons_of` and `Reason`.
-use Rattle.std.specs.Prelude.{ℕ, ◌≡◌, ◌≢◌, ◌==◌, ◌&&◌, true, false, not, IsTrue, if◌then◌else◌, Bool, Option, None}
-use Rattle.std.specs.Prelude.{Some}
-use Rattle.std.specs.Prelude.{List, [], ◌∷◌, ◌++◌, drop, flat_map, map, take, bit_and, bit_or}
+-- The reasons why a word breaks rules or does not accept options, and the bits that they blame.
+use Rattle.std.specs.Prelude.{ℕ, ◌≡◌, ◌≢◌, ◌==◌, ◌&&◌, ◌⊎◌, ⊤, true, false, not, IsTrue, IsFalse, if◌then◌else◌, Bool}
+use Rattle.std.specs.Prelude.{Option, None, Some, IfSome, option_map, List, [], ◌∷◌, map, flat_map, bit_and, bit_or}
 use Rattle.std.specs.Bool.{then_some}
-use Rattle.std.specs.List.{AllByRecursion, filter_map}
+use Rattle.std.specs.List.{AllByRecursion}
 use Rattle.lexical_base.specs.Ascii.{ByteSet, between, allowed_ascii}
 use Rattle.lexical_base.specs.Digits.{digits_of}
 use Rattle.lexical_flags.specs.Layout as layout
+use Rattle.lexical_flags.specs.Layout.{Flag}
 use Rattle.lexical_flags.specs.Record.{Record, raw}
-use Rattle.lexical_flags.specs.Roles.{are_disjoint, digits, signs, separator, prefix, suffix, other_case}
-use Rattle.lexical_flags.specs.Rules.{separator_flags}
-use Rattle.lexical_flags.specs.Rules.{Holds, IsRadix, IsTextOrNone, punctuation_rules, flag_rules}
-use Rattle.lexical_flags.specs.Rules.{Shape, not_both, position_allowed, shape_of, lacks_position}
-use Rattle.lexical_flags.specs.Additions.RuleFields.{mask_read}
+use Rattle.lexical_flags.specs.Roles.{are_disjoint, cased, signs, other_case}
+use Rattle.lexical_flags.specs.Rules.{IsRadix, Holds, rules_in_order, Shape, radix_in_range, absent_or_punctuation}
+use Rattle.lexical_flags.specs.Rules.{roles_differ, not_both, position_allowed, reserved_zero, shape_of, separator_flags}
+use Rattle.lexical_flags.specs.Rules.{lacks_position}
+use Rattle.lexical_flags.specs.Options.{OptionsFit}
 use Rattle.lexical_flags.specs.Additions.Masks.{byte_mask, reserved_mask}
 use Rattle.lexical_flags.specs.declared.format_flags.all_rules.Rule.{Rule}
 use Rattle.lexical_flags.specs.declared.format_flags.all_rules.Rule.TheVariants as rules
-use Rattle.lexical_builder.specs.OptionByte.{option_of_byte}
-use Rattle.lexical_builder.specs.Writes.{Write, write_flag, write_byte}
-use Rattle.lexical_util.specs.Edits.{writes_of}
-use Rattle.lexical_util.specs.Additions.EditMasks.{argument_byte, mask_of_setter, mask_of_edit}
-use Rattle.lexical_util.specs.declared.edits.setters.Edit.{Edit}
-use Rattle.lexical_util.specs.declared.edits.setters.Edit.TheVariants as edits
+use Rattle.lexical_util.specs.Edits.{flags_of}
+use Rattle.lexical_util.specs.Groups.{any_flag}
+use Rattle.lexical_util.specs.Additions.EditMasks.{mask_of_setter}
+use Rattle.lexical_util.specs.Additions.FieldEdits.{setter_of}
 use Rattle.lexical_util.specs.declared.edits.setters.FlagSetter.{FlagSetter}
 use Rattle.lexical_util.specs.declared.edits.setters.FlagSetter.TheVariants as setters
+use Rattle.lexical_util.specs.declared.reasons.Byte.{Byte}
+use Rattle.lexical_util.specs.declared.reasons.Byte.TheVariants as bytes
+use Rattle.lexical_util.specs.declared.reasons.NamedByte.{NamedByte}
+use Rattle.lexical_util.specs.declared.reasons.Radixes.{Radixes}
+use Rattle.lexical_util.specs.declared.reasons.Radixes.TheVariants as radixes
+use Rattle.lexical_util.specs.declared.reasons.Cause.{Cause}
+use Rattle.lexical_util.specs.declared.reasons.Cause.TheVariants as causes
 use Rattle.lexical_util.specs.declared.reasons.Reason.{Reason}
-use Rattle.lexical_util.specs.declared.reasons.Reason.TheVariants as reasons
 
--- `HasWrite r write` holds if the record `r` has the value that `write` writes.
-abbrev pub HasWrite : Record → Write → Type 0
-HasWrite r (write_flag f value) = r.flag f ≡ value
-HasWrite r (write_byte b value) = r.byte b ≡ value
+-- BYTES
 
--- `Has word edit` holds if `word` has the values that `edit` writes.
-abbrev pub Has : ℕ → Edit → Type 0
-Has word edit = AllByRecursion (HasWrite (raw word)) (writes_of edit)
+-- `value_of r exponent_byte point_byte name` is the value of the byte `name` in `r`, or in options with these characters.
+abbrev pub value_of : Record → ℕ → ℕ → Byte → ℕ
+value_of r exponent_byte point_byte bytes.DigitSeparator = r.byte layout.digit_separator
+value_of r exponent_byte point_byte bytes.BasePrefix = r.byte layout.base_prefix
+value_of r exponent_byte point_byte bytes.BaseSuffix = r.byte layout.base_suffix
+value_of r exponent_byte point_byte bytes.MantissaRadix = r.byte layout.mantissa_radix
+value_of r exponent_byte point_byte bytes.ExponentBase = r.byte layout.exponent_base
+value_of r exponent_byte point_byte bytes.ExponentRadix = r.byte layout.exponent_radix
+value_of r exponent_byte point_byte bytes.ExponentCharacter = exponent_byte
+value_of r exponent_byte point_byte bytes.DecimalPoint = point_byte
 
--- `positions flag` lists the setters of the internal, leading and trailing flags of one part of the number. `flag` is
--- the setter of the consecutive separator flag of this part.
-abbrev pub positions : FlagSetter → List FlagSetter
-positions setters.IntegerConsecutiveDigitSeparator =
-    setters.IntegerInternalDigitSeparator ∷ setters.IntegerLeadingDigitSeparator
-    ∷ setters.IntegerTrailingDigitSeparator ∷ []
-positions setters.FractionConsecutiveDigitSeparator =
-    setters.FractionInternalDigitSeparator ∷ setters.FractionLeadingDigitSeparator
-    ∷ setters.FractionTrailingDigitSeparator ∷ []
-positions _ =
-    setters.ExponentInternalDigitSeparator ∷ setters.ExponentLeadingDigitSeparator
-    ∷ setters.ExponentTrailingDigitSeparator ∷ []
+-- `named r exponent_byte point_byte name` is this byte with its value.
+abbrev pub named : Record → ℕ → ℕ → Byte → NamedByte
+named r exponent_byte point_byte name = record { name = name; value = value_of r exponent_byte point_byte name }
 
--- `IsTrueOf word reason` holds if `word` has the fields in `reason`, and they have the property that `reason` states.
-abbrev pub IsTrueOf : ℕ → Reason → Type 0
-IsTrueOf word (reasons.MantissaRadixOutOfRange radix base exponent) =
-    Has word (edits.MantissaRadix radix) × (IsRadix radix → ⊥)
-IsTrueOf word (reasons.OutOfRange edit) = Has word edit × (argument_byte edit ≢ 0) × (IsRadix (argument_byte edit) → ⊥)
-IsTrueOf word (reasons.NotText edit) = Has word edit × (IsTextOrNone (argument_byte edit) → ⊥)
-IsTrueOf word (reasons.IsSign edit) = Has word edit × IsTrue (signs (argument_byte edit))
-IsTrueOf word (reasons.IsDigit edit radix) =
-    Has word edit × Has word radix × IsTrue (digits_of (argument_byte radix) (argument_byte edit))
-IsTrueOf word (reasons.Clash a b None) =
-    Has word a × Has word b × (argument_byte a ≢ 0) × (argument_byte b ≡ argument_byte a)
-IsTrueOf word (reasons.Clash a b (Some flag)) =
-    Has word a × Has word b × Has word (edits.Flag flag false)
-    × (argument_byte b ≢ argument_byte a) × (argument_byte b ≡ other_case (argument_byte a))
-IsTrueOf word (reasons.Contradict a b) = Has word (edits.Flag a true) × Has word (edits.Flag b true)
-IsTrueOf word (reasons.NeedsPosition flag) =
-    Has word (edits.Flag flag true) × AllByRecursion (λ position. Has word (edits.Flag position false)) (positions flag)
-IsTrueOf word (reasons.ReservedBits bits) =
-    (bits ≢ 0) × (bit_and bits reserved_mask ≡ bits) × (bit_and word bits ≡ bits)
+-- `mask_of_byte byte` is the number with 1 in the bits of `byte` in a word. No bits hold what options choose.
+abbrev pub mask_of_byte : Byte → ℕ
+mask_of_byte bytes.DigitSeparator = byte_mask layout.digit_separator
+mask_of_byte bytes.BasePrefix = byte_mask layout.base_prefix
+mask_of_byte bytes.BaseSuffix = byte_mask layout.base_suffix
+mask_of_byte bytes.MantissaRadix = byte_mask layout.mantissa_radix
+mask_of_byte bytes.ExponentBase = byte_mask layout.exponent_base
+mask_of_byte bytes.ExponentRadix = byte_mask layout.exponent_radix
+mask_of_byte _ = 0
 
--- `radix_rule edit` is the radix rule that reads the exponent byte that `edit` writes.
-abbrev pub radix_rule : Edit → Rule
-radix_rule (edits.ExponentBase base) = rules.ExponentBaseInRange
-radix_rule _ = rules.ExponentRadixInRange
+-- `byte_of b` is the byte `b` of a word.
+abbrev pub byte_of : layout.Byte → Byte
+byte_of layout.digit_separator = bytes.DigitSeparator
+byte_of layout.base_prefix = bytes.BasePrefix
+byte_of layout.base_suffix = bytes.BaseSuffix
+byte_of layout.mantissa_radix = bytes.MantissaRadix
+byte_of layout.exponent_base = bytes.ExponentBase
+byte_of layout.exponent_radix = bytes.ExponentRadix
 
--- `punctuation_rule edit` is the rule that requires punctuation in the byte that `edit` writes.
-abbrev pub punctuation_rule : Edit → Rule
-punctuation_rule (edits.DigitSeparator byte) = rules.DigitSeparatorIsPunctuation
-punctuation_rule (edits.BasePrefix byte) = rules.BasePrefixIsPunctuation
-punctuation_rule _ = rules.BaseSuffixIsPunctuation
+-- `case_flag byte` is the flag that makes `byte` case-sensitive, if there is one.
+abbrev pub case_flag : Byte → Option FlagSetter
+case_flag bytes.BasePrefix = Some setters.CaseSensitiveBasePrefix
+case_flag bytes.BaseSuffix = Some setters.CaseSensitiveBaseSuffix
+case_flag bytes.ExponentCharacter = Some setters.CaseSensitiveExponent
+case_flag _ = None
 
--- `rule_of_flags a b` is the flag rule that is broken if both `a` and `b` are set.
-abbrev pub rule_of_flags : FlagSetter → FlagSetter → Rule
-rule_of_flags setters.NoExponentNotation b = rules.ExponentFlagsAgree
-rule_of_flags setters.NoPositiveMantissaSign b = rules.MantissaSignFlagsAgree
-rule_of_flags setters.NoPositiveExponentSign b = rules.ExponentSignFlagsAgree
-rule_of_flags a setters.CaseSensitiveSpecial = rules.SpecialCaseFlagsAgree
-rule_of_flags a b = rules.SpecialSeparatorFlagsAgree
+-- `is_cased r byte` is true if the role of `byte` is case-sensitive in `r`.
+abbrev pub is_cased : Record → Byte → Bool
+is_cased r bytes.BasePrefix = r.flag layout.case_sensitive_base_prefix
+is_cased r bytes.BaseSuffix = r.flag layout.case_sensitive_base_suffix
+is_cased r bytes.ExponentCharacter = r.flag layout.case_sensitive_exponent
+is_cased r _ = true
 
--- `position_rule flag` is the rule that is broken if `flag` allows consecutive separators and no position is allowed.
-abbrev pub position_rule : FlagSetter → Rule
-position_rule setters.IntegerConsecutiveDigitSeparator = rules.IntegerConsecutiveIsAllowed
-position_rule setters.FractionConsecutiveDigitSeparator = rules.FractionConsecutiveIsAllowed
-position_rule _ = rules.ExponentConsecutiveIsAllowed
+-- `unset_flag r byte` is the case flag of `byte` if it is not set.
+abbrev pub unset_flag : Record → Byte → Option FlagSetter
+unset_flag r byte = if is_cased r byte then None else case_flag byte
 
--- `rule_of_reason reason` is the first rule that is broken for `reason`.
-abbrev pub rule_of_reason : Reason → Rule
-rule_of_reason (reasons.MantissaRadixOutOfRange radix base exponent) = rules.MantissaRadixInRange
-rule_of_reason (reasons.OutOfRange edit) = radix_rule edit
-rule_of_reason (reasons.NotText edit) = punctuation_rule edit
-rule_of_reason (reasons.IsSign edit) = punctuation_rule edit
-rule_of_reason (reasons.IsDigit edit radix) = punctuation_rule edit
-rule_of_reason (reasons.Clash a b flag) = rules.PunctuationDiffers
-rule_of_reason (reasons.Contradict a b) = rule_of_flags a b
-rule_of_reason (reasons.NeedsPosition flag) = position_rule flag
-rule_of_reason (reasons.ReservedBits bits) = rules.ReservedBitsAreZero
+-- WHAT A REASON STATES
 
--- `Breaks reason rule` holds if a word that has `reason` breaks `rule` for this reason. A mantissa radix that is out of
--- range also breaks the rule of each absent exponent byte.
-abbrev pub Breaks : Reason → Rule → Type 0
-Breaks (reasons.MantissaRadixOutOfRange radix base exponent) rules.ExponentBaseInRange = IsTrue base
-Breaks (reasons.MantissaRadixOutOfRange radix base exponent) rules.ExponentRadixInRange = IsTrue exponent
-Breaks reason rule = rule ≡ rule_of_reason reason
+-- `Claim` is the type of what a reason claims of a word and its options: the value of a byte, whether a setter's flags
+-- are set, or that reserved bits are set.
+pub data Claim : Type 0 where
+  has_value : NamedByte → Claim
+  has_flag : FlagSetter → Bool → Claim
+  has_bits : ℕ → Claim
 
--- `mask_of_reason reason` is the number with 1 in the bits that `reason` blames. If `reason` is true of a word, it is
--- true of each word that has the same values in these bits.
+-- `Has word exponent_byte point_byte claim` holds if `claim` is true of `word` and these options.
+abbrev pub Has : ℕ → ℕ → ℕ → Claim → Type 0
+Has word exponent_byte point_byte (has_value byte) = value_of (raw word) exponent_byte point_byte byte.name ≡ byte.value
+Has word exponent_byte point_byte (has_flag setter value) = any_flag word (flags_of setter) ≡ value
+Has word exponent_byte point_byte (has_bits bits) = bit_and word bits ≡ bits
+
+-- `mask_of_claim claim` is the number with 1 in the bits of a word of which `claim` states the value.
+abbrev pub mask_of_claim : Claim → ℕ
+mask_of_claim (has_value byte) = mask_of_byte byte.name
+mask_of_claim (has_flag setter value) = mask_of_setter setter
+mask_of_claim (has_bits bits) = bits
+
+-- `unset flag` is the claim that `flag`, if there is one, is not set.
+abbrev pub unset : Option FlagSetter → Claim
+unset None = has_bits 0
+unset (Some flag) = has_flag flag false
+
+-- `has_radix name value` is the claim that the radix `name` has this value.
+abbrev pub has_radix : Byte → ℕ → Claim
+has_radix name value = has_value (record { name = name; value = value })
+
+-- `only_last fs` lists the claims that the last flag of `fs` is set and the others are not.
+abbrev pub only_last : List Flag → List Claim
+only_last [] = []
+only_last (f ∷ []) = has_flag (setter_of f) true ∷ []
+only_last (f ∷ fs) = has_flag (setter_of f) false ∷ only_last fs
+
+-- `claims_of cause` lists what `cause` claims of the fields that it names.
+abbrev pub claims_of : Cause → List Claim
+claims_of (causes.OutOfRange byte) = has_value byte ∷ []
+claims_of (causes.NotText byte) = has_value byte ∷ []
+claims_of (causes.IsSign byte) = has_value byte ∷ []
+claims_of (causes.IsDigit byte (radixes.Mantissa radix)) = has_value byte ∷ has_radix bytes.MantissaRadix radix ∷ []
+claims_of (causes.IsDigit byte (radixes.Exponent radix)) = has_value byte ∷ has_radix bytes.ExponentRadix radix ∷ []
+claims_of (causes.IsDigit byte (radixes.Both mantissa exponent)) =
+    has_value byte ∷ has_radix bytes.MantissaRadix mantissa ∷ has_radix bytes.ExponentRadix exponent ∷ []
+claims_of (causes.Same first second) = has_value first ∷ has_value second ∷ []
+claims_of (causes.DifferInCase first first_flag second second_flag) =
+    has_value first ∷ has_value second ∷ unset first_flag ∷ unset second_flag ∷ []
+claims_of (causes.BothSet first second) = has_flag first true ∷ has_flag second true ∷ []
+claims_of (causes.NeedsPosition part) = only_last (separator_flags part)
+claims_of (causes.ReservedBits bits) = has_bits bits ∷ []
+
+-- `Fact cause` holds if the values in `cause` have the property that `cause` states.
+abbrev pub Fact : Cause → Type 0
+Fact (causes.OutOfRange byte) = IsRadix byte.value → ⊥
+Fact (causes.NotText byte) = IsFalse (allowed_ascii byte.value)
+Fact (causes.IsSign byte) = IsTrue (signs byte.value)
+Fact (causes.IsDigit byte (radixes.Mantissa radix)) = IsTrue (digits_of radix byte.value)
+Fact (causes.IsDigit byte (radixes.Exponent radix)) = IsTrue (digits_of radix byte.value)
+Fact (causes.IsDigit byte (radixes.Both mantissa exponent)) =
+    IsTrue (digits_of mantissa byte.value) × IsTrue (digits_of exponent byte.value)
+Fact (causes.Same first second) = (first.value ≢ 0) × (second.value ≡ first.value)
+Fact (causes.DifferInCase first first_flag second second_flag) =
+    (second.value ≢ first.value) × (second.value ≡ other_case first.value)
+Fact (causes.ReservedBits bits) = (bits ≢ 0) × (bit_and bits reserved_mask ≡ bits)
+Fact _ = ⊤
+
+-- `IsTrueOf word exponent_byte point_byte cause` holds if `cause` is true of `word` and these options.
+abbrev pub IsTrueOf : ℕ → ℕ → ℕ → Cause → Type 0
+IsTrueOf word exponent_byte point_byte cause =
+    AllByRecursion (Has word exponent_byte point_byte) (claims_of cause) × Fact cause
+
+-- `mask_from mask claims` is `mask` with 1 in the bits of `claims`.
+abbrev pub mask_from : ℕ → List Claim → ℕ
+mask_from mask [] = mask
+mask_from mask (claim ∷ claims) = mask_from (bit_or mask (mask_of_claim claim)) claims
+
+-- `mask_of_claims claims` is the number with 1 in the bits of `claims`.
+abbrev pub mask_of_claims : List Claim → ℕ
+mask_of_claims [] = 0
+mask_of_claims (claim ∷ claims) = mask_from (mask_of_claim claim) claims
+
+-- `mask_of_reason reason` is the number with 1 in the bits that `reason` blames.
 abbrev pub mask_of_reason : Reason → ℕ
-mask_of_reason (reasons.MantissaRadixOutOfRange radix base exponent) = byte_mask layout.mantissa_radix
-mask_of_reason (reasons.OutOfRange edit) = mask_of_edit edit
-mask_of_reason (reasons.NotText edit) = mask_of_edit edit
-mask_of_reason (reasons.IsSign edit) = mask_of_edit edit
-mask_of_reason (reasons.IsDigit edit radix) = bit_or (mask_of_edit edit) (mask_of_edit radix)
-mask_of_reason (reasons.Clash a b None) = bit_or (mask_of_edit a) (mask_of_edit b)
-mask_of_reason (reasons.Clash a b (Some flag)) = bit_or (bit_or (mask_of_edit a) (mask_of_edit b)) (mask_of_setter flag)
-mask_of_reason (reasons.Contradict a b) = bit_or (mask_of_setter a) (mask_of_setter b)
-mask_of_reason (reasons.NeedsPosition flag) = mask_read (position_rule flag)
-mask_of_reason (reasons.ReservedBits bits) = bits
+mask_of_reason reason = mask_of_claims (claims_of reason.cause)
 
--- `Candidate T` is the type of candidates: a `Bool` that is true if the candidate applies, and its reason or note of
--- type `T`.
-abbrev pub Candidate : Type 0 → Type 0
-Candidate T = Bool × T
-
--- `if_applicable c` is the reason or note of the candidate `c` if it applies, and `None` otherwise.
-abbrev pub if_applicable : {T : Type 0} → Candidate T → Option T
-if_applicable c = then_some c.0 c.1
-
--- `in_three_slots candidates` lists the reasons of `candidates` in three slots. The slot of a candidate that does not
--- apply is `None`.
-abbrev pub in_three_slots : List (Candidate Reason) → List (Option Reason)
-in_three_slots candidates = take 3 (map if_applicable candidates ++ None ∷ None ∷ [])
-
--- `separator_edit r` is the edit that writes the digit separator of `r`.
-abbrev pub separator_edit : Record → Edit
-separator_edit r = edits.DigitSeparator (option_of_byte (r.byte layout.digit_separator))
-
--- `prefix_edit r` is the edit that writes the base prefix of `r`.
-abbrev pub prefix_edit : Record → Edit
-prefix_edit r = edits.BasePrefix (option_of_byte (r.byte layout.base_prefix))
-
--- `suffix_edit r` is the edit that writes the base suffix of `r`.
-abbrev pub suffix_edit : Record → Edit
-suffix_edit r = edits.BaseSuffix (option_of_byte (r.byte layout.base_suffix))
-
--- `mantissa_candidate r` is the candidate for the mantissa radix of `r`. It applies if the radix is below 2 or above
--- 36.
-abbrev pub mantissa_candidate : Record → Candidate Reason
-mantissa_candidate r = (
-  not (between 2 36 (r.byte layout.mantissa_radix)),
-  reasons.MantissaRadixOutOfRange (r.byte layout.mantissa_radix) (r.byte layout.exponent_base == 0)
-      (r.byte layout.exponent_radix == 0),
-)
-
--- `exponent_candidates r byte edit` lists the candidates for the exponent byte `byte` of `r`, which `edit` writes. The
--- candidate for the mantissa radix applies only if `byte` is absent, and the candidate for `byte` only if it is
--- present.
-abbrev pub exponent_candidates : Record → ℕ → Edit → List (Candidate Reason)
-exponent_candidates r byte edit =
-    ((byte == 0) && (mantissa_candidate r).0, (mantissa_candidate r).1)
-    ∷ (not (byte == 0) && not (between 2 36 byte), reasons.OutOfRange edit)
-    ∷ []
-
--- `radix_of_digit r byte` is the edit that writes the mantissa radix of `r` if `byte` is a digit in it, and the
--- edit that writes the exponent radix otherwise.
-abbrev pub radix_of_digit : Record → ℕ → Edit
-radix_of_digit r byte =
-    if digits_of (r.byte layout.mantissa_radix) byte then edits.MantissaRadix (r.byte layout.mantissa_radix)
-    else edits.ExponentRadix (option_of_byte (r.byte layout.exponent_radix))
-
--- `punctuation_candidates r byte edit` lists the candidates for the byte `byte` of `r`, which `edit` writes. None of
--- them applies if `byte` is absent or punctuation.
-abbrev pub punctuation_candidates : Record → ℕ → Edit → List (Candidate Reason)
-punctuation_candidates r byte edit =
-    (not (byte == 0) && not (allowed_ascii byte), reasons.NotText edit)
-    ∷ (signs byte, reasons.IsSign edit)
-    ∷ (digits r byte, reasons.IsDigit edit (radix_of_digit r byte))
-    ∷ []
-
--- `clash_candidate A B a b flag` is the candidate for the roles `A` and `B`, whose bytes `a` and `b` write. It applies
--- if the roles share a byte. If the two bytes differ, the reason names the case flag `flag`, which is not set.
-abbrev pub clash_candidate : ByteSet → ByteSet → Edit → Edit → FlagSetter → Candidate Reason
-clash_candidate A B a b flag =
-    (not (are_disjoint A B), reasons.Clash a b (if argument_byte b == argument_byte a then None else Some flag))
-
--- `case_flag r` is the case flag of the base prefix if `r` does not set it, and of the base suffix otherwise.
-abbrev pub case_flag : Record → FlagSetter
-case_flag r =
-    if r.flag layout.case_sensitive_base_prefix then setters.CaseSensitiveBaseSuffix
-    else setters.CaseSensitiveBasePrefix
-
--- `flag_reason rule` is the reason with the flags that break `rule`.
-abbrev pub flag_reason : Rule → Reason
-flag_reason rules.ExponentFlagsAgree = reasons.Contradict setters.NoExponentNotation setters.RequiredExponentNotation
-flag_reason rules.MantissaSignFlagsAgree =
-    reasons.Contradict setters.NoPositiveMantissaSign setters.RequiredMantissaSign
-flag_reason rules.ExponentSignFlagsAgree =
-    reasons.Contradict setters.NoPositiveExponentSign setters.RequiredExponentSign
-flag_reason rules.SpecialCaseFlagsAgree = reasons.Contradict setters.NoSpecial setters.CaseSensitiveSpecial
-flag_reason rules.SpecialSeparatorFlagsAgree = reasons.Contradict setters.NoSpecial setters.SpecialDigitSeparator
-flag_reason rules.IntegerConsecutiveIsAllowed = reasons.NeedsPosition setters.IntegerConsecutiveDigitSeparator
-flag_reason rules.FractionConsecutiveIsAllowed = reasons.NeedsPosition setters.FractionConsecutiveDigitSeparator
-flag_reason _ = reasons.NeedsPosition setters.ExponentConsecutiveDigitSeparator
-
--- `contradict shape r` is true if `r` does not meet a shape of flags.
-abbrev pub contradict : Shape → Record → Bool
-contradict (not_both a b) r = r.flag a && r.flag b
-contradict (position_allowed part) r = lacks_position (map r.flag (separator_flags part))
-contradict _ r = false
-
--- `candidates_of rule word` lists the candidates for the reasons why `word` breaks `rule`.
-abbrev pub candidates_of : Rule → ℕ → List (Candidate Reason)
-candidates_of rules.MantissaRadixInRange word = mantissa_candidate (raw word) ∷ []
-candidates_of rules.ExponentBaseInRange word =
-    let base = (raw word).byte layout.exponent_base in
-    exponent_candidates (raw word) base (edits.ExponentBase (option_of_byte base))
-candidates_of rules.ExponentRadixInRange word =
-    let radix = (raw word).byte layout.exponent_radix in
-    exponent_candidates (raw word) radix (edits.ExponentRadix (option_of_byte radix))
-candidates_of rules.DigitSeparatorIsPunctuation word =
-    let r = raw word in punctuation_candidates r (r.byte layout.digit_separator) (separator_edit r)
-candidates_of rules.BasePrefixIsPunctuation word =
-    let r = raw word in punctuation_candidates r (r.byte layout.base_prefix) (prefix_edit r)
-candidates_of rules.BaseSuffixIsPunctuation word =
-    let r = raw word in punctuation_candidates r (r.byte layout.base_suffix) (suffix_edit r)
-candidates_of rules.PunctuationDiffers word =
-    let r = raw word in
-    clash_candidate (separator r) (prefix r) (separator_edit r) (prefix_edit r) setters.CaseSensitiveBasePrefix
-    ∷ clash_candidate (separator r) (suffix r) (separator_edit r) (suffix_edit r) setters.CaseSensitiveBaseSuffix
-    ∷ clash_candidate (prefix r) (suffix r) (prefix_edit r) (suffix_edit r) (case_flag r)
-    ∷ []
-candidates_of rules.ReservedBitsAreZero word =
-    let bits = bit_and word reserved_mask in (not (bits == 0), reasons.ReservedBits bits) ∷ []
-candidates_of rule word = (contradict (shape_of rule) (raw word), flag_reason rule) ∷ []
-
--- `reasons_of rule word` lists the reasons why `word` breaks `rule`. It is empty if `word` satisfies the rule.
-abbrev pub reasons_of : Rule → ℕ → List Reason
-reasons_of rule word = filter_map if_applicable (candidates_of rule word)
-
--- `candidates word` lists the candidates for all rules and `word`. The mantissa radix is listed only once, and not
--- again for the exponent bytes.
-abbrev pub candidates : ℕ → List (Candidate Reason)
-candidates word =
-    candidates_of rules.MantissaRadixInRange word
-    ++ drop 1 (candidates_of rules.ExponentBaseInRange word)
-    ++ drop 1 (candidates_of rules.ExponentRadixInRange word)
-    ++ flat_map (λ rule. candidates_of rule word) (punctuation_rules ++ flag_rules ++ rules.ReservedBitsAreZero ∷ [])
-
--- `all_reasons word` lists all reasons why `word` breaks rules, in the order of the first rule that is broken for each
--- reason.
-abbrev pub all_reasons : ℕ → List Reason
-all_reasons word = filter_map if_applicable (candidates word)
+-- `Breaks reason rule` holds if a word that has `reason` breaks `rule` for this reason.
+abbrev pub Breaks : Reason → Rule → Type 0
+Breaks reason rule =
+    (reason.rule ≡ Some rule) ⊎ ((reason.followers.0 ≡ Some rule) ⊎ (reason.followers.1 ≡ Some rule))
 
 -- `Blames word other reason` holds if `reason` is true of `other` and `other` breaks the first rule of `reason`,
 -- provided that `word` and `other` have the same bits under the mask of `reason`.
 abbrev pub Blames : ℕ → ℕ → Reason → Type 0
-Blames word other reason =
+Blames word other reason = bit_and word (mask_of_reason reason) ≡ bit_and other (mask_of_reason reason)
+    → IsTrueOf other 0 0 reason.cause × IfSome reason.rule (λ rule. Holds rule other → ⊥)
+
+-- `BlamesForOptions word exponent_byte point_byte other reason` holds if `reason` is true of `other` and these options,
+-- and they do not fit `other`, provided that `word` and `other` have the same bits under the mask of `reason`.
+abbrev pub BlamesForOptions : ℕ → ℕ → ℕ → ℕ → Reason → Type 0
+BlamesForOptions word exponent_byte point_byte other reason =
     bit_and word (mask_of_reason reason) ≡ bit_and other (mask_of_reason reason)
-    → IsTrueOf other reason × (Holds (rule_of_reason reason) other → ⊥)
+    → IsTrueOf other exponent_byte point_byte reason.cause × (OptionsFit other exponent_byte point_byte → ⊥)
+
+-- THE REASONS OF A WORD
+
+-- `if_present byte cause` is `cause` if `byte` is present, and `None` if it is absent.
+abbrev pub if_present : NamedByte → Option Cause → Option Cause
+if_present byte cause = if byte.value == 0 then None else cause
+
+-- `radix_cause byte` is the cause for a radix that is out of range, if it is.
+abbrev pub radix_cause : NamedByte → Option Cause
+radix_cause byte = then_some (not (between 2 36 byte.value)) (causes.OutOfRange byte)
+
+-- `radixes_where mantissa exponent is_mantissa is_exponent` has the radixes in which a byte is a digit, if any.
+abbrev pub radixes_where : ℕ → ℕ → Bool → Bool → Option Radixes
+radixes_where mantissa exponent true true = Some (radixes.Both mantissa exponent)
+radixes_where mantissa exponent true false = Some (radixes.Mantissa mantissa)
+radixes_where mantissa exponent false true = Some (radixes.Exponent exponent)
+radixes_where mantissa exponent false false = None
+
+-- `digit_cause r byte` is the cause for a byte that is a digit of `r`, if it is. An absent exponent radix has no digits.
+abbrev pub digit_cause : Record → NamedByte → Option Cause
+digit_cause r byte =
+    let mantissa = r.byte layout.mantissa_radix in
+    let exponent = r.byte layout.exponent_radix in
+    option_map (causes.IsDigit byte)
+    (radixes_where mantissa exponent (digits_of mantissa byte.value) (digits_of exponent byte.value))
+
+-- `byte_cause r byte` is the cause for a byte that is not punctuation in the format `r`, if it is not.
+abbrev pub byte_cause : Record → NamedByte → Option Cause
+byte_cause r byte =
+    if not (allowed_ascii byte.value) then Some (causes.NotText byte)
+    else if signs byte.value then Some (causes.IsSign byte)
+    else digit_cause r byte
+
+-- `role r exponent_byte point_byte byte` is the role of `byte` in the format `r` with these options.
+abbrev pub role : Record → ℕ → ℕ → Byte → ByteSet
+role r exponent_byte point_byte byte = cased (is_cased r byte) (value_of r exponent_byte point_byte byte)
+
+-- `clash_cause r first second` is the cause for two bytes that clash.
+abbrev pub clash_cause : Record → NamedByte → NamedByte → Cause
+clash_cause r first second =
+    if second.value == first.value then causes.Same first second
+    else causes.DifferInCase first (unset_flag r first.name) second (unset_flag r second.name)
+
+-- `clash r exponent_byte point_byte pair` is this cause if the bytes clash in the format `r` with these options.
+abbrev pub clash : Record → ℕ → ℕ → Byte × Byte → Option Cause
+clash r exponent_byte point_byte pair =
+    let set = role r exponent_byte point_byte in
+    let byte = named r exponent_byte point_byte in
+    then_some (not (are_disjoint (set pair.0) (set pair.1))) (clash_cause r (byte pair.0) (byte pair.1))
+
+-- `format_pairs` lists the pairs of bytes of a word that must not clash.
+abbrev pub format_pairs : List (Byte × Byte)
+format_pairs =
+    (bytes.DigitSeparator, bytes.BasePrefix) ∷ (bytes.DigitSeparator, bytes.BaseSuffix)
+    ∷ (bytes.BasePrefix, bytes.BaseSuffix) ∷ []
+
+-- `options_pairs` lists the pairs of an option and another byte that must not clash.
+abbrev pub options_pairs : List (Byte × Byte)
+options_pairs =
+    (bytes.ExponentCharacter, bytes.DecimalPoint) ∷ (bytes.ExponentCharacter, bytes.DigitSeparator)
+    ∷ (bytes.ExponentCharacter, bytes.BasePrefix) ∷ (bytes.ExponentCharacter, bytes.BaseSuffix)
+    ∷ (bytes.DecimalPoint, bytes.DigitSeparator) ∷ (bytes.DecimalPoint, bytes.BasePrefix)
+    ∷ (bytes.DecimalPoint, bytes.BaseSuffix) ∷ []
+
+-- `reserved_cause word` is the cause for reserved bits that are set in `word`, if any.
+abbrev pub reserved_cause : ℕ → Option Cause
+reserved_cause word =
+    let bits = bit_and word reserved_mask in then_some (not (bits == 0)) (causes.ReservedBits bits)
+
+-- `causes_of shape word` lists the causes for which `word` is not as `shape` demands. An absent exponent byte has none:
+-- the mantissa radix is the cause.
+abbrev pub causes_of : Shape → ℕ → List (Option Cause)
+causes_of (radix_in_range layout.mantissa_radix) word = radix_cause (named (raw word) 0 0 bytes.MantissaRadix) ∷ []
+causes_of (radix_in_range b) word =
+    let byte = named (raw word) 0 0 (byte_of b) in if_present byte (radix_cause byte) ∷ []
+causes_of (absent_or_punctuation b) word =
+    let byte = named (raw word) 0 0 (byte_of b) in if_present byte (byte_cause (raw word) byte) ∷ []
+causes_of roles_differ word = map (clash (raw word) 0 0) format_pairs
+causes_of (not_both a b) word =
+    let first = setter_of a in
+    let second = setter_of b in
+    then_some (any_flag word (flags_of first) && any_flag word (flags_of second)) (causes.BothSet first second) ∷ []
+causes_of (position_allowed part) word =
+    then_some (lacks_position (map (raw word).flag (separator_flags part))) (causes.NeedsPosition part) ∷ []
+causes_of reserved_zero word = reserved_cause word ∷ []
+
+-- `followers r rule` has the rules that `r` also breaks if it breaks `rule`: those of absent exponent bytes.
+abbrev pub followers : Record → Option Rule → Option Rule × Option Rule
+followers r (Some rules.MantissaRadixInRange) = (
+  then_some (r.byte layout.exponent_base == 0) rules.ExponentBaseInRange,
+  then_some (r.byte layout.exponent_radix == 0) rules.ExponentRadixInRange,
+)
+followers r _ = (None, None)
+
+-- `reason_of r rule cause` is the reason why `r` breaks `rule` for `cause`, or why options do not fit if `rule` is `None`.
+abbrev pub reason_of : Record → Option Rule → Cause → Reason
+reason_of r rule cause = record { rule = rule; followers = followers r rule; cause = cause }
+
+-- `slot r rule cause` is the reason for `cause`, if there is a cause.
+abbrev pub slot : Record → Option Rule → Option Cause → Option Reason
+slot r rule cause = option_map (reason_of r rule) cause
+
+-- `slots word rule` lists the reasons why `word` breaks `rule`, each in its slot.
+abbrev pub slots : ℕ → Rule → List (Option Reason)
+slots word rule = map (slot (raw word) (Some rule)) (causes_of (shape_of rule) word)
+
+-- `reason_slots word` lists all reasons why `word` breaks rules, in the order of the rules, each in its slot.
+abbrev pub reason_slots : ℕ → List (Option Reason)
+reason_slots word = flat_map (slots word) rules_in_order
+
+-- `options_causes word exponent_byte point_byte` lists the causes for which these options do not fit `word`.
+abbrev pub options_causes : ℕ → ℕ → ℕ → List (Option Cause)
+options_causes word exponent_byte point_byte =
+    byte_cause (raw word) (named (raw word) exponent_byte point_byte bytes.ExponentCharacter)
+    ∷ byte_cause (raw word) (named (raw word) exponent_byte point_byte bytes.DecimalPoint)
+    ∷ map (clash (raw word) exponent_byte point_byte) options_pairs
+
+-- `options_slots word exponent_byte point_byte` lists the reasons why these options do not fit `word`, each in its slot.
+abbrev pub options_slots : ℕ → ℕ → ℕ → List (Option Reason)
+options_slots word exponent_byte point_byte =
+    map (slot (raw word) None) (options_causes word exponent_byte point_byte)
+
+-- `EachReason P slots` holds if `P` holds for each reason in `slots`.
+abbrev pub EachReason : (Reason → Type 0) → List (Option Reason) → Type 0
+EachReason P slots = AllByRecursion (λ slot. IfSome slot P) slots
+
+-- `NoReason slots` holds if no slot has a reason.
+abbrev pub NoReason : List (Option Reason) → Type 0
+NoReason slots = AllByRecursion (λ slot. slot ≡ None) slots

@@ -7,12 +7,14 @@ ghost use Rattle.lexical_flags.specs.Record.{raw};
 ghost use Rattle.lexical_builder.specs.Writes.{write_flag, write_byte, SameWrites};
 ghost use Rattle.lexical_util.specs.Additions.ByteRoles.{IsOnlyRole};
 ghost use Rattle.lexical_util.specs.Additions.Notes.{set_flags, ReplacesFields, SameRules, SameOtherRules};
-ghost use Rattle.lexical_util.specs.Additions.Reasons.{Blames};
+ghost use Rattle.lexical_util.specs.Additions.Reasons.{Blames, BlamesForOptions, reason_of};
 ghost use Rattle.lexical_util.specs.Listing.{IsEditOf};
 ghost use Rattle.lexical_util.specs.declared.edits.setters.Edit.TheVariants as edits;
 ghost use Rattle.lexical_util.specs.declared.edits.setters.FlagSetter.TheVariants as setters;
 ghost use Rattle.lexical_util.specs.declared.feature_format.roles.Role.TheVariants as roles;
-ghost use Rattle.lexical_util.specs.declared.reasons.Reason.TheVariants as reasons;
+ghost use Rattle.lexical_flags.specs.declared.format_flags.all_rules.Rule.TheVariants as rules;
+ghost use Rattle.lexical_util.specs.declared.reasons.Byte.TheVariants as bytes;
+ghost use Rattle.lexical_util.specs.declared.reasons.Cause.TheVariants as causes;
 
 use lexical_flags::laws as flags;
 
@@ -56,8 +58,11 @@ pub fn note_examples()
 /// Gives examples for `reasons`: a reason that a word has and one that it does not have.
 #[tactic(auto, unfolding(crate::specs::Unfoldable::on_literals))]
 pub fn reason_examples()
-    ensures blames { Blames 0 0 (reasons.MantissaRadixOutOfRange 0 true true) }
-    ensures another_radix { Blames 0 0 (reasons.MantissaRadixOutOfRange 37 true true) → ⊥ }
+    ensures blames { Blames 0 0 (reason_of (raw 0) (Some rules.MantissaRadixInRange) (causes.OutOfRange (record { name = bytes.MantissaRadix; value = 0 }))) }
+    ensures another_radix { Blames 0 0
+        (reason_of (raw 0) (Some rules.MantissaRadixInRange) (causes.OutOfRange (record { name = bytes.MantissaRadix; value = 37 }))) → ⊥ }
+    ensures option { BlamesForOptions 0 43 46 0 (reason_of (raw 0) None (causes.IsSign (record { name = bytes.ExponentCharacter; value = 43 }))) }
+    ensures another_option { BlamesForOptions 0 43 46 0 (reason_of (raw 0) None (causes.IsSign (record { name = bytes.ExponentCharacter; value = 45 }))) → ⊥ }
 {}
 
 /// States that `+` is a sign, and not a digit, in decimal numbers with the exponent character `e` and the decimal point

@@ -1,23 +1,20 @@
 //! Notes on fields that are set but have no effect on any number.
 
-ghost use Rattle.std.specs.Prelude.{◌≡◌, ◌==◌, ◌&&◌, not, if◌then◌else◌, ℕ, false, [], ◌∷◌, map, bit_and};
-ghost use Rattle.std.specs.List.{filter_map, list_any};
+ghost use Rattle.std.specs.Prelude.{◌≡◌, ◌==◌, if◌then◌else◌, ℕ, false, [], ◌∷◌};
 ghost use Rattle.lexical_flags.specs.Layout as layout;
 ghost use Rattle.lexical_flags.specs.Layout.{digit_separator_flags};
 ghost use Rattle.lexical_flags.specs.Record.{pack, raw, separator_allowed, set_byte};
 ghost use Rattle.lexical_flags.specs.Roles.{other_case};
-ghost use Rattle.lexical_util.specs.Additions.Reasons.{if_applicable, mask_of_reason};
-ghost use Rattle.lexical_util.specs.Additions.Notes.{mask_of_note, notes_beside, separator_candidate, case_candidate};
-ghost use Rattle.lexical_util.specs.Additions.Notes.{unblamed, is_blamed};
+ghost use Rattle.lexical_util.specs.Additions.Reasons.{reason_slots};
+ghost use Rattle.lexical_util.specs.Additions.Notes.{mask_of_note, blamed, notes_beside, separator_note, case_note};
+ghost use Rattle.lexical_util.specs.Additions.Notes.{unless_blamed};
 ghost use Rattle.lexical_util.specs.Additions.Notes.{without_separator, set_flags, ReplacesFields, SameRules};
 ghost use Rattle.lexical_util.specs.Additions.Notes.{SameOtherRules};
-ghost use Rattle.lexical_util.specs.Additions.EditMasks.{argument_byte};
 ghost use Rattle.lexical_util.specs.NormalForm.{normal_form_of};
 
-use crate::edits::{Edit, FlagSetter, mask_of};
-use crate::feature_format::NumberFormat;
-use crate::reasons::{Reason, prefix_edit, reasons, suffix_edit};
-use lexical_builder::format_builder::{NonZeroU8, NumberFormatBuilder};
+use crate::edits::{FlagSetter, mask_of};
+use crate::reasons::{Byte, Characters, NamedByte, Reason, reasons, some_if};
+use lexical_builder::format_builder::NumberFormatBuilder;
 use lexical_flags::format_flags as flags;
 
 /// The maximum number of notes on a format word.
@@ -31,14 +28,14 @@ pub const MAX_NOTES: usize = 3;
 #[non_exhaustive]
 pub enum Note {
     /// The digit separator is set, but no flag allows one. Packing the fields of a builder drops the separator, and the
-    /// normal form has none.
-    SeparatorWithoutFlag(Edit),
+    /// normal form has none. Options still cannot use the same byte.
+    SeparatorWithoutFlag(NamedByte),
     /// One or more flags allow digit separators, but the digit separator is absent.
     FlagsWithoutSeparator,
     /// A case-sensitivity flag is set, but the base prefix or base suffix to which it applies is absent.
-    CaseFlagWithoutByte(FlagSetter, Edit),
+    CaseFlagWithoutByte(FlagSetter, Byte),
     /// A case-sensitivity flag is set, but the base prefix or base suffix to which it applies is not a letter.
-    CaseFlagOfNonLetter(FlagSetter, Edit),
+    CaseFlagOfNonLetter(FlagSetter, NamedByte),
 }
 
 impl Note {
@@ -48,13 +45,11 @@ impl Note {
         ensures { result ≡ mask_of_note self.now }
     {
         match self {
-            Note::SeparatorWithoutFlag(edit) => flags::DIGIT_SEPARATOR_FLAG_MASK | edit.mask(),
-            Note::FlagsWithoutSeparator => {
+            Note::SeparatorWithoutFlag(_) | Note::FlagsWithoutSeparator => {
                 flags::DIGIT_SEPARATOR_FLAG_MASK | flags::DIGIT_SEPARATOR
             }
-            Note::CaseFlagWithoutByte(flag, edit) | Note::CaseFlagOfNonLetter(flag, edit) => {
-                mask_of(*flag) as u128 | edit.mask()
-            }
+            Note::CaseFlagWithoutByte(flag, byte) => mask_of(*flag) as u128 | byte.mask(),
+            Note::CaseFlagOfNonLetter(flag, byte) => mask_of(*flag) as u128 | byte.name.mask(),
         }
     }
 }
@@ -64,7 +59,7 @@ impl Note {
 /// A note is not an error, so a lawful word may have notes. A field that a reason [blames][Reason] has no note.
 #[must_use]
 pub const fn notes(format: u128) -> [Option<Note>; MAX_NOTES]
-    ensures each { result ≡ map if_applicable (notes_beside format (raw format)) }
+    ensures each { result ≡ notes_beside (blamed (reason_slots format)) (raw format) }
 
     // If no flag allows a digit separator, then the word without its separator has the same normal form.
     ensures separator { separator_allowed (raw format) ≡ false → (other : ℕ)
@@ -87,7 +82,19 @@ pub const fn notes(format: u128) -> [Option<Note>; MAX_NOTES]
         → ReplacesFields (set_flags (raw format) (layout.case_sensitive_base_suffix ∷ []) false) format other
         → SameRules format other }
 {
-    notes_beside(format, flags::digit_separator(format))
+    notes_beside_reasons(format, &reasons(format))
+}
+
+/// Returns the notes on a format word for which [`reasons`] returns `reasons`, as [`notes`] does.
+#[must_use]
+#[doc(hidden)]
+pub const fn notes_beside_reasons(
+    format: u128,
+    reasons: &[Option<Reason>],
+) -> [Option<Note>; MAX_NOTES]
+    ensures { result ≡ notes_beside (blamed reasons.now) (raw format) }
+{
+    notes_beside(blamed(reasons), format, flags::digit_separator(format))
 }
 
 /// Returns the notes on the fields of a builder, as [`notes`] does for a format word.
@@ -95,73 +102,69 @@ pub const fn notes(format: u128) -> [Option<Note>; MAX_NOTES]
 /// A digit separator that no flag allows has a note, although the builder does not pack it.
 #[must_use]
 pub const fn notes_of_fields(builder: &NumberFormatBuilder) -> [Option<Note>; MAX_NOTES]
-    ensures { result ≡ map if_applicable (notes_beside (pack builder.now) builder.now) }
+    ensures { result ≡ notes_beside (blamed (reason_slots (pack builder.now))) builder.now }
 {
     let separator = match builder.get_digit_separator() {
         Some(byte) => byte.get(),
         None => 0,
     };
-    notes_beside(builder.build_unchecked(), separator)
+    let format = builder.build_unchecked();
+    notes_beside(blamed(&reasons(format)), format, separator)
 }
 
-// Returns the notes on a word in which the digit separator is replaced by `separator`.
-const fn notes_beside(format: u128, separator: u8) -> [Option<Note>; MAX_NOTES]
-    ensures { result
-        ≡ map if_applicable (notes_beside format (set_byte (raw format) layout.digit_separator separator)) }
+// Returns the notes on a word in which the digit separator is replaced by `separator`, except those on `blamed` bits.
+const fn notes_beside(blamed: u128, format: u128, separator: u8) -> [Option<Note>; MAX_NOTES]
+    ensures { result ≡ notes_beside blamed (set_byte (raw format) layout.digit_separator separator) }
 {
-    let view = NumberFormat::new(format);
+    let prefix = case_note(
+        format,
+        FlagSetter::CaseSensitiveBasePrefix,
+        Byte::BasePrefix,
+    );
+    let suffix = case_note(
+        format,
+        FlagSetter::CaseSensitiveBaseSuffix,
+        Byte::BaseSuffix,
+    );
     [
-        separator_note(format, separator),
-        case_note(
-            format,
-            view.case_sensitive_base_prefix(),
-            FlagSetter::CaseSensitiveBasePrefix,
-            &prefix_edit(format),
-        ),
-        case_note(
-            format,
-            view.case_sensitive_base_suffix(),
-            FlagSetter::CaseSensitiveBaseSuffix,
-            &suffix_edit(format),
-        ),
+        unless_blamed(blamed, separator_note(format, separator)),
+        unless_blamed(blamed, prefix),
+        unless_blamed(blamed, suffix),
     ]
 }
 
 // Returns the note on a digit separator and its flags, if any.
 const fn separator_note(format: u128, separator: u8) -> Option<Note>
-    ensures { result
-        ≡ if_applicable (unblamed format (separator_candidate (set_byte (raw format) layout.digit_separator separator))) }
+    ensures { result ≡ separator_note (set_byte (raw format) layout.digit_separator separator) }
 {
+    let byte = NamedByte {
+        name: Byte::DigitSeparator,
+        value: separator,
+    };
     if flags::is_separator_allowed(format) {
-        unless_blamed(format, separator == 0, Note::FlagsWithoutSeparator)
+        some_if(separator == 0, Note::FlagsWithoutSeparator)
     } else {
-        let edit = Edit::DigitSeparator(NonZeroU8::new(separator));
-        unless_blamed(format, separator != 0, Note::SeparatorWithoutFlag(edit))
+        some_if(separator != 0, Note::SeparatorWithoutFlag(byte))
     }
 }
 
-// Returns the note on a case flag and the byte of an edit, if any.
-const fn case_note(format: u128, is_set: bool, flag: FlagSetter, edit: &Edit) -> Option<Note>
-    ensures { result ≡ if_applicable (unblamed format (case_candidate is_set (argument_byte edit.now) flag edit.now)) }
+// Returns the note on the case flag of a byte, if any.
+#[inline(always)]
+const fn case_note(format: u128, flag: FlagSetter, byte: Byte) -> Option<Note>
+    ensures { result ≡ case_note (raw format) flag byte }
 {
-    let byte = edit.argument_byte();
-    if byte == 0 {
-        unless_blamed(format, is_set, Note::CaseFlagWithoutByte(flag, *edit))
+    let word = Characters {
+        format,
+        exponent: 0,
+        point: 0,
+    };
+    let named = word.named(byte);
+    let note = if named.value == 0 {
+        Note::CaseFlagWithoutByte(flag, byte)
     } else {
-        let applies = is_set & has_no_case(byte);
-        unless_blamed(format, applies, Note::CaseFlagOfNonLetter(flag, *edit))
-    }
-}
-
-// Returns a note if it applies and no reason of the word blames its bits.
-const fn unless_blamed(format: u128, applies: bool, note: Note) -> Option<Note>
-    ensures { result ≡ if_applicable (unblamed format (applies, note)) }
-{
-    if applies && !is_blamed(format, note.mask()) {
-        Some(note)
-    } else {
-        None
-    }
+        Note::CaseFlagOfNonLetter(flag, named)
+    };
+    some_if(word.is_cased(byte) & has_no_case(named.value), note)
 }
 
 // Returns whether a byte is the same in both cases.
@@ -171,21 +174,23 @@ const fn has_no_case(byte: u8) -> bool
     !byte.is_ascii_alphabetic()
 }
 
-// Returns whether a reason of the word blames a bit under the mask.
-const fn is_blamed(format: u128, mask: u128) -> bool
-    ensures { result ≡ is_blamed format mask }
+// Returns a note if it describes no blamed bit.
+const fn unless_blamed(blamed: u128, note: Option<Note>) -> Option<Note>
+    ensures { result ≡ unless_blamed blamed note }
 {
-    some_blames(&reasons(format), mask)
+    match note {
+        Some(note) => some_if(blamed & note.mask() == 0, note),
+        None => None,
+    }
 }
 
-// Returns whether one of these reasons blames a bit under the mask.
-const fn some_blames(reasons: &[Option<Reason>], mask: u128) -> bool
-    ensures { result ≡ list_any (λ reason. not (bit_and (mask_of_reason reason) mask == 0)) (filter_map
-        (λ reason. reason) reasons.now) }
+// Returns the mask of the bits that these reasons blame.
+const fn blamed(reasons: &[Option<Reason>]) -> u128
+    ensures { result ≡ blamed reasons.now }
 {
     match reasons {
-        [] => false,
-        [None, rest @ ..] => some_blames(rest, mask),
-        [Some(reason), rest @ ..] => reason.mask() & mask != 0 || some_blames(rest, mask),
+        [] => 0,
+        [None, rest @ ..] => blamed(rest),
+        [Some(reason), rest @ ..] => reason.mask() | blamed(rest),
     }
 }

@@ -65,7 +65,7 @@ const PREFIX_IS_DIGIT: &str = "the base prefix 'b' is a digit in radix 16
     error: lexical number format error: 'invalid base prefix character'
     field: base_prefix=98
     field: mantissa_radix=16
-note: no number can have the digit separator '_': no flag allows one
+note: no flag allows the digit separator '_'
 ";
 
 const TWO_REASONS: &str = "the digit separator '5' is a digit in radix 10
@@ -85,12 +85,12 @@ const THREE_RULES: &str = "the mantissa radix 0 is not between 2 and 36
     field: mantissa_radix=0
 ";
 
-const RESERVED_BIT_EXPLAINED: &str = "reserved bits are set: 0x80000000
+const RESERVED_BIT_EXPLAINED: &str = "reserved bits are set: 0x80000000, which any edit clears
     error: lexical number format error: 'invalid flags enabled without the format feature'
 ";
 
-const TWO_NOTES: &str = "note: case_sensitive_base_prefix changes nothing: there is no base prefix
-note: case_sensitive_base_suffix changes nothing: there is no base suffix
+const TWO_NOTES: &str = "note: case_sensitive_base_prefix is set, but there is no base prefix
+note: case_sensitive_base_suffix is set, but there is no base suffix
 ";
 
 /// Arguments with a space between them, the text that they print, and the exit status.

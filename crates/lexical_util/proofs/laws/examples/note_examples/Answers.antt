@@ -1,10 +1,10 @@
-use Rattle.std.proofs.Common.{◌↔◌, refl, ap, arith}
+use Rattle.std.proofs.Common.{ap, arith}
 use Rattle.std.proofs.lemmas.Bool.{true≢false}
 use Rattle.lexical_flags.specs.declared.format_flags.all_rules.Rule.TheVariants as rules
 use Rattle.lexical_flags.specs.Layout as layout
 use Rattle.lexical_flags.specs.Record.{Record}
 use Rattle.lexical_flags.specs.Rules.{Holds, IsRadix}
-use Rattle.lexical_flags.specs.declared.format_flags.all_rules.Rule.{Rule}
+use Rattle.std.proofs.Common.{refl}
 use Rattle.lexical_util.proofs.laws.examples.note_examples.Goals as goal
 
 pub returns-clause-another_flag : goal.returns-clause-another_flag
@@ -19,19 +19,15 @@ returns-clause-same c = record {
 }
 
 pub returns-clause-same_other : goal.returns-clause-same_other
-returns-clause-same_other c =
-    let kept : (rule : Rule) → Holds rule 12 ↔ Holds rule 12 = λ rule. (λ h. h, λ h. h) in
-    record {
-      rules = (kept _, (kept _, (kept _, (kept _, (kept _, (kept _, (kept _, (kept _, (kept _, (kept _, (kept _, (kept _, tt))))))))))));
-      options = λ e p. (λ h. h, λ h. h);
-    }
+returns-clause-same_other c = record {
+  rules = λ rule apart. (λ h. h, λ h. h);
+  options = λ e p. (λ h. h, λ h. h);
+}
 
 pub returns-clause-other_radix : goal.returns-clause-other_radix
 unfolding Holds
 returns-clause-other_radix c same =
-    let rules_kept = same.rules in
-    let radix_kept = rules_kept.0 in
-    let kept : IsRadix 0 = radix_kept.0 ((omega arith, omega arith)) in
+    let kept : IsRadix 0 = (same.rules rules.MantissaRadixInRange refl).0 ((omega arith, omega arith)) in
     omega (arith, kept.0)
 
 pub returns-clause-other_rules : goal.returns-clause-other_rules

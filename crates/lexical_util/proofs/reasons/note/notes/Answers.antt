@@ -1,8 +1,6 @@
-use Rattle.std.proofs.Common.{◌∙◌, ap, map}
-use Rattle.lexical_flags.specs.Layout as layout
-use Rattle.lexical_flags.specs.Record.{raw, set_byte}
-use Rattle.lexical_util.specs.Additions.Reasons.{if_applicable}
-use Rattle.lexical_util.specs.Additions.Notes.{notes_beside}
+use Rattle.std.proofs.Common.{◌∙◌, ap}
+use Rattle.lexical_flags.specs.Record.{raw}
+use Rattle.lexical_util.specs.Additions.Notes.{blamed, notes_beside}
 use Rattle.lexical_util.proofs.NoteLemmas.{without_prefix_case, without_suffix_case, without_separator_flags, normal_without_separator}
 use Rattle.lexical_util.proofs.reasons.note.notes.Goals as goal
 
@@ -10,8 +8,7 @@ pub returns : goal.returns
 returns c =
     let format = c.args.format in
     record {
-      each = c.notes_beside.ensures
-          ∙ ap (λ byte. map if_applicable (notes_beside format (set_byte (raw format) layout.digit_separator byte))) c.digit_separator.ensures;
+      each = c.notes_beside_reasons.ensures ∙ ap (λ slots. notes_beside (blamed slots) (raw format)) c.reasons.ensures.each;
       separator = λ off other fields. normal_without_separator format other off fields;
       separator_flags = λ none other like. without_separator_flags format other like;
       prefix_case = λ none other like. without_prefix_case format other none like;

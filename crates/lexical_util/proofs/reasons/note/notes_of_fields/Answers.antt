@@ -1,10 +1,10 @@
-use Rattle.std.proofs.Common.{◌≡◌, ◌∙◌, ap, map, sym}
+use Rattle.std.proofs.Common.{◌≡◌, ◌∙◌, ap, sym}
 use Rattle.lexical_builder.specs.OptionByte.{byte_of_option}
 use Rattle.lexical_builder.proofs.OptionByteLemmas.{byte_of_option_back}
 use Rattle.lexical_flags.specs.Layout as layout
 use Rattle.lexical_flags.specs.Record.{Record, trim, set_byte}
-use Rattle.lexical_util.specs.Additions.Reasons.{if_applicable}
-use Rattle.lexical_util.specs.Additions.Notes.{notes_beside}
+use Rattle.lexical_util.specs.Additions.Reasons.{reason_slots}
+use Rattle.lexical_util.specs.Additions.Notes.{blamed, notes_beside}
 use Rattle.lexical_util.proofs.reasons.note.notes_of_fields.Goals as goal
 use Rattle.lexical_util.proofs.reasons.note.notes_of_fields.Goals.{in-Some, in-None}
 
@@ -18,8 +18,9 @@ returns c =
           ∙ ap byte_of_option (sym w.in-Some.is ∙ c.get_digit_separator.ensures) ∙ byte_of_option_back _
       | in-None w ↦ w.separator-is ∙ ap byte_of_option (sym w.in-None.is ∙ c.get_digit_separator.ensures) ∙ byte_of_option_back _
     ] in
-    let word = c.build_unchecked.result in
+    let mask = c.blamed.result in
     c.notes_beside.ensures
-    ∙ ap (λ (r : Record). map if_applicable (notes_beside word (set_byte r layout.digit_separator separator))) c.build_unchecked.ensures.fields
-    ∙ ap (λ byte. map if_applicable (notes_beside word (set_byte (trim c.args.builder.now) layout.digit_separator byte))) same
-    ∙ ap (λ w. map if_applicable (notes_beside w c.args.builder.now)) c.build_unchecked.ensures.word
+    ∙ ap (λ (r : Record). notes_beside mask (set_byte r layout.digit_separator separator)) c.build_unchecked-format.ensures.fields
+    ∙ ap (λ byte. notes_beside mask (set_byte (trim c.args.builder.now) layout.digit_separator byte)) same
+    ∙ ap (λ m. notes_beside m c.args.builder.now) (c.blamed.ensures ∙ ap blamed c.reasons.ensures.each
+    ∙ ap (λ w. blamed (reason_slots w)) c.build_unchecked-format.ensures.word)
