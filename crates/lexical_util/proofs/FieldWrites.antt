@@ -1,5 +1,5 @@
 -- Lemmas that the field writes of a record give this record, and that only the writes that change the start are needed.
-use Rattle.std.proofs.Common.{◌≡◌, Bool, true, false, not, if◌then◌else◌, eq-eqb, arith}
+use Rattle.std.proofs.Common.{◌≡◌, Bool, true, false, not, if◌then◌else◌, arith}
 use Rattle.std.proofs.Common.{List, [], ◌∷◌, map, Option, Some, None, unwrap_or, filter, filter_map, refl, sym, ap}
 use Rattle.std.proofs.Common.{◌∙◌, All}
 use Rattle.std.specs.List.{cons_option, last_or}
