@@ -121,7 +121,7 @@ pub const fn is_valid_radix(radix: u32) -> bool {
 
 // Returns whether an exponent byte, or the mantissa radix if the byte is 0, is between 2 and 36. Both are read before
 // one of them is chosen, so that the compiler needs no branch.
-#[inline(always)]
+#[inline]
 const fn is_valid_own_radix(own: u8, mantissa_radix: u32) -> bool {
     is_valid_radix(if own == 0 { mantissa_radix } else { own as u32 })
 }
@@ -366,7 +366,7 @@ const fn first_broken_punctuation(format: u128) -> Error {
 // Returns whether no flag rule is broken. All flag rules are tested at once: `excluded` has the flags that may not be
 // set, since the flag 1, 8 or 34 bits above them is set, and `positions` has the lowest bit of each part in which a
 // separator is allowed between, before or after digits. The flag that allows consecutive separators is 9 bits above.
-#[inline(always)]
+#[inline]
 const fn flags_agree(format: u128) -> bool {
     let excluded = format >> 1
         & (NO_POSITIVE_MANTISSA_SIGN | NO_POSITIVE_EXPONENT_SIGN | NO_SPECIAL)
