@@ -210,9 +210,6 @@ const RESERVED_MASK: u128 = !(FLAG_MASK | DIGIT_SEPARATOR | !0 << BASE_PREFIX_SH
 
 // EXTRACTORS
 
-// `exponent_base` and `exponent_radix` read their byte and the mantissa radix before they choose one of them, so that
-// the compiler needs no branch.
-
 /// Returns the digit separator of `format`, or 0 if it is absent. The result does not depend on whether a flag
 /// allows a digit separator.
 #[must_use]
@@ -249,9 +246,8 @@ pub const fn mantissa_radix(format: u128) -> u32 {
 #[inline(always)]
 pub const fn exponent_base(format: u128) -> u32 {
     let base = ((format & EXPONENT_BASE) >> EXPONENT_BASE_SHIFT) as u32;
-    let radix = mantissa_radix(format);
     if base == 0 {
-        radix
+        mantissa_radix(format)
     } else {
         base
     }
@@ -263,9 +259,8 @@ pub const fn exponent_base(format: u128) -> u32 {
 #[inline(always)]
 pub const fn exponent_radix(format: u128) -> u32 {
     let radix = ((format & EXPONENT_RADIX) >> EXPONENT_RADIX_SHIFT) as u32;
-    let mantissa_radix = mantissa_radix(format);
     if radix == 0 {
-        mantissa_radix
+        mantissa_radix(format)
     } else {
         radix
     }

@@ -55,21 +55,21 @@ fn read_word(text: &[u8]) -> Option<u128> {
 
 // Returns the index of the first byte that does not fit the text of a word, or the length if all bytes fit.
 fn first_misfit(text: &[u8]) -> usize {
-    for (index, byte) in text.iter().enumerate() {
-        if !byte_fits(index, *byte) {
+    match text {
+        [b'0', b'x', digits @ ..] => 2 + leading_digits(digits).min(32),
+        [b'0', ..] => 1,
+        _ => 0,
+    }
+}
+
+// Returns the number of hexadecimal digits before the first byte that is not one.
+fn leading_digits(digits: &[u8]) -> usize {
+    for (index, byte) in digits.iter().enumerate() {
+        if !char_is_digit(*byte, 16) {
             return index;
         }
     }
-    text.len()
-}
-
-// Returns whether the text of a word can have `byte` at `index`.
-fn byte_fits(index: usize, byte: u8) -> bool {
-    match index {
-        0 => byte == b'0',
-        1 => byte == b'x',
-        _ => index < 34 && char_is_digit(byte, 16),
-    }
+    digits.len()
 }
 
 // Returns the error of a text in which the first byte that does not fit is at `index`, or that ends there.

@@ -33,13 +33,14 @@ cased-cases counts own byte inside = grind (arith, nat_tests)
 other_case-twice : (byte : ℕ) → other_case (other_case byte) ≡ byte
 other_case-twice byte = grind (arith, nat_tests)
 
--- If two bytes differ and are not the two cases of a letter, or if the first is absent, then their roles are disjoint.
-pub differ_apart : (a_counts : Bool) (a : ℕ) (b_counts : Bool) (b : ℕ) → (a ≢ 0 → (a ≢ b) × (b ≢ other_case a))
+-- If two bytes differ and are not the two cases of a letter, or if one is absent, then their roles are disjoint.
+present_apart : (a_counts : Bool) (a : ℕ) (b_counts : Bool) (b : ℕ)
+    → (a ≢ 0 → b ≢ 0 → (a ≢ b) × (b ≢ other_case a))
     → Disjoint (cased a_counts a) (cased b_counts b)
-differ_apart a_counts a b_counts b differ = Disjoint-from _ _ (λ byte below is_a is_b.
+present_apart a_counts a b_counts b differ = Disjoint-from _ _ (λ byte below is_a is_b.
     let of_a = cased-cases a_counts a byte is_a in
     let of_b = cased-cases b_counts b byte is_b in
-    let apart = differ of_a.0 in
+    let apart = differ of_a.0 of_b.0 in
     elim of_a.1 [
       | inl a_same ↦ elim of_b.1 [
         | inl b_same ↦ apart.0 (sym a_same ∙ b_same)
@@ -51,6 +52,10 @@ differ_apart a_counts a b_counts b differ = Disjoint-from _ _ (λ byte below is_
       ]
     ])
 
+pub differ_apart : (a_counts : Bool) (a : ℕ) (b_counts : Bool) (b : ℕ) → (a ≢ 0 → (a ≢ b) × (b ≢ other_case a))
+    → Disjoint (cased a_counts a) (cased b_counts b)
+differ_apart a_counts a b_counts b differ = present_apart a_counts a b_counts b (λ some _. differ some)
+
 -- The two cases of a letter agree in all bits except 0x20.
 other_case-bits : (byte : ℕ) → byte < 256 → bit_or (other_case byte) 32 ≡ bit_or byte 32
 other_case-bits byte below =
@@ -58,8 +63,8 @@ other_case-bits byte below =
 
 -- If two bytes differ in a bit other than 0x20, then their roles are disjoint.
 pub other_bits_apart : (a_counts : Bool) (a : ℕ) (b_counts : Bool) (b : ℕ) → a < 256
-    → (a ≢ 0 → bit_or a 32 ≢ bit_or b 32) → Disjoint (cased a_counts a) (cased b_counts b)
-other_bits_apart a_counts a b_counts b below differ = differ_apart a_counts a b_counts b (λ some. (
+    → (b ≢ 0 → bit_or a 32 ≢ bit_or b 32) → Disjoint (cased a_counts a) (cased b_counts b)
+other_bits_apart a_counts a b_counts b below differ = present_apart a_counts a b_counts b (λ _ some. (
   λ same. differ some (ap (λ n. bit_or n 32) same),
   λ other. differ some (sym (ap (λ n. bit_or n 32) other ∙ other_case-bits a below)),
 ))
@@ -73,7 +78,7 @@ same_clash a_counts a b_counts below some apart =
 
 -- If two bytes cannot clash, then their roles are disjoint, whether they are case-sensitive or not.
 far_apart : (a_counts : Bool) (a : ℕ) (b_counts : Bool) (b : ℕ) {near : Bool} → a < 256
-    → (IsTrue near ↔ ((a ≢ 0) × (bit_or a 32 ≡ bit_or b 32))) → near ≡ false
+    → (IsTrue near ↔ ((b ≢ 0) × (bit_or a 32 ≡ bit_or b 32))) → near ≡ false
     → Disjoint (cased a_counts a) (cased b_counts b)
 far_apart a_counts a b_counts b below told far =
     other_bits_apart a_counts a b_counts b below (λ some same. false≢true (sym far ∙ told.1 (some, same)))
@@ -82,9 +87,9 @@ far_apart a_counts a b_counts b below told far =
 pub own_roles_apart : (r : Record) {a b c : ℕ} {ab ac bc : Bool}
     → a ≡ r.byte layout.digit_separator → b ≡ r.byte layout.base_prefix → c ≡ r.byte layout.base_suffix
     → r.byte layout.digit_separator < 256 → r.byte layout.base_prefix < 256
-    → (IsTrue ab ↔ ((a ≢ 0) × (bit_or a 32 ≡ bit_or b 32)))
-    → (IsTrue ac ↔ ((a ≢ 0) × (bit_or a 32 ≡ bit_or c 32)))
-    → (IsTrue bc ↔ ((b ≢ 0) × (bit_or b 32 ≡ bit_or c 32)))
+    → (IsTrue ab ↔ ((b ≢ 0) × (bit_or a 32 ≡ bit_or b 32)))
+    → (IsTrue ac ↔ ((c ≢ 0) × (bit_or a 32 ≡ bit_or c 32)))
+    → (IsTrue bc ↔ ((c ≢ 0) × (bit_or b 32 ≡ bit_or c 32)))
     → ((ab || ac) || bc) ≡ false → AreDisjoint (format_roles r)
 own_roles_apart r {a} {b} {c} {ab} {ac} {bc} a_is b_is c_is a_fits b_fits ab_told ac_told bc_told none =
     let prefix = r.flag layout.case_sensitive_base_prefix in

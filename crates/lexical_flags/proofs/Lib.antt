@@ -14,3 +14,4 @@ mod PunctuationBytes
 pub mod RoleLemmas
 mod OptionLemmas
 pub mod ReservedBits
+mod AgreeLemmas

@@ -9,7 +9,7 @@ use Rattle.lexical_base.specs.Ascii.{allowed_ascii}
 use Rattle.lexical_base.specs.Digits.{byte_value}
 use Rattle.lexical_base.proofs.ValueLemmas.{byte_value-cases}
 use Rattle.lexical_flags.specs.Layout as layout
-use Rattle.lexical_flags.specs.Record.{Record, raw, effective_exponent_radix}
+use Rattle.lexical_flags.specs.Record.{Record, raw}
 use Rattle.lexical_flags.specs.Roles.{signs}
 use Rattle.lexical_flags.specs.Rules.{IsAbsentOrPunctuation, IsPunctuation}
 use Rattle.lexical_flags.specs.declared.format_flags.rules.TheConstants.{LIMITS}
@@ -29,7 +29,7 @@ limit_entry byte below = eqb-true _ _ (agree_below_at (λ b. slice_index_or LIMI
 
 -- A byte is absent or punctuation if and only if the larger radix is below its limit.
 pub free_below_limit : (word byte : ℕ) → byte < 256 → let r : Record = raw word in
-    IsTrue (nat_lt (max (r.byte layout.mantissa_radix) (effective_exponent_radix r)) (slice_index_or LIMITS byte 0)) ↔ IsAbsentOrPunctuation r byte
+    IsTrue (nat_lt (max (r.byte layout.mantissa_radix) (r.byte layout.exponent_radix)) (slice_index_or LIMITS byte 0)) ↔ IsAbsentOrPunctuation r byte
 unfolding IsPunctuation limit
 free_below_limit word byte fits =
     let entry : slice_index_or LIMITS byte 0 ≡ limit byte = limit_entry byte fits in

@@ -215,9 +215,6 @@ const RESERVED_MASK: u128 = !(FLAG_MASK | DIGIT_SEPARATOR | !0 << BASE_PREFIX_SH
 
 // EXTRACTORS
 
-// `exponent_base` and `exponent_radix` read their byte and the mantissa radix before they choose one of them, so that
-// the compiler needs no branch.
-
 /// Returns the digit separator of `format`, or 0 if it is absent. The result does not depend on whether a flag
 /// allows a digit separator.
 #[must_use]
@@ -266,8 +263,11 @@ pub const fn exponent_base(format: u128) -> u32
     ensures lawful { Lawful format → IsRadix result }
 {
     let base = ((format & EXPONENT_BASE) >> EXPONENT_BASE_SHIFT) as u32;
-    let radix = mantissa_radix(format);
-    if base == 0 { radix } else { base }
+    if base == 0 {
+        mantissa_radix(format)
+    } else {
+        base
+    }
 }
 
 /// Returns the exponent radix of `format`, or the mantissa radix if the exponent radix is 0. If `format` is
@@ -279,8 +279,11 @@ pub const fn exponent_radix(format: u128) -> u32
     ensures lawful { Lawful format → IsRadix result }
 {
     let radix = ((format & EXPONENT_RADIX) >> EXPONENT_RADIX_SHIFT) as u32;
-    let mantissa_radix = mantissa_radix(format);
-    if radix == 0 { mantissa_radix } else { radix }
+    if radix == 0 {
+        mantissa_radix(format)
+    } else {
+        radix
+    }
 }
 
 /// Returns the exponent base that `format` stores, or 0 if it is absent.

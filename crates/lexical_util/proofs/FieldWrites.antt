@@ -1,5 +1,5 @@
 -- Lemmas that the field writes of a record give this record, and that only the writes that change the start are needed.
-use Rattle.std.proofs.Common.{◌≡◌, Bool, true, false, not, if◌then◌else◌, eq-eqb, arith}
+use Rattle.std.proofs.Common.{◌≡◌, Bool, true, false, not, if◌then◌else◌, arith}
 use Rattle.std.proofs.Common.{List, [], ◌∷◌, map, Option, Some, None, unwrap_or, filter, filter_map, refl, sym, ap}
 use Rattle.std.proofs.Common.{◌∙◌, All}
 use Rattle.std.specs.List.{cons_option, last_or}
@@ -12,7 +12,7 @@ use Rattle.lexical_flags.specs.Record.{Record, HasBytes}
 use Rattle.lexical_flags.proofs.RecordLemmas.{record_same}
 use Rattle.lexical_builder.specs.Writes.{Write, write_flag, write_byte, IsLegal, flag_written, byte_written, after}
 use Rattle.lexical_builder.specs.Writes.{changes}
-use Rattle.lexical_builder.proofs.WriteLemmas.{left_by, left_by-cons}
+use Rattle.lexical_builder.proofs.WriteLemmas.{left_by}
 use Rattle.lexical_util.specs.Listing.{field_writes}
 
 -- Writing all fields of `r` into any record gives `r`.
@@ -29,7 +29,7 @@ after-field_writes s r =
       on_byte _ = refl
 
 -- If `P` holds for the write of each flag and each byte, then it holds for all field writes of a record.
-All-field_writes : (P : Write → Type 0) (r : Record) → ((f : Flag) → P (write_flag f (r.flag f)))
+pub All-field_writes : (P : Write → Type 0) (r : Record) → ((f : Flag) → P (write_flag f (r.flag f)))
     → ((b : Byte) → P (write_byte b (r.byte b))) → All P (field_writes r)
 All-field_writes P r on_flag on_byte =
     All-append P (map (λ f. write_flag f (r.flag f)) flags) (map (λ b. write_byte b (r.byte b)) bytes)
@@ -39,29 +39,6 @@ All-field_writes P r on_flag on_byte =
 -- If the bytes of a record fit, then its field writes are legal.
 pub legal-field_writes : (r : Record) → HasBytes r → All IsLegal (field_writes r)
 legal-field_writes r h = All-field_writes IsLegal r (λ f. tt) h.each
-
--- `Leaves r x` holds if the write `x` does not change `r`.
-abbrev pub Leaves : Record → Write → Type 0
-Leaves r x = changes r x ≡ false
-
--- Writing a field of a record into the same record changes nothing.
-pub Leaves-field_writes : (r : Record) → All (Leaves r) (field_writes r)
-Leaves-field_writes r =
-    All-field_writes (Leaves r) r (λ f. no_change (r.flag f)) (λ b. ap not (eq-eqb _ _ refl)) where
-      no_change : (v : Bool) → not (beq v v) ≡ false
-      no_change true = refl
-      no_change false = refl
-
--- After one write, a field has the written value, or its old value if it is not written.
-pub flag_after : (r : Record) (x : Write) (f : Flag)
-    → (after r (x ∷ [])).flag f ≡ unwrap_or (flag_written x f) (r.flag f)
-unfolding after
-flag_after r x f = left_by-cons (λ y. flag_written y f) x [] (r.flag f)
-
-pub byte_after : (r : Record) (x : Write) (b : Byte)
-    → (after r (x ∷ [])).byte b ≡ unwrap_or (byte_written x b) (r.byte b)
-unfolding after
-byte_after r x b = left_by-cons (λ y. byte_written y b) x [] (r.byte b)
 
 -- `only t o` is the option `o` if `t` is true, and `None` otherwise.
 abbrev only : {T : Type 0} → Bool → Option T → Option T

@@ -1,23 +1,13 @@
--- Lemmas on the words that a builder can pack, and on the least number of writes that build one.
-use Rattle.std.proofs.Common.{◌≡◌, ℕ, ◌<◌, ◌≤◌, ◌^◌, ◌↔◌, ◌⊎◌, inl, inr, Bool, true, false, if◌then◌else◌, IsTrue}
-use Rattle.std.proofs.Common.{length, List, refl, sym, ap, ◌∙◌, subst, All, le_trans}
+-- Lemmas on the words that a builder can pack.
+use Rattle.std.proofs.Common.{◌≡◌, ℕ, ◌<◌, ◌^◌, ◌↔◌, ◌⊎◌, inl, inr, Bool, true, false, if◌then◌else◌, IsTrue}
+use Rattle.std.proofs.Common.{refl, sym, ap, ◌∙◌, subst}
 use Rattle.lexical_flags.specs.Layout as layout
-use Rattle.lexical_flags.specs.Record.{Record, raw, trim, pack, separator_allowed, HasBytes, IsBuilt}
+use Rattle.lexical_flags.specs.Record.{Record, raw, pack, separator_allowed, HasBytes, IsBuilt}
 use Rattle.lexical_flags.proofs.Packing.{raw-pack, pack-clean, pack-raw, HasBytes-raw}
-use Rattle.lexical_builder.specs.Writes.{Write, IsLegal, new_record, after}
+use Rattle.lexical_builder.specs.Writes.{new_record, after}
 use Rattle.lexical_builder.proofs.WriteLemmas.{HasBytes-after, HasBytes-new}
-use Rattle.lexical_util.proofs.Distance.{distance, distance-after, distance-trim}
 use Rattle.lexical_util.proofs.FieldWrites.{after-field_writes, legal-field_writes}
 use Rattle.lexical_util.specs.Listing.{field_writes, IsBuiltByWrites}
-
--- A list of legal writes that builds a word has at least as many writes as fields of the word differ from a new record.
-pub fewest_writes : (w : ℕ) (L : List Write) → All IsLegal L → pack (after new_record L) ≡ w
-    → distance new_record (raw w) ≤ length L
-fewest_writes w L legal makes =
-    let fields : raw w ≡ trim (after new_record L) = ap raw (sym makes)
-    ∙ raw-pack (after new_record L) (HasBytes-after new_record L HasBytes-new legal) in
-    subst (λ (R : Record). distance new_record R ≤ length L) (sym fields)
-    (le_trans (distance-trim (after new_record L)) (distance-after new_record L))
 
 used_or_none : (on : Bool) (n : ℕ) → IsTrue on ⊎ ((if on then n else 0) ≡ 0)
 used_or_none true n = inl refl

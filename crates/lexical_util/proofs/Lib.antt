@@ -5,7 +5,7 @@ mod ByteRoleLemmas
 pub mod ListingLemmas
 mod ChangeLemmas
 mod ImageLemmas
-mod Distance
+mod Fewest
 mod FieldWrites
 pub mod ReasonLemmas
 mod NoteLemmas

@@ -1,9 +1,9 @@
 -- Lemmas that the edits of all fields of a record give it from a new builder, and that only the needed edits suffice.
-use Rattle.std.proofs.Common.{◌≡◌, Bool, true, false, not, cond, List, [], ◌∷◌, ◌++◌, map, length, filter, refl, sym}
+use Rattle.std.proofs.Common.{◌≡◌, Bool, true, false, not, cond, List, [], ◌∷◌, ◌++◌, map, filter, refl, sym}
 use Rattle.std.proofs.Common.{ap, ◌∙◌, subst, All}
 use Rattle.std.specs.List.{list_any, AllZip}
 use Rattle.std.proofs.Math.Bool.{or-false}
-use Rattle.std.proofs.lemmas.List.{length-map, map-append}
+use Rattle.std.proofs.lemmas.List.{map-append}
 use Rattle.std.proofs.lemmas.List.Concat.{flat_map-append}
 use Rattle.std.proofs.lemmas.List.Elements.{All-append, All-filter}
 use Rattle.lexical_flags.specs.Layout as layout
@@ -12,7 +12,6 @@ use Rattle.lexical_flags.specs.Record.{Record, HasBytes}
 use Rattle.lexical_builder.specs.Writes.{Write, write_flag, write_byte, IsLegal, new_record, after, changes}
 use Rattle.lexical_builder.proofs.OptionByteLemmas.{byte_of_option_back}
 use Rattle.lexical_builder.proofs.WriteLemmas.{after-append}
-use Rattle.lexical_util.proofs.Distance.{distance, distance-is}
 use Rattle.lexical_util.proofs.FieldWrites.{legal-field_writes, after-own}
 use Rattle.lexical_util.proofs.FieldWrites.{after-changes}
 use Rattle.lexical_util.specs.Edits.{flags_of, writes_of, all_writes}
@@ -76,10 +75,6 @@ legal-both R h =
     subst (All IsLegal) (sym (all_writes-both R)) (All-append IsLegal (needed_writes R) (other_writes R)
     (All-filter (changes new_record) IsLegal (field_writes R) legal)
     (All-filter (λ x. not (changes new_record x)) IsLegal (field_writes R) legal))
-
--- The number of needed edits is the number of fields in which the record differs from a new record.
-pub length-needed : (R : Record) → length (needed_edits R) ≡ distance new_record R
-length-needed R = length-map (needed_writes R) edit_of_write ∙ distance-is new_record R
 
 -- Each flag setter writes only its flag. Each case is computed.
 pub setter_alone : (f : Flag) → flags_of (setter_of f) ≡ f ∷ []

@@ -1,10 +1,10 @@
 -- Lemmas on the fields that notes describe: clearing them leaves the normal form, or rules and options, the same.
-use Rattle.std.proofs.Common.{ℕ, ◌≡◌, ◌≢◌, ◌↔◌, ◌==◌, if◌then◌else◌, ◌&&◌, Bool, true, false, []}
+use Rattle.std.proofs.Common.{ℕ, ◌≡◌, ◌↔◌, Bool, true, false, []}
 use Rattle.std.proofs.Common.{◌∷◌, refl, sym, subst, ap, ◌∙◌, arith, bit_and}
 use Rattle.lexical_flags.specs.Layout as layout
 use Rattle.lexical_flags.specs.Layout.{digit_separator_flags}
 use Rattle.std.specs.List.{AllByRecursion}
-use Rattle.std.proofs.lemmas.Bool.{cond-false, eqb-true}
+use Rattle.std.proofs.lemmas.Bool.{cond-false}
 use Rattle.std.proofs.lemmas.Bool.Decides.{nat_tests}
 use Rattle.lexical_flags.specs.Record.{Record, set_byte, raw, fill, pack, word_of, separator_allowed}
 use Rattle.lexical_flags.specs.Roles.{Disjoint, AreDisjoint, cased, other_case, separator, prefix, suffix, exponent}

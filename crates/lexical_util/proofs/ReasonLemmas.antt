@@ -17,17 +17,15 @@ use Rattle.lexical_base.specs.Digits.{digits_of}
 use Rattle.lexical_flags.specs.Layout as layout
 use Rattle.lexical_flags.specs.Layout.{Flag, bit, IsClean}
 use Rattle.lexical_flags.specs.Record.{Record, raw, effective}
-use Rattle.lexical_flags.specs.Roles.{cased, digits, signs, Disjoint, AreDisjoint, format_roles, other_case}
+use Rattle.lexical_flags.specs.Roles.{cased, digits, signs, Disjoint, other_case}
 use Rattle.lexical_flags.specs.Rules.{IsRadix, IsAbsentOrPunctuation, IsPunctuation, Holds, Lawful, rules_in_order, Shape}
 use Rattle.lexical_flags.specs.Rules.{radix_in_range, absent_or_punctuation, roles_differ, not_both, position_allowed}
-use Rattle.lexical_flags.specs.Rules.{reserved_zero, shape_of, Meets, lacks_position}
+use Rattle.lexical_flags.specs.Rules.{reserved_zero, shape_of, Meets, lacks_position, separator_flags}
 use Rattle.lexical_flags.specs.Options.{OptionsFit}
 use Rattle.lexical_flags.specs.Additions.Masks.{reserved_mask}
 use Rattle.lexical_flags.specs.contracts.format_flags.all_rules.Rule.{the_type}
 use Rattle.lexical_flags.specs.declared.format_flags.all_rules.Rule.{Rule}
-use Rattle.lexical_flags.specs.declared.format_flags.parts.Part.TheVariants as parts
 use Rattle.lexical_flags.specs.declared.format_flags.all_rules.Rule.TheVariants as rules
-use Rattle.lexical_flags.proofs.Masks.{ascends}
 use Rattle.lexical_flags.proofs.RuleFieldLemmas.{byte}
 use Rattle.lexical_flags.proofs.CaseLemmas.{cases_apart, differ_apart, same_clash}
 use Rattle.lexical_flags.proofs.ReservedBits.{reserved_bits}
@@ -43,9 +41,9 @@ use Rattle.lexical_util.specs.declared.reasons.NamedByte.{NamedByte}
 use Rattle.lexical_util.specs.declared.reasons.Cause.{Cause}
 use Rattle.lexical_util.specs.declared.reasons.Cause.TheVariants as causes
 use Rattle.lexical_util.specs.declared.reasons.Reason.{Reason}
-use Rattle.lexical_util.specs.Additions.Reasons.{value_of, named, mask_of_byte, byte_of, case_flag, is_cased, unset_flag, Claim}
+use Rattle.lexical_util.specs.Additions.Reasons.{value_of, named, mask_of_byte, byte_of, is_cased, unset_flag, Claim}
 use Rattle.lexical_util.specs.Additions.Reasons.{has_value, has_flag, has_bits, Has, unset, only_last, mask_of_claim, mask_from}
-use Rattle.lexical_util.specs.Additions.Reasons.{mask_of_claims, mask_of_reason, claims_of, IsTrueOf, Breaks, Blames}
+use Rattle.lexical_util.specs.Additions.Reasons.{mask_of_claims, claims_of, IsTrueOf, Breaks, Blames}
 use Rattle.lexical_util.specs.Additions.Reasons.{BlamesForOptions, if_present, radix_cause, radixes_where, digit_cause}
 use Rattle.lexical_util.specs.Additions.Reasons.{byte_cause, role, clash, format_pairs, options_pairs, causes_of, followers}
 use Rattle.lexical_util.specs.Additions.Reasons.{reason_of, slots, reason_slots, options_causes}
@@ -380,12 +378,10 @@ lacks_parts true false false true h = cc
 lacks_parts false i l t h = cc
 
 -- If only the last of four flags is set, then this is true of each word with these flags.
-position_explained : (word : ℕ) (i l t c : Flag)
-    → lacks_position (map (raw word).flag (i ∷ l ∷ t ∷ c ∷ [])) ≡ true
-    → AllByRecursion (Has word 0 0) (only_last (i ∷ l ∷ t ∷ c ∷ []))
-    × ((w : ℕ) → AllByRecursion (Has w 0 0) (only_last (i ∷ l ∷ t ∷ c ∷ []))
-    → IsFalse (lacks_position (map (raw w).flag (i ∷ l ∷ t ∷ c ∷ []))) → ⊥)
-position_explained word i l t c lacks =
+position_explained : (word : ℕ) (fs : List Flag) → lacks_position (map (raw word).flag fs) ≡ true
+    → AllByRecursion (Has word 0 0) (only_last fs)
+    × ((w : ℕ) → AllByRecursion (Has w 0 0) (only_last fs) → IsFalse (lacks_position (map (raw w).flag fs)) → ⊥)
+position_explained word (i ∷ l ∷ t ∷ c ∷ []) lacks =
     let parts = lacks_parts _ _ _ _ lacks in (
       (
         set_is word i ∙ parts.1,
@@ -401,6 +397,7 @@ position_explained word i l t c lacks =
           let cl = sym (set_is w c) ∙ fourth.0 in
           true≢false (sym (λ k. cl k && not (il k || ll k || tl k)) ∙ d),
     )
+position_explained word _ lacks = absurd (true≢false (sym lacks))
 
 not_clean : (w bits : ℕ) → bits ≢ 0 → bit_and bits reserved_mask ≡ bits → bit_and w bits ≡ bits → IsClean w → ⊥
 not_clean w bits some inside has clean =
@@ -456,14 +453,9 @@ shape_explained (not_both a b) word = (
       )),
   tt,
 )
-shape_explained (position_allowed parts.Integer) word = (
-  if_true (Explains word 0 0 (Demand (position_allowed parts.Integer))) _ _ (λ h.
-      let both = position_explained word _ _ _ _ h in ((both.0, tt), both.1)),
-  tt,
-)
 shape_explained (position_allowed part) word = (
   if_true (Explains word 0 0 (Demand (position_allowed part))) _ _ (λ h.
-      let both = position_explained word _ _ _ _ h in ((both.0, tt), both.1)),
+      let both = position_explained word (separator_flags part) h in ((both.0, tt), both.1)),
   tt,
 )
 shape_explained reserved_zero word = (

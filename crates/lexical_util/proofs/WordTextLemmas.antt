@@ -1,28 +1,25 @@
--- Lemmas on the loop of `word_text`, on the only text with a given form and value, and on the loop of `first_misfit`.
+-- Lemmas on the loop of `word_text`, and on the only text with a given form and value.
 use Rattle.std.proofs.Common.{◌≡◌, ℕ, zero, suc, ◌+◌, ◌-◌, ◌*◌, ◌/◌, ◌%◌, ◌^◌, ◌<◌, ◌==◌, ◌&&◌, Bool, true, not}
-use Rattle.std.proofs.Common.{IsTrue, IsSome, ◌↔◌, ◌≤◌, false, bytes_eq, get_or, true≢false}
+use Rattle.std.proofs.Common.{IsTrue, IsSome, ◌↔◌, false, bytes_eq}
 use Rattle.std.proofs.Common.{List, [], ◌∷◌, ◌++◌, map, take, drop, length, codes, replicate, slice_index_or, refl}
 use Rattle.std.proofs.Common.{sym, ap}
 use Rattle.std.proofs.Common.{◌∙◌, subst, arith, cond, inl, inr, nat_lt, unwrap_or, Some, None}
 use Rattle.std.specs.Int.Digits.{number_from_digits_after}
-use Rattle.std.specs.List.{All, common_prefix_len, position_or_len}
+use Rattle.std.specs.List.{All, position_or_len}
 use Rattle.std.proofs.Math.ListN.{set}
 use Rattle.std.proofs.Math.Nat.{pow-suc, div-div-eq-div-mul}
 use Rattle.std.proofs.lemmas.Bool.{agree_below_at, and_from, and_parts, cases_Bool}
-use Rattle.std.proofs.lemmas.Bool.{cases_lt, cond-false, eqb-true, ltb-true}
+use Rattle.std.proofs.lemmas.Bool.{cond-false, eqb-true, ltb-true}
 use Rattle.std.proofs.lemmas.Bool.{not-true}
 use Rattle.std.proofs.lemmas.Nat.{same_from_place}
 use Rattle.std.proofs.lemmas.Slice.Eq.{bytes_eq-Decides}
 use Rattle.std.proofs.lemmas.List.{drop-set, take-set-le, length-set}
-use Rattle.std.proofs.lemmas.List.{take-append-drop, drop_all, get_or_past, get_or-replicate}
-use Rattle.std.proofs.lemmas.List.Sums.{common_prefix_len-le, common_prefix_len-drop_yes, common_prefix_len-drop_no}
+use Rattle.std.proofs.lemmas.List.{take-append-drop}
 use Rattle.std.proofs.lemmas.List.Sums.{AllPass-from_list_all, list_all-from_AllPass, passes_at_first}
 use Rattle.std.proofs.lemmas.List.Elements.{All-cons, All-head, All-nil, All-tail, All-weaker}
 use Rattle.lexical_base.specs.Digits.{digit_characters, is_lowercase, uppercase, byte_value}
 use Rattle.lexical_util.specs.Additions.Numeral.{is_digit_of_radix}
 use Rattle.lexical_util.specs.Additions.WordText.{hex, hex_digits, IsPrintedForm, digit_at, last_digits, printed}
-use Rattle.lexical_util.specs.Additions.WordText.{byte_tests, first_misfit}
-use Rattle.lexical_util.specs.Private.{byte_fits}
 use Rattle.lexical_util.proofs.NumeralLemmas.{numeral_from, numeral_parts}
 
 -- `is_printed_digit byte` is true if `byte` is a hexadecimal digit and not a lowercase letter.
@@ -199,63 +196,3 @@ is_digit_of_digit true true value told = refl
 is_digit_of_digit true false value told = told.1 refl
 is_digit_of_digit false true value told = sym (told.0 refl)
 is_digit_of_digit false false value told = refl
-
--- From index 2 to 33, the test is the test for a digit.
-pub digit_fits : (index byte : ℕ) → 2 ≤ index → index < 34 → byte_fits index byte ≡ is_digit_of_radix 16 byte
-digit_fits zero byte low high = absurd (omega (arith, low))
-digit_fits (suc zero) byte low high = absurd (omega (arith, low))
-digit_fits (suc (suc k)) byte low high =
-    ap (λ test. test byte) (get_or-replicate 32 k (is_digit_of_radix 16) (λ _. false) (omega (arith, high)))
-
--- From index 34 on no byte fits.
-pub none_fits : (index byte : ℕ) → 34 ≤ index → byte_fits index byte ≡ false
-none_fits index byte high =
-    ap (λ test. test byte) (get_or_past byte_tests index (λ _. false) (omega (arith, high)))
-
--- `HasPassed text index` holds if the bytes of `text` before `index` pass their tests.
-pub record HasPassed (text : List ℕ) (index : ℕ) : Type 0 where
-  pub few : index ≤ 34
-  pub left : first_misfit text
-      ≡ index + common_prefix_len (λ test byte. test byte) (drop index byte_tests) (drop index text)
-
-pub HasPassed-none : (text : List ℕ) → HasPassed text 0
-HasPassed-none text = record { few = omega arith; left = omega arith }
-
--- A byte fits only below index 34.
-below_end : (index byte : ℕ) → byte_fits index byte ≡ true → index < 34
-below_end index byte fits = elim (cases_lt index 34) [
-  | inl small ↦ small
-  | inr large ↦ absurd (true≢false (sym fits ∙ none_fits index byte large))
-]
-
--- If the bytes before an index pass their tests, and the next one does, then the bytes before the next index do.
-pub HasPassed-next : (text : List ℕ) (index byte : ℕ) → HasPassed text index → index < length text
-    → byte ≡ get_or text index 0 → byte_fits index byte ≡ true → HasPassed text (index + 1)
-HasPassed-next text index byte before inside is fits =
-    let small : index < 34 = below_end index byte fits in
-    let one = common_prefix_len-drop_yes (λ test byte. test byte) byte_tests text index (λ _. false) 0 small inside
-    (ap (byte_fits index) (sym is) ∙ fits) in
-    record { few = omega (arith, small); left = omega (arith, before.left, one) }
-
--- If the bytes before an index pass their tests, and the next one does not, then the index is the first misfit.
-pub HasPassed-stop : (text : List ℕ) (index byte : ℕ) → HasPassed text index → index < length text
-    → byte ≡ get_or text index 0 → byte_fits index byte ≡ false → index ≡ first_misfit text
-HasPassed-stop text index byte before inside is fails = elim (cases_lt index 34) [
-  | inl small ↦
-      let none = common_prefix_len-drop_no (λ test byte. test byte) byte_tests text index (λ _. false) 0 small inside
-      (ap (byte_fits index) (sym is) ∙ fails) in
-      omega (arith, before.left, none)
-  | inr large ↦
-      let e : (ℕ → Bool) → ℕ → Bool = λ test byte. test byte in
-      let none = ap (λ tests. common_prefix_len e tests (drop index text)) (drop_all index byte_tests large) in
-      omega (arith, before.left, none)
-]
-
--- If all bytes pass their tests, then the first misfit is the length of the text.
-pub HasPassed-whole : (text : List ℕ) (index : ℕ) → HasPassed text index → index ≡ length text
-    → length text ≡ first_misfit text
-HasPassed-whole text index before done =
-    let e : (ℕ → Bool) → ℕ → Bool = λ test byte. test byte in
-    let end : drop index text ≡ [] = drop_all index text (omega (arith, done)) in
-    let none = (common_prefix_len-le e (drop index byte_tests) (drop index text)).1 in
-    omega (arith, before.left, none, ap length end, done)

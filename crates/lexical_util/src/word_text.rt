@@ -1,11 +1,12 @@
 //! Parses and prints format words as text: `0x` followed by hexadecimal digits.
 
 ghost use Rattle.std.specs.Prelude.{◌≡◌, ℕ, List, Ok, slice_get};
+ghost use Rattle.std.specs.List.{prefix_len};
 ghost use Rattle.std.specs.Option.{SomeIff};
 ghost use Rattle.std.specs.Result.{result_ok};
 ghost use Rattle.lexical_util.specs.Additions.WordText.{IsWordText, IsPrintedForm, hex, printed, first_misfit};
 ghost use Rattle.lexical_util.specs.Additions.WordText.{misfit_error, parsed_word, word_from_text};
-ghost use Rattle.lexical_util.specs.Private.{byte_fits};
+ghost use Rattle.lexical_util.specs.Additions.Numeral.{is_digit_of_radix};
 
 use crate::numeral::read_numeral;
 use lexical_base::digit::{char_is_digit, digit_to_char};
@@ -76,23 +77,23 @@ fn read_word(text: &[u8]) -> Option<u128>
 fn first_misfit(text: &[u8]) -> usize
     ensures { result ≡ first_misfit text.now }
 {
-    for (index, byte) in text.iter().enumerate() {
-        if !byte_fits(index, *byte) {
+    match text {
+        [b'0', b'x', digits @ ..] => 2 + leading_digits(digits).min(32),
+        [b'0', ..] => 1,
+        _ => 0,
+    }
+}
+
+// Returns the number of hexadecimal digits before the first byte that is not one.
+fn leading_digits(digits: &[u8]) -> usize
+    ensures { result ≡ prefix_len (is_digit_of_radix 16) digits.now }
+{
+    for (index, byte) in digits.iter().enumerate() {
+        if !char_is_digit(*byte, 16) {
             return index;
         }
     }
-    text.len()
-}
-
-// Returns whether the text of a word can have `byte` at `index`.
-fn byte_fits(index: usize, byte: u8) -> bool
-    ensures { result ≡ byte_fits index byte }
-{
-    match index {
-        0 => byte == b'0',
-        1 => byte == b'x',
-        _ => index < 34 && char_is_digit(byte, 16),
-    }
+    digits.len()
 }
 
 // Returns the error of a text in which the first byte that does not fit is at `index`, or that ends there.

@@ -52,7 +52,7 @@ pub const fn is_digit_of_either_radix(format: u128, byte: u8) -> bool {
 // Returns whether `byte` is absent, that is, 0, or punctuation in the word `format`.
 #[inline(always)]
 const fn is_absent_or_punctuation(format: u128, byte: u8) -> bool {
-    let radix = larger(mantissa_radix(format), exponent_radix(format));
+    let radix = larger(mantissa_radix(format), raw_exponent_radix(format) as u32);
     radix < LIMITS[byte as usize] as u32
 }
 
@@ -85,11 +85,11 @@ const fn roles_disjoint_fast(a: u8, a_case_sensitive: bool, b: u8, b_case_sensit
     (a | 0x20) != (b | 0x20) || roles_disjoint(a, a_case_sensitive, b, b_case_sensitive)
 }
 
-// Returns whether `a` is not absent and the two bytes agree in all bits except 0x20. If the result is `false`, the
+// Returns whether `b` is not absent and the two bytes agree in all bits except 0x20. If the result is `false`, the
 // roles of the bytes are disjoint, whether or not they are case-sensitive.
 #[inline(always)]
 const fn may_clash(a: u8, b: u8) -> bool {
-    (a != 0) & (a | 0x20 == b | 0x20)
+    (b != 0) & (a | 0x20 == b | 0x20)
 }
 
 // Returns whether the base prefix is case-sensitive.
@@ -119,6 +119,13 @@ pub const fn is_valid_radix(radix: u32) -> bool {
     radix >= 2 && radix <= 36
 }
 
+// Returns whether an exponent byte, or the mantissa radix if the byte is 0, is between 2 and 36. Both are read before
+// one of them is chosen, so that the compiler needs no branch.
+#[inline(always)]
+const fn is_valid_own_radix(own: u8, mantissa_radix: u32) -> bool {
+    is_valid_radix(if own == 0 { mantissa_radix } else { own as u32 })
+}
+
 // Returns whether the mantissa radix is between 2 and 36.
 #[inline(always)]
 pub(crate) const fn is_valid_mantissa_radix(format: u128) -> bool {
@@ -128,13 +135,13 @@ pub(crate) const fn is_valid_mantissa_radix(format: u128) -> bool {
 // Returns whether the exponent base, or the mantissa radix if the exponent base is 0, is between 2 and 36.
 #[inline(always)]
 pub(crate) const fn is_valid_exponent_base(format: u128) -> bool {
-    is_valid_radix(exponent_base(format))
+    is_valid_own_radix(raw_exponent_base(format), mantissa_radix(format))
 }
 
 // Returns whether the exponent radix, or the mantissa radix if the exponent radix is 0, is between 2 and 36.
 #[inline(always)]
 pub(crate) const fn is_valid_exponent_radix(format: u128) -> bool {
-    is_valid_radix(exponent_radix(format))
+    is_valid_own_radix(raw_exponent_radix(format), mantissa_radix(format))
 }
 
 // PUNCTUATION
@@ -357,10 +364,26 @@ const fn first_broken_punctuation(format: u128) -> Error {
     }
 }
 
+// Returns whether no flag rule is broken. All flag rules are tested at once: `excluded` has the flags that may not be
+// set, since the flag 1, 8 or 34 bits above them is set, and `positions` has the lowest bit of each part in which a
+// separator is allowed between, before or after digits. The flag that allows consecutive separators is 9 bits above.
+#[inline(always)]
+const fn flags_agree(format: u128) -> bool {
+    let excluded = format >> 1
+        & (NO_POSITIVE_MANTISSA_SIGN | NO_POSITIVE_EXPONENT_SIGN | NO_SPECIAL)
+        | format >> 8 & NO_EXPONENT_NOTATION
+        | format >> 34 & NO_SPECIAL;
+    let positions = format | format >> 3 | format >> 6;
+    let lonely = format >> 9 & INTERNAL_DIGIT_SEPARATOR & !positions;
+    format & excluded | lonely == 0
+}
+
 // Returns the error of the first broken flag rule, or `Success`.
 #[inline(always)]
 const fn first_broken_flags(format: u128) -> Error {
-    if !is_valid_exponent_flags(format) {
+    if flags_agree(format) {
+        Error::Success
+    } else if !is_valid_exponent_flags(format) {
         Error::InvalidExponentFlags
     } else if !is_valid_mantissa_sign_flags(format) {
         Error::InvalidMantissaSign

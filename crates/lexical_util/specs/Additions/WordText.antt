@@ -1,9 +1,9 @@
 -- The text of a format word (`0x` and hexadecimal digits), for `parse_word` and `word_text`.
-use Rattle.std.specs.Prelude.{◌≡◌, ℕ, zero, suc, ◌/◌, ◌%◌, ◌^◌, ◌==◌, Bool, ◌&&◌, not, IsTrue, if◌then◌else◌}
-use Rattle.std.specs.Prelude.{Option, None, Some, Result, Ok, Err, List, [], ◌∷◌, ◌++◌, length, take, drop, replicate}
+use Rattle.std.specs.Prelude.{◌≡◌, ℕ, zero, suc, ◌/◌, ◌%◌, ◌^◌, ◌==◌, ◌+◌, min, Bool, ◌&&◌, not, IsTrue, if◌then◌else◌}
+use Rattle.std.specs.Prelude.{Option, None, Some, Result, Ok, Err, List, [], ◌∷◌, ◌++◌, length, take, drop}
 use Rattle.std.specs.Prelude.{slice_get, slice_index, codes, bytes_eq}
 use Rattle.std.specs.Bool.{then_some}
-use Rattle.std.specs.List.{list_all, common_prefix_len}
+use Rattle.std.specs.List.{list_all, prefix_len}
 use Rattle.lexical_base.specs.Digits.{digit_characters, is_lowercase, numeral}
 use Rattle.lexical_base.specs.declared.error.Error.{Error}
 use Rattle.lexical_base.specs.declared.error.Error.TheVariants as errors
@@ -29,15 +29,12 @@ word_from_text text = then_some (is_word_text text) (hex text)
 abbrev pub IsWordText : List ℕ → Type 0
 IsWordText text = IsTrue (is_word_text text)
 
--- `byte_tests` lists the tests of the bytes of a word's text in their order: for `0`, for `x`, and 32 times for a
--- digit.
-abbrev pub byte_tests : List (ℕ → Bool)
-byte_tests = (λ byte. byte == 48) ∷ (λ byte. byte == 120) ∷ replicate 32 (is_digit_of_radix 16)
-
--- `first_misfit text` is the index of the first byte of `text` that does not pass a test, or the length of `text` if
--- each byte passes its test.
+-- `first_misfit text` is the index of the first byte of `text` that does not fit: a byte that is not `0` at 0, not `x`
+-- at 1, or not a digit after that, or the 33rd digit. It is the length of `text` if each byte fits.
 abbrev pub first_misfit : List ℕ → ℕ
-first_misfit text = common_prefix_len (λ test byte. test byte) byte_tests text
+first_misfit text =
+    if bytes_eq (take 2 text) (codes "0x") then 2 + min (prefix_len (is_digit_of_radix 16) (hex_digits text)) 32
+    else if bytes_eq (take 1 text) (codes "0") then 1 else 0
 
 -- `misfit_error index byte` is the error of a text whose first misfit is `byte` at `index`. It is `Overflow` if `byte`
 -- is a 33rd digit, `InvalidDigit` if it is any other byte, and `Empty` if the text ends at `index`.

@@ -12,9 +12,9 @@ use Rattle.lexical_util.specs.Edits.{all_writes}
 use Rattle.lexical_util.specs.Additions.FieldEdits.{edit_of_write, needed_edits, other_edits}
 use Rattle.lexical_util.specs.Listing.{IsEditOf, needed_writes, other_writes}
 use Rattle.lexical_util.specs.Private.{differs_from_new}
-use Rattle.lexical_util.proofs.ImageLemmas.{fewest_writes}
+use Rattle.lexical_util.proofs.Fewest.{fewest_writes}
 use Rattle.lexical_util.proofs.ListingLemmas.{needed_edits-is, other_edits-is, IsEditOf-both}
-use Rattle.lexical_util.proofs.ListingLemmas.{after-needed, after-both, legal-both, length-needed}
+use Rattle.lexical_util.proofs.ListingLemmas.{after-needed, after-both, legal-both}
 use Rattle.lexical_util.proofs.edits.listing.edits_of.Goals as goal
 
 -- The number of edits that are not in the first part is the length of the second part.
@@ -61,6 +61,6 @@ returns c =
           ∙ take-append_seam (needed_edits R) (other_edits R)) ∙ after-needed R;
       whole = ap (λ es. after new_record (all_writes es)) listed ∙ after-both R;
       builds = pack-raw c.args.format (omega arith);
-      fewest = λ L legal makes. subst (λ n. n ≤ length L) (sym (number ∙ length-needed R))
+      fewest = λ L legal makes. subst (λ n. n ≤ length L) (sym (number ∙ length-map (needed_writes R) edit_of_write))
           (fewest_writes c.args.format L legal makes);
     }

@@ -1,4 +1,4 @@
-use Rattle.std.proofs.Common.{◌≡◌, sym}
+use Rattle.std.proofs.Common.{sym}
 use Rattle.std.proofs.lemmas.Bool.{true≢false}
 use Rattle.lexical_util.proofs.ReasonLemmas.{is_rule}
 use Rattle.lexical_util.proofs.reasons.mask.is_rule.Goals as goal
