@@ -145,8 +145,7 @@ PELTZIVAR_API bool peltzivar_is_built(peltzivar_word format);
  * For an absent exponent byte, the value of the edit is 0, not the mantissa radix. */
 PELTZIVAR_API size_t peltzivar_edits_of(peltzivar_word format, peltzivar_edit edits[PELTZIVAR_FIELD_COUNT]);
 
-/* For a flag, returns whether it is set in a word. For a group, returns whether at least one of its flags is set. For
- * any other value of `setter`, returns false. */
+/* Returns whether a flag, or at least one flag of a group, is set in a word. For any other setter, returns false. */
 PELTZIVAR_API bool peltzivar_flag(peltzivar_word format, peltzivar_setter setter);
 
 /* Parses a string of len bytes, which need not be null-terminated. If the string is `0x` followed by 1 to 32
@@ -251,17 +250,22 @@ PELTZIVAR_API peltzivar_word peltzivar_note_mask(const peltzivar_fields *fields,
  *
  * The exponent character and the decimal point of a number are not part of a format. They are options of a parser. */
 
-/* Checks whether an exponent character and a decimal point fit a word. They fit if both are punctuation, if they do not
- * clash with each other, and if neither of them clashes with the digit separator, base prefix or base suffix of the
- * word. Two characters clash if there is a byte that both of them match. The decimal point matches only itself. If the
- * exponent character is a letter, it matches both cases of the letter unless case_sensitive_exponent is set. The
- * comment on PELTZIVAR_RULE_PUNCTUATION_DIFFERS states which bytes the other characters match. Does not check whether
- * the word is lawful. Returns PELTZIVAR_SUCCESS, or the first of these errors that applies:
- * - PELTZIVAR_INVALID_EXPONENT_SYMBOL if the exponent character is not punctuation;
- * - PELTZIVAR_INVALID_DECIMAL_POINT if the decimal point is not punctuation;
- * - PELTZIVAR_INVALID_PUNCTUATION if one of the two clashes with another character. */
+/* Checks whether an exponent character and a decimal point fit a word, lawful or not. Both must be punctuation. Neither
+ * may match a byte that the other option, the digit separator, the base prefix or the base suffix matches. The decimal
+ * point matches only itself. If the exponent character is a letter, it matches both cases of the letter unless
+ * case_sensitive_exponent is set. PELTZIVAR_RULE_PUNCTUATION_DIFFERS states which bytes the others match.
+ * Returns PELTZIVAR_SUCCESS, or the first of these errors that applies: PELTZIVAR_INVALID_EXPONENT_SYMBOL or
+ * PELTZIVAR_INVALID_DECIMAL_POINT if this option is not punctuation, or PELTZIVAR_INVALID_PUNCTUATION. */
 PELTZIVAR_MUST_USE PELTZIVAR_API peltzivar_error peltzivar_check_options(
     peltzivar_word format, uint8_t exponent, uint8_t decimal_point);
+
+/* Writes a reason why the options do not fit, such as "the exponent character 'e' is a digit in radix 16". */
+PELTZIVAR_API size_t peltzivar_options_reason_text(
+    peltzivar_word format, uint8_t exponent, uint8_t decimal_point, size_t index, char *text, size_t len);
+
+/* Returns a mask of the bits of the word on which this reason depends. The mask is 0 if there are none. */
+PELTZIVAR_API peltzivar_word peltzivar_options_reason_mask(
+    peltzivar_word format, uint8_t exponent, uint8_t decimal_point, size_t index);
 
 /* Return the value of a byte as a digit in the mantissa radix or the exponent radix, or PELTZIVAR_NO_DIGIT. Letters of
  * either case are the digits from 10 on. */
@@ -282,8 +286,7 @@ PELTZIVAR_API peltzivar_separators peltzivar_separators_of(peltzivar_word format
 /* Returns whether a byte is the digit separator of a word in which at least one digit separator flag is set. */
 PELTZIVAR_API bool peltzivar_is_separator(peltzivar_word format, uint8_t byte);
 
-/* Return whether the base prefix or the base suffix of a word matches a byte. The comment on
- * PELTZIVAR_RULE_PUNCTUATION_DIFFERS states which bytes they match. */
+/* Return whether the base prefix or the base suffix matches a byte, as PELTZIVAR_RULE_PUNCTUATION_DIFFERS states. */
 PELTZIVAR_API bool peltzivar_is_base_prefix(peltzivar_word format, uint8_t byte);
 PELTZIVAR_API bool peltzivar_is_base_suffix(peltzivar_word format, uint8_t byte);
 

@@ -232,7 +232,6 @@ _CALLS: Dict[str, Tuple[Any, List[Any]]] = {
     "word_text": (c_size_t, [_Word, c_char_p, c_size_t]),
     "source": (c_size_t, [_Word, c_char_p, c_size_t]),
     "description": (c_size_t, [c_uint32, c_char_p, c_size_t]),
-    "error_text": (c_size_t, [c_uint32, c_size_t, c_char_p, c_size_t]),
     "fields_of": (_Fields, [_Word]),
     "edit_fields": (c_bool, [POINTER(_Fields), POINTER(_Edit), c_size_t]),
     "parse_edit": (c_bool, [c_char_p, c_size_t, POINTER(_Edit)]),
@@ -244,7 +243,8 @@ _CALLS: Dict[str, Tuple[Any, List[Any]]] = {
     "reason_rules": (c_uint32, [_Word, c_size_t]),
     "note_text": (c_size_t, [POINTER(_Fields), c_size_t, c_char_p, c_size_t]),
     "note_mask": (_Word, [POINTER(_Fields), c_size_t]),
-    "check_options": (c_uint32, [_Word, c_uint8, c_uint8]),
+    "options_reason_text": (c_size_t, [_Word, c_uint8, c_uint8, c_size_t, c_char_p, c_size_t]),
+    "options_reason_mask": (_Word, [_Word, c_uint8, c_uint8, c_size_t]),
     "mantissa_digit": (c_uint32, [_Word, c_uint8]),
     "exponent_digit": (c_uint32, [_Word, c_uint8]),
     "separators_of": (_Separators, [_Word, c_uint8]),
@@ -313,9 +313,9 @@ def _text(call: Any, *arguments: Any, size: int = _TEXT_SIZE) -> str:
     return buffer.raw[:length].decode("ascii")
 
 
-def _texts(call: Any, of: Any) -> Iterable[str]:
+def _texts(call: Any, *of: Any) -> Iterable[str]:
     """Returns the texts that a call writes for the indices from 0 on."""
-    return takewhile(bool, (_text(call, of, index) for index in count()))
+    return takewhile(bool, (_text(call, *of, index) for index in count()))
 
 
 def _split(word: int) -> _Word:
@@ -634,6 +634,12 @@ class FormatView:
         word = self._halves()
         return tuple(self._reason(*it) for it in enumerate(_texts(_library.reason_text, word)))
 
+    def options_reasons(self, exponent: Byte, decimal_point: Byte) -> Tuple[Reason, ...]:
+        """Returns each reason why an exponent character and a decimal point do not fit the word. It breaks no rule."""
+        options = self._halves(), *_options(exponent, decimal_point)
+        masks = (_joined(_library.options_reason_mask(*options, index)) for index in count())
+        return tuple(Reason(text, mask, ()) for text, mask in zip(_texts(_library.options_reason_text, *options), masks))
+
     def notes(self) -> Tuple[Note, ...]:
         """Returns the notes on fields of the word that have no effect."""
         return _notes(self._fields())
@@ -696,9 +702,9 @@ class Format(FormatView):
             raise FormatError(FormatView(word))
 
     def check_options(self, exponent: Byte, decimal_point: Byte) -> None:
-        """Raises ValueError if an exponent character and a decimal point do not fit the format."""
-        if error := _library.check_options(self._halves(), *_options(exponent, decimal_point)):
-            raise ValueError(_text(_library.error_text, error, 0))
+        """Raises ValueError with every reason if an exponent character and a decimal point do not fit the format."""
+        if reasons := self.options_reasons(exponent, decimal_point):
+            raise ValueError("; ".join(map(str, reasons)))
 
 
 def notes_of(*settings: Union[Edit, str], **fields: Value) -> Tuple[Note, ...]:

@@ -45,9 +45,12 @@ class Library {
     /* Returns all about a state: whether the word is built, its error, normal form, reasons and notes, and why the
      * options do not fit. Reasons and notes have their text, the fields that they blame, and the broken rules. */
     explain({ word, exponent, point }) {
-        const { normal, reasons, notes, ...rest } = this.call("explain", "", word & HALF, word >> 64n, exponent, point);
-        const named = ({ mask, ...it }) => ({ ...it, mask: BigInt(mask), fields: this.namesOf(BigInt(mask)) });
-        return { ...rest, normal: BigInt(normal), reasons: reasons.map(named), notes: notes.map(named) };
+        const answer = this.call("explain", "", word & HALF, word >> 64n, exponent, point);
+        const named = ({ mask, options: own = [], ...it }) => {
+            return { ...it, mask: BigInt(mask), fields: [...own, ...this.namesOf(BigInt(mask))] };
+        };
+        const [reasons, options, notes] = ["reasons", "options", "notes"].map((name) => answer[name].map(named));
+        return { ...answer, normal: BigInt(answer.normal), reasons, options, notes };
     }
 
     /* Returns {parts} of a number, each with its kind, start and end, and {refusing}: settings that refuse it. If it is

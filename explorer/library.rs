@@ -7,8 +7,8 @@ use core::fmt::{self, Display, Write};
 use core::num::NonZeroU8;
 
 use peltzivar::edits::{apply, edit_word, is_built, normal_form};
-use peltzivar::format_flags::options_error;
-use peltzivar::{Edit, Error, FlagSetter, Format, FormatView, NumberFormatBuilder, Rule};
+use peltzivar::reasons::Byte;
+use peltzivar::{Cause, Edit, Error, FlagSetter, Format, FormatView, NumberFormatBuilder, Rule};
 
 #[path = "../rust/examples/literal/reader.rs"]
 mod reader;
@@ -68,7 +68,10 @@ pub extern "C" fn explain(low: u64, high: u64, exponent: u8, point: u8) -> usize
             out.write_str("}")
         })?;
         out.write_str(r#","options":"#)?;
-        options(out, word, exponent, point)?;
+        list(out, view.options_reasons(exponent, point), |out, reason| {
+            let options = blamed_options(reason.cause());
+            write!(out, r#"{{"text":{},"mask":{},"options":{options}}}"#, Quoted(reason), Word(reason.mask()))
+        })?;
         out.write_str(r#","notes":"#)?;
         list(out, view.notes(), |out, note| {
             write!(out, r#"{{"text":{},"mask":{}}}"#, Quoted(note), Word(note.mask()))
@@ -140,22 +143,20 @@ fn byte_to_set(format: Format, options: &reader::Options, text: &[u8], index: us
     }
 }
 
-/// Writes why the exponent character and the decimal point do not fit. An option that fits beside no other one is to
-/// blame, and otherwise both are.
-fn options(out: &mut Answer, word: u128, exponent: u8, point: u8) -> fmt::Result {
-    let error = options_error(word, exponent, point);
-    if error.is_success() {
-        return out.write_str("[]");
-    }
-    let fields = match (
-        (0..=127).any(|point| options_error(word, exponent, point).is_success()),
-        (0..=127).any(|exponent| options_error(word, exponent, point).is_success()),
-    ) {
-        (false, true) => r#"["exponent"]"#,
-        (true, false) => r#"["point"]"#,
-        _ => r#"["exponent","point"]"#,
+/// Returns the names of the options that a reason blames, as an array in JSON.
+fn blamed_options(cause: Cause) -> &'static str {
+    let (first, second) = match cause {
+        Cause::NotText(byte) | Cause::IsSign(byte) | Cause::IsDigit(byte, _) => (byte, byte),
+        Cause::Same(first, second) | Cause::DifferInCase { first, second, .. } => (first, second),
+        _ => return "[]",
     };
-    write!(out, r#"[{{"text":{},"fields":{fields}}}]"#, Quoted(error))
+    let has = |name| first.name == name || second.name == name;
+    match (has(Byte::ExponentCharacter), has(Byte::DecimalPoint)) {
+        (true, true) => r#"["exponent","point"]"#,
+        (true, false) => r#"["exponent"]"#,
+        (false, true) => r#"["point"]"#,
+        (false, false) => "[]",
+    }
 }
 
 /// Writes an array, each item by a function.

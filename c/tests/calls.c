@@ -123,6 +123,12 @@ static void test_reasons(void) {
         CHECK(is_word(peltzivar_reason_mask(clash, index), 0, 0) && !peltzivar_reason_rules(clash, index));
     }
     CHECK(!peltzivar_reason_text(PELTZIVAR_STANDARD, 0, NULL, 0) && !peltzivar_reason_rules(clash, SIZE_MAX));
+    CHECK(WRITES("the exponent character 'E' is a digit in radix 16",
+                 peltzivar_options_reason_text(clash, 'E', 'A', 0, text, sizeof text)));
+    CHECK(is_word(peltzivar_options_reason_mask(clash, 'E', '.', 0), 0x0000FF0000000000, 0));
+    CHECK(peltzivar_options_reason_text(clash, 'E', 'A', 2, text, sizeof text) == strlen(text) && strstr(text, "'a'"));
+    CHECK(is_word(peltzivar_options_reason_mask(PELTZIVAR_STANDARD, 'e', 'e', 0), 0, 0));
+    CHECK(!peltzivar_options_reason_text(PELTZIVAR_STANDARD, 'e', '.', 0, text, sizeof text));
     CHECK(!peltzivar_note_text(&fields, 0, text, sizeof text));
     CHECK(peltzivar_edit_fields(&fields, edits, 2));
     CHECK(peltzivar_note_text(&fields, 1, text, sizeof text) == strlen(text) && strstr(text, "no base suffix"));
@@ -201,6 +207,7 @@ static void test_null(void) {
     CHECK(peltzivar_setter_name(104, NULL, 0) == 14 && peltzivar_edit_text(edit, NULL, 0) == 17);
     CHECK(peltzivar_setting_error_text(NULL, 0, NULL, 0) == strlen("expected NAME=VALUE"));
     CHECK(peltzivar_reason_text(ZERO, 0, NULL, 0) > 40 && peltzivar_note_text(&fields, 0, NULL, 0) == 0);
+    CHECK(peltzivar_options_reason_text(ZERO, 'e', 'e', 0, NULL, 0) > 40);
 }
 
 int main(void) {

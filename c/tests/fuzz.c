@@ -56,6 +56,14 @@ static peltzivar_word draw_word(void) {
     return word;
 }
 
+/* Returns a word that has the bits of `word` in a mask. */
+static peltzivar_word mixed(peltzivar_word word, peltzivar_word mask) {
+    const peltzivar_word rest = draw_word();
+    word.low = (word.low & mask.low) | (rest.low & ~mask.low);
+    word.high = (word.high & mask.high) | (rest.high & ~mask.high);
+    return word;
+}
+
 static void test_word(peltzivar_word word) {
     const peltzivar_word normal = peltzivar_normal_form(word);
     const peltzivar_fields filled = peltzivar_fields_of(word);
@@ -78,9 +86,7 @@ static void test_reasons(peltzivar_word word) {
     size_t count = 0;
     WRITE(peltzivar_reason_text, word, count);
     while (*text) {
-        const peltzivar_word mask = peltzivar_reason_mask(word, count), rest = draw_word();
-        const peltzivar_word other = {(word.low & mask.low) | (rest.low & ~mask.low), (word.high & mask.high) | (rest.high & ~mask.high)};
-        CHECK(peltzivar_check(other) && peltzivar_reason_rules(word, count) >> 1);
+        CHECK(peltzivar_check(mixed(word, peltzivar_reason_mask(word, count))) && peltzivar_reason_rules(word, count) >> 1);
         count++;
         WRITE(peltzivar_reason_text, word, count);
     }
@@ -91,6 +97,15 @@ static void test_reasons(peltzivar_word word) {
         const peltzivar_word mask = peltzivar_note_mask(&fields, count);
         CHECK(!*text == !(mask.low || mask.high));
     }
+}
+
+/* The options fit a word, and each word with the same bits, if and only if there is no reason why they do not. */
+static void test_options(peltzivar_word word) {
+    const uint8_t exponent = draw_edit().value, point = draw_edit().value;
+    WRITE(peltzivar_options_reason_text, word, exponent, point, 0);
+    const peltzivar_word mask = peltzivar_options_reason_mask(word, exponent, point, 0);
+    CHECK(!*text == !peltzivar_check_options(word, exponent, point));
+    CHECK(!*text || peltzivar_check_options(mixed(word, mask), exponent, point));
 }
 
 /* The role of a byte agrees with the other calls. */
@@ -129,6 +144,7 @@ int main(int argc, char **argv) {
         const peltzivar_word word = draw_word();
         test_word(word);
         test_reasons(word);
+        test_options(word);
         test_roles(word);
         test_settings();
     }

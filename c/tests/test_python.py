@@ -1,6 +1,7 @@
 """Tests peltzivar.py: `make -C c check`. The expected values are the recorded results of lexical-util, the tables of
 docs/FORMAT.md, and known words and sentences."""
 import copy
+import ctypes
 import doctest
 import os
 import pathlib
@@ -25,6 +26,8 @@ GROUPS = re.findall(r"^\| `(\w+)` \| (\d[\d ]*) \|", PAGE, re.M)
 BYTES = re.findall(r"^\| (\d+) to \d+ \| `(\w+)` \|", PAGE, re.M)
 RULES = re.findall(r"^\| (\d+) \| .* \| `(Invalid\w+)` \| `(\w+)` \| (.*) \|$", PAGE, re.M)
 CALLS = peltzivar._library
+ERROR_TEXT = ctypes.CDLL(CALLS.path).peltzivar_error_text
+ERROR_TEXT.argtypes = [ctypes.c_uint32, ctypes.c_size_t, ctypes.c_char_p, ctypes.c_size_t]
 
 
 def error_of(name):
@@ -35,16 +38,11 @@ def byte_of(value):
     return ord(value) if isinstance(value, str) else value or 0
 
 
-def fits(view, *options):
-    """Returns whether the options fit the word, lawful or not."""
-    return not CALLS.check_options(view._halves(), *options)
-
-
 def returned(kind, parts):
     """Returns what the module returns for the parts of a recorded line, and what was recorded."""
     if kind == "printed":
         index, name, text = parts
-        return peltzivar._text(CALLS.error_text, error_of(name), int(index)), text
+        return peltzivar._text(ERROR_TEXT, error_of(name), int(index)), text
     word = int(parts[0], 16)
     if kind == "build":
         _, name, *settings = parts
@@ -59,7 +57,7 @@ def returned(kind, parts):
         return (view.error(), not view.reasons()), (error_of(parts[1]), parts[1] == "Success")
     if kind == "options":
         _, exponent, point, wanted = parts
-        return fits(view, int(exponent), int(point)), wanted == "true"
+        return not view.options_reasons(int(exponent), int(point)), wanted == "true"
     return int(view.edit(*parts[2:])), int(parts[1], 16)
 
 
@@ -186,8 +184,10 @@ class Words(unittest.TestCase):
     def test_options(self):
         self.assertIsNone(Format().check_options("e", "."))
         self.assertIsNone(Format().check_options(101, 46))
-        self.assertRaisesRegex(ValueError, "invalid exponent symbol", Format.of(radix=16).check_options, "e", ".")
-        self.assertRaisesRegex(ValueError, "invalid punctuation", Format().check_options, ".", ".")
+        sentence = "the exponent character 'e' is a digit in radix 16"
+        (reason,) = FormatView.of(radix=16, exponent_radix=2).options_reasons("e", ".")
+        self.assertEqual((str(reason), reason.mask, reason.rules), (sentence, 0xFF << 104, ()))
+        self.assertRaisesRegex(ValueError, f"^{sentence}; the decimal point '1' is", Format.of(radix=16).check_options, "e", "1")
         for option in ("\u00e9", 256, -1):
             self.assertRaisesRegex(ValueError, "an option is", Format().check_options, option, ".")
         self.assertRaises(TypeError, Format().check_options, "ee", ".")

@@ -1,4 +1,4 @@
-//! Calls that print the reasons why words break rules, and notes.
+//! Calls that print the reasons why words break rules or do not accept options, and notes.
 
 use crate::arguments::write_text;
 use crate::numbers::{broken_rules, Fields, Word};
@@ -6,6 +6,10 @@ use peltzivar::{Note, Reason};
 
 fn reason_at(format: Word, index: usize) -> Option<Reason> {
     format.view().reasons().nth(index)
+}
+
+fn options_reason_at(format: Word, exponent: u8, point: u8, index: usize) -> Option<Reason> {
+    format.view().options_reasons(exponent, point).nth(index)
 }
 
 fn note_at(fields: &Fields, index: usize) -> Option<Note> {
@@ -30,6 +34,30 @@ pub extern "C" fn peltzivar_reason_mask(format: Word, index: usize) -> Word {
 #[unsafe(no_mangle)]
 pub extern "C" fn peltzivar_reason_rules(format: Word, index: usize) -> u32 {
     reason_at(format, index).map_or(0, broken_rules)
+}
+
+#[unsafe(no_mangle)]
+pub unsafe extern "C" fn peltzivar_options_reason_text(
+    format: Word,
+    exponent: u8,
+    decimal_point: u8,
+    index: usize,
+    text: *mut u8,
+    len: usize,
+) -> usize {
+    let reason = options_reason_at(format, exponent, decimal_point, index);
+    write_text(text, len, reason)
+}
+
+#[unsafe(no_mangle)]
+pub extern "C" fn peltzivar_options_reason_mask(
+    format: Word,
+    exponent: u8,
+    decimal_point: u8,
+    index: usize,
+) -> Word {
+    let reason = options_reason_at(format, exponent, decimal_point, index);
+    reason.map_or(0, |it| it.mask()).into()
 }
 
 #[unsafe(no_mangle)]
