@@ -132,6 +132,6 @@ pub use format_flags::{Part, Rule};
 #[doc(inline)]
 pub use lawful::Format;
 #[doc(inline)]
-pub use reasons::{Cause, Note, Reason};
+pub use reasons::{Byte, Cause, NamedByte, Note, Radixes, Reason};
 #[doc(inline)]
 pub use view::{FormatView, Role, Separators};
