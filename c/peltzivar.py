@@ -418,7 +418,7 @@ class Edit:
 class Reason(NamedTuple):
     """A reason why a word breaks rules: its text, a mask of the bits that it blames, and the rules.
 
-    An edit may be to blame if its mask has a bit in common with this mask.
+    An edit is to blame if its mask has a bit in common with this mask that no later edit writes.
     """
 
     text: str
