@@ -131,10 +131,16 @@ fn refusing(format: Format, options: &reader::Options, text: &[u8]) -> impl Iter
 /// otherwise as the digit separator. After it and flags that allow separators, more of the text is accepted.
 fn byte_to_set(format: Format, options: &reader::Options, text: &[u8], index: usize) -> Option<Edit> {
     let byte = NonZeroU8::new(*text.get(index)?);
+    let allowed = |position| Edit::Flag(position, true);
     let edits = match text[index].is_ascii_alphabetic() {
-        true if index + 1 == text.len() => [Edit::BaseSuffix(byte); 2],
-        true => [Edit::BasePrefix(byte); 2],
-        false => [Edit::DigitSeparator(byte), Edit::Flag(FlagSetter::DigitSeparatorFlags, true)],
+        true if index + 1 == text.len() => [Edit::BaseSuffix(byte); 4],
+        true => [Edit::BasePrefix(byte); 4],
+        false => [
+            Edit::DigitSeparator(byte),
+            allowed(FlagSetter::InternalDigitSeparator),
+            allowed(FlagSetter::LeadingDigitSeparator),
+            allowed(FlagSetter::TrailingDigitSeparator),
+        ],
     };
     let edited = Format::new(edit_word(format.word(), &edits)).ok()?;
     match reader::scan(edited, Some(options), text).1 {

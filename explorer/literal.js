@@ -77,6 +77,7 @@ class Trial {
         };
         const shown = this.library.setting(this.library.named.get(name), value).replace(`${name}=`, " = ");
         const use = button("use", "set it", set, { "aria-label": `set it: ${name}${shown}` });
-        return [`${what}. More is accepted with `, ...this.links([name]), `${shown} `, use];
+        const also = name === "digit_separator" ? " and a flag that allows it" : "";
+        return [`${what}. More is accepted with `, ...this.links([name]), `${shown}${also} `, use];
     }
 }
