@@ -298,11 +298,11 @@ both! {
     radix8() -> u32;
     /// Returns the flags of the word. All other bits of the result are 0.
     flags() -> u128;
-    /// Returns the bitwise AND of the word and [`INTERFACE_FLAG_MASK`][crate::format_flags::INTERFACE_FLAG_MASK].
+    /// Returns the bitwise AND of the word and [`INTERFACE_FLAG_MASK`][crate::format].
     interface_flags() -> u128;
     /// Returns the digit separator flags of the word. All other bits of the result are 0.
     digit_separator_flags() -> u128;
-    /// Returns the bitwise AND of the word and [`EXPONENT_FLAG_MASK`][crate::format_flags::EXPONENT_FLAG_MASK].
+    /// Returns the bitwise AND of the word and [`EXPONENT_FLAG_MASK`][crate::format].
     exponent_flags() -> u128;
     /// Returns the flags that allow digit separators in the integer part. All other bits of the result are 0.
     integer_digit_separator_flags() -> u128;

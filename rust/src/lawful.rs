@@ -59,7 +59,7 @@ impl Format {
     }
 
     /// Returns the format whose word is `FORMAT`, which is known at compile time. If the word is not lawful, the call
-    /// does not compile.
+    /// does not compile: `cargo build` fails, but `cargo check` may not.
     ///
     /// ```compile_fail,E0080
     /// let format = peltzivar::Format::of::<0>();
