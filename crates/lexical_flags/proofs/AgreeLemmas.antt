@@ -40,15 +40,22 @@ at_broken word k fits within =
     ∙ ap (λ b. 1 - b) (or_at _ _ k _ _ (or_at _ _ k _ _ refl (shifted word 3 k)) (shifted word 6 k))) i)))
 
 -- `Clear m n o p a b c d e f g` has what follows for the bits `a` to `g` of a word if a bit of `broken` is 0.
-abbrev Clear : ℕ → ℕ → ℕ → ℕ → ℕ → ℕ → ℕ → ℕ → ℕ → ℕ → ℕ → Type 0
-Clear m n o p a b c d e f g =
-    ((m ≡ 1 → IsFalse ((a == 1) && (b == 1))) × (n ≡ 1 → IsFalse ((a == 1) && (c == 1))))
-    × ((o ≡ 1 → IsFalse ((a == 1) && (d == 1))) × (p ≡ 1 → IsFalse (lacks_position ((a == 1) ∷ (f == 1) ∷ (g == 1) ∷ (e == 1) ∷ []))))
+record Clear (m n o p a b c d e f g : ℕ) : Type 0 where
+  next_off : m ≡ 1 → IsFalse ((a == 1) && (b == 1))
+  eighth_off : n ≡ 1 → IsFalse ((a == 1) && (c == 1))
+  special_off : o ≡ 1 → IsFalse ((a == 1) && (d == 1))
+  placed : p ≡ 1 → IsFalse (lacks_position ((a == 1) ∷ (f == 1) ∷ (g == 1) ∷ (e == 1) ∷ []))
 
 clear : (m n o p a b c d e f g : ℕ) → a < 2 → f < 2 → g < 2
     → max (min a (max (max (min b m) (min c n)) (min d o))) (min (min e p) (1 - max (max a f) g)) ≡ 0
     → Clear m n o p a b c d e f g
-clear m n o p a b c d e f g la lf lg none = grind (arith, nat_tests)
+clear m n o p a b c d e f g la lf lg none =
+    record {
+      next_off = λ is. grind (arith, nat_tests);
+      eighth_off = λ is. grind (arith, nat_tests);
+      special_off = λ is. grind (arith, nat_tests);
+      placed = λ is. grind (arith, nat_tests)
+    }
 
 -- `ClearAt word k` is `Clear` of the bits of `word` that decide the bit `k` of `broken word`.
 abbrev ClearAt : ℕ → ℕ → Type 0
@@ -67,16 +74,16 @@ agree word fits none =
     let ten = at 10 (omega arith) in let integer = at 32 (omega arith) in let fraction = at 33 (omega arith) in
     let exponent = at 34 (omega arith) in
     inr (
-      six.0.1 refl,
+      six.eighth_off refl,
       inr (
-        four.0.0 refl,
+        four.next_off refl,
         inr (
-          seven.0.0 refl,
+          seven.next_off refl,
           inr (
-            ten.0.0 refl,
+            ten.next_off refl,
             inr (
-              ten.1.0 refl,
-              inr (integer.1.1 refl, inr (fraction.1.1 refl, inr (exponent.1.1 refl, refl))),
+              ten.special_off refl,
+              inr (integer.placed refl, inr (fraction.placed refl, inr (exponent.placed refl, refl))),
             ),
           ),
         ),

@@ -13,8 +13,8 @@ pub returns : goal.returns
 unfolding Lawful
 returns c byte below digit allowed =
     let r : Record = raw c.args.format in
-    let apart = (c.role_facts.ensures.five c.args.format c.requires).0.1.0 in
+    let five_apart = c.role_facts.ensures.five c.args.format c.requires in
     let is_digit : IsTrue (digits_of (r.byte layout.mantissa_radix) byte) =
     grind (arith, nat_tests, digit, c.requires.mantissa_radix.1) in
-    (c.role_facts.ensures.disjoint (digits r) (separator r)).0 apart byte below
+    (c.role_facts.ensures.disjoint (digits r) (separator r)).0 (assumption five_apart) byte below
     (or_left _ _ is_digit) (and_parts (separator_allowed r) (separator r byte) allowed).1
