@@ -54,7 +54,7 @@ clear m n o p a b c d e f g la lf lg none =
       next_off = λ is. grind (arith, nat_tests);
       eighth_off = λ is. grind (arith, nat_tests);
       special_off = λ is. grind (arith, nat_tests);
-      placed = λ is. grind (arith, nat_tests)
+      placed = λ is. grind (arith, nat_tests);
     }
 
 -- `ClearAt word k` is `Clear` of the bits of `word` that decide the bit `k` of `broken word`.
