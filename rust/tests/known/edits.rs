@@ -1,21 +1,14 @@
 // Made by rust/tools/erase.py from crates/lexical_tests/src/edits.rt: change that file.
 
-use crate::rows::edits::{
-    unused_separator, EDITED, EXPONENT_DIGITS, LISTED, MIGRATED, NORMAL_FORMS, RESERVED_BITS,
-};
-use peltzivar::edits::{
-    apply_all, edit_word, edits_of, is_built, migrate, normal_form, same_format, Edit, FlagSetter,
-};
+use crate::rows::edits::{unused_separator, EDITED, EXPONENT_DIGITS, LISTED, MIGRATED, NORMAL_FORMS, RESERVED_BITS};
+use peltzivar::edits::{apply_all, edit_word, edits_of, is_built, migrate, normal_form, same_format, Edit, FlagSetter};
 use peltzivar::error::Error;
 use peltzivar::word::{format_error, NumberFormatBuilder, STANDARD};
 
 #[test]
 fn a_word_is_filled_then_edited_and_then_loses_an_unused_separator() {
     for (word, edit, edited) in &EDITED {
-        assert!(
-            edit_word(*word, &[*edit]) == *edited,
-            "{word:#034X} to {edited:#034X}"
-        );
+        assert!(edit_word(*word, &[*edit]) == *edited, "{word:#034X} to {edited:#034X}");
     }
     let decimal = NumberFormatBuilder::decimal();
     assert!(edit_word(decimal, &unused_separator()) == decimal);

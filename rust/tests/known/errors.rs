@@ -17,10 +17,7 @@ fn each_outcome_has_its_rank_test_index_and_text() {
         assert!(printed == text, "{printed}");
         assert!(error.description() == *description, "{printed}");
         assert!(error.index().copied() == index, "{printed}");
-        assert!(
-            error.rank() as usize == rank && *error <= Error::Success,
-            "{printed}"
-        );
+        assert!(error.rank() as usize == rank && *error <= Error::Success, "{printed}");
         for (test, holds) in tests(error).iter().enumerate() {
             assert!(*holds == (test == rank), "test {test} of {printed}");
         }
@@ -39,10 +36,7 @@ fn width_and_fill_do_not_change_a_text() {
 #[test]
 fn outcomes_are_ordered_by_rank_and_then_by_index() {
     for (less, greater) in &ORDERED {
-        assert!(
-            [less < greater, greater < less, less == greater] == [true, false, false],
-            "{greater}"
-        );
+        assert!([less < greater, greater < less, less == greater] == [true, false, false], "{greater}");
     }
     assert!(Error::Overflow(4).index() == Some(&4));
 }

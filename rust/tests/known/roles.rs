@@ -8,14 +8,8 @@ use peltzivar::word::FormatView;
 fn a_digit_counts_in_its_own_radix() {
     for (word, byte, mantissa, exponent) in &DIGITS {
         let view = FormatView::new(*word);
-        assert!(
-            view.mantissa_digit(*byte) == *mantissa,
-            "{word:#034X} {byte}"
-        );
-        assert!(
-            view.exponent_digit(*byte) == *exponent,
-            "{word:#034X} {byte}"
-        );
+        assert!(view.mantissa_digit(*byte) == *mantissa, "{word:#034X} {byte}");
+        assert!(view.exponent_digit(*byte) == *exponent, "{word:#034X} {byte}");
     }
 }
 
@@ -37,15 +31,9 @@ fn an_absent_byte_matches_nothing() {
 fn each_part_has_its_own_separators() {
     for (word, parts) in &SEPARATORS {
         let view = FormatView::new(*word);
-        for (part, allowed) in [Part::Integer, Part::Fraction, Part::Exponent]
-            .iter()
-            .zip(parts)
-        {
+        for (part, allowed) in [Part::Integer, Part::Fraction, Part::Exponent].iter().zip(parts) {
             let read = view.separators(*part);
-            assert!(
-                [read.internal, read.leading, read.trailing, read.consecutive] == *allowed,
-                "{word:#034X}"
-            );
+            assert!([read.internal, read.leading, read.trailing, read.consecutive] == *allowed, "{word:#034X}");
         }
     }
 }
@@ -53,9 +41,6 @@ fn each_part_has_its_own_separators() {
 #[test]
 fn each_byte_has_one_role_or_none() {
     for (byte, role) in &ROLES {
-        assert!(
-            FormatView::new(AFFIXED).role_of(b'p', b'.', *byte) == *role,
-            "{byte}"
-        );
+        assert!(FormatView::new(AFFIXED).role_of(b'p', b'.', *byte) == *role, "{byte}");
     }
 }

@@ -22,10 +22,7 @@ const INTERNAL: Edit = Edit::Flag(FlagSetter::IntegerInternalDigitSeparator, tru
 
 /// Edits of the word of decimal numbers, and the edited word.
 pub const EXPONENT_DIGITS: ([Edit; 2], u128) = (
-    [
-        Edit::Flag(FlagSetter::RequiredDigits, false),
-        Edit::Flag(FlagSetter::RequiredExponentDigits, true),
-    ],
+    [Edit::Flag(FlagSetter::RequiredDigits, false), Edit::Flag(FlagSetter::RequiredExponentDigits, true)],
     0x0A0A0A00_00000000_00000000_00000004,
 );
 

@@ -75,14 +75,7 @@ pub const SEPARATORS: [(u128, bool); 4] = [
 ];
 
 /// A radix, and whether it is one that a lawful word may have.
-pub const RADIXES: [(u32, bool); 6] = [
-    (0, false),
-    (1, false),
-    (2, true),
-    (36, true),
-    (37, false),
-    (258, false),
-];
+pub const RADIXES: [(u32, bool); 6] = [(0, false), (1, false), (2, true), (36, true), (37, false), (258, false)];
 
 /// A mask, a shift, and the number in the bits of the mask of the word of decimal numbers, or its radix if that is 0.
 pub const RADIXES_OF_DECIMAL: [(u128, i32, u32); 3] = [
