@@ -10,10 +10,8 @@ use lexical_util::format::{NumberFormatBuilder, STANDARD, format_error};
 #[test]
 fn a_word_is_filled_then_edited_and_then_loses_an_unused_separator(rt: HostRuntime) {
     for (word, edit, edited) in &EDITED {
-        assert!(rt;
-            edit_word(*word, &[*edit]) == *edited,
-            "{word:#034X} to {edited:#034X}"
-        );
+        let result = edit_word(*word, &[*edit]);
+        assert!(rt; result == *edited, "{word:#034X} to {edited:#034X}");
     }
     let decimal = NumberFormatBuilder::decimal();
     assert!(rt; edit_word(decimal, &unused_separator()) == decimal);
@@ -46,14 +44,12 @@ fn each_word_has_its_normal_form(rt: HostRuntime) {
 
 #[test]
 fn each_reserved_bit_is_refused_and_is_lost_in_the_normal_form(rt: HostRuntime) {
+    let decimal = NumberFormatBuilder::decimal();
     for bit in &RESERVED_BITS {
         assert!(rt; *bit < 128);
-        let word = NumberFormatBuilder::decimal() | 1 << *bit;
+        let word = decimal | 1 << *bit;
         assert!(rt; format_error(word) == Error::InvalidFlags, "{bit}");
-        assert!(rt;
-            normal_form(word) == NumberFormatBuilder::decimal(),
-            "{bit}"
-        );
+        assert!(rt; normal_form(word) == decimal, "{bit}");
     }
 }
 

@@ -8,7 +8,8 @@ use peltzivar::word::{format_error, NumberFormatBuilder, STANDARD};
 #[test]
 fn a_word_is_filled_then_edited_and_then_loses_an_unused_separator() {
     for (word, edit, edited) in &EDITED {
-        assert!(edit_word(*word, &[*edit]) == *edited, "{word:#034X} to {edited:#034X}");
+        let result = edit_word(*word, &[*edit]);
+        assert!(result == *edited, "{word:#034X} to {edited:#034X}");
     }
     let decimal = NumberFormatBuilder::decimal();
     assert!(edit_word(decimal, &unused_separator()) == decimal);
@@ -41,11 +42,12 @@ fn each_word_has_its_normal_form() {
 
 #[test]
 fn each_reserved_bit_is_refused_and_is_lost_in_the_normal_form() {
+    let decimal = NumberFormatBuilder::decimal();
     for bit in &RESERVED_BITS {
         assert!(*bit < 128);
-        let word = NumberFormatBuilder::decimal() | 1 << *bit;
+        let word = decimal | 1 << *bit;
         assert!(format_error(word) == Error::InvalidFlags, "{bit}");
-        assert!(normal_form(word) == NumberFormatBuilder::decimal(), "{bit}");
+        assert!(normal_form(word) == decimal, "{bit}");
     }
 }
 
