@@ -5,7 +5,7 @@ use lexical_util::edits::{
     Edit, FlagSetter, apply_all, edit_word, edits_of, is_built, migrate, normal_form, same_format,
 };
 use lexical_util::error::Error;
-use lexical_util::format::{NumberFormatBuilder, STANDARD, format_error};
+use lexical_util::format::{NumberFormat, NumberFormatBuilder, STANDARD, format_error};
 
 #[test]
 fn a_word_is_filled_then_edited_and_then_loses_an_unused_separator(rt: HostRuntime) {
@@ -35,9 +35,10 @@ fn of_ten_thousand_edits_the_last_one_counts(rt: HostRuntime) {
 #[test]
 fn each_word_has_its_normal_form(rt: HostRuntime) {
     for (word, error, normal, normal_error) in &NORMAL_FORMS {
-        assert!(rt; format_error(*word) == *error, "{word:#034X}");
+        let (view, normal_view) = (NumberFormat::new(*word), NumberFormat::new(*normal));
+        let errors = [view.error(), normal_view.error()];
+        assert!(rt; errors == [*error, *normal_error], "{word:#034X}");
         assert!(rt; normal_form(*word) == *normal, "{word:#034X}");
-        assert!(rt; format_error(*normal) == *normal_error, "{word:#034X}");
         assert!(rt; same_format(*word, *normal), "{word:#034X}");
     }
 }

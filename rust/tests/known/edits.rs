@@ -3,7 +3,7 @@
 use crate::rows::edits::{unused_separator, EDITED, EXPONENT_DIGITS, LISTED, MIGRATED, NORMAL_FORMS, RESERVED_BITS};
 use peltzivar::edits::{apply_all, edit_word, edits_of, is_built, migrate, normal_form, same_format, Edit, FlagSetter};
 use peltzivar::error::Error;
-use peltzivar::word::{format_error, NumberFormatBuilder, STANDARD};
+use peltzivar::word::{format_error, FormatView, NumberFormatBuilder, STANDARD};
 
 #[test]
 fn a_word_is_filled_then_edited_and_then_loses_an_unused_separator() {
@@ -33,9 +33,10 @@ fn of_ten_thousand_edits_the_last_one_counts() {
 #[test]
 fn each_word_has_its_normal_form() {
     for (word, error, normal, normal_error) in &NORMAL_FORMS {
-        assert!(format_error(*word) == *error, "{word:#034X}");
+        let (view, normal_view) = (FormatView::new(*word), FormatView::new(*normal));
+        let errors = [view.error(), normal_view.error()];
+        assert!(errors == [*error, *normal_error], "{word:#034X}");
         assert!(normal_form(*word) == *normal, "{word:#034X}");
-        assert!(format_error(*normal) == *normal_error, "{word:#034X}");
         assert!(same_format(*word, *normal), "{word:#034X}");
     }
 }

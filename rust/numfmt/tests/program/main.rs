@@ -35,18 +35,6 @@ fn prints_the_text_of_each_row_and_ends_with_its_status() {
     }
 }
 
-/// The edits are counted before the word is read.
-#[test]
-fn takes_at_most_64_edits() {
-    let mut args = ["radix=16"; 67];
-    (args[0], args[1]) = ("edit", "0x00000A0000000000000000000000000C");
-    let edited = "0x0A0A100000000000000000000000000C\n".into();
-    assert_eq!(run(&args[..66]), (Some(0), edited));
-    args[1] = "0x";
-    let refused = "numfmt: too many edits\n".into();
-    assert_eq!(run(&args), (Some(2), refused));
-}
-
 #[test]
 fn ends_with_status_3_if_an_argument_is_not_utf_8() {
     for bytes in [&b"\xff"[..], b"0x1\xc3"] {

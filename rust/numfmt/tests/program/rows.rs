@@ -106,7 +106,7 @@ pub const ANSWERS: [(&str, &str, u8); 32] = [
 
 /// Arguments that are refused, with a space between them, and the text and exit status.
 #[rustfmt::skip]
-pub const REFUSALS: [(&str, &str, u8); 42] = [
+pub const REFUSALS: [(&str, &str, u8); 36] = [
     ("", "numfmt: unknown command\n", 2),
     ("shows 0x", "numfmt: unknown command\n", 2),
     ("show", "numfmt: wrong number of arguments\n", 2),
@@ -117,9 +117,6 @@ pub const REFUSALS: [(&str, &str, u8); 42] = [
     ("same 0x 0x 0x", "numfmt: wrong number of arguments\n", 2),
     ("options 0x00000A0000000000000000000000000C 101", "numfmt: wrong number of arguments\n", 2),
     ("options 0x 101 46 46", "numfmt: wrong number of arguments\n", 2),
-    ("migrate", "numfmt: wrong number of arguments\n", 2),
-    ("source", "numfmt: wrong number of arguments\n", 2),
-    ("explain 0x00000A0000000000000000000000000C 0x00000A0000000000000000000000000C", "numfmt: wrong number of arguments\n", 2),
     ("show 0x", "numfmt: bad word\n", 2),
     ("show 0x000000000000000000000000000000000", "numfmt: bad word\n", 2),
     ("show 0X1", "numfmt: bad word\n", 2),
@@ -130,9 +127,6 @@ pub const REFUSALS: [(&str, &str, u8); 42] = [
     ("same 0x 0x1", "numfmt: bad word\n", 2),
     ("options 0x 1 2", "numfmt: bad word\n", 2),
     ("options 0x 256 2", "numfmt: bad word\n", 2),
-    ("migrate 1", "numfmt: bad word\n", 2),
-    ("source 0x", "numfmt: bad word\n", 2),
-    ("explain 0x", "numfmt: bad word\n", 2),
     ("edit 0xC radix=256", "numfmt: bad edit\n", 2),
     ("edit 0xC radix", "numfmt: bad edit\n", 2),
     ("edit 0xC radix=16 radix", "numfmt: bad edit\n", 2),
