@@ -1,4 +1,5 @@
 """Tests what `make install` and pip install, below a prefix with a blank: `make -C c check`."""
+import importlib.util
 import os
 import pathlib
 import re
@@ -13,10 +14,6 @@ PAGE = (C.parent / "docs/C-AND-PYTHON.md").read_text()
 WORD = "0x0000100000000000000000000000000C"
 PROGRAM = "import peltzivar; print(peltzivar.Format.of(mantissa_radix=16), peltzivar.__file__)"
 IMPORT = [sys.executable, "-B", "-c", PROGRAM]
-
-
-def has_pip():
-    return subprocess.run([sys.executable, "-m", "pip", "--version"], capture_output=True).returncode == 0
 
 
 class Install(unittest.TestCase):
@@ -75,7 +72,7 @@ class Install(unittest.TestCase):
         with self.assertRaisesRegex(AssertionError, "PREFIX must be an absolute path"):
             self.make("install", "PREFIX=relative", f"DESTDIR={self.folder}/")
 
-    @unittest.skipUnless(has_pip(), "pip")
+    @unittest.skipUnless(importlib.util.find_spec("pip"), "pip")
     def test_pip_installs_the_checkout(self):
         options = ["--no-build-isolation", "--no-index", "--no-deps", "--quiet", "--disable-pip-version-check"]
         self.run_in(sys.executable, "-m", "pip", "install", *options, "--target", self.prefix, C)
