@@ -121,7 +121,7 @@ def text_of(call):
         names = [name for name in file.lines if f"{file.path.stem}.{name}" in reached]
         lines += [f"==== {file.path}", *file.header] if names else []
         lines += [line for name in names for line in ["", *file.lines[name]]]
-    lines += [f"==== {path}\n{text}" for path, text, _ in found]
+    lines += [line for path, text, _ in found for line in [f"==== {path}", *text.splitlines()]]
     unfit = [f"it reaches {name} by {above}" for name, above in reached.items()
              if name not in FILE_OF or FILE_OF[name].is_addition]
     return lines, unfit if found else ["no public function"]
