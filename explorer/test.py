@@ -68,43 +68,38 @@ class Code(unittest.TestCase):
              "0x00000A000000005F000000000000000C", "0x01FF257862000020800017FF8003FFFF"]
 
     def setUp(self):
-        folder = tempfile.TemporaryDirectory()
-        self.addCleanup(folder.cleanup)
-        self.folder = pathlib.Path(folder.name)
+        self.folder = pathlib.Path(tempfile.mkdtemp())
+        self.addCleanup(shutil.rmtree, self.folder)
         run("node", HERE / "test.js", self.folder, *self.WORDS)
 
     def code(self, language):
         return [(self.folder / f"{index}.{language}").read_text() for index in range(len(self.WORDS))]
 
-    def cargo(self, *arguments):
-        """Calls cargo, whose results are in the folder."""
-        variables = {"CARGO_TARGET_DIR": str(self.folder / "target"), "CARGO_NET_OFFLINE": "true"}
-        return run("cargo", *arguments, env={**os.environ, **variables}, cwd=self.folder)
+    def cargo(self, command, manifest, *options):
+        return run("cargo", command, "--quiet", "--offline", "--manifest-path", manifest, "--target-dir", self.folder, *options)
 
     @unittest.skipUnless(has("cargo"), "no cargo")
     def test_rust(self):
-        modules = "".join(f"mod m{index} {{ {text} pub const WORD: u128 = FORMAT; }}\n"
-                          for index, text in enumerate(self.code("rust")))
-        prints = "".join(f'println!("{{:#034X}}", m{index}::WORD);' for index in range(len(self.WORDS)))
-        (self.folder / "main.rs").write_text(f"{modules}fn main() {{ {prints} }}")
+        blocks = "".join(f'{{ {text} println!("{{FORMAT:#034X}}"); }}\n' for text in self.code("rust"))
+        (self.folder / "main.rs").write_text(f"fn main() {{ {blocks} }}")
         (self.folder / "Cargo.toml").write_text(
             '[package]\nname = "code"\nedition = "2021"\n[[bin]]\nname = "code"\npath = "main.rs"\n[workspace]\n'
             f'[dependencies]\npeltzivar = {{ path = "{TOP / "rust"}" }}\n')
-        self.assertEqual(self.cargo("run", "--quiet").split(), self.WORDS)
+        self.assertEqual(self.cargo("run", self.folder / "Cargo.toml").split(), self.WORDS)
 
     @unittest.skipUnless(has("cc"), "no C compiler")
     def test_c(self):
-        text = "".join(f"#define FORMAT F{index}\n{text}\n#undef FORMAT\n" for index, text in enumerate(self.code("c")))
-        show = r'printf("0x%016llX%016llX\n", (unsigned long long)F.high, (unsigned long long)F.low);'
-        prints = "".join(show.replace("F.", f"F{index}.") for index in range(len(self.WORDS)))
-        (self.folder / "main.c").write_text(f"{text}#include <stdio.h>\nint main(void) {{ {prints} return 0; }}\n")
+        show = r'printf("0x%016llX%016llX\n", (unsigned long long)FORMAT.high, (unsigned long long)FORMAT.low);'
+        blocks = "".join(f"{{\n{text}\n{show}\n}}\n" for text in self.code("c"))
+        (self.folder / "main.c").write_text(
+            f'#include "peltzivar.h"\n#include <stdio.h>\nint main(void) {{ {blocks} return 0; }}\n')
         run("cc", "-Wall", "-Wextra", "-Werror", "-I", TOP / "c", "-o", self.folder / "main", self.folder / "main.c")
         self.assertEqual(run(self.folder / "main").split(), self.WORDS)
 
     @unittest.skipUnless(has("cargo"), "no cargo")
     def test_python(self):
-        self.cargo("build", "--quiet", "--release", "--manifest-path", TOP / "rust/capi/Cargo.toml")
-        library = next(it for it in (self.folder / "target/release").iterdir() if it.suffix in (".so", ".dylib"))
+        self.cargo("build", TOP / "rust/capi/Cargo.toml", "--release")
+        library = next(it for it in (self.folder / "release").iterdir() if it.suffix in (".so", ".dylib"))
         (self.folder / "main.py").write_text("".join(f"{text}print(format)\n" for text in self.code("python")))
         variables = {"PELTZIVAR_LIBRARY": str(library), "PYTHONPATH": str(TOP / "c"), "PYTHONDONTWRITEBYTECODE": "1"}
         printed = run(sys.executable, self.folder / "main.py", env={**os.environ, **variables})

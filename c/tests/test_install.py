@@ -18,9 +18,8 @@ IMPORT = [sys.executable, "-B", "-c", PROGRAM]
 
 class Install(unittest.TestCase):
     def setUp(self):
-        folder = tempfile.TemporaryDirectory()
-        self.addCleanup(folder.cleanup)
-        self.folder = pathlib.Path(folder.name)
+        self.folder = pathlib.Path(tempfile.mkdtemp())
+        self.addCleanup(shutil.rmtree, self.folder)
         self.prefix = self.folder / "a prefix"
         others = ("PELTZIVAR_LIBRARY", "PYTHONPATH", "MAKEFLAGS")
         self.environment = {name: value for name, value in os.environ.items() if name not in others}

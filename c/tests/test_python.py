@@ -241,9 +241,8 @@ class Loading(unittest.TestCase):
     """Each test imports a copy of the module in another process."""
 
     def setUp(self):
-        folder = tempfile.TemporaryDirectory()
-        self.addCleanup(folder.cleanup)
-        self.folder = pathlib.Path(folder.name)
+        self.folder = pathlib.Path(tempfile.mkdtemp())
+        self.addCleanup(shutil.rmtree, self.folder)
         shutil.copy(peltzivar.__file__, self.folder)
 
     def run_copy(self, **variables):

@@ -1,5 +1,5 @@
 use crate::rows::edits::{
-    EDITED, EXPONENT_DIGITS, LISTED, MIGRATED, NORMAL_FORMS, RESERVED_BITS, unused_separator,
+    EDITED, EXPONENT_DIGITS, LISTED, MIGRATED, NORMAL_FORMS, unused_separator,
 };
 use lexical_util::edits::{
     Edit, FlagSetter, apply_all, edit_word, edits_of, is_built, migrate, normal_form, same_format,
@@ -46,9 +46,9 @@ fn each_word_has_its_normal_form(rt: HostRuntime) {
 #[test]
 fn each_reserved_bit_is_refused_and_is_lost_in_the_normal_form(rt: HostRuntime) {
     let decimal = NumberFormatBuilder::decimal();
-    for bit in &RESERVED_BITS {
-        assert!(rt; *bit < 128);
-        let word = decimal | 1 << *bit;
+    for bit in (18..32_u32).chain(45..64).chain(72..88) {
+        assert!(rt; bit < 128);
+        let word = decimal | 1 << bit;
         assert!(rt; format_error(word) == Error::InvalidFlags, "{bit}");
         assert!(rt; normal_form(word) == decimal, "{bit}");
     }

@@ -1,6 +1,6 @@
 // Made by rust/tools/erase.py from crates/lexical_tests/src/edits.rt: change that file.
 
-use crate::rows::edits::{unused_separator, EDITED, EXPONENT_DIGITS, LISTED, MIGRATED, NORMAL_FORMS, RESERVED_BITS};
+use crate::rows::edits::{unused_separator, EDITED, EXPONENT_DIGITS, LISTED, MIGRATED, NORMAL_FORMS};
 use peltzivar::edits::{apply_all, edit_word, edits_of, is_built, migrate, normal_form, same_format, Edit, FlagSetter};
 use peltzivar::error::Error;
 use peltzivar::word::{format_error, FormatView, NumberFormatBuilder, STANDARD};
@@ -44,9 +44,9 @@ fn each_word_has_its_normal_form() {
 #[test]
 fn each_reserved_bit_is_refused_and_is_lost_in_the_normal_form() {
     let decimal = NumberFormatBuilder::decimal();
-    for bit in &RESERVED_BITS {
-        assert!(*bit < 128);
-        let word = decimal | 1 << *bit;
+    for bit in (18..32_u32).chain(45..64).chain(72..88) {
+        assert!(bit < 128);
+        let word = decimal | 1 << bit;
         assert!(format_error(word) == Error::InvalidFlags, "{bit}");
         assert!(normal_form(word) == decimal, "{bit}");
     }
