@@ -1,7 +1,7 @@
 #!/usr/bin/env python3
 """Tests that each generated file has the source's words in their order, without whole ghost items, and except for
-the tables of erase.py. A line of documentation is a word, and another comment is none. The order of imports, and commas
-and braces that rustfmt adds, do not matter.
+the tables of erase.py. A line of documentation is a word, and another comment is none. The order of imports, commas and
+braces do not matter.
 
 This test reads the sources by itself and takes only the tables from erase.py. It prints each file that differs.
 """
@@ -13,31 +13,12 @@ sys.dont_write_bytecode = True
 import erase
 
 OPENS, CLOSES = "([{", ")]}"
+WORD = re.compile(r"""//.*|b?"(?:[^"\\]|\\.)*"|b?'(?:[^'\\]|\\.[^']*)'|\w+|\S""")
 
 
 def words_of(text):
     """The words, signs, strings, characters and lines of documentation of a text, without other comments."""
-    words, at = [], 0
-    while at < len(text):
-        end = at + 1
-        quote = at + 1 if text[at] == "b" and text[at + 1 : at + 2] in "\"'" else at
-        if text.startswith("//", at):
-            end = text.index("\n", at)
-            words += [text[at:end]] * text.startswith(("///", "//!"), at)
-            at = end
-            continue
-        if text[quote] == '"' or (text[quote] == "'" and (text[quote + 1] == "\\" or text[quote + 2] == "'")):
-            end = quote + 1
-            while text[end] != text[quote]:
-                end += 2 if text[end] == "\\" else 1
-            end += 1
-        elif text[at].isalnum() or text[at] == "_":
-            while end < len(text) and (text[end].isalnum() or text[end] == "_"):
-                end += 1
-        if not text[at].isspace():
-            words.append(text[at:end])
-        at = end
-    return words
+    return [it for it in WORD.findall(text) if not re.match("//(?![/!])", it)]
 
 
 def close(words, at):
@@ -132,45 +113,11 @@ def wanted_words(path, place):
 IMPORT = re.compile(r"(?:# \[ [^\]]* \] )*(?:pub (?:\( \w+ \) )?)?(?<!\S)(?:use [^;]*|mod \w+) ;")
 
 
-def import_of(text):
-    """An import with the items in braces in their order, which is rustfmt's."""
-    def in_order(found):
-        return f"<{', '.join(sorted(found[1].split(' , ')))}>"
-
-    while (found := re.sub(r"\{ ([^{}]*?) (?:, )?\}", in_order, text)) != text:
-        text = found
-    return text
-
-
 def normal(words):
-    """The imports, sorted, and the other words without what rustfmt adds."""
+    """The words of imports, sorted, and the other words, without commas and braces."""
     text = " ".join(words)
-    imports = sorted(import_of(it) for it in IMPORT.findall(text))
-    rest = re.sub(r" +", " ", re.sub(r", (?=[)\]}])", "", IMPORT.sub("", text)))
-    return imports, rest.split()
-
-
-def same_words(wanted, made):
-    """Returns whether two lists of words are equal, except for braces around an arm of a `match`."""
-    at, depth, added = 0, 0, []
-    for index, word in enumerate(made):
-        depth -= word == "}"
-        if word == "}" and added and added[-1] == depth:
-            added.pop()
-            at += wanted[at : at + 1] == [","]
-        elif wanted[at : at + 1] == [word]:
-            at += 1
-        elif word == "{" and made[index - 2 : index] == ["=", ">"]:
-            added.append(depth)
-        else:
-            return False
-        depth += word == "{"
-    return at == len(wanted) and not added
-
-
-def are_same(wanted, made):
-    wanted, made = normal(wanted), normal(made)
-    return wanted[0] == made[0] and same_words(wanted[1], made[1])
+    split = lambda text: [it for it in text.split() if it not in ("{", "}", ",")]
+    return sorted(split(" ".join(IMPORT.findall(text)))), split(IMPORT.sub("", text))
 
 
 def pairs():
@@ -188,7 +135,7 @@ def pairs():
 
 def main():
     files = [(made, wanted_words(path, place), words_of(made.read_text())) for path, made, place in pairs()]
-    found = [str(path.relative_to(erase.RUST)) for path, wanted, made in files if not are_same(wanted, made)]
+    found = [str(path.relative_to(erase.RUST)) for path, wanted, made in files if normal(wanted) != normal(made)]
     sys.exit(f"not the words of the source: {', '.join(found)}" if found or not files else 0)
 
 

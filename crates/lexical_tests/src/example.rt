@@ -21,7 +21,7 @@ fn hexadecimal() -> Result<u128, Error> {
 #[cfg(test)]
 mod tests {
     use super::*;
-    use lexical_util::edits::{FlagSetter, edits_of, same_format};
+    use lexical_util::edits::same_format;
     use lexical_util::format::NumberFormat;
 
     #[test]
@@ -35,16 +35,5 @@ mod tests {
 
         let clash = edit_word(format, &[Edit::DigitSeparator(NonZeroU8::new(b'a'))]);
         assert!(rt; format_error(clash) == Error::InvalidDigitSeparator);
-    }
-
-    #[test]
-    fn lists_the_setter_calls_of_a_word(rt: HostRuntime) {
-        let (edits, count) = edits_of(0x00001000_0000005F_00001000_0000000C);
-        let calls = [
-            Edit::Flag(FlagSetter::SpecialDigitSeparator, true),
-            Edit::DigitSeparator(NonZeroU8::new(b'_')),
-            Edit::MantissaRadix(16),
-        ];
-        assert!(rt; count == 3 && [edits[0], edits[1], edits[2]] == calls);
     }
 }
