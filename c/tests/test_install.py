@@ -38,8 +38,8 @@ class Install(unittest.TestCase):
     def test_a_program_is_built_by_the_lines_of_the_page(self):
         self.make("install", f"PREFIX={self.prefix}")
         shutil.copy(C / "example.c", self.folder)
-        lines = [line for line in re.findall(r"^ *(?:eval )?cc .*pkg-config.*$", PAGE, re.M)]
-        self.assertEqual(len(lines), 2)
+        lines = re.findall(r"^ *(?:eval )?cc .*pkg-config.*$", PAGE, re.M)
+        self.assertTrue(lines)
         for line in lines:
             self.run_in("bash", "-c", line)
             self.assertEqual(self.run_in("./example", "radix=16").split()[0], WORD)

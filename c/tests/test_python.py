@@ -179,7 +179,7 @@ class Words(unittest.TestCase):
         self.assertEqual(FormatView(0x0000100000000000000000000000040C).source(), source)
         self.assertRegex(FormatView((1 << 128) - 1).source(), r"^NumberFormatBuilder::new\(\).{900,}\.build_unchecked\(\)$")
         self.assertRaisesRegex(AttributeError, "no_special=True", setattr, Format(), "no_special", True)
-        self.assertEqual(doctest.testmod(peltzivar), (0, 4))
+        self.assertEqual(doctest.testmod(peltzivar).failed, 0)
 
     def test_options(self):
         self.assertIsNone(Format().check_options("e", "."))
