@@ -357,8 +357,8 @@ const fn byte_or_radix(byte: u64, mantissa_radix: u64) -> u64
     if byte == 0 { mantissa_radix } else { byte }
 }
 
-// Returns the exponent base in the upper half of a format word, or the mantissa radix if that is 0. The choice is between
-// two halves, of which one is shifted afterwards, since a choice between two shifted bytes is slower.
+// Returns the exponent base in the upper half of a format word, or the mantissa radix if the base is 0. The half is
+// chosen before it is shifted, since a choice between two shifted halves is slower.
 const fn base_or_radix(high: u64) -> u8
     ensures { result ≡ effective (part high 48 8) (part high 40 8) }
 {
