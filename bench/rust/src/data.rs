@@ -27,6 +27,8 @@ pub struct Data {
     /// Words that break one rule.
     pub one_broken: Vec<Case>,
     pub any: Vec<Case>,
+    /// So many that the processor does not learn the outcomes of their branches.
+    pub many: Vec<Case>,
     pub edits: Vec<(u128, [Edit; 3])>,
     /// Settings that both sides take, and words as text.
     pub settings: Vec<String>,
@@ -66,6 +68,7 @@ impl Data {
             }),
             settings: list(random, 1024, setting),
             texts: broken.iter().map(|case| format!("0x{:X}", case.0)).collect(),
+            many: list(random, 65_536, |random| (random.bits(), random.next())),
             broken,
         }
     }

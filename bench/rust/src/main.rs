@@ -77,7 +77,7 @@ fn word_rows(data: &Data) -> Vec<Row<'_>> {
         "cmp and ==", TIMES as f64, order(&data.outcomes);
         "format_error, lawful", 1.0, format_errors(&data.lawful);
         "format_error, unlawful", 1.0, format_errors(&data.broken);
-        "radix_error_impl", 1.0, radix_errors(&data.any);
+        "radix_error_impl", 1.0, radix_errors(&data.many);
         "five rules by their own calls", 1.0, validators(&data.lawful);
         "is_valid_options_punctuation, lawful", 1.0, options(&data.lawful);
         "is_valid_options_punctuation, unlawful", 1.0, options(&data.broken);

@@ -47,7 +47,7 @@ blocks_joined-builder word =
     ∙ or_shifted (part word 32 high) low (part word 0 low) (mod-lt _ (pow_pos low)) ∙ omega arith
 
 -- The value of a bit if it is set, and 0 otherwise, is the bit times the value.
-bit_value : (n value : ℕ) → n < 2 → (if n == 1 then value else 0) ≡ n * value
+pub bit_value : (n value : ℕ) → n < 2 → (if n == 1 then value else 0) ≡ n * value
 bit_value zero value l = omega arith
 bit_value (suc n) value l = let none : n ≡ 0 = omega arith in rw none (omega arith)
 

@@ -1,5 +1,5 @@
 pub mod OptionByteLemmas
 pub mod WriteLemmas
-mod BuilderFlags
+pub mod BuilderFlags
 mod RadixLemmas
 mod UpperHalf

@@ -9,7 +9,6 @@ ghost use Rattle.lexical_flags.specs.Rules.{IsErrorOf, IsRadix, Lawful};
 ghost use Rattle.lexical_builder.specs.OptionByte.{byte_of_option};
 ghost use Rattle.lexical_builder.specs.BuilderBits.{builder_bit, byte_index, flags_with};
 ghost use Rattle.lexical_builder.specs.Private.{flags_in, byte_at, flag_with};
-ghost use Rattle.lexical_builder.specs.declared.format_builder.TheConstants.{WITH_SEPARATOR, WITHOUT_SEPARATOR};
 ghost use Rattle.lexical_builder.specs.Writes.{new_record, radix_record, after, write_flags, write_byte};
 
 use lexical_base::error::Error;
@@ -59,12 +58,6 @@ const MANTISSA_SHIFT: i32 = flags::MANTISSA_RADIX_SHIFT - 64;
 const BASE_SHIFT: i32 = flags::EXPONENT_BASE_SHIFT - 64;
 
 const RADIX_SHIFT: i32 = flags::EXPONENT_RADIX_SHIFT - 64;
-
-// The bits of the base prefix, the base suffix and the mantissa radix in the upper half of a format word.
-const WITHOUT_SEPARATOR: u64 = 0x0000_FFFF_FF00_0000;
-
-// The bits in `WITHOUT_SEPARATOR`, and the bits of the digit separator.
-const WITH_SEPARATOR: u64 = 0x0000_FFFF_FF00_00FF;
 
 /// A byte that may be absent.
 pub type OptionU8 = Option<NonZeroU8>;
@@ -216,14 +209,12 @@ impl NumberFormatBuilder {
             exponent_radix,
         ] = self.bytes;
         let flags = word_flags(self.flags);
-        let bytes = (separator as u64)
+        let upper = (kept_separator(flags, separator) as u64)
             | (prefix as u64) << PREFIX_SHIFT
             | (suffix as u64) << SUFFIX_SHIFT
-            | (radix as u64) << MANTISSA_SHIFT;
-        // The exponent bytes are joined by themselves, since one chain of all bytes is slower.
-        let exponents = (exponent_base as u64) << BASE_SHIFT
+            | (radix as u64) << MANTISSA_SHIFT
+            | (exponent_base as u64) << BASE_SHIFT
             | (exponent_radix as u64) << RADIX_SHIFT;
-        let upper = bytes & kept_bytes(flags) | exponents;
         flags | (upper as u128) << 64
     }
 
@@ -404,15 +395,14 @@ const fn bits_if(condition: bool, bits: u32) -> u32
     if condition { bits } else { 0 }
 }
 
-// Returns `WITH_SEPARATOR` if any of `flags`, the flags of a format word, allows a digit separator, and
-// `WITHOUT_SEPARATOR` otherwise.
-const fn kept_bytes(flags: u128) -> u64
-    ensures { result ≡ (if separator_allowed (raw flags) then WITH_SEPARATOR else WITHOUT_SEPARATOR) }
+// Returns the digit separator, or 0 if none of `flags`, the flags of a format word, allows one.
+const fn kept_separator(flags: u128, separator: u8) -> u8
+    ensures { result ≡ (if separator_allowed (raw flags) then separator else 0) }
 {
     if flags & flags::DIGIT_SEPARATOR_FLAG_MASK != 0 {
-        WITH_SEPARATOR
+        separator
     } else {
-        WITHOUT_SEPARATOR
+        0
     }
 }
 

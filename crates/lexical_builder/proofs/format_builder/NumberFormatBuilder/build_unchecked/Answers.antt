@@ -1,24 +1,14 @@
 use Rattle.std.proofs.Common.{◌≡◌, ◌∙◌, ℕ, if◌then◌else◌, ap, sym, subst, arith}
-use Rattle.std.proofs.Common.{◌*◌, ◌%◌, ◌^◌, bit_or, lt_of_le_of_lt, sum_by, slice_index}
-use Rattle.std.proofs.lemmas.Nat.{and_le_r, or_lt, shl_whole}
+use Rattle.std.proofs.Common.{sum_by, slice_index}
+use Rattle.std.proofs.lemmas.Nat.{shl_whole}
 use Rattle.lexical_flags.specs.Layout.{Byte, IsClean, flags}
 use Rattle.lexical_flags.specs.Layout as layout
-use Rattle.lexical_flags.specs.Record.{Record, pack, flag_bits, separator_allowed, raw, HasBytes}
-use Rattle.lexical_flags.proofs.Packing.{HasBytes-by_name, raw-pack, pack-clean, pack-injective}
+use Rattle.lexical_flags.specs.Record.{Record, pack, trim, flag_bits, separator_allowed, raw, HasBytes}
+use Rattle.lexical_flags.proofs.Packing.{HasBytes-by_name, HasBytes-trim, raw-pack, pack-clean, pack-injective}
 use Rattle.lexical_flags.proofs.FlagBits.{separator_allowed-flags}
-use Rattle.lexical_builder.specs.declared.format_builder.TheConstants.{WITH_SEPARATOR, WITHOUT_SEPARATOR}
-use Rattle.lexical_builder.proofs.UpperHalf.{kept_mask, upper_of, upper-lt, halves_joined}
+use Rattle.lexical_builder.proofs.UpperHalf.{upper_of, upper-lt, halves_joined}
 use Rattle.lexical_builder.specs.BuilderBits.{byte_index, builder_record}
 use Rattle.lexical_builder.proofs.format_builder.NumberFormatBuilder.build_unchecked.Goals as goal
-
-pub overflow_cast-result : goal.overflow_cast-result
-overflow_cast-result c =
-    let base : ℕ = slice_index c.self.inside.bytes 4 * 2 ^ 48 % 2 ^ 64 in
-    let radix : ℕ = slice_index c.self.inside.bytes 5 * 2 ^ 56 % 2 ^ 64 in
-    record {
-      fits = or_lt 128 _ (bit_or base radix) (lt_of_le_of_lt {m = c.kept_bytes.result} (and_le_r _ _) (omega arith))
-          (or_lt 128 base radix (omega arith) (omega arith));
-    }
 
 pub returns-clause-bytes : goal.returns-clause-bytes
 returns-clause-bytes c = subst HasBytes c.self.view_is (HasBytes-by_name (builder_record c.self.inside) (omega arith)
@@ -31,18 +21,19 @@ returns-clause-word c =
     let bytes : HasBytes r = HasBytes-by_name r (omega arith) (omega arith) (omega arith) (omega arith) (omega arith)
     (omega arith) in
     let flags_joined : c.word_flags-flags.result ≡ sum_by (flag_bits r) flags = c.word_flags-flags.ensures in
-    let mask : c.kept_bytes.result ≡ kept_mask r =
-    c.kept_bytes.ensures
-    ∙ ap (λ allowed. if allowed then WITH_SEPARATOR else WITHOUT_SEPARATOR)
+    let kept : HasBytes (trim r) = HasBytes-trim r bytes in
+    let separator : c.kept_separator.result ≡ (trim r).byte layout.digit_separator =
+    c.kept_separator.ensures
+    ∙ ap (λ allowed. if allowed then r.byte layout.digit_separator else 0)
     (ap (λ word. separator_allowed (raw word)) flags_joined ∙ separator_allowed-flags r) in
     let same = ap pack c.self.view_is in
-    let joined = halves_joined r bytes in
+    let joined = halves_joined r kept in
     let prefix = shl_whole (byte layout.base_prefix) 8 24 64 (omega arith) (omega arith) in
     let suffix = shl_whole (byte layout.base_suffix) 8 32 64 (omega arith) (omega arith) in
     let radix = shl_whole (byte layout.mantissa_radix) 8 40 64 (omega arith) (omega arith) in
     let exponent_base = shl_whole (byte layout.exponent_base) 8 48 64 (omega arith) (omega arith) in
     let exponent_radix = shl_whole (byte layout.exponent_radix) 8 56 64 (omega arith) (omega arith) in
-    let upper = shl_whole (upper_of r) 64 64 128 (upper-lt r bytes) (omega arith) in
+    let upper = shl_whole (upper_of (trim r)) 64 64 128 (upper-lt (trim r) kept) (omega arith) in
     cc
 
 pub returns-clause-fields : goal.returns-clause-fields
