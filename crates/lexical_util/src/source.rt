@@ -1,6 +1,6 @@
 //! Prints format words as Rust code.
 
-use crate::edits::{ArgumentKind, edits_of};
+use crate::edits::{ArgumentKind, Edit, edits_of};
 use std::fmt;
 
 /// A format word that is printed as Rust code. The code is an expression that builds the word.
@@ -25,18 +25,20 @@ impl fmt::Display for BuilderExpression {
         f.write_str("NumberFormatBuilder::new()")?;
         for edit in edits.iter().take(count) {
             write!(f, ".{}(", edit.name())?;
-            match (edit.setter().kind(), edit.argument_byte()) {
-                (ArgumentKind::Flag, byte) => f.write_str(if byte != 0 {
-                    "true"
-                } else {
-                    "false"
-                })?,
-                (ArgumentKind::OptionalByte, 0) => f.write_str("None")?,
-                (ArgumentKind::OptionalByte, byte) => write!(f, "NonZeroU8::new({byte})")?,
-                (ArgumentKind::Byte, byte) => write!(f, "{byte}")?,
-            }
+            put_argument(edit, f)?;
             f.write_str(")")?;
         }
         f.write_str(".build_unchecked()")
+    }
+}
+
+// Writes the argument of the call that an edit makes.
+fn put_argument<W: fmt::Write>(edit: &Edit, f: &mut fmt::Formatter<W>) -> fmt::Result {
+    match (edit.setter().kind(), edit.argument_byte()) {
+        (ArgumentKind::Flag, 0) => f.write_str("false"),
+        (ArgumentKind::Flag, _) => f.write_str("true"),
+        (ArgumentKind::OptionalByte, 0) => f.write_str("None"),
+        (ArgumentKind::OptionalByte, byte) => write!(f, "NonZeroU8::new({byte})"),
+        (ArgumentKind::Byte, byte) => write!(f, "{byte}"),
     }
 }
