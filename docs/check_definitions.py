@@ -8,12 +8,14 @@ A contract cites the definitions that the `use` lines of its file bring, and a d
 definition is found by its name and that of its file. The status is 1 if a call reaches a constant of the program, or an
 addition: a definition in a folder of specs/ or in Private.antt. Such definitions serve other calls.
 """
+import graphlib
 import pathlib
 import re
 import sys
 
 CALLS = """edit_word normal_form format_error check build_strict is_built edits_of is_valid_options_punctuation
 options_error migrate""".split()
+CRATES = ["lexical_base", "lexical_flags", "lexical_builder", "lexical_util"]
 TOP = pathlib.Path(__file__).resolve().parent.parent
 USE = re.compile(r"^ *(?:ghost )?(?:unfoldable )?(?:pub )?use Rattle\.([\w.]+?)(?: as (\w+)|\.\{(.*)\})?;?$", re.M)
 DEFINES = re.compile(r"(?:abbrev |unfoldable )?(?:pub )?(?:data |record )?(\S+)(?: \(.*?\))* :(?= |$)")
@@ -87,21 +89,12 @@ def reached_from(starts):
 
 
 def reading_order():
-    """Returns the files so that each comes after those that it imports."""
-    done, begun = [], set()
+    """Returns the files from the lowest crate up, so that each comes after those that it imports."""
+    def above(file):
+        return [FILE_OF[it] for it in map(found_at, file.imports.values()) if FILE_OF.get(it, file) is not file]
 
-    def read(file):
-        begun.add(file)
-        for path in file.imports.values():
-            above = FILE_OF.get(found_at(path))
-            if above and above not in begun:
-                read(above)
-        done.append(file)
-
-    for file in FILES:
-        if file not in begun:
-            read(file)
-    return done
+    order = graphlib.TopologicalSorter({file: above(file) for file in FILES}).static_order()
+    return sorted(order, key=lambda file: CRATES.index(file.path.parts[1]))
 
 
 def contracts(call):
@@ -121,7 +114,7 @@ def text_of(call):
         names = [name for name in file.lines if f"{file.path.stem}.{name}" in reached]
         lines += [f"==== {file.path}", *file.header] if names else []
         lines += [line for name in names for line in ["", *file.lines[name]]]
-    lines += [f"==== {path}\n{text}" for path, text, _ in found]
+    lines += [line for path, text, _ in found for line in [f"==== {path}", *text.splitlines()]]
     unfit = [f"it reaches {name} by {above}" for name, above in reached.items()
              if name not in FILE_OF or FILE_OF[name].is_addition]
     return lines, unfit if found else ["no public function"]

@@ -6,11 +6,8 @@
 Node.js. One walk through the page in Chromium takes the steps of a user. The code that the page shows builds its word.
 A test is skipped by name if the machine lacks its programs.
 """
-import base64
-import hashlib
 import os
 import pathlib
-import re
 import shutil
 import subprocess
 import sys
@@ -36,7 +33,7 @@ except ImportError:
 STANDARD = "0x00000A0000000000000000000000000C"
 # A word with bits in each of its bytes, and among both kinds of flags.
 MIXED = "0x0A0210687800005F00000FC70001441F"
-# How long the first paint after a load and an edit may take, in milliseconds: the least of some tries.
+# How long the first paint after a load and an edit may take, in milliseconds, in one of some tries.
 MOST_PAINT, MOST_EDIT, TRIES = 100, 10, 30
 
 
@@ -71,43 +68,38 @@ class Code(unittest.TestCase):
              "0x00000A000000005F000000000000000C", "0x01FF257862000020800017FF8003FFFF"]
 
     def setUp(self):
-        folder = tempfile.TemporaryDirectory()
-        self.addCleanup(folder.cleanup)
-        self.folder = pathlib.Path(folder.name)
+        self.folder = pathlib.Path(tempfile.mkdtemp())
+        self.addCleanup(shutil.rmtree, self.folder)
         run("node", HERE / "test.js", self.folder, *self.WORDS)
 
     def code(self, language):
         return [(self.folder / f"{index}.{language}").read_text() for index in range(len(self.WORDS))]
 
-    def cargo(self, *arguments):
-        """Calls cargo, whose results are in the folder."""
-        variables = {"CARGO_TARGET_DIR": str(self.folder / "target"), "CARGO_NET_OFFLINE": "true"}
-        return run("cargo", *arguments, env={**os.environ, **variables}, cwd=self.folder)
+    def cargo(self, command, manifest, *options):
+        return run("cargo", command, "--quiet", "--offline", "--manifest-path", manifest, "--target-dir", self.folder, *options)
 
     @unittest.skipUnless(has("cargo"), "no cargo")
     def test_rust(self):
-        modules = "".join(f"mod m{index} {{ {text} pub const WORD: u128 = FORMAT; }}\n"
-                          for index, text in enumerate(self.code("rust")))
-        prints = "".join(f'println!("{{:#034X}}", m{index}::WORD);' for index in range(len(self.WORDS)))
-        (self.folder / "main.rs").write_text(f"{modules}fn main() {{ {prints} }}")
+        blocks = "".join(f'{{ {text} println!("{{FORMAT:#034X}}"); }}\n' for text in self.code("rust"))
+        (self.folder / "main.rs").write_text(f"fn main() {{ {blocks} }}")
         (self.folder / "Cargo.toml").write_text(
             '[package]\nname = "code"\nedition = "2021"\n[[bin]]\nname = "code"\npath = "main.rs"\n[workspace]\n'
             f'[dependencies]\npeltzivar = {{ path = "{TOP / "rust"}" }}\n')
-        self.assertEqual(self.cargo("run", "--quiet").split(), self.WORDS)
+        self.assertEqual(self.cargo("run", self.folder / "Cargo.toml").split(), self.WORDS)
 
     @unittest.skipUnless(has("cc"), "no C compiler")
     def test_c(self):
-        text = "".join(f"#define FORMAT F{index}\n{text}\n#undef FORMAT\n" for index, text in enumerate(self.code("c")))
-        show = r'printf("0x%016llX%016llX\n", (unsigned long long)F.high, (unsigned long long)F.low);'
-        prints = "".join(show.replace("F.", f"F{index}.") for index in range(len(self.WORDS)))
-        (self.folder / "main.c").write_text(f"{text}#include <stdio.h>\nint main(void) {{ {prints} return 0; }}\n")
+        show = r'printf("0x%016llX%016llX\n", (unsigned long long)FORMAT.high, (unsigned long long)FORMAT.low);'
+        blocks = "".join(f"{{\n{text}\n{show}\n}}\n" for text in self.code("c"))
+        (self.folder / "main.c").write_text(
+            f'#include "peltzivar.h"\n#include <stdio.h>\nint main(void) {{ {blocks} return 0; }}\n')
         run("cc", "-Wall", "-Wextra", "-Werror", "-I", TOP / "c", "-o", self.folder / "main", self.folder / "main.c")
         self.assertEqual(run(self.folder / "main").split(), self.WORDS)
 
     @unittest.skipUnless(has("cargo"), "no cargo")
     def test_python(self):
-        self.cargo("build", "--quiet", "--release", "--manifest-path", TOP / "rust/capi/Cargo.toml")
-        library = next(it for it in (self.folder / "target/release").iterdir() if it.suffix in (".so", ".dylib"))
+        self.cargo("build", TOP / "rust/capi/Cargo.toml", "--release")
+        library = next(it for it in (self.folder / "release").iterdir() if it.suffix in (".so", ".dylib"))
         (self.folder / "main.py").write_text("".join(f"{text}print(format)\n" for text in self.code("python")))
         variables = {"PELTZIVAR_LIBRARY": str(library), "PYTHONPATH": str(TOP / "c"), "PYTHONDONTWRITEBYTECODE": "1"}
         printed = run(sys.executable, self.folder / "main.py", env={**os.environ, **variables})
@@ -406,18 +398,10 @@ class Walk(unittest.TestCase):
         self.assertEqual(self.run_script(requests), [])
         policy = self.find("meta[http-equiv=Content-Security-Policy]").get_attribute("content")
         self.assertTrue(policy.startswith("default-src 'none'; script-src 'sha256-"), policy)
-        script = re.findall(r"<script>(.*?)</script>", PAGE.read_text(), re.S)[0]
-        self.assertIn(base64.b64encode(hashlib.sha256(script.encode()).digest()).decode(), policy)
         self.assertLess(PAGE.stat().st_size, 250_000)
 
     @unittest.skipIf("CI" in os.environ or os.getloadavg()[0] > (os.cpu_count() or 1), "the machine is busy")
     def test_loading_and_editing_are_fast(self):
-        def least(measure, most):
-            times = []
-            while not times or (min(times) >= most and len(times) < TRIES):
-                times.append(measure())
-            return min(times)
-
         def paint():
             self.load()
             self.wait(lambda: self.run_script("return performance.getEntriesByName('first-contentful-paint').length"))
@@ -425,8 +409,8 @@ class Walk(unittest.TestCase):
 
         edit = """const start = performance.now(); document.getElementById("no_special").click();
             document.body.offsetHeight; return performance.now() - start"""
-        self.assertLess(least(paint, MOST_PAINT), MOST_PAINT)
-        self.assertLess(least(lambda: self.run_script(edit), MOST_EDIT), MOST_EDIT)
+        self.assertTrue(any(paint() < MOST_PAINT for _ in range(TRIES)))
+        self.assertTrue(any(self.run_script(edit) < MOST_EDIT for _ in range(TRIES)))
 
 
 if __name__ == "__main__":

@@ -1,5 +1,5 @@
-/* Calls each function of peltzivar.h, also with values without a meaning and with buffers of any size. It compiles as C
- * and as C++. test_python.py compares the results of the functions with recorded ones. */
+/* Calls the functions of peltzivar.h with values without a meaning, with null pointers and with buffers of any size, and
+ * those that Python does not call. It compiles as C and as C++. test_python.py tests the results of the others. */
 #include "peltzivar.h"
 
 #include <stdio.h>
@@ -99,67 +99,40 @@ static void test_words(void) {
     peltzivar_edit edits[PELTZIVAR_FIELD_COUNT + 1];
     const peltzivar_word hexadecimal = {0xD, 0x0000100000000000};
     peltzivar_word word = {1, 2};
-    CHECK(peltzivar_check(PELTZIVAR_STANDARD) == PELTZIVAR_SUCCESS && peltzivar_check(RESERVED) == PELTZIVAR_INVALID_FLAGS);
     CHECK(peltzivar_migrate(ZERO, &word) == PELTZIVAR_INVALID_MANTISSA_RADIX && is_word(word, 2, 1));
     CHECK(!peltzivar_migrate(RESERVED, &word) && is_word(word, 0x0A0A0A0000000000, 0xC));
     CHECK(peltzivar_same_format(PELTZIVAR_STANDARD, RESERVED) && !peltzivar_same_format(PELTZIVAR_STANDARD, ZERO));
-    CHECK(peltzivar_is_built(PELTZIVAR_STANDARD) && !peltzivar_is_built(RESERVED));
+    CHECK(peltzivar_check_options(PELTZIVAR_STANDARD, '5', '5') == PELTZIVAR_INVALID_EXPONENT_SYMBOL);
     memset(edits, '#', sizeof edits);
     CHECK(peltzivar_edits_of(hexadecimal, edits) == 2);
     CHECK(edits[0].setter == 0 && edits[0].value == 1 && edits[1].setter == 104 && edits[1].value == 16);
     CHECK(edits[36].setter == 120 && edits[36].value == 0 && edits[37].setter == '#');
 }
 
-static void test_reasons(void) {
-    const peltzivar_word clash = {0xC00, 0x0000100061000000};
-    const peltzivar_edit edits[] = {{64, '_'}, {PELTZIVAR_SET_CASE_SENSITIVE_BASE_SUFFIX, 1}};
-    peltzivar_fields fields = PELTZIVAR_NEW_FIELDS;
-    CHECK(WRITES("the base prefix 'a' is a digit in radix 16", peltzivar_reason_text(clash, 0, text, sizeof text)));
-    CHECK(is_word(peltzivar_reason_mask(clash, 1), 0, 0xC00));
-    CHECK(peltzivar_reason_rules(clash, 1) == 1 << PELTZIVAR_RULE_SPECIAL_CASE_FLAGS_AGREE);
-    CHECK(peltzivar_reason_rules(ZERO, 0) == 0xE);
-    for (size_t index = 2; index < 40; index++) {
-        CHECK(WRITES("", peltzivar_reason_text(clash, index, text, sizeof text)));
-        CHECK(is_word(peltzivar_reason_mask(clash, index), 0, 0) && !peltzivar_reason_rules(clash, index));
+/* The word has two reasons, and three with the options. The new fields have no note. */
+static void test_indices_behind_the_last(void) {
+    static const size_t indices[] = {3, 15, 23, 255, SIZE_MAX};
+    const peltzivar_word word = {0xC00, 0x0000100061000000};
+    CHECK(peltzivar_reason_rules(word, 1) == 1 << PELTZIVAR_RULE_SPECIAL_CASE_FLAGS_AGREE && !peltzivar_reason_rules(word, 2));
+    CHECK(peltzivar_options_reason_text(word, 'E', 'A', 2, text, sizeof text) == strlen(text) && strstr(text, "'a'"));
+    for (int at = 0; at < 5; at++) {
+        CHECK(WRITES("", peltzivar_reason_text(word, indices[at], text, sizeof text)));
+        CHECK(is_word(peltzivar_reason_mask(word, indices[at]), 0, 0) && !peltzivar_reason_rules(word, indices[at]));
+        CHECK(WRITES("", peltzivar_options_reason_text(word, 'E', 'A', indices[at], text, sizeof text)));
+        CHECK(is_word(peltzivar_options_reason_mask(word, 'E', 'A', indices[at]), 0, 0));
+        CHECK(WRITES("", peltzivar_note_text(&PELTZIVAR_NEW_FIELDS, indices[at], text, sizeof text)));
+        CHECK(is_word(peltzivar_note_mask(&PELTZIVAR_NEW_FIELDS, indices[at]), 0, 0));
     }
-    CHECK(!peltzivar_reason_text(PELTZIVAR_STANDARD, 0, NULL, 0) && !peltzivar_reason_rules(clash, SIZE_MAX));
-    CHECK(WRITES("the exponent character 'E' is a digit in radix 16",
-                 peltzivar_options_reason_text(clash, 'E', 'A', 0, text, sizeof text)));
-    CHECK(is_word(peltzivar_options_reason_mask(clash, 'E', '.', 0), 0x0000FF0000000000, 0));
-    CHECK(peltzivar_options_reason_text(clash, 'E', 'A', 2, text, sizeof text) == strlen(text) && strstr(text, "'a'"));
-    CHECK(is_word(peltzivar_options_reason_mask(PELTZIVAR_STANDARD, 'e', 'e', 0), 0, 0));
-    CHECK(!peltzivar_options_reason_text(PELTZIVAR_STANDARD, 'e', '.', 0, text, sizeof text));
-    CHECK(!peltzivar_note_text(&fields, 0, text, sizeof text));
-    CHECK(peltzivar_edit_fields(&fields, edits, 2));
-    CHECK(peltzivar_note_text(&fields, 1, text, sizeof text) == strlen(text) && strstr(text, "no base suffix"));
-    CHECK(is_word(peltzivar_note_mask(&fields, 1), 0xFF00000000, 0x20000));
-    CHECK(WRITES("", peltzivar_note_text(&fields, 2, text, sizeof text)) && is_word(peltzivar_note_mask(&fields, 2), 0, 0));
 }
 
-/* The role of a byte, and the positions of separators in each part. Numbers from 3 on have no part. */
-static void test_roles(void) {
-    const peltzivar_word word = {0x000000070000000C, 0x000010487800005F};
-    CHECK(peltzivar_role_of(word, 'p', '.', 'X') == PELTZIVAR_ROLE_PREFIX);
-    CHECK(peltzivar_role_of(word, 'p', '.', 'g') == PELTZIVAR_ROLE_NONE);
+/* Numbers from 3 on have no part. */
+static void test_parts(void) {
+    const peltzivar_word all = {0x1FFFull << 32, 0};
     for (int part = 0; part < 256; part++) {
-        for (int position = 0; position < 4; position++) {
-            const peltzivar_word flag = {1ull << (32 + 3 * position + part % 3), 0};
-            const peltzivar_separators allowed = peltzivar_separators_of(flag, (peltzivar_part)part);
-            CHECK(allowed.internal == (part < 3 && position == 0) && allowed.leading == (part < 3 && position == 1));
-            CHECK(allowed.trailing == (part < 3 && position == 2) && allowed.consecutive == (part < 3 && position == 3));
-        }
+        const peltzivar_separators allowed = peltzivar_separators_of(all, (peltzivar_part)part);
+        CHECK(allowed.internal == (part < 3) && allowed.leading == (part < 3));
+        CHECK(allowed.trailing == (part < 3) && allowed.consecutive == (part < 3));
     }
-}
-
-/* The word has the separator `_`, the prefix `x`, the suffix `H`, the mantissa radix 16 and the exponent radix 10. */
-static void test_bytes(void) {
-    const peltzivar_word word = {0x100010000, 0x0A02104878000000 | '_'};
-    CHECK(peltzivar_mantissa_digit(word, 'f') == 15 && peltzivar_exponent_digit(word, 'f') == PELTZIVAR_NO_DIGIT);
-    CHECK(peltzivar_is_separator(word, '_') && peltzivar_is_base_prefix(word, 'x') && peltzivar_is_base_suffix(word, 'h'));
-    CHECK(!peltzivar_is_separator(ZERO, 0) && !peltzivar_is_base_prefix(word, 'X') && !peltzivar_is_base_suffix(ZERO, 0));
-    CHECK(!peltzivar_is_separator(words[1], 2));
-    CHECK(peltzivar_check_options(PELTZIVAR_STANDARD, 'e', '.') == PELTZIVAR_SUCCESS);
-    CHECK(peltzivar_check_options(PELTZIVAR_STANDARD, '5', '5') == PELTZIVAR_INVALID_EXPONENT_SYMBOL);
 }
 
 static void test_texts(void) {
@@ -215,9 +188,8 @@ int main(void) {
     test_setters();
     test_fields();
     test_words();
-    test_reasons();
-    test_roles();
-    test_bytes();
+    test_indices_behind_the_last();
+    test_parts();
     test_texts();
     test_null();
     return failed;

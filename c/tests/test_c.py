@@ -37,9 +37,8 @@ def in_c(rust):
 
 class Programs(unittest.TestCase):
     def setUp(self):
-        folder = tempfile.TemporaryDirectory()
-        self.addCleanup(folder.cleanup)
-        self.folder = pathlib.Path(folder.name)
+        self.folder = pathlib.Path(tempfile.mkdtemp())
+        self.addCleanup(shutil.rmtree, self.folder)
 
     def made(self, *command, name="program"):
         """Compiles a program without a warning, and returns its path."""
@@ -96,7 +95,7 @@ class Programs(unittest.TestCase):
         shutil.copy(C / "example.py", self.folder)
         page = (TOP / "docs/C-AND-PYTHON.md").read_text()
         shown = re.findall(r"^    \$ (.*example.*)\n((?:    (?!\$).*\n)+)", page, re.M)
-        self.assertEqual(len(shown), 4)
+        self.assertTrue(shown)
         environment = {**os.environ, "PELTZIVAR_LIBRARY": str(SHARED), "PYTHONPATH": str(C)}
         for command, printed in shown:
             wanted = re.sub("^    ", "", printed, flags=re.M)

@@ -1,4 +1,5 @@
 """Tests what `make install` and pip install, below a prefix with a blank: `make -C c check`."""
+import importlib.util
 import os
 import pathlib
 import re
@@ -15,15 +16,10 @@ PROGRAM = "import peltzivar; print(peltzivar.Format.of(mantissa_radix=16), peltz
 IMPORT = [sys.executable, "-B", "-c", PROGRAM]
 
 
-def has_pip():
-    return subprocess.run([sys.executable, "-m", "pip", "--version"], capture_output=True).returncode == 0
-
-
 class Install(unittest.TestCase):
     def setUp(self):
-        folder = tempfile.TemporaryDirectory()
-        self.addCleanup(folder.cleanup)
-        self.folder = pathlib.Path(folder.name)
+        self.folder = pathlib.Path(tempfile.mkdtemp())
+        self.addCleanup(shutil.rmtree, self.folder)
         self.prefix = self.folder / "a prefix"
         others = ("PELTZIVAR_LIBRARY", "PYTHONPATH", "MAKEFLAGS")
         self.environment = {name: value for name, value in os.environ.items() if name not in others}
@@ -42,8 +38,8 @@ class Install(unittest.TestCase):
     def test_a_program_is_built_by_the_lines_of_the_page(self):
         self.make("install", f"PREFIX={self.prefix}")
         shutil.copy(C / "example.c", self.folder)
-        lines = [line for line in re.findall(r"^ *(?:eval )?cc .*pkg-config.*$", PAGE, re.M)]
-        self.assertEqual(len(lines), 2)
+        lines = re.findall(r"^ *(?:eval )?cc .*pkg-config.*$", PAGE, re.M)
+        self.assertTrue(lines)
         for line in lines:
             self.run_in("bash", "-c", line)
             self.assertEqual(self.run_in("./example", "radix=16").split()[0], WORD)
@@ -75,7 +71,7 @@ class Install(unittest.TestCase):
         with self.assertRaisesRegex(AssertionError, "PREFIX must be an absolute path"):
             self.make("install", "PREFIX=relative", f"DESTDIR={self.folder}/")
 
-    @unittest.skipUnless(has_pip(), "pip")
+    @unittest.skipUnless(importlib.util.find_spec("pip"), "pip")
     def test_pip_installs_the_checkout(self):
         options = ["--no-build-isolation", "--no-index", "--no-deps", "--quiet", "--disable-pip-version-check"]
         self.run_in(sys.executable, "-m", "pip", "install", *options, "--target", self.prefix, C)

@@ -179,7 +179,7 @@ class Words(unittest.TestCase):
         self.assertEqual(FormatView(0x0000100000000000000000000000040C).source(), source)
         self.assertRegex(FormatView((1 << 128) - 1).source(), r"^NumberFormatBuilder::new\(\).{900,}\.build_unchecked\(\)$")
         self.assertRaisesRegex(AttributeError, "no_special=True", setattr, Format(), "no_special", True)
-        self.assertEqual(doctest.testmod(peltzivar), (0, 4))
+        self.assertEqual(doctest.testmod(peltzivar).failed, 0)
 
     def test_options(self):
         self.assertIsNone(Format().check_options("e", "."))
@@ -217,6 +217,14 @@ class Words(unittest.TestCase):
             self.assertEqual((sum(allowed), getattr(allowed, position)), (1, True))
         self.assertRaises(ValueError, view.separators, 3)
 
+    def test_setters_have_the_bits_and_defaults_of_the_tables(self):
+        masks = {name: 1 << int(bit) for bit, name in FLAGS} | {name: sum(1 << int(bit) for bit in bits.split()) for name, bits in GROUPS}
+        self.assertEqual({name: Edit.of(name, True).mask for name in masks}, masks)
+        for low, high, name, default in re.findall(r"^\| (\d+)(?: to (\d+))? \| `(\w+)` \| (\w+) \|", PAGE, re.M):
+            mask = (2 << int(high or low)) - (1 << int(low))
+            self.assertEqual(Edit.of(name, 2 if high else True).mask, mask)
+            self.assertEqual((int(Format()) & mask) >> int(low), int({"true": 1, "false": 0}.get(default, default)), name)
+
     def test_getters_read_their_bits(self):
         for bit in range(128):
             view = FormatView(1 << bit)
@@ -233,9 +241,8 @@ class Loading(unittest.TestCase):
     """Each test imports a copy of the module in another process."""
 
     def setUp(self):
-        folder = tempfile.TemporaryDirectory()
-        self.addCleanup(folder.cleanup)
-        self.folder = pathlib.Path(folder.name)
+        self.folder = pathlib.Path(tempfile.mkdtemp())
+        self.addCleanup(shutil.rmtree, self.folder)
         shutil.copy(peltzivar.__file__, self.folder)
 
     def run_copy(self, **variables):

@@ -158,6 +158,7 @@ impl Error {
     ///
     /// See [`Error::index`] for the index, and `Display` for the whole text.
     #[must_use]
+    #[inline]
     pub const fn description(&self) -> &'static str {
         match self {
             Error::Overflow(_) => "'numeric overflow occurred'",

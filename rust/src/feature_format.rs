@@ -29,41 +29,35 @@ impl<const FORMAT: u128> NumberFormat<FORMAT> {
 
     /// Returns the view.
     #[must_use]
-    #[inline]
     pub const fn new() -> Self {
         NumberFormat
     }
 
     /// Returns the view as a [`FormatView`], which can also hold a word that is known only at run time.
     #[must_use]
-    #[inline]
     pub const fn view(&self) -> FormatView {
         Self::VIEW
     }
 
     /// Returns a new builder, which does not depend on any word.
-    #[inline]
     pub const fn builder() -> NumberFormatBuilder {
         NumberFormatBuilder::new()
     }
 
     /// Returns a builder with the fields of the word. An exponent base or exponent radix of 0 becomes the mantissa
     /// radix.
-    #[inline]
     pub const fn rebuild() -> NumberFormatBuilder {
         Self::VIEW.rebuild()
     }
 }
 
 impl<const FORMAT: u128> Default for NumberFormat<FORMAT> {
-    #[inline]
     fn default() -> Self {
         Self::new()
     }
 }
 
 impl<const FORMAT: u128> From<NumberFormat<FORMAT>> for FormatView {
-    #[inline]
     fn from(format: NumberFormat<FORMAT>) -> Self {
         format.view()
     }
@@ -94,7 +88,6 @@ macro_rules! constants {
         $(
             $(#[$doc])*
             #[must_use]
-            #[inline]
             pub const fn $get(&self) -> $Type {
                 Self::$CONST
             }

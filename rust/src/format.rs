@@ -33,7 +33,6 @@ use crate::error::Error;
 
 /// Returns whether the format word `FORMAT` is lawful, that is, whether [`format_error`] returns `Success` for it.
 #[must_use]
-#[inline]
 pub const fn format_is_valid<const FORMAT: u128>() -> bool {
     NumberFormat::<FORMAT>::new().is_valid()
 }
@@ -41,7 +40,6 @@ pub const fn format_is_valid<const FORMAT: u128>() -> bool {
 /// Returns the error of the first [rule][Rule] that the format word `FORMAT` breaks, or [`Error::Success`] if it breaks
 /// none.
 #[must_use]
-#[inline]
 pub const fn format_error<const FORMAT: u128>() -> Error {
     NumberFormat::<FORMAT>::new().error()
 }

@@ -138,6 +138,8 @@ pub const fn reasons(format: u128) -> [Option<Reason>; MAX_REASONS] {
         exponent: 0,
         point: 0,
     };
+    // If the word satisfies all rules of a group, its slots stay `None`. The others are filled in place, since copying
+    // all slots would take longer than the tests.
     let mut slots = [None; MAX_REASONS];
     macro_rules! fill {
         ($($($index:literal $Rule:ident $cause:ident($($argument:expr),*)),*;)*) => {
@@ -202,32 +204,25 @@ pub const fn options_reasons(
     }
 }
 
-// Returns the reason for a cause, if there is one. A word breaks `rule` because of it, or options do not fit if `rule` is
-// `None`.
+// Returns the reason for a cause, if there is one: why a word breaks `rule`, or why options do not fit if it is `None`.
 #[inline(always)]
 const fn slot(format: u128, rule: Option<Rule>, cause: Option<Cause>) -> Option<Reason> {
     match cause {
-        Some(cause) => Some(Reason::new(format, rule, cause)),
-        None => None,
-    }
-}
-
-impl Reason {
-    // Returns the reason why a word breaks `rule`, or why options do not fit if it is `None`.
-    #[inline(always)]
-    const fn new(format: u128, rule: Option<Rule>, cause: Cause) -> Reason {
-        let followers = match rule {
-            Some(Rule::MantissaRadixInRange) => (
-                some_if(raw_exponent_base(format) == 0, Rule::ExponentBaseInRange),
-                some_if(raw_exponent_radix(format) == 0, Rule::ExponentRadixInRange),
-            ),
-            _ => (None, None),
-        };
-        Reason {
-            rule,
-            followers,
-            cause,
+        Some(cause) => {
+            let followers = match rule {
+                Some(Rule::MantissaRadixInRange) => (
+                    some_if(raw_exponent_base(format) == 0, Rule::ExponentBaseInRange),
+                    some_if(raw_exponent_radix(format) == 0, Rule::ExponentRadixInRange),
+                ),
+                _ => (None, None),
+            };
+            Some(Reason {
+                rule,
+                followers,
+                cause,
+            })
         }
+        None => None,
     }
 }
 

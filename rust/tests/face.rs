@@ -2,46 +2,25 @@
 //! calls on many words, and with known texts on a few.
 
 use peltzivar::edits::{apply_all, edits_of, same_format};
-use peltzivar::format::{options_error, NumberFormatBuilder};
-use peltzivar::format::{BASE_PREFIX_SHIFT, BASE_SUFFIX_SHIFT, STANDARD};
+use peltzivar::format::{options_error, NumberFormatBuilder, BASE_PREFIX_SHIFT, BASE_SUFFIX_SHIFT, STANDARD};
 use peltzivar::reasons::{notes, reasons};
-use peltzivar::{Edit, Error, FlagSetter, Format, FormatView, Rule};
-use std::fmt::{Debug, Display, LowerHex, UpperHex};
-use std::hash::Hash;
+use peltzivar::{Error, FlagSetter, Format, FormatView, Rule};
 use std::num::NonZeroU8;
 use std::panic;
-use std::str::FromStr;
 
-/// A format and a view have the traits of the word, and a format is known when the program is compiled.
+/// A format is known when the program is compiled.
 const _: () = {
-    const fn is_word<T>()
-    where
-        T: Copy + Default + Ord + Hash + Debug + Display + LowerHex + UpperHex,
-        T: FromStr + Into<u128> + Send + Sync,
-    {
-    }
-    is_word::<FormatView>();
-    is_word::<Format>();
-    const FORMAT: Format = match NumberFormatBuilder::from_word(STANDARD).build_format() {
-        Ok(format) => format.normal_form(),
-        Err(_) => panic!(),
-    };
-    assert!(
-        FORMAT.word() != STANDARD && FORMAT.view().radix() == 10 && FORMAT.view().check().is_ok()
-    );
-    assert!(
-        FORMAT.check_options(b'e', b'.').is_ok()
-            && matches!(Format::new(0), Err(error) if matches!(error.code(), Error::InvalidMantissaRadix))
-    );
+    let Ok(format) = NumberFormatBuilder::from_word(STANDARD).build_format() else { panic!() };
+    let normal = format.normal_form();
+    assert!(normal.word() != STANDARD && normal.view().check().is_ok() && normal.check_options(b'e', b'.').is_ok());
+    assert!(matches!(Format::new(0), Err(error) if matches!(error.code(), Error::InvalidMantissaRadix)));
 };
 
 /// Random words, random words with lawful radixes, and words near the standard format.
 fn words() -> impl Iterator<Item = u128> {
     let mut state: u64 = 1;
     let mut next = move || {
-        state = state
-            .wrapping_mul(6364136223846793005)
-            .wrapping_add(1442695040888963407);
+        state = state.wrapping_mul(6364136223846793005).wrapping_add(1442695040888963407);
         u128::from(state >> 33)
     };
     (0..20_000).map(move |index| {
@@ -54,65 +33,48 @@ fn words() -> impl Iterator<Item = u128> {
     })
 }
 
+/// Returns `Ok(value)` if the error is `Success`.
+fn ok_if<T>(error: Error, value: T) -> Result<T, Error> {
+    if error == Error::Success {
+        Ok(value)
+    } else {
+        Err(error)
+    }
+}
+
 #[test]
 fn a_format_is_a_word_without_error() {
     for word in words() {
         let view = FormatView::new(word);
-        let error = view.error();
-        let wanted = if error == Error::Success {
-            Ok(word)
-        } else {
-            Err(error)
-        };
-        let format = Format::new(word);
-        assert_eq!(
-            format.map_err(Error::from).map(u128::from),
-            wanted,
-            "{word:#034X}"
-        );
+        let (format, wanted) = (Format::new(word), ok_if(view.error(), word));
+        assert_eq!(format.map_err(Error::from).map(u128::from), wanted, "{word:#034X}");
         assert_eq!(view.check().map(|format| format.word()), wanted);
         assert_eq!(Format::try_from(word), format);
         assert_eq!(format!("{view}").parse(), format);
     }
-    assert_eq!(Format::of::<STANDARD>(), Format::default());
-    assert_eq!(Format::default().word(), STANDARD);
     const HEXADECIMAL: u128 = 0x00001000_00000000_00000000_0000000C;
-    let format = Format::of::<HEXADECIMAL>();
-    assert_eq!(format.word(), HEXADECIMAL);
     let built = NumberFormatBuilder::from_word(HEXADECIMAL).build_format();
-    assert_eq!(built, Ok(format));
+    assert_eq!(built, Ok(Format::of::<HEXADECIMAL>()));
+    assert_eq!((Format::of::<HEXADECIMAL>().word(), Format::default().word()), (HEXADECIMAL, STANDARD));
 }
 
 #[test]
 fn a_format_has_a_normal_form_that_is_one_too() {
     for format in words().filter_map(|word| Format::new(word).ok()) {
-        let normal = format.normal_form();
+        let (normal, view) = (format.normal_form(), format.view());
         assert_eq!(Format::new(normal.word()), Ok(normal));
         assert!(same_format(normal.word(), format.word()) && normal.normal_form() == normal);
-        assert_eq!(FormatView::from(format), format.view());
-        assert!(
-            format.notes().eq(format.view().notes()) && format.edits().eq(format.view().edits())
+        assert_eq!(
+            (FormatView::from(format), format.rebuild(), format.to_string()),
+            (view, view.rebuild(), view.to_string())
         );
-        assert_eq!(format.rebuild(), format.view().rebuild());
-        assert_eq!(format.to_string(), format.view().to_string());
+        assert!(format.notes().eq(view.notes()) && format.edits().eq(view.edits()));
         let builder = NumberFormatBuilder::from(format);
         assert_eq!(builder, NumberFormatBuilder::from_word(format.word()));
-        let again = builder.build_format();
-        assert_eq!(again.map(|it| it.normal_form()), Ok(normal));
-        for (exponent, point) in [
-            (b'e', b'.'),
-            (b'p', b','),
-            (b'x', b'.'),
-            (b'5', b'.'),
-            (b'^', b'-'),
-            (b'^', b'^'),
-        ] {
-            let wanted = match options_error(format.word(), exponent, point) {
-                Error::Success => Ok(()),
-                error => Err(error),
-            };
-            let checked = format.check_options(exponent, point);
-            assert_eq!(checked.map_err(Error::from), wanted);
+        assert_eq!(builder.build_format().map(|it| it.normal_form()), Ok(normal));
+        for [exponent, point] in [*b"e.", *b"p,", *b"x.", *b"5.", *b"^-", *b"^^"] {
+            let wanted = ok_if(options_error(format.word(), exponent, point), ());
+            assert_eq!(format.check_options(exponent, point).map_err(Error::from), wanted);
         }
     }
 }
@@ -145,36 +107,24 @@ fn edits_make_the_fields_of_their_word() {
         assert_eq!(builder, edits.iter().rev().collect());
         let mut other = NumberFormatBuilder::new();
         other.extend(&edits[..2]);
-        other.extend(edits[2..4].iter().copied());
-        other.extend(&edits[4..]);
-        assert_eq!(
-            (other, other.view().word()),
-            (builder, builder.build_unchecked())
-        );
+        other.extend(edits[2..].iter().copied());
+        assert_eq!((other, other.view().word()), (builder, builder.build_unchecked()));
     }
-    // A list may be longer than the list of fields.
-    let many: Vec<Edit> = (0..=255).map(Edit::Radix).collect();
-    let mut builder: NumberFormatBuilder = many.iter().collect();
-    assert_eq!(builder.get_mantissa_radix(), 255);
-    builder.extend(many.iter().rev());
-    assert_eq!(builder.get_mantissa_radix(), 0);
 }
 
 /// A panic has the description of the first broken rule, and the first reason, also where the reason prints any byte.
 #[test]
 fn an_unlawful_constant_stops_with_its_reason() {
     panic::set_hook(Box::new(|_| {}));
-    let twice =
-        (0..=255).map(|byte| STANDARD | byte << BASE_PREFIX_SHIFT | byte << BASE_SUFFIX_SHIFT);
+    let twice = (0..=255).map(|byte| STANDARD | byte << BASE_PREFIX_SHIFT | byte << BASE_SUFFIX_SHIFT);
     for word in words().step_by(7).chain(twice) {
         let builder = NumberFormatBuilder::from_word(word);
         let stopped = panic::catch_unwind(|| builder.build_or_panic());
-        let stopped = stopped.map_err(|text| *text.downcast::<String>().expect("a text"));
         let error = builder.build_strict().map_err(|error| {
             let reason = builder.view().reasons().next().expect("a reason");
             format!("{}: {reason}", error.description())
         });
-        assert_eq!(stopped, error, "{word:#034X}");
+        assert_eq!(stopped.map_err(|text| *text.downcast::<String>().expect("a text")), error, "{word:#034X}");
     }
 }
 
@@ -182,81 +132,28 @@ fn an_unlawful_constant_stops_with_its_reason() {
 #[test]
 fn an_error_states_its_cause() {
     let new = NumberFormatBuilder::new();
-    let separator = new
-        .digit_separator(NonZeroU8::new(b'_'))
-        .internal_digit_separator(true);
-    let format = Format::default();
+    let separator = new.digit_separator(NonZeroU8::new(b'_')).internal_digit_separator(true);
     #[rustfmt::skip]
     let rows = [
-        (new.mantissa_radix(37).build_format().err(), Error::InvalidMantissaRadix, 1,
-            "the mantissa radix 37 is not between 2 and 36"),
-        (Format::new(0x00000A2B_00000000_00000000_8000003C).err(), Error::InvalidBaseSuffix, 3,
-            "the base suffix '+' is a sign (+ or -)"),
-        (separator.base_prefix(NonZeroU8::new(b'_')).build_format().err(), Error::InvalidPunctuation, 1,
-            "the digit separator '_' and the base prefix '_' are the same"),
-        ("0x0".parse::<Format>().err(), Error::InvalidMantissaRadix, 1,
-            "the mantissa radix 0 is not between 2 and 36"),
+        (new.mantissa_radix(37).build_format().err(), Error::InvalidMantissaRadix, 1, "the mantissa radix 37 is not between 2 and 36"),
+        (Format::new(0x00000A2B_00000000_00000000_8000003C).err(), Error::InvalidBaseSuffix, 3, "the base suffix '+' is a sign (+ or -)"),
+        (separator.base_prefix(NonZeroU8::new(b'_')).build_format().err(), Error::InvalidPunctuation, 1, "the digit separator '_' and the base prefix '_' are the same"),
+        ("0x0".parse::<Format>().err(), Error::InvalidMantissaRadix, 1, "the mantissa radix 0 is not between 2 and 36"),
         ("0x1 2".parse::<Format>().err(), Error::InvalidDigit(3), 0, "lexical parse error: 'invalid digit found' at index 3"),
         ("".parse::<Format>().err(), Error::Empty(0), 0, "lexical parse error: 'the string to parse was empty' at index 0"),
-        (format.check_options(b'e', b'e').err(), Error::InvalidPunctuation, 1,
-            "the exponent character 'e' and the decimal point 'e' are the same"),
+        (Format::default().check_options(b'e', b'e').err(), Error::InvalidPunctuation, 1, "the exponent character 'e' and the decimal point 'e' are the same"),
     ];
     for (error, code, count, printed) in rows {
         let error = error.expect(printed);
-        assert_eq!(
-            (error.code(), error.reasons().count()),
-            (code, count),
-            "{printed}"
-        );
-        assert_eq!(
-            (error.to_string(), Error::from(error)),
-            (printed.into(), code)
-        );
-        assert_eq!(
-            format!("{error:?}"),
-            format!("FormatError {{ code: {code:?}, message: \"{printed}\" }}")
-        );
+        assert_eq!((error.code(), error.reasons().count(), &*error.to_string()), (code, count, printed));
+        assert_eq!(Error::from(error), code);
+        let debug = format!("FormatError {{ code: {code:?}, message: \"{printed}\" }}");
+        assert_eq!(format!("{error:?}"), debug);
     }
-    let word = FormatView::new(0x2525252B_2B00002B_00001E00_80004DF0);
-    let error = Format::new(word.word()).unwrap_err();
-    assert!(error.reasons().eq(word.reasons()) && error == Format::new(word.word()).unwrap_err());
+    let view = FormatView::new(0x2525252B_2B00002B_00001E00_80004DF0);
+    let error = Format::new(view.word()).unwrap_err();
+    assert!(error.reasons().eq(view.reasons()) && error == Format::new(view.word()).unwrap_err());
     assert_ne!(error, Format::new(0).unwrap_err());
-}
-
-/// Absent bytes of a format are `None`.
-#[test]
-fn absent_bytes_are_none() {
-    let byte = NonZeroU8::new;
-    let builder = NumberFormatBuilder::new()
-        .base_prefix(byte(b'x'))
-        .base_suffix(byte(b'h'));
-    let separated = builder
-        .digit_separator(byte(b'_'))
-        .internal_digit_separator(true);
-    for (builder, bytes) in [
-        (NumberFormatBuilder::new(), [None; 3]),
-        (builder, [None, byte(b'x'), byte(b'h')]),
-        (separated, [byte(b'_'), byte(b'x'), byte(b'h')]),
-    ] {
-        let format = builder.build_format().expect("a lawful format");
-        assert_eq!(
-            [
-                format.digit_separator(),
-                format.base_prefix(),
-                format.base_suffix()
-            ],
-            bytes
-        );
-        let view = builder.view();
-        assert_eq!(
-            [
-                view.digit_separator(),
-                view.base_prefix(),
-                view.base_suffix()
-            ],
-            bytes
-        );
-    }
 }
 
 #[test]
@@ -291,22 +188,12 @@ fn words_are_parsed() {
     for (text, word) in rows {
         assert_eq!(text.parse::<FormatView>().map(u128::from), word, "{text}");
         let format = text.parse::<Format>().map_err(Error::from);
-        assert_eq!(
-            format,
-            word.and_then(|word| FormatView::new(word).check()),
-            "{text}"
-        );
+        assert_eq!(format, word.and_then(|word| FormatView::new(word).check()), "{text}");
     }
-    let view = FormatView::new(0xAB);
-    assert_eq!(
-        format!("{view:>36} {view:x} {view:#X}"),
-        format!("  0x{:032X} ab 0xAB", 0xAB)
-    );
-    let format = Format::default();
-    assert_eq!(
-        format!("{format:>36} {format:x} {format:#X}"),
-        format!("  0x{STANDARD:032X} {STANDARD:x} {STANDARD:#X}")
-    );
+    let (format, view) = (Format::default(), FormatView::new(0xAB));
+    assert_eq!(format!("{view:>36} {view:x} {view:#X}"), format!("  0x{:032X} ab 0xAB", 0xAB));
+    let printed = format!("  0x{STANDARD:032X} {STANDARD:x} {STANDARD:#X}");
+    assert_eq!(format!("{format:>36} {format:x} {format:#X}"), printed);
 }
 
 #[test]
@@ -316,9 +203,7 @@ fn setters_of_flags_are_parsed() {
     }
     // Byte setters have no flag.
     for name in ["digit_separator", "radix", "no_special ", "NO_SPECIAL", ""] {
-        let error = name
-            .parse::<FlagSetter>()
-            .map_err(|error| error.to_string());
+        let error = name.parse::<FlagSetter>().map_err(|error| error.to_string());
         assert_eq!(error, Err("unknown setting name".to_string()), "{name}");
     }
     assert_eq!(format!("{:>12}", FlagSetter::NoSpecial), "  no_special");

@@ -1,7 +1,9 @@
 //! The reader of the example `literal`, over the tables of docs/FORMAT.md and the grammars of languages.
 
+#[rustfmt::skip]
 #[path = "../examples/literal/reader.rs"]
 mod reader;
+#[rustfmt::skip]
 #[allow(dead_code, reason = "its main")]
 #[path = "../examples/recipes.rs"]
 mod recipes;
@@ -32,11 +34,7 @@ fn format(settings: &str) -> Format {
     builder.unwrap().build_format().expect(settings)
 }
 
-const OPTIONS: Options = Options {
-    exponent: b'e',
-    point: b'.',
-    specials: &[b"NaN", b"inf"],
-};
+const OPTIONS: Options = Options { exponent: b'e', point: b'.', specials: &[b"NaN", b"inf"] };
 
 /// Reads a text. The parts are in order, and no byte is between them. Those of a literal end with the text.
 fn read(format: Format, options: Option<&Options>, text: &[u8]) -> Result<Parts, Refusal> {
@@ -69,31 +67,21 @@ fn verdicts(sentence: &str) -> Vec<(bool, &str)> {
     found
 }
 
+const POSITIONS: &str =
+    "digit_separator=95 internal_digit_separator=true leading_digit_separator=true trailing_digit_separator=true";
+
 /// Each flag, by the texts in its row: with the flag, without it, and that a refusal blames the flag.
 #[test]
 fn flags_accept_and_reject_what_the_page_says() {
     for row in table("The flags") {
-        let [_, name, _, meaning] = row[..] else {
-            panic!("{row:?}")
-        };
+        let [_, name, _, meaning] = row[..] else { panic!("{row:?}") };
         let name = name.trim_matches('`');
         let flag: FlagSetter = name.parse().unwrap();
-        let (other, options) = match name.split_once("consecutive") {
-            Some((part, rest)) => {
-                let any =
-                    ["internal", "leading", "trailing"].map(|it| format!("{part}{it}{rest}=true"));
-                (
-                    format!("digit_separator=95 {}", any.join(" ")),
-                    Some(&OPTIONS),
-                )
-            }
-            None if name.ends_with("base_prefix") => {
-                ("mantissa_radix=16 base_prefix=120".into(), None)
-            }
-            None if name.ends_with("base_suffix") => {
-                ("mantissa_radix=16 base_suffix=104".into(), None)
-            }
-            None => ("digit_separator=95".into(), Some(&OPTIONS)),
+        let (other, options) = match name {
+            "case_sensitive_base_prefix" => ("mantissa_radix=16 base_prefix=120", None),
+            "case_sensitive_base_suffix" => ("mantissa_radix=16 base_suffix=104", None),
+            _ if name.contains("consecutive") => (POSITIONS, Some(&OPTIONS)),
+            _ => ("digit_separator=95", Some(&OPTIONS)),
         };
         let set = format(&format!("{other} {name}=true"));
         let not_set = Format::new(set.word() & !Edit::Flag(flag, true).mask()).unwrap();
@@ -102,11 +90,7 @@ fn flags_accept_and_reject_what_the_page_says() {
             assert_eq!(result.is_ok(), verdict, "{name}=true: {text}: {result:?}");
             let rejects = meaning.starts_with("rejects");
             let opposite = read(not_set, options, text.as_bytes());
-            assert_eq!(
-                opposite.is_ok(),
-                rejects,
-                "{name}=false: {text}: {opposite:?}"
-            );
+            assert_eq!(opposite.is_ok(), rejects, "{name}=false: {text}: {opposite:?}");
             for (result, flips) in [(result, false), (opposite, true)] {
                 if let Err(refusal) = result {
                     assert_eq!(refusal.edit, Some(Edit::Flag(flag, flips)), "{text}");
@@ -119,43 +103,17 @@ fn flags_accept_and_reject_what_the_page_says() {
 #[test]
 fn questions_have_the_answers_of_the_page() {
     for row in table("How a reader applies the flags") {
-        let [.., settings, accepted, rejected] = row[..] else {
-            panic!("{row:?}")
-        };
+        let [.., settings, accepted, rejected] = row[..] else { panic!("{row:?}") };
         let format = format(settings.trim_matches('`'));
         for text in quoted(accepted) {
             let result = read(format, Some(&OPTIONS), text.as_bytes());
             assert!(result.is_ok(), "{settings}: {text}: {result:?}");
         }
-        for (text, error) in quoted(rejected)
-            .step_by(2)
-            .zip(quoted(rejected).skip(1).step_by(2))
-        {
-            let found = read(format, Some(&OPTIONS), text.as_bytes())
-                .map_err(|it| format!("{:?}", it.error));
+        for (text, error) in quoted(rejected).step_by(2).zip(quoted(rejected).skip(1).step_by(2)) {
+            let found = read(format, Some(&OPTIONS), text.as_bytes()).map_err(|it| format!("{:?}", it.error));
             assert_eq!(found, Err(error.into()), "{settings}: {text}");
         }
     }
-}
-
-/// The parts of the number in the picture at the top of the page.
-#[test]
-fn parts_are_those_of_the_picture() {
-    let picture = PAGE
-        .lines()
-        .find(|line| line.starts_with("    -   0 x"))
-        .unwrap();
-    let wanted: Vec<String> = picture
-        .trim()
-        .split("   ")
-        .map(|part| part.replace(' ', ""))
-        .collect();
-    let format =
-        format("digit_separator=95 internal_digit_separator=true base_prefix=120 base_suffix=104");
-    let text = wanted.concat();
-    let parts = read(format, Some(&OPTIONS), text.as_bytes()).unwrap();
-    let present = parts.into_iter().filter(|part| !part.is_empty());
-    assert!(present.map(|part| &text[part]).eq(wanted), "{text}");
 }
 
 /// Settings, a text that is read as a number or as an integer, its error, and the edit that blames a flag or a radix.
@@ -186,9 +144,7 @@ mantissa_radix=10 | 1e5 | integer | InvalidDigit(1) | mantissa_radix=15";
 #[test]
 fn errors_are_those_of_the_rows() {
     for row in ERRORS.lines() {
-        let [settings, text, kind, error, edit] = row.split(" | ").collect::<Vec<_>>()[..] else {
-            panic!("{row}")
-        };
+        let [settings, text, kind, error, edit] = row.split(" | ").collect::<Vec<_>>()[..] else { panic!("{row}") };
         let options = (kind == "number").then_some(&OPTIONS);
         let refusal = read(format(settings), options, text.as_bytes()).expect_err(row);
         assert_eq!(format!("{:?}", refusal.error), error, "{row}");
@@ -196,30 +152,24 @@ fn errors_are_those_of_the_rows() {
         assert_eq!(blamed, edit, "{row}");
     }
     let exponential = format("required_exponent_notation=true");
-    assert!(
-        read(exponential, None, b"1").is_ok(),
-        "an integer has no exponent"
-    );
+    assert!(read(exponential, None, b"1").is_ok(), "an integer has no exponent");
 }
 
+/// The parts of the number in the picture of the page, and parts before an error.
 #[test]
-fn parts_before_an_error_are_known() {
-    for (settings, text, wanted) in [
+fn parts_are_known() {
+    #[rustfmt::skip]
+    let rows = [
+        ("digit_separator=95 internal_digit_separator=true base_prefix=120 base_suffix=104", "-0x1_000.5e+12h", "- 0x 1_000 . 5 e + 12 h"),
         ("no_exponent_notation=true", "-12.5e3", "- 12 . 5"),
-        (
-            "digit_separator=95 special_digit_separator=true",
-            "12_3.4",
-            "12",
-        ),
+        ("digit_separator=95 special_digit_separator=true", "12_3.4", "12"),
         ("no_special=true", "+inf", "+"),
-    ] {
-        let (parts, error) = reader::scan(format(settings), Some(&OPTIONS), text.as_bytes());
+    ];
+    for (settings, text, wanted) in rows {
+        let (parts, result) = reader::scan(format(settings), Some(&OPTIONS), text.as_bytes());
         let present = parts.into_iter().filter(|part| !part.is_empty());
-        assert!(
-            present.map(|part| &text[part]).eq(wanted.split(' ')),
-            "{text}"
-        );
-        assert!(error.is_err(), "{text}");
+        assert!(present.map(|part| &text[part]).eq(wanted.split(' ')), "{text}");
+        assert_eq!(result.is_ok(), text == wanted.replace(' ', ""), "{text}");
     }
 }
 
@@ -227,23 +177,15 @@ fn parts_before_an_error_are_known() {
 fn recipe(name: &str) -> (Format, Option<Options<'static>>) {
     let found = RECIPES.into_iter().find(|recipe| recipe.0 == name);
     let (_, word, exponent) = found.expect(name);
-    let options = Options {
-        exponent,
-        point: b'.',
-        specials: &[b"nan", b"inf"],
-    };
-    (
-        Format::new(word).unwrap(),
-        (!name.ends_with("_INTEGER")).then_some(options),
-    )
+    let options = Options { exponent, point: b'.', specials: &[b"nan", b"inf"] };
+    (Format::new(word).unwrap(), (!name.ends_with("_INTEGER")).then_some(options))
 }
 
 #[test]
 fn recipes_accept_and_reject_what_their_grammars_do() {
     let rows = include_str!("literals.txt").lines();
     for row in rows.filter(|row| !row.is_empty() && !row.starts_with('#')) {
-        let [name, mark, text] =
-            [0, 1, 2].map(|column| row.split_whitespace().nth(column).expect(row));
+        let [name, mark, text] = [0, 1, 2].map(|column| row.split_whitespace().nth(column).expect(row));
         let wanted = match mark {
             "+" | "-!" => true,
             "-" | "+!" => false,
@@ -277,10 +219,7 @@ fn exponents_of_recipes_have_the_bases_of_their_grammars() {
     for (name, word, _) in RECIPES {
         let base = if name.ends_with("HEX_FLOAT") { 2 } else { 10 };
         let is_integer = name.ends_with("_INTEGER");
-        assert!(
-            is_integer || FormatView::new(word).exponent_base() == base,
-            "{name}"
-        );
+        assert!(is_integer || FormatView::new(word).exponent_base() == base, "{name}");
     }
 }
 
@@ -290,9 +229,7 @@ fn any_bytes_are_read() {
     let bytes = b"-0x_.eph\0\xFF";
     let mut texts = vec![vec![]];
     for _ in 0..3 {
-        let longer = texts
-            .iter()
-            .flat_map(|text| bytes.map(|byte| [text.as_slice(), &[byte]].concat()));
+        let longer = texts.iter().flat_map(|text| bytes.map(|byte| [text.as_slice(), &[byte]].concat()));
         texts = longer.chain([vec![]]).collect();
     }
     for (name, ..) in RECIPES {

@@ -1,11 +1,6 @@
 //! Compares the plain Rust with results that `lexical-util` 1.0.7 returned. `crates/recorded/src/reading.rt` describes
 //! their lines.
 
-#[path = "known/rows/errors.rs"]
-#[allow(dead_code)]
-mod errors;
-
-use errors::OUTCOMES;
 use peltzivar::ascii::{is_valid_ascii, is_valid_letter};
 use peltzivar::digit::{char_to_digit, char_to_digit_const};
 use peltzivar::edits::{apply_all, edit_word, Edit};
@@ -13,87 +8,55 @@ use peltzivar::error::Error;
 use peltzivar::format_builder::{NonZeroU8, NumberFormatBuilder};
 use peltzivar::format_flags::is_valid_options_punctuation;
 use peltzivar::word::{format_error, FormatView};
+use std::str::FromStr;
+
+fn read<T: FromStr>(text: &str) -> Option<T> {
+    text.parse().ok()
+}
 
 fn word(text: &str) -> Option<u128> {
     u128::from_str_radix(text, 16).ok()
 }
 
-/// Returns the outcome of this name, with an index if it holds one.
+/// Returns the outcome with a name, and with an index if it holds one.
 fn outcome(name: &str, index: usize) -> Option<Error> {
-    let is_named = |error: Error| format!("{error:?}").split('(').next() == Some(name);
-    let rank = OUTCOMES.iter().position(|(error, _)| is_named(*error))?;
-    Error::from_rank(rank as u8, index)
+    let is_named = |error: &Error| format!("{error:?}").split('(').next() == Some(name);
+    (0..49).filter_map(|rank| Error::from_rank(rank, index)).find(is_named)
 }
 
-fn error(name: &str) -> Option<Error> {
-    outcome(name, 0)
+fn fields(format: &str, view: FormatView) -> String {
+    let bytes = [view.digit_separator(), view.base_prefix(), view.base_suffix()];
+    let [separator, prefix, suffix] = bytes.map(|byte| byte.map_or(0, NonZeroU8::get));
+    let [radix, base, exponent_radix] = [view.mantissa_radix(), view.exponent_base(), view.exponent_radix()];
+    format!("fields {format} {:032X} {separator} {prefix} {suffix} {radix} {base} {exponent_radix}", view.flags())
 }
 
-fn edits(calls: &[&str]) -> Option<Vec<Edit>> {
-    calls.iter().map(|call| call.parse().ok()).collect()
-}
-
-fn keeps_digit(byte: u8, radix: u32, digit: &str) -> Option<bool> {
-    let wanted = match digit {
-        "none" => None,
-        digit => Some(digit.parse().ok()?),
-    };
-    Some([char_to_digit(byte, radix), char_to_digit_const(byte, radix)] == [wanted; 2])
-}
-
-fn keeps_fields(view: FormatView, flags: &str, numbers: &[&str]) -> Option<bool> {
-    let numbers: Option<Vec<u32>> = numbers.iter().map(|number| number.parse().ok()).collect();
-    let number = |byte: Option<NonZeroU8>| byte.map_or(0, |byte| byte.get().into());
-    let read = [
-        number(view.digit_separator()),
-        number(view.base_prefix()),
-        number(view.base_suffix()),
-        view.mantissa_radix(),
-        view.exponent_base(),
-        view.exponent_radix(),
-    ];
-    Some((view.flags(), read.to_vec()) == (word(flags)?, numbers?))
-}
-
-fn keeps_build(packed: u128, error: Error, edits: &[Edit]) -> bool {
-    let wanted = match error {
-        Error::Success => Ok(packed),
-        error => Err(error),
-    };
-    let builder = apply_all(NumberFormatBuilder::new(), edits);
-    (builder.build_unchecked(), builder.build_strict()) == (packed, wanted)
-}
-
-/// Returns whether the library still returns what a line records, or `None` if the line cannot be read.
-fn keeps(line: &str) -> Option<bool> {
-    if let Some(printed) = line.strip_prefix("printed ") {
-        let (index, printed) = printed.split_once(' ')?;
-        let (name, text) = printed.split_once(' ')?;
-        return Some(outcome(name, index.parse().ok()?)?.to_string() == text);
-    }
+/// Returns a line with what the library returns now, or `None` if the line cannot be read or both forms of a call differ.
+fn replayed(line: &str) -> Option<String> {
     let parts: Vec<&str> = line.split(' ').collect();
+    let edits = |calls: &[&str]| calls.iter().map(|call| read(call)).collect::<Option<Vec<Edit>>>();
     Some(match parts[..] {
-        ["byte", byte, ascii, letter] => {
-            let byte = byte.parse().ok()?;
-            [is_valid_ascii(byte), is_valid_letter(byte)]
-                == [ascii.parse().ok()?, letter.parse().ok()?]
+        ["printed", index, name, ..] => format!("printed {index} {name} {}", outcome(name, read(index)?)?),
+        ["byte", byte, ..] => format!("byte {byte} {} {}", is_valid_ascii(read(byte)?), is_valid_letter(read(byte)?)),
+        ["digit", byte, radix, ..] => {
+            let digit = char_to_digit(read(byte)?, read(radix)?);
+            (digit == char_to_digit_const(read(byte)?, read(radix)?)).then_some(())?;
+            format!("digit {byte} {radix} {}", digit.map_or("none".into(), |digit| digit.to_string()))
         }
-        ["digit", byte, radix, digit] => {
-            keeps_digit(byte.parse().ok()?, radix.parse().ok()?, digit)?
+        ["fields", format, ..] => fields(format, FormatView::new(word(format)?)),
+        ["check", format, ..] => format!("check {format} {:?}", format_error(word(format)?)),
+        ["options", format, exponent, point, ..] => {
+            let is_valid = is_valid_options_punctuation(word(format)?, read(exponent)?, read(point)?);
+            format!("options {format} {exponent} {point} {is_valid}")
         }
-        ["fields", format, flags, ref numbers @ ..] => {
-            keeps_fields(FormatView::new(word(format)?), flags, numbers)?
+        ["edit", format, _, ref calls @ ..] => {
+            format!("edit {format} {:032X} {}", edit_word(word(format)?, &edits(calls)?), calls.join(" "))
         }
-        ["check", format, name] => format_error(word(format)?) == error(name)?,
-        ["options", format, exponent, point, accepted] => {
-            let (exponent, point) = (exponent.parse().ok()?, point.parse().ok()?);
-            is_valid_options_punctuation(word(format)?, exponent, point) == accepted.parse().ok()?
-        }
-        ["edit", format, edited, ref calls @ ..] => {
-            edit_word(word(format)?, &edits(calls)?) == word(edited)?
-        }
-        ["build", packed, name, ref calls @ ..] => {
-            keeps_build(word(packed)?, error(name)?, &edits(calls)?)
+        ["build", _, _, ref calls @ ..] => {
+            let builder = apply_all(NumberFormatBuilder::new(), &edits(calls)?);
+            let packed = builder.build_unchecked();
+            let error = builder.build_strict().map_or_else(Some, |word| (word == packed).then_some(Error::Success));
+            format!("build {packed:032X} {:?} {}", error?, calls.join(" "))
         }
         _ => return None,
     })
@@ -101,14 +64,10 @@ fn keeps(line: &str) -> Option<bool> {
 
 #[test]
 fn recorded_results_are_kept() {
-    let path = concat!(
-        env!("CARGO_MANIFEST_DIR"),
-        "/../crates/recorded/data/results.txt"
-    );
-    let text = std::fs::read_to_string(path).expect("a file of the repository");
-    for line in text.lines() {
+    let path = concat!(env!("CARGO_MANIFEST_DIR"), "/../crates/recorded/data/results.txt");
+    for line in std::fs::read_to_string(path).expect("a file of the repository").lines() {
         // After ` crate: `, the line has what `lexical-util` returns where this library differs on purpose.
         let fact = line.split_once(" crate: ").map_or(line, |(fact, _)| fact);
-        assert_eq!(keeps(fact), Some(true), "{line}");
+        assert_eq!(replayed(fact).expect(line).trim_end(), fact);
     }
 }

@@ -1,5 +1,6 @@
 //! The example that reads a file of settings.
 
+#[rustfmt::skip]
 #[path = "../examples/settings.rs"]
 #[allow(dead_code)]
 mod settings;
@@ -20,10 +21,7 @@ fn all_mistakes_are_found_in_one_round() {
         "lines 7, 9: no_positive_mantissa_sign and required_mantissa_sign cannot both be set",
         "line 10: no flag allows the digit separator '_'",
     ];
-    assert_eq!(
-        format_of(file.as_bytes()),
-        (None, wanted.map(String::from).to_vec())
-    );
+    assert_eq!(format_of(file.as_bytes()), (None, wanted.map(String::from).to_vec()));
     let bytes = br"line 1: \xff\x00\x1b\x7f: the line is not ASCII";
     let found = format_of(b"\xFF\0\x1B\x7F").1;
     assert_eq!(found, [String::from_utf8_lossy(bytes)]);

@@ -7,47 +7,25 @@ mod rows;
 
 use peltzivar::format::{NumberFormatBuilder, STANDARD};
 use peltzivar::{
-    Edit, Error, FlagSetter, Format, FormatError, FormatView, Note, NumberFormat, Part, Reason,
-    Rule, SettingError, SettingErrorKind,
+    Edit, Error, FlagSetter, Format, FormatError, FormatView, Note, NumberFormat, Part, Reason, Rule, SettingError,
+    SettingErrorKind,
 };
 use rows::{flag_getters, with_getters, with_setters};
 use std::error::Error as StdError;
-use std::fmt::{Debug, Display};
+use std::fmt::Debug;
 use std::hash::Hash;
 use std::num::NonZeroU8;
 use std::panic;
 use std::sync::atomic::{AtomicU32, Ordering};
 
-const fn is_value<T: Copy + Debug + Eq + Hash + Send + Sync + Unpin>() {}
-const fn is_shown<T: Display>() {}
-const fn is_error<T: StdError>() {}
-const fn is_ordered<T: Ord>() {}
-
 const _: () = {
-    is_value::<Edit>();
-    is_value::<Error>();
-    is_value::<FlagSetter>();
-    is_value::<Format>();
-    is_value::<FormatError>();
-    is_value::<FormatView>();
-    is_value::<Note>();
-    is_value::<NumberFormat<STANDARD>>();
-    is_value::<NumberFormatBuilder>();
-    is_value::<Reason>();
-    is_value::<Rule>();
-    is_value::<SettingError>();
-    is_value::<SettingErrorKind>();
-    is_shown::<Edit>();
-    is_shown::<FlagSetter>();
-    is_shown::<Note>();
-    is_error::<Error>();
-    is_error::<FormatError>();
-    is_error::<Reason>();
-    is_error::<SettingError>();
-    is_ordered::<Edit>();
-    is_ordered::<Error>();
-    is_ordered::<FlagSetter>();
-    is_ordered::<Rule>();
+    const fn are_values<T: Copy + Debug + Eq + Hash + Send + Sync + Unpin>() {}
+    const fn are_ordered<T: Ord>() {}
+    const fn are_errors<A: StdError, B: StdError, C: StdError, D: StdError>() {}
+    are_values::<(Edit, Error, FlagSetter, Format, FormatError, FormatView, Note, NumberFormat<STANDARD>)>();
+    are_values::<(NumberFormatBuilder, Reason, Rule, SettingError, SettingErrorKind)>();
+    are_ordered::<(Edit, Error, FlagSetter, Format, FormatView, Rule)>();
+    are_errors::<Error, FormatError, Reason, SettingError>();
 };
 
 macro_rules! same {

@@ -246,8 +246,8 @@ def renamed(text, root, std):
     return re.sub(rf"\b{VIEW[0]}\b", VIEW[1], text)
 
 
-def laid_out(text):
-    return subprocess.run(["rustfmt", "--config-path", RUST], input=text, stdout=subprocess.PIPE, text=True, check=True).stdout
+def laid_out(text, folder):
+    return subprocess.run("rustfmt", cwd=RUST / folder, input=text, stdout=subprocess.PIPE, text=True, check=True).stdout
 
 
 def made_files():
@@ -264,14 +264,14 @@ def made_files():
                 names.add(path.name)
                 head = f"{MADE} from crates/{crate}/src/{name}: change that file.\n\n"
                 text = head + renamed(source_of(path).erase(), root, std)
-                files[RUST.joinpath(folder, stem, *others).with_suffix(".rs")] = laid_out(text)
+                files[RUST.joinpath(folder, stem, *others).with_suffix(".rs")] = laid_out(text, folder)
     for pattern, folder in COPIED.items():
         for path in sorted(it for it in CRATES.glob(pattern) if it.name not in NOT_COPIED):
             text = f"{MADE} from crates/{path.relative_to(CRATES)}: change that file.\n\n{path.read_text()}"
             for old, new in TEST_FORMS:
                 text = text.replace(old, new)
             text = re.sub(r"format!\(in rt\.alloc\(\); ([^)]*)\)\?", r"format!(\1)", text)
-            files[RUST.joinpath(folder, path.stem).with_suffix(".rs")] = laid_out(renamed(text, "peltzivar", "std"))
+            files[RUST.joinpath(folder, path.stem).with_suffix(".rs")] = laid_out(renamed(text, "peltzivar", "std"), folder)
     unused = [old for file, old, _ in REPLACED + ATTRIBUTES if file not in names]
     unused += [old for old, _ in EVERYWHERE if old not in sources]
     if unused:

@@ -1,9 +1,10 @@
 #!/usr/bin/env python3
 """Tests that each generated file has the source's words in their order, without whole ghost items, and except for
-the tables of erase.py. A line of documentation is a word, and another comment is none. The order of imports, and commas
-and braces that rustfmt adds, do not matter.
+the tables of erase.py. A line of documentation is a word, and another comment is none. The order of imports, commas and
+braces do not matter.
 
-This test reads the sources by itself and takes only the tables from erase.py. It prints each file that differs.
+This test reads the sources by itself. It takes only the tables and the names from erase.py, and prints each file that
+differs. `erase.py --check` finds a file that is missing.
 """
 import pathlib
 import re
@@ -13,31 +14,12 @@ sys.dont_write_bytecode = True
 import erase
 
 OPENS, CLOSES = "([{", ")]}"
+WORD = re.compile(r"""//.*|b?"(?:[^"\\]|\\.)*"|b?'(?:[^'\\]|\\.[^']*)'|\w+|\S""")
 
 
 def words_of(text):
     """The words, signs, strings, characters and lines of documentation of a text, without other comments."""
-    words, at = [], 0
-    while at < len(text):
-        end = at + 1
-        quote = at + 1 if text[at] == "b" and text[at + 1 : at + 2] in "\"'" else at
-        if text.startswith("//", at):
-            end = text.index("\n", at)
-            words += [text[at:end]] * text.startswith(("///", "//!"), at)
-            at = end
-            continue
-        if text[quote] == '"' or (text[quote] == "'" and (text[quote + 1] == "\\" or text[quote + 2] == "'")):
-            end = quote + 1
-            while text[end] != text[quote]:
-                end += 2 if text[end] == "\\" else 1
-            end += 1
-        elif text[at].isalnum() or text[at] == "_":
-            while end < len(text) and (text[end].isalnum() or text[end] == "_"):
-                end += 1
-        if not text[at].isspace():
-            words.append(text[at:end])
-        at = end
-    return words
+    return [it for it in WORD.findall(text) if not re.match("//(?![/!])", it)]
 
 
 def close(words, at):
@@ -82,7 +64,7 @@ def plain(words):
     kept, at, laws = [], 0, set()
     while at < len(words):
         word, ahead = words[at], words[at : at + 8]
-        if word == "ghost" or ahead[:2] == ["pub", "ghost"] or "".join(ahead) == "usestd::marker::Model":
+        if word == "ghost" or ahead[:2] == ["pub", "ghost"] or (word == "use" and ahead[-2:] == [":", "Model"]):
             at = until(words, at, ";") + 1
         elif ahead[:3] == ["#", "[", "tactic"] or ahead[:4] == ["#", "!", "[", "tactic"]:
             at = close(words, at + ahead.index("["))
@@ -108,87 +90,36 @@ def plain(words):
     return kept
 
 
-def wanted_words(path, place):
-    """The words that the generated file of a source must have."""
+def wanted_words(path, names):
+    """The words that the generated file of a source must have, by the names of plain Rust."""
     text = path.read_text()
     rows = [(old, new) for file, old, new in erase.REPLACED + erase.ATTRIBUTES if file == path.name]
     for old, new in rows + erase.EVERYWHERE:
         text = text.replace(old, new)
-    folder, root, std = place
-    words = plain(words_of(text))
-    for at, word in enumerate(words):
-        if word.startswith("//"):
-            line = re.sub("lexical_(base|flags|builder|util)::", f"{root}::", word).replace("std::", f"{std}::")
-            words[at] = re.sub(rf"\b{erase.VIEW[0]}\b", erase.VIEW[1], line)
-            continue
-        if words[at + 1 : at + 3] == [":", ":"]:
-            words[at] = root if re.fullmatch("lexical_(base|flags|builder|util)", word) else std if word == "std" else word
-        if words[at - 3 : at] == [root, ":", ":"]:
-            words[at] = erase.MODULES.get(words[at], words[at])
-        words[at] = erase.VIEW[1] if words[at] == erase.VIEW[0] else words[at]
-    return words
+    return plain(words_of(erase.renamed(text, *names)))
 
 
 IMPORT = re.compile(r"(?:# \[ [^\]]* \] )*(?:pub (?:\( \w+ \) )?)?(?<!\S)(?:use [^;]*|mod \w+) ;")
 
 
-def import_of(text):
-    """An import with the items in braces in their order, which is rustfmt's."""
-    def in_order(found):
-        return f"<{', '.join(sorted(found[1].split(' , ')))}>"
-
-    while (found := re.sub(r"\{ ([^{}]*?) (?:, )?\}", in_order, text)) != text:
-        text = found
-    return text
-
-
 def normal(words):
-    """The imports, sorted, and the other words without what rustfmt adds."""
+    """The words of imports, sorted, and the other words, without commas and braces."""
     text = " ".join(words)
-    imports = sorted(import_of(it) for it in IMPORT.findall(text))
-    rest = re.sub(r" +", " ", re.sub(r", (?=[)\]}])", "", IMPORT.sub("", text)))
-    return imports, rest.split()
-
-
-def same_words(wanted, made):
-    """Returns whether two lists of words are equal, except for braces around an arm of a `match`."""
-    at, depth, added = 0, 0, []
-    for index, word in enumerate(made):
-        depth -= word == "}"
-        if word == "}" and added and added[-1] == depth:
-            added.pop()
-            at += wanted[at : at + 1] == [","]
-        elif wanted[at : at + 1] == [word]:
-            at += 1
-        elif word == "{" and made[index - 2 : index] == ["=", ">"]:
-            added.append(depth)
-        else:
-            return False
-        depth += word == "{"
-    return at == len(wanted) and not added
-
-
-def are_same(wanted, made):
-    wanted, made = normal(wanted), normal(made)
-    return wanted[0] == made[0] and same_words(wanted[1], made[1])
+    split = lambda text: [it for it in text.split() if it not in ("{", "}", ",")]
+    return sorted(split(" ".join(IMPORT.findall(text)))), split(IMPORT.sub("", text))
 
 
 def pairs():
-    """Each source with its generated file, and its path."""
-    for crate, place in erase.PLACES.items():
-        top = erase.CRATES / crate / "src"
-        for path in sorted(top.rglob("*.rt")):
-            name = path.relative_to(top)
-            if not erase.LEFT_OUT.fullmatch(str(name)) and str(name) not in erase.BY_HAND:
-                first, *rest = name.with_suffix(".rs").parts
-                if crate == "lexical_util":
-                    first = erase.MODULES.get(first.removesuffix(".rs"), first.removesuffix(".rs")) + first[-3:] * first.endswith(".rs")
-                yield path, erase.RUST.joinpath(place[0], first, *rest), place
+    """Each generated file with the words that it must have. Its first line names its source."""
+    for folder in sorted({folder for folder, *_ in erase.PLACES.values()}):
+        for made in sorted((erase.RUST / folder).rglob("*.rs")):
+            if source := re.match(rf"{erase.MADE} from crates/((\w+)/src/\S+): ", made.read_text()):
+                yield made, wanted_words(erase.CRATES / source[1], erase.PLACES[source[2]][1:])
 
 
 def main():
-    files = [(made, wanted_words(path, place), words_of(made.read_text())) for path, made, place in pairs()]
-    found = [str(path.relative_to(erase.RUST)) for path, wanted, made in files if not are_same(wanted, made)]
+    files = list(pairs())
+    found = [str(made.relative_to(erase.RUST)) for made, words in files if normal(words) != normal(words_of(made.read_text()))]
     sys.exit(f"not the words of the source: {', '.join(found)}" if found or not files else 0)
 
 

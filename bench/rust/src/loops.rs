@@ -46,18 +46,12 @@ pub fn constant_read(bytes: &[u8]) -> u64 {
     fold.with(number).sum
 }
 
-/// Loops that fold a call's results for each byte, which may also take a radix or a word.
-macro_rules! over_bytes {
-    ($($name:ident: |$byte:ident $(, $other:ident: $Type:ty)?| $number:expr;)*) => {$(
-        pub fn $name(bytes: &[u8] $(, $other: $Type)?) -> u64 {
-            over(bytes, |fold, $byte| fold.with_word($number as u128))
-        }
-    )*};
+pub fn roles(bytes: &[u8], word: u128) -> u64 {
+    over(bytes, |fold, byte| fold.with_word(role(FormatView::new(word), byte).into()))
 }
 
-over_bytes! {
-    roles: |byte, word: u128| role(FormatView::new(word), byte);
-    digits_to_char: |byte| digit_to_char((byte % 36) as u32);
+pub fn digits_to_char(bytes: &[u8]) -> u64 {
+    over(bytes, |fold, byte| fold.with_word(digit_to_char((byte % 36).into()).into()))
 }
 
 /// Loops that count the items for which a test returns `true`.

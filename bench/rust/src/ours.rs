@@ -50,11 +50,8 @@ fn role(view: FormatView, byte: u8) -> u64 {
 fn separators_of(view: FormatView) -> u64 {
     let of_part = |bits: u64, part: Part| {
         let at = view.separators(part);
-        bits << 4
-            | (at.internal as u64) << 3
-            | (at.leading as u64) << 2
-            | (at.trailing as u64) << 1
-            | at.consecutive as u64
+        let flags = [at.internal, at.leading, at.trailing, at.consecutive];
+        flags.into_iter().fold(bits, |bits, flag| bits << 1 | flag as u64)
     };
     [Part::Integer, Part::Fraction, Part::Exponent].into_iter().fold(0, of_part)
 }

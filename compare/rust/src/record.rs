@@ -9,7 +9,7 @@ use crate::random::Random;
 use crate::{rules, theirs};
 use upstream::ascii::{is_valid_ascii, is_valid_letter};
 use upstream::digit::char_to_digit;
-use upstream::format_flags::{self as flags, FLAG_MASK};
+use upstream::format_flags::FLAG_MASK;
 
 /// The name of the outcome at a position.
 fn name(position: u128) -> String {
@@ -24,11 +24,7 @@ fn text_of(calls: &[SetterCall]) -> String {
 
 /// Returns the text of the result of `lexical-util` if it differs from the result of the library.
 fn original<T: PartialEq>(ours: T, theirs: T, text: impl FnOnce(T) -> String) -> String {
-    if ours == theirs {
-        String::new()
-    } else {
-        format!(" crate: {}", text(theirs))
-    }
+    (ours != theirs).then(|| format!(" crate: {}", text(theirs))).unwrap_or_default()
 }
 
 /// All lines, some 20,000.
@@ -79,16 +75,8 @@ fn reserved_bits() -> Vec<u128> {
 }
 
 fn fields(word: u128) -> String {
-    format!(
-        "fields {word:032X} {:032X} {} {} {} {} {} {}",
-        word & FLAG_MASK,
-        flags::digit_separator(word),
-        flags::base_prefix(word),
-        flags::base_suffix(word),
-        flags::mantissa_radix(word),
-        flags::exponent_base(word),
-        flags::exponent_radix(word)
-    )
+    let bytes = theirs::word(word).values[9..15].iter().map(|value| format!(" {value}")).collect::<String>();
+    format!("fields {word:032X} {:032X}{bytes}", word & FLAG_MASK)
 }
 
 fn check(word: u128) -> String {

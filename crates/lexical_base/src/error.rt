@@ -162,6 +162,7 @@ impl Error {
     ///
     /// See [`Error::index`] for the index, and `Display` for the whole text.
     #[must_use]
+    #[inline]
     pub const fn description(&self) -> &'static str
         ensures text { result.now ≡ description_of self.now }
         ensures short { length result.now < 128 }

@@ -29,9 +29,9 @@ kept_mask r = if separator_allowed r then WITH_SEPARATOR else WITHOUT_SEPARATOR
 -- `upper_of r` is the upper half of the word of `r`, as `build_unchecked` joins it.
 abbrev pub upper_of : Record → ℕ
 upper_of r =
-    bit_or (bit_or (bit_and (bit_or (bit_or (bit_or (r.byte layout.digit_separator) (r.byte layout.base_prefix * 2 ^ 24))
+    bit_or (bit_and (bit_or (bit_or (bit_or (r.byte layout.digit_separator) (r.byte layout.base_prefix * 2 ^ 24))
     (r.byte layout.base_suffix * 2 ^ 32)) (r.byte layout.mantissa_radix * 2 ^ 40)) (kept_mask r))
-    (r.byte layout.exponent_base * 2 ^ 48)) (r.byte layout.exponent_radix * 2 ^ 56)
+    (bit_or (r.byte layout.exponent_base * 2 ^ 48) (r.byte layout.exponent_radix * 2 ^ 56))
 
 -- The upper half is the sum of the bytes of the trimmed record.
 upper_joined : (r : Record) → HasBytes r → upper_of r ≡ sum_by (upper_bits (trim r)) bytes
@@ -49,12 +49,15 @@ upper_joined r h =
     let below : used + middle * 2 ^ 24 < 2 ^ 48 = omega (arith, (HasBytes-trim r h).each layout.digit_separator, fits) in
     let lower = or_all start r.byte 8 h.each (layout.base_prefix ∷ layout.base_suffix ∷ layout.mantissa_radix ∷ []) 8
     separator (h.each layout.digit_separator) refl in
-    let exponents = or_all start r.byte 8 h.each (layout.exponent_base ∷ layout.exponent_radix ∷ []) 48
-    (used + middle * 2 ^ 24) below refl in
-    ap (λ n. bit_or (bit_or n (r.byte layout.exponent_base * 2 ^ 48)) (r.byte layout.exponent_radix * 2 ^ 56))
-    (ap (λ n. bit_and n (kept_mask r)) (lower ∙ omega arith)
-    ∙ kept (separator_allowed r) separator middle (h.each layout.digit_separator) fits)
-    ∙ exponents ∙ omega arith
+    let masked = ap (λ n. bit_and n (kept_mask r)) (lower ∙ omega arith)
+    ∙ kept (separator_allowed r) separator middle (h.each layout.digit_separator) fits in
+    let high : ℕ = r.byte layout.exponent_base + r.byte layout.exponent_radix * 2 ^ 8 in
+    let base_fits : r.byte layout.exponent_base * 2 ^ 48 < 2 ^ 56 = omega (arith, h.each layout.exponent_base) in
+    let exponents : bit_or (r.byte layout.exponent_base * 2 ^ 48) (r.byte layout.exponent_radix * 2 ^ 56) ≡ high * 2 ^ 48 =
+    or_all start r.byte 8 h.each (layout.exponent_radix ∷ []) 56 (r.byte layout.exponent_base * 2 ^ 48) base_fits refl
+    ∙ omega arith in
+    (λ i. bit_or (masked i) (exponents i)) ∙ or_comm (used + middle * 2 ^ 24) (high * 2 ^ 48)
+    ∙ or_shifted high 48 (used + middle * 2 ^ 24) below ∙ omega arith
 
 -- The upper half has 64 bits.
 pub upper-lt : (r : Record) → HasBytes r → upper_of r < 2 ^ 64

@@ -220,9 +220,10 @@ impl NumberFormatBuilder {
             | (prefix as u64) << PREFIX_SHIFT
             | (suffix as u64) << SUFFIX_SHIFT
             | (radix as u64) << MANTISSA_SHIFT;
-        let upper = bytes & kept_bytes(flags)
-            | (exponent_base as u64) << BASE_SHIFT
+        // The exponent bytes are joined by themselves, since one chain of all bytes is slower.
+        let exponents = (exponent_base as u64) << BASE_SHIFT
             | (exponent_radix as u64) << RADIX_SHIFT;
+        let upper = bytes & kept_bytes(flags) | exponents;
         flags | (upper as u128) << 64
     }
 
@@ -303,7 +304,6 @@ impl NumberFormatBuilder {
     {
         let high = (format >> 64) as u64;
         let radix = (high >> MANTISSA_SHIFT) % 256;
-        let exponent_base = byte_or_radix((high >> BASE_SHIFT) % 256, radix);
         let exponent_radix = byte_or_radix(high >> RADIX_SHIFT, radix);
         NumberFormatBuilder {
             flags: builder_flags(format),
@@ -312,7 +312,7 @@ impl NumberFormatBuilder {
                 ((high >> PREFIX_SHIFT) % 256) as u8,
                 ((high >> SUFFIX_SHIFT) % 256) as u8,
                 radix as u8,
-                exponent_base as u8,
+                base_or_radix(high),
                 exponent_radix as u8,
             ],
         }
@@ -355,6 +355,19 @@ const fn byte_or_radix(byte: u64, mantissa_radix: u64) -> u64
     ensures { result ≡ effective byte mantissa_radix }
 {
     if byte == 0 { mantissa_radix } else { byte }
+}
+
+// Returns the exponent base in the upper half of a format word, or the mantissa radix if the base is 0. The half is
+// chosen before it is shifted, since a choice between two shifted halves is slower.
+const fn base_or_radix(high: u64) -> u8
+    ensures { result ≡ effective (part high 48 8) (part high 40 8) }
+{
+    let half = if (high >> BASE_SHIFT) % 256 == 0 {
+        high << (BASE_SHIFT - MANTISSA_SHIFT)
+    } else {
+        high
+    };
+    ((half >> BASE_SHIFT) % 256) as u8
 }
 
 // Returns the flags of a format word, each at its bit in a builder.

@@ -301,7 +301,7 @@ pub const fn raw_exponent_radix(format: u128) -> u8
 
 /// Returns the low 32 bits of `(format & mask) >> shift`, or the mantissa radix if they are 0.
 ///
-/// If `mask` and `shift` belong to one of the six bytes, such as [`EXPONENT_BASE`] and [`EXPONENT_BASE_SHIFT`], the
+/// If `mask` and `shift` belong to one of the six bytes, such as `EXPONENT_BASE` and `EXPONENT_BASE_SHIFT`, the
 /// result is that byte, or the mantissa radix if that byte is 0. `shift` must be between 0 and 127.
 ///
 /// # Panics

@@ -20,18 +20,17 @@ fn a_byte_is_a_digit_if_its_value_is_below_the_radix(rt: HostRuntime) {
 #[test]
 fn an_untested_digit_need_not_be_a_digit_of_the_radix(rt: HostRuntime) {
     for (c, radix, value) in &UNTESTED_DIGITS {
-        assert!(rt;
-            char_to_valid_digit_const(*c, *radix) == *value,
-            "{c} in {radix}"
-        );
+        let read = char_to_valid_digit_const(*c, *radix);
+        assert!(rt; read == *value, "{c} in {radix}");
     }
 }
 
 #[test]
 fn each_digit_has_its_character(rt: HostRuntime) {
     for (digit, radix, c) in &CHARACTERS {
+        assert!(rt; *digit < 36);
         assert!(rt;
-            *digit < 36 && digit_to_char_const(*digit, *radix) == *c,
+            digit_to_char_const(*digit, *radix) == *c,
             "{digit} in {radix}"
         );
     }
@@ -61,10 +60,8 @@ fn one_wrong_byte_is_found_at_each_index(rt: HostRuntime) {
     for length in &LENGTHS {
         assert!(rt; *length <= 97);
         let slice = &mut bytes[..*length];
-        assert!(rt;
-            is_valid_ascii_slice(slice) && is_valid_letter_slice(slice),
-            "{length}"
-        );
+        let pass = is_valid_ascii_slice(slice) && is_valid_letter_slice(slice);
+        assert!(rt; pass, "{length}");
         for index in 0..slice.len() {
             slice[index] = 0x7F;
             let passes = is_valid_ascii_slice(slice) || is_valid_letter_slice(slice);

@@ -1,8 +1,8 @@
-//! The example of the README. A user of the library depends only on `lexical_util`.
+//! A caller that makes a word. It depends only on `lexical_util`.
 
 use lexical_util::edits::{Edit, edit_word};
 use lexical_util::error::Error;
-use lexical_util::format::{NonZeroU8, NumberFormatBuilder, format_error};
+use lexical_util::format::{NonZeroU8, NumberFormatBuilder, check};
 
 /// Returns the format of numbers such as `0x00_ff`, or the error of the first rule that it breaks.
 fn hexadecimal() -> Result<u128, Error> {
@@ -11,40 +11,10 @@ fn hexadecimal() -> Result<u128, Error> {
         .internal_digit_separator(true)
         .build_strict()?;
     let edits = [Edit::Radix(16), Edit::BasePrefix(NonZeroU8::new(b'x'))];
-    let format = edit_word(grouped, &edits);
-    match format_error(format) {
-        Error::Success => Ok(format),
-        error => Err(error),
-    }
+    check(edit_word(grouped, &edits))
 }
 
-#[cfg(test)]
-mod tests {
-    use super::*;
-    use lexical_util::edits::{FlagSetter, edits_of, same_format};
-    use lexical_util::format::NumberFormat;
-
-    #[test]
-    fn builds_edits_checks_and_reads(rt: HostRuntime) {
-        let format = 0x0A0A1000_7800005F_00000007_0000000C;
-        assert!(rt; hexadecimal() == Ok(format));
-        let view = NumberFormat::new(format);
-        let separates = view.digit_separator() == b'_' && view.integer_internal_digit_separator();
-        assert!(rt; view.radix() == 16 && separates);
-        assert!(rt; !same_format(format, NumberFormatBuilder::hexadecimal()));
-
-        let clash = edit_word(format, &[Edit::DigitSeparator(NonZeroU8::new(b'a'))]);
-        assert!(rt; format_error(clash) == Error::InvalidDigitSeparator);
-    }
-
-    #[test]
-    fn lists_the_setter_calls_of_a_word(rt: HostRuntime) {
-        let (edits, count) = edits_of(0x00001000_0000005F_00001000_0000000C);
-        let calls = [
-            Edit::Flag(FlagSetter::SpecialDigitSeparator, true),
-            Edit::DigitSeparator(NonZeroU8::new(b'_')),
-            Edit::MantissaRadix(16),
-        ];
-        assert!(rt; count == 3 && [edits[0], edits[1], edits[2]] == calls);
-    }
+#[test]
+fn a_word_is_built_edited_and_checked(rt: HostRuntime) {
+    assert!(rt; hexadecimal() == Ok(0x0A0A1000_7800005F_00000007_0000000C));
 }

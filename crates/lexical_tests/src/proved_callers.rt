@@ -1,10 +1,5 @@
-use callers::digits::has_digits_alone;
-use callers::edit::with_prefix;
-use callers::formats::read_decimal;
-use callers::keep::keep;
-use callers::read::{other_byte, read_checked};
+use callers::read::read_checked;
 use lexical_util::error::Error;
-use lexical_util::format::NonZeroU8;
 
 const DECIMAL: u128 = 0x00000A00_00000000_00000000_0000000C;
 
@@ -19,16 +14,6 @@ const BINARY: u128 = 0x0A020200_00000000_00000000_0000000C;
 
 // `_` between fraction digits alone.
 const FRACTION: u128 = 0x0A0A0A00_0000005F_00000002_0000000C;
-
-#[test]
-fn digits_of_a_text_are_those_of_the_mantissa(rt: HostRuntime) {
-    for (text, alone) in &[("101", true), ("", true), ("109", false)] {
-        assert!(rt;
-            has_digits_alone(BINARY, text.as_bytes()) == *alone,
-            "{text}"
-        );
-    }
-}
 
 #[rattlefmt::skip]
 const NUMBERS: [(u128, &str, Result<u64, Error>); 16] = [
@@ -55,27 +40,4 @@ fn a_number_is_the_sum_of_its_digits_or_the_first_byte_that_is_wrong(rt: HostRun
     for (format, text, want) in &NUMBERS {
         assert!(rt; read_checked(*format, text.as_bytes()) == *want, "{text}");
     }
-    assert!(rt; read_decimal(b"1_000_000") == Ok(1_000_000));
-    assert!(rt; read_decimal(b"1_000_") == Err(Error::InvalidDigit(5)));
-}
-
-#[test]
-fn stored_words_are_kept_as_their_normal_form(rt: HostRuntime) {
-    assert!(rt; keep(DECIMAL) == Ok(0x0A0A0A00_00000000_00000000_0000000C));
-    assert!(rt; keep(0xC) == Err(Error::InvalidMantissaRadix));
-}
-
-#[test]
-fn a_byte_without_a_role_ends_a_number(rt: HostRuntime) {
-    assert!(rt; other_byte(DECIMAL, b'e', b'.', b"-1.5e3 km") == Some(6));
-    assert!(rt; other_byte(GROUPED, b'p', b'.', b"f_0.8p1").is_none());
-}
-
-#[test]
-fn an_edit_fills_exponent_bytes_and_keeps_other_fields(rt: HostRuntime) {
-    let word = NonZeroU8::new(b'x').map(|prefix| with_prefix(
-        0x00001068_00000000_00000000_0000000C,
-        prefix,
-    ));
-    assert!(rt; word == Some(0x10101068_78000000_00000000_0001000C));
 }

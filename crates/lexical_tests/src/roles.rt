@@ -1,19 +1,12 @@
-use crate::rows::roles::{AFFIXED, BYTES, DIGITS, ROLES, SEPARATORS};
+use crate::rows::roles::{AFFIXED, BYTES, DIGITS, PARTS, ROLES, SEPARATORS};
 use lexical_util::format::NumberFormat;
-use lexical_util::format_flags::Part;
 
 #[test]
 fn a_digit_counts_in_its_own_radix(rt: HostRuntime) {
     for (word, byte, mantissa, exponent) in &DIGITS {
         let view = NumberFormat::new(*word);
-        assert!(rt;
-            view.mantissa_digit(*byte) == *mantissa,
-            "{word:#034X} {byte}"
-        );
-        assert!(rt;
-            view.exponent_digit(*byte) == *exponent,
-            "{word:#034X} {byte}"
-        );
+        let digits = [view.mantissa_digit(*byte), view.exponent_digit(*byte)];
+        assert!(rt; digits == [*mantissa, *exponent], "{word:#034X} {byte}");
     }
 }
 
@@ -34,16 +27,10 @@ fn an_absent_byte_matches_nothing(rt: HostRuntime) {
 #[test]
 fn each_part_has_its_own_separators(rt: HostRuntime) {
     for (word, parts) in &SEPARATORS {
-        let view = NumberFormat::new(*word);
-        for (part, allowed) in [Part::Integer, Part::Fraction, Part::Exponent]
-            .iter()
-            .zip(parts)
-        {
-            let read = view.separators(*part);
-            assert!(rt;
-                [read.internal, read.leading, read.trailing, read.consecutive] == *allowed,
-                "{word:#034X}"
-            );
+        for (part, allowed) in PARTS.iter().zip(parts) {
+            let read = NumberFormat::new(*word).separators(*part);
+            let read = [read.internal, read.leading, read.trailing, read.consecutive];
+            assert!(rt; read == *allowed, "{word:#034X}");
         }
     }
 }
@@ -51,9 +38,7 @@ fn each_part_has_its_own_separators(rt: HostRuntime) {
 #[test]
 fn each_byte_has_one_role_or_none(rt: HostRuntime) {
     for (byte, role) in &ROLES {
-        assert!(rt;
-            NumberFormat::new(AFFIXED).role_of(b'p', b'.', *byte) == *role,
-            "{byte}"
-        );
+        let read = NumberFormat::new(AFFIXED).role_of(b'p', b'.', *byte);
+        assert!(rt; read == *role, "{byte}");
     }
 }

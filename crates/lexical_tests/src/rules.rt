@@ -12,11 +12,8 @@ fn the_first_broken_rule_decides_the_error(rt: HostRuntime) {
         let view = NumberFormat::new(*word);
         let errors = [format_error_impl(*word), format_error(*word), view.error()];
         assert!(rt; errors == [*error; 3], "{word:#034X}");
-        let is_lawful = *error == Error::Success;
-        assert!(rt;
-            [format_is_valid(*word), view.is_valid()] == [is_lawful; 2],
-            "{word:#034X}"
-        );
+        let are_valid = [format_is_valid(*word), view.is_valid()];
+        assert!(rt; are_valid == [*error == Error::Success; 2], "{word:#034X}");
         // The rules of radixes come first.
         let first = match error {
             Error::InvalidMantissaRadix
@@ -24,14 +21,10 @@ fn the_first_broken_rule_decides_the_error(rt: HostRuntime) {
             | Error::InvalidExponentRadix => *error,
             _ => Error::Success,
         };
-        assert!(rt;
-            [radix_error_impl(*word), view.error_radix()] == [first; 2],
-            "{word:#034X}"
-        );
-        assert!(rt;
-            view.is_valid_radix() == (first == Error::Success),
-            "{word:#034X}"
-        );
+        let errors = [radix_error_impl(*word), view.error_radix()];
+        assert!(rt; errors == [first; 2], "{word:#034X}");
+        let is_valid = first == Error::Success;
+        assert!(rt; view.is_valid_radix() == is_valid, "{word:#034X}");
     }
 }
 
@@ -45,10 +38,8 @@ fn a_radix_is_from_2_to_36(rt: HostRuntime) {
 #[test]
 fn a_separator_is_tested_in_the_larger_radix(rt: HostRuntime) {
     for (word, is_valid) in &SEPARATORS {
-        assert!(rt;
-            is_valid_digit_separator(*word) == *is_valid,
-            "{word:#034X}"
-        );
+        let result = is_valid_digit_separator(*word);
+        assert!(rt; result == *is_valid, "{word:#034X}");
     }
 }
 

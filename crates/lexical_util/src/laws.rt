@@ -1,4 +1,4 @@
-//! Laws: public functions with empty bodies, whose clauses are theorems. To use a law, call it.
+//! Laws: public functions that do nothing, whose clauses are theorems. To use a law, call it.
 
 ghost use Rattle.std.specs.Prelude.{◌≡◌, ◌↔◌, ℕ, List, All, IsTrue, unwrap_or};
 ghost use Rattle.lexical_flags.specs.Layout as layout;

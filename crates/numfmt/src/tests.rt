@@ -61,8 +61,9 @@ fn run_with(alloc: Global, args: &[&str], failing_call: u32) -> Result<(u8, Reco
     Ok((run(owned.as_slice(), &mut out), out))
 }
 
-// Checks that a run without failing call prints and flushes the text, and ends with the status.
-fn check_run<R: Abort + AllocGlobal>(
+// Checks that a run prints and flushes the text, and ends with the status. Then checks that a call that fails is the last
+// one, and that the status is 3. The last call of a run is the flush.
+fn check<R: Abort + AllocGlobal>(
     rt: &R,
     args: &[&str],
     text: &str,
@@ -71,55 +72,31 @@ fn check_run<R: Abort + AllocGlobal>(
     let (got, out) = run_with(rt.alloc(), args, 0)?;
     assert_eq!(rt; str::from_utf8(out.text.as_slice()), Ok(text), "{args:?}");
     assert!(rt; got == status && out.is_flushed, "{args:?}: status {got}");
+    for failing_call in 1..=out.calls {
+        let (got, out) = run_with(rt.alloc(), args, failing_call)?;
+        let is_last = out.calls == failing_call;
+        assert!(rt; got == 3 && is_last, "{args:?} at call {failing_call}");
+    }
     Ok(())
 }
 
-// Checks runs without failing call. Then checks that a call that fails is the last one, and that the status is 3.
-fn check_runs<R: Abort + AllocGlobal>(rt: &R, runs: &[(&str, &str, u8)]) -> Result<(), Fail> {
-    for (line, text, status) in runs {
+#[test]
+fn each_row_is_printed_with_its_status(rt: HostRuntime) -> Result<(), Fail> {
+    check(&rt, &[], STANDARD_FIELDS, 0)?;
+    for (line, text, status) in ANSWERS.iter().chain(&REFUSALS) {
         let mut args = Vec::new(rt.alloc());
         for word in line.split(' ') {
             args.push(word)?;
         }
-        check_run(rt, args.as_slice(), text, *status)?;
-        check_failing_calls(rt, args.as_slice())?;
+        check(&rt, args.as_slice(), text, *status)?;
     }
     Ok(())
-}
-
-// The last call of a run is the flush.
-fn check_failing_calls<R: Abort + AllocGlobal>(rt: &R, args: &[&str]) -> Result<(), Fail> {
-    let (_, out) = run_with(rt.alloc(), args, 0)?;
-    for failing_call in 1..=out.calls {
-        let (status, out) = run_with(rt.alloc(), args, failing_call)?;
-        assert!(rt;
-            status == 3 && out.calls == failing_call,
-            "{args:?} at call {failing_call}"
-        );
-    }
-    Ok(())
-}
-
-#[test]
-fn each_answer_is_printed_with_its_status(rt: HostRuntime) -> Result<(), Fail> {
-    check_runs(&rt, &ANSWERS)
-}
-
-#[test]
-fn each_refusal_is_printed_with_status_2(rt: HostRuntime) -> Result<(), Fail> {
-    check_runs(&rt, &REFUSALS)
-}
-
-#[test]
-fn no_arguments_show_the_standard_format(rt: HostRuntime) -> Result<(), Fail> {
-    check_run(&rt, &[], STANDARD_FIELDS, 0)?;
-    check_failing_calls(&rt, &[])
 }
 
 #[test]
 fn an_edit_sets_the_bits_of_its_name(rt: HostRuntime) -> Result<(), Fail> {
     for (edit, text) in &EDITS {
-        check_run(&rt, &["edit", "0x100000000000", edit], text, 0)?;
+        check(&rt, &["edit", "0x100000000000", edit], text, 0)?;
     }
     Ok(())
 }
@@ -129,8 +106,8 @@ fn at_most_64_edits_are_taken(rt: HostRuntime) -> Result<(), Fail> {
     let mut args = ["radix=16"; 67];
     args[0] = "edit";
     args[1] = "0x00000A0000000000000000000000000C";
-    check_run(&rt, &args[..66], "0x0A0A100000000000000000000000000C\n", 0)?;
+    check(&rt, &args[..66], "0x0A0A100000000000000000000000000C\n", 0)?;
     // A 65th edit is refused before the word is read.
     args[1] = "0x";
-    check_run(&rt, &args, "numfmt: too many edits\n", 2)
+    check(&rt, &args, "numfmt: too many edits\n", 2)
 }

@@ -234,7 +234,7 @@ impl FormatView {
         self.format & flags::FLAG_MASK
     }
 
-    /// Returns the bitwise AND of the word and [`INTERFACE_FLAG_MASK`][flags::INTERFACE_FLAG_MASK].
+    /// Returns the bitwise AND of the word and [`INTERFACE_FLAG_MASK`][super::super::format].
     #[must_use]
     pub const fn interface_flags(&self) -> u128 {
         self.format & flags::INTERFACE_FLAG_MASK
@@ -246,7 +246,7 @@ impl FormatView {
         self.format & flags::DIGIT_SEPARATOR_FLAG_MASK
     }
 
-    /// Returns the bitwise AND of the word and [`EXPONENT_FLAG_MASK`][flags::EXPONENT_FLAG_MASK], which does not contain
+    /// Returns the bitwise AND of the word and [`EXPONENT_FLAG_MASK`][super::super::format], which does not contain
     /// the flag `case_sensitive_exponent`.
     #[must_use]
     pub const fn exponent_flags(&self) -> u128 {

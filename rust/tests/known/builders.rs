@@ -10,11 +10,7 @@ fn only_lawful_words_pass_the_strict_build() {
     for (builder, word, error) in &built() {
         let packed = [builder.build_unchecked(), builder.build()];
         assert!(packed == [*word; 2], "{word:#034X}");
-        let strict = if *error == Error::Success {
-            Ok(*word)
-        } else {
-            Err(*error)
-        };
+        let strict = if *error == Error::Success { Ok(*word) } else { Err(*error) };
         assert!(builder.build_strict() == strict, "{word:#034X}");
     }
 }

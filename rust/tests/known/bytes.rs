@@ -1,12 +1,10 @@
 // Made by rust/tools/erase.py from crates/lexical_tests/src/bytes.rt: change that file.
 
-use crate::rows::bytes::{
-    ALLOWED_ASCII, CHARACTERS, DIGITS, DIGIT_CHARACTERS, LENGTHS, SLICES, UNTESTED_DIGITS,
-};
+use crate::rows::bytes::{ALLOWED_ASCII, CHARACTERS, DIGITS, DIGIT_CHARACTERS, LENGTHS, SLICES, UNTESTED_DIGITS};
 use peltzivar::ascii::{is_valid_ascii, is_valid_ascii_slice, is_valid_letter_slice};
 use peltzivar::digit::{
-    char_is_digit, char_is_digit_const, char_to_digit, char_to_digit_const,
-    char_to_valid_digit_const, digit_to_char, digit_to_char_const,
+    char_is_digit, char_is_digit_const, char_to_digit, char_to_digit_const, char_to_valid_digit_const, digit_to_char,
+    digit_to_char_const,
 };
 
 #[test]
@@ -22,20 +20,16 @@ fn a_byte_is_a_digit_if_its_value_is_below_the_radix() {
 #[test]
 fn an_untested_digit_need_not_be_a_digit_of_the_radix() {
     for (c, radix, value) in &UNTESTED_DIGITS {
-        assert!(
-            char_to_valid_digit_const(*c, *radix) == *value,
-            "{c} in {radix}"
-        );
+        let read = char_to_valid_digit_const(*c, *radix);
+        assert!(read == *value, "{c} in {radix}");
     }
 }
 
 #[test]
 fn each_digit_has_its_character() {
     for (digit, radix, c) in &CHARACTERS {
-        assert!(
-            *digit < 36 && digit_to_char_const(*digit, *radix) == *c,
-            "{digit} in {radix}"
-        );
+        assert!(*digit < 36);
+        assert!(digit_to_char_const(*digit, *radix) == *c, "{digit} in {radix}");
     }
     for (digit, c) in &DIGIT_CHARACTERS {
         assert!(*digit < 36 && digit_to_char(*digit) == *c, "{digit}");
@@ -63,10 +57,8 @@ fn one_wrong_byte_is_found_at_each_index() {
     for length in &LENGTHS {
         assert!(*length <= 97);
         let slice = &mut bytes[..*length];
-        assert!(
-            is_valid_ascii_slice(slice) && is_valid_letter_slice(slice),
-            "{length}"
-        );
+        let pass = is_valid_ascii_slice(slice) && is_valid_letter_slice(slice);
+        assert!(pass, "{length}");
         for index in 0..slice.len() {
             slice[index] = 0x7F;
             let passes = is_valid_ascii_slice(slice) || is_valid_letter_slice(slice);

@@ -55,11 +55,7 @@ fn each_reason_and_note_has_its_sentence_and_its_bits() {
         let notes = view.notes().map(|it| (it.to_string(), it.mask()));
         let (texts, masks): (Vec<String>, Vec<u128>) = reasons.chain(notes).unzip();
         assert_eq!(texts, sentences, "{word:#034X}");
-        assert_eq!(
-            masks.iter().fold(0, |all, it| all | it),
-            mask,
-            "{word:#034X}"
-        );
+        assert_eq!(masks.iter().fold(0, |all, it| all | it), mask, "{word:#034X}");
     }
 }
 
@@ -80,23 +76,16 @@ const OPTIONS: [(u128, [u8; 2], u128, &[&str]); 8] = [
 fn options_have_their_reasons() {
     for (word, [exponent, point], mask, sentences) in OPTIONS {
         let reasons = FormatView::new(word).options_reasons(exponent, point);
-        let (texts, masks): (Vec<String>, Vec<u128>) =
-            reasons.map(|it| (it.to_string(), it.mask())).unzip();
+        let (texts, masks): (Vec<String>, Vec<u128>) = reasons.map(|it| (it.to_string(), it.mask())).unzip();
         assert_eq!(texts, sentences, "{word:#034X}");
-        assert_eq!(
-            masks.iter().fold(0, |all, it| all | it),
-            mask,
-            "{word:#034X}"
-        );
+        assert_eq!(masks.iter().fold(0, |all, it| all | it), mask, "{word:#034X}");
     }
 }
 
 /// A cause names the bytes to blame, with their values.
 #[test]
 fn a_reason_has_its_cause() {
-    let reason = FormatView::new(0x00000A092B000000000000000000000C)
-        .reasons()
-        .next();
+    let reason = FormatView::new(0x00000A092B000000000000000000000C).reasons().next();
     let name = Byte::BasePrefix;
     let cause = Cause::IsSign(NamedByte { name, value: b'+' });
     assert_eq!(reason.map(|it| it.cause()), Some(cause));

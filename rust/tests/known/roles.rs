@@ -1,21 +1,14 @@
 // Made by rust/tools/erase.py from crates/lexical_tests/src/roles.rt: change that file.
 
-use crate::rows::roles::{AFFIXED, BYTES, DIGITS, ROLES, SEPARATORS};
-use peltzivar::format_flags::Part;
+use crate::rows::roles::{AFFIXED, BYTES, DIGITS, PARTS, ROLES, SEPARATORS};
 use peltzivar::word::FormatView;
 
 #[test]
 fn a_digit_counts_in_its_own_radix() {
     for (word, byte, mantissa, exponent) in &DIGITS {
         let view = FormatView::new(*word);
-        assert!(
-            view.mantissa_digit(*byte) == *mantissa,
-            "{word:#034X} {byte}"
-        );
-        assert!(
-            view.exponent_digit(*byte) == *exponent,
-            "{word:#034X} {byte}"
-        );
+        let digits = [view.mantissa_digit(*byte), view.exponent_digit(*byte)];
+        assert!(digits == [*mantissa, *exponent], "{word:#034X} {byte}");
     }
 }
 
@@ -36,16 +29,10 @@ fn an_absent_byte_matches_nothing() {
 #[test]
 fn each_part_has_its_own_separators() {
     for (word, parts) in &SEPARATORS {
-        let view = FormatView::new(*word);
-        for (part, allowed) in [Part::Integer, Part::Fraction, Part::Exponent]
-            .iter()
-            .zip(parts)
-        {
-            let read = view.separators(*part);
-            assert!(
-                [read.internal, read.leading, read.trailing, read.consecutive] == *allowed,
-                "{word:#034X}"
-            );
+        for (part, allowed) in PARTS.iter().zip(parts) {
+            let read = FormatView::new(*word).separators(*part);
+            let read = [read.internal, read.leading, read.trailing, read.consecutive];
+            assert!(read == *allowed, "{word:#034X}");
         }
     }
 }
@@ -53,9 +40,7 @@ fn each_part_has_its_own_separators() {
 #[test]
 fn each_byte_has_one_role_or_none() {
     for (byte, role) in &ROLES {
-        assert!(
-            FormatView::new(AFFIXED).role_of(b'p', b'.', *byte) == *role,
-            "{byte}"
-        );
+        let read = FormatView::new(AFFIXED).role_of(b'p', b'.', *byte);
+        assert!(read == *role, "{byte}");
     }
 }

@@ -3,9 +3,8 @@
 use crate::rows::rules::{ERRORS, OPTIONS, RADIXES, RADIXES_OF_DECIMAL, SEPARATORS};
 use peltzivar::error::Error;
 use peltzivar::word::{
-    format_error, format_error_impl, format_is_valid, is_valid_digit_separator,
-    is_valid_options_punctuation, is_valid_radix, radix_error_impl, radix_from_flags, FormatView,
-    NumberFormatBuilder,
+    format_error, format_error_impl, format_is_valid, is_valid_digit_separator, is_valid_options_punctuation,
+    is_valid_radix, radix_error_impl, radix_from_flags, FormatView, NumberFormatBuilder,
 };
 
 #[test]
@@ -14,26 +13,17 @@ fn the_first_broken_rule_decides_the_error() {
         let view = FormatView::new(*word);
         let errors = [format_error_impl(*word), format_error(*word), view.error()];
         assert!(errors == [*error; 3], "{word:#034X}");
-        let is_lawful = *error == Error::Success;
-        assert!(
-            [format_is_valid(*word), view.is_valid()] == [is_lawful; 2],
-            "{word:#034X}"
-        );
+        let are_valid = [format_is_valid(*word), view.is_valid()];
+        assert!(are_valid == [*error == Error::Success; 2], "{word:#034X}");
         // The rules of radixes come first.
         let first = match error {
-            Error::InvalidMantissaRadix
-            | Error::InvalidExponentBase
-            | Error::InvalidExponentRadix => *error,
+            Error::InvalidMantissaRadix | Error::InvalidExponentBase | Error::InvalidExponentRadix => *error,
             _ => Error::Success,
         };
-        assert!(
-            [radix_error_impl(*word), view.error_radix()] == [first; 2],
-            "{word:#034X}"
-        );
-        assert!(
-            view.is_valid_radix() == (first == Error::Success),
-            "{word:#034X}"
-        );
+        let errors = [radix_error_impl(*word), view.error_radix()];
+        assert!(errors == [first; 2], "{word:#034X}");
+        let is_valid = first == Error::Success;
+        assert!(view.is_valid_radix() == is_valid, "{word:#034X}");
     }
 }
 
@@ -47,7 +37,8 @@ fn a_radix_is_from_2_to_36() {
 #[test]
 fn a_separator_is_tested_in_the_larger_radix() {
     for (word, is_valid) in &SEPARATORS {
-        assert!(is_valid_digit_separator(*word) == *is_valid, "{word:#034X}");
+        let result = is_valid_digit_separator(*word);
+        assert!(result == *is_valid, "{word:#034X}");
     }
 }
 

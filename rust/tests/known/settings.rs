@@ -19,10 +19,7 @@ fn edits_are_read_back() {
             };
             assert_eq!(edit.to_string(), format!("{name}={value}"));
             assert_eq!(Edit::from_setting(name, &value), Ok(edit));
-            assert_eq!(
-                (edit.to_string().parse(), edit.mask()),
-                (Ok(edit), setter.mask())
-            );
+            assert_eq!((edit.to_string().parse(), edit.mask()), (Ok(edit), setter.mask()));
         }
     }
 }
@@ -45,21 +42,13 @@ fn each_byte_setter_reads_the_same_values() {
     for setter in &Setter::ALL[40..] {
         let read = |value| format!("{}={value}", setter.name()).parse();
         for (value, byte) in bytes {
-            assert_eq!(
-                read(value),
-                Ok(setter.with_byte(byte)),
-                "{setter:?} {value}"
-            );
+            assert_eq!(read(value), Ok(setter.with_byte(byte)), "{setter:?} {value}");
         }
         for value in refused {
             assert!(read(value).is_err(), "{setter:?} {value}");
         }
         let is_optional = setter.kind() == ArgumentKind::OptionalByte;
-        assert_eq!(
-            read("none").ok(),
-            is_optional.then_some(setter.with_byte(0)),
-            "{setter:?}"
-        );
+        assert_eq!(read("none").ok(), is_optional.then_some(setter.with_byte(0)), "{setter:?}");
     }
 }
 
@@ -74,8 +63,7 @@ fn a_refused_setting_has_a_sentence() {
         ("no_special=none", Some("no_special"), FLAG),
         ("no_special='1'", Some("no_special"), FLAG),
         ("no_special=true=true", Some("no_special"), FLAG),
-        ("digit_separator=_", Some("digit_separator"),
-            "digit_separator takes a character such as '_', a number from 0 to 255, or `none`"),
+        ("digit_separator=_", Some("digit_separator"), "digit_separator takes a character such as '_', a number from 0 to 255, or `none`"),
         ("base_prefix=0x100", Some("base_prefix"), "base_prefix takes a character such as '_', a number from 0 to 255, or `none`"),
         ("base_suffix=''", Some("base_suffix"), "base_suffix takes a character such as '_', a number from 0 to 255, or `none`"),
         ("mantissa_radix=none", Some("mantissa_radix"), "mantissa_radix takes a number, 2 to 36 in a lawful format"),
@@ -90,11 +78,7 @@ fn a_refused_setting_has_a_sentence() {
     ];
     for (text, name, sentence) in rows {
         let error = text.parse::<Edit>().unwrap_err();
-        assert_eq!(
-            (error.name(), &*error.to_string()),
-            (name, sentence),
-            "{text}"
-        );
+        assert_eq!((error.name(), &*error.to_string()), (name, sentence), "{text}");
         let kind = match sentence {
             "expected NAME=VALUE" => NoEquals,
             "unknown setting name" => UnknownName,

@@ -1,8 +1,6 @@
 //! The tests of slices and the digits of numbers, which plain Rust has by hand.
 
-use peltzivar::ascii::{
-    is_valid_ascii, is_valid_ascii_slice, is_valid_letter, is_valid_letter_slice,
-};
+use peltzivar::ascii::{is_valid_ascii, is_valid_ascii_slice, is_valid_letter, is_valid_letter_slice};
 use peltzivar::Error;
 
 /// As in `lexical-util`, a constant can call the tests.
@@ -16,14 +14,8 @@ fn each_byte_is_tested_in_each_lane() {
     let in_many = (0..4140).step_by(7).map(|index| (0xC1, 4140, index));
     for (byte, len, index) in in_blocks.chain(in_many) {
         (text[index], letters[index]) = (byte, byte);
-        let tests = [
-            is_valid_ascii_slice(&text[..len]),
-            is_valid_letter_slice(&letters[..len]),
-        ];
-        let wanted = [
-            matches!(byte, 9..=13 | b' '..=b'~'),
-            byte.is_ascii_alphabetic(),
-        ];
+        let tests = [is_valid_ascii_slice(&text[..len]), is_valid_letter_slice(&letters[..len])];
+        let wanted = [matches!(byte, 9..=13 | b' '..=b'~'), byte.is_ascii_alphabetic()];
         assert_eq!(tests, wanted, "{byte} at {index} of {len}");
         let tests = [is_valid_ascii(byte), is_valid_letter(byte)];
         assert_eq!(tests, wanted, "{byte}");

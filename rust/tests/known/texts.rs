@@ -33,18 +33,9 @@ fn a_word_and_its_fields_are_printed() {
     for (value, text) in rows {
         assert_eq!(format!("{value:?}"), text);
     }
-    for (byte, text) in [
-        (9, "9"),
-        (32, "32"),
-        (126, "'~'"),
-        (127, "127"),
-        (255, "255"),
-    ] {
+    for (byte, text) in [(9, "9"), (32, "32"), (126, "'~'"), (127, "127"), (255, "255")] {
         let printed = format!("{:?}", FormatView::new(0xC | 10 << 104 | byte << 96));
-        assert!(
-            printed.contains(&format!(", base_suffix: {text}")),
-            "{printed}"
-        );
+        assert!(printed.contains(&format!(", base_suffix: {text}")), "{printed}");
     }
 }
 
@@ -69,15 +60,8 @@ fn an_expression_is_read_back() {
     let code = "NumberFormatBuilder::new().no_special(true).mantissa_radix(16).build_unchecked()";
     let expression = BuilderExpression(0x00001000_00000000_00000000_0000040C);
     assert_eq!(format!("{expression:->200.3}"), code);
-    for word in (0..128)
-        .map(|bit| 0xC ^ 1 << bit)
-        .flat_map(|word| [word, !word])
-    {
+    for word in (0..128).map(|bit| 0xC ^ 1 << bit).flat_map(|word| [word, !word]) {
         let code = BuilderExpression(word).to_string();
-        assert_eq!(
-            builder_of(&code),
-            Some(NumberFormatBuilder::from_word(word)),
-            "{code}"
-        );
+        assert_eq!(builder_of(&code), Some(NumberFormatBuilder::from_word(word)), "{code}");
     }
 }

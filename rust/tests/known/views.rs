@@ -2,8 +2,8 @@
 
 use crate::rows::views::{FIELDS, GROUPS, MASKED, POWERS};
 use peltzivar::word::{
-    base_prefix, base_suffix, digit_separator, exponent_base, exponent_radix, mantissa_radix,
-    FormatView, NumberFormatBuilder, STANDARD,
+    base_prefix, base_suffix, digit_separator, exponent_base, exponent_radix, mantissa_radix, FormatView,
+    NumberFormatBuilder, STANDARD,
 };
 
 #[test]
@@ -18,22 +18,11 @@ fn each_byte_is_read_from_the_word_and_from_its_view() {
             exponent_radix(*word),
         ];
         let view = FormatView::new(*word);
-        let radixes = [
-            view.mantissa_radix(),
-            view.exponent_base(),
-            view.exponent_radix(),
-        ];
+        let radixes = [view.mantissa_radix(), view.exponent_base(), view.exponent_radix()];
         assert!(read == *bytes, "{word:#034X}");
         assert!(radixes == [bytes[3], bytes[4], bytes[5]], "{word:#034X}");
-        let present = [
-            view.has_digit_separator(),
-            view.has_base_prefix(),
-            view.has_base_suffix(),
-        ];
-        assert!(
-            present == [bytes[0] != 0, bytes[1] != 0, bytes[2] != 0],
-            "{word:#034X}"
-        );
+        let present = [view.has_digit_separator(), view.has_base_prefix(), view.has_base_suffix()];
+        assert!(present == [bytes[0] != 0, bytes[1] != 0, bytes[2] != 0], "{word:#034X}");
         assert!(view.radix() == bytes[3], "{word:#034X}");
     }
 }
@@ -74,10 +63,7 @@ fn a_view_returns_the_bits_of_each_mask() {
 fn the_eighth_power_of_a_radix_is_reduced_to_32_bits() {
     for (radix, powers) in &POWERS {
         let view = FormatView::new((*radix as u128) << 104);
-        assert!(
-            [view.radix2(), view.radix4(), view.radix8()] == *powers,
-            "{radix}"
-        );
+        assert!([view.radix2(), view.radix4(), view.radix8()] == *powers, "{radix}");
     }
 }
 

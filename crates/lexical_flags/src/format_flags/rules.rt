@@ -234,8 +234,8 @@ pub const fn is_valid_base_suffix(format: u128) -> bool
 /// Returns whether the digit separator, the base prefix and the base suffix of `format` all differ.
 ///
 /// A byte of 0 is absent, and is not compared. A base prefix that is a letter matches both cases of that letter unless
-/// [`CASE_SENSITIVE_BASE_PREFIX`] is set. Likewise, a base suffix that is a letter matches both cases unless
-/// [`CASE_SENSITIVE_BASE_SUFFIX`] is set. So the prefix `h` and the suffix `H` count as different only if both flags
+/// `CASE_SENSITIVE_BASE_PREFIX` is set. Likewise, a base suffix that is a letter matches both cases unless
+/// `CASE_SENSITIVE_BASE_SUFFIX` is set. So the prefix `h` and the suffix `H` count as different only if both flags
 /// are set. The digit separator is always case-sensitive. `lexical-util` compares the raw bytes, so it accepts the
 /// prefix `h` with the suffix `H` regardless of the flags.
 #[must_use]
@@ -276,7 +276,7 @@ const fn is_disjoint_from_format_roles(format: u128, byte: u8, case_sensitive: b
 /// Each must be a byte that [`is_valid_ascii`][lexical_base::ascii::is_valid_ascii] accepts and that is neither a sign
 /// (`+` or `-`) nor a [digit][is_digit_of_either_radix] of `format`. So neither may be 0. The two must differ from each
 /// other, and from the digit separator, the base prefix and the base suffix. If the exponent character is a letter, it
-/// matches both cases of that letter unless [`CASE_SENSITIVE_EXPONENT`] is set. The base prefix and the base suffix are
+/// matches both cases of that letter unless `CASE_SENSITIVE_EXPONENT` is set. The base prefix and the base suffix are
 /// compared as in [`is_valid_punctuation`]. The decimal point is always case-sensitive. Every [lawful][Rule] format
 /// accepts at least one pair. With such a pair, no byte has two meanings in a number. `lexical-util` compares the raw
 /// bytes, so a letter matches only its own case there.
@@ -347,7 +347,7 @@ const fn first_options_error(format: u128, exponent: u8, decimal_point: u8) -> E
 
 // FLAGS
 
-/// Returns `false` if both [`NO_EXPONENT_NOTATION`] and [`REQUIRED_EXPONENT_NOTATION`] are set in
+/// Returns `false` if both `NO_EXPONENT_NOTATION` and `REQUIRED_EXPONENT_NOTATION` are set in
 /// `format`, and `true` otherwise.
 #[must_use]
 #[inline]

@@ -56,14 +56,6 @@ pub const NORMAL_FORMS: [(u128, Error, u128, Error); 15] = [
     (0x0A0A0A00_00000000_00000001_0000000C, Error::Success, 0x0A0A0A00_00000000_00000001_0000000C, Error::Success),
 ];
 
-/// The bits that hold no field.
-#[rattlefmt::skip]
-pub const RESERVED_BITS: [u32; 49] = [
-    18, 19, 20, 21, 22, 23, 24, 25, 26, 27, 28, 29, 30, 31,
-    45, 46, 47, 48, 49, 50, 51, 52, 53, 54, 55, 56, 57, 58, 59, 60, 61, 62, 63,
-    72, 73, 74, 75, 76, 77, 78, 79, 80, 81, 82, 83, 84, 85, 86, 87,
-];
-
 /// A word, the word that its edits build, and the number of edits that change a new builder. A builder can build the word
 /// if both words are equal.
 #[rattlefmt::skip]

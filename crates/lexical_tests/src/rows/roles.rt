@@ -1,6 +1,6 @@
 //! The roles of bytes: digits of each radix, the separators of each part, and the one role of a byte.
 
-use lexical_util::format::Role;
+use lexical_util::format::{Part, Role};
 
 /// A word, a byte, and its values as a digit of the mantissa and of the exponent.
 #[rattlefmt::skip]
@@ -27,8 +27,9 @@ pub const BYTES: [(u128, u8, [bool; 4]); 8] = [
     (0x00000A00_00000000_00000000_0000000C, b'E', [false, false, false, true]),
 ];
 
-/// A word, and whether separators may be internal, leading, trailing and consecutive in the integer, in the fraction and
-/// in the exponent.
+pub const PARTS: [Part; 3] = [Part::Integer, Part::Fraction, Part::Exponent];
+
+/// A word, and whether separators may be internal, leading, trailing and consecutive in each part.
 #[rattlefmt::skip]
 pub const SEPARATORS: [(u128, [[bool; 4]; 3]); 3] = [
     (0x00000A00_0000005F_00000002_0000000C, [[false; 4], [true, false, false, false], [false; 4]]),

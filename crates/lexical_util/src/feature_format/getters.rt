@@ -321,7 +321,7 @@ impl NumberFormat {
         self.format & flags::FLAG_MASK
     }
 
-    /// Returns the bitwise AND of the word and [`INTERFACE_FLAG_MASK`][flags::INTERFACE_FLAG_MASK].
+    /// Returns the bitwise AND of the word and [`INTERFACE_FLAG_MASK`][super::super::format].
     #[must_use]
     pub const fn interface_flags(&self) -> u128
         ensures bits { result ≡ bits_of self.now masks.interface_flags }
@@ -339,7 +339,7 @@ impl NumberFormat {
         self.format & flags::DIGIT_SEPARATOR_FLAG_MASK
     }
 
-    /// Returns the bitwise AND of the word and [`EXPONENT_FLAG_MASK`][flags::EXPONENT_FLAG_MASK], which does not contain
+    /// Returns the bitwise AND of the word and [`EXPONENT_FLAG_MASK`][super::super::format], which does not contain
     /// the flag `case_sensitive_exponent`.
     #[must_use]
     pub const fn exponent_flags(&self) -> u128

@@ -6,11 +6,9 @@ mod rows;
 
 use rows::{ANSWERS, EDITS, REFUSALS, STANDARD_FIELDS};
 use std::ffi::{OsStr, OsString};
-use std::fs::{self, File};
+use std::fs::File;
 use std::os::unix::ffi::OsStrExt;
 use std::process::Command;
-
-const TOP: &str = concat!(env!("CARGO_MANIFEST_DIR"), "/../..");
 
 fn numfmt() -> Command {
     let built = OsString::from(env!("CARGO_BIN_EXE_numfmt"));
@@ -37,18 +35,6 @@ fn prints_the_text_of_each_row_and_ends_with_its_status() {
     }
 }
 
-/// The edits are counted before the word is read.
-#[test]
-fn takes_at_most_64_edits() {
-    let mut args = ["radix=16"; 67];
-    (args[0], args[1]) = ("edit", "0x00000A0000000000000000000000000C");
-    let edited = "0x0A0A100000000000000000000000000C\n".into();
-    assert_eq!(run(&args[..66]), (Some(0), edited));
-    args[1] = "0x";
-    let refused = "numfmt: too many edits\n".into();
-    assert_eq!(run(&args), (Some(2), refused));
-}
-
 #[test]
 fn ends_with_status_3_if_an_argument_is_not_utf_8() {
     for bytes in [&b"\xff"[..], b"0x1\xc3"] {
@@ -67,38 +53,4 @@ fn ends_with_status_3_if_a_write_fails() {
         assert_eq!(output.status.code(), Some(3), "{args:?}");
         assert!(output.stderr.is_empty(), "{args:?}");
     }
-}
-
-/// Returns the arguments of a line that shows a run, such as `    $ numfmt check 0xC`.
-fn shown_arguments(line: &str) -> Option<Vec<&str>> {
-    let command = line.strip_prefix("    $ ")?;
-    if command == "cargo run" {
-        return Some(Vec::new());
-    }
-    let (program, args) = command.split_once(' ')?;
-    matches!(program, "numfmt" | "crates/numfmt/out/numfmt").then(|| args.split(' ').collect())
-}
-
-/// The indented lines below a run are what it prints.
-#[test]
-fn prints_what_the_pages_show() {
-    let mut runs = 0;
-    for page in ["README", "docs/FORMAT", "docs/RUST"] {
-        let text = fs::read_to_string(format!("{TOP}/{page}.md")).unwrap();
-        let mut lines = text.lines().peekable();
-        while let Some(line) = lines.next() {
-            let Some(args) = shown_arguments(line) else {
-                continue;
-            };
-            let mut shown = String::new();
-            while let Some(line) =
-                lines.next_if(|line| line.starts_with("    ") && !line.starts_with("    $"))
-            {
-                shown = shown + &line[4..] + "\n";
-            }
-            assert_eq!(run(&args).1, shown, "{line} in {page}");
-            runs += 1;
-        }
-    }
-    assert!(runs > 0);
 }

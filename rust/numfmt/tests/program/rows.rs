@@ -21,15 +21,6 @@ exponent_base 255
 exponent_radix 255
 ";
 
-const SMALLEST_FIELDS: &str = "flags 0x00000000000000000000000000000000
-digit_separator 0
-base_prefix 0
-base_suffix 0
-mantissa_radix 0
-exponent_base 0
-exponent_radix 0
-";
-
 const ONE_TO_SIX: &str = "flags 0x0000000000000000000000000000000C
 digit_separator 1
 base_prefix 2
@@ -45,27 +36,10 @@ const EACH_BYTE_SET: &str = "NumberFormatBuilder::new().required_integer_digits(
 .exponent_radix(NonZeroU8::new(6)).build_unchecked()
 ";
 
-const RESERVED_BIT_LOST: &str =
-    "// This code makes another word, without the reserved bits 0x80000000
-NumberFormatBuilder::new().build_unchecked()
-";
-
-const SEPARATOR_LOST: &str =
-    "// This code makes another word, without the digit separator '_': no flag allows one
-NumberFormatBuilder::new().digit_separator(NonZeroU8::new(95)).build_unchecked()
-";
-
 const BOTH_LOST: &str =
     "// This code makes another word, without the reserved bits 0xFFFF000000000000000000
 // This code makes another word, without the digit separator 10: no flag allows one
 NumberFormatBuilder::new().digit_separator(NonZeroU8::new(10)).build_unchecked()
-";
-
-const PREFIX_IS_DIGIT: &str = "the base prefix 'b' is a digit in radix 16
-    error: lexical number format error: 'invalid base prefix character'
-    field: base_prefix=98
-    field: mantissa_radix=16
-note: no flag allows the digit separator '_'
 ";
 
 const TWO_REASONS: &str = "the digit separator '5' is a digit in radix 10
@@ -95,12 +69,11 @@ note: case_sensitive_base_suffix is set, but there is no base suffix
 
 /// Arguments with a space between them, the text that they print, and the exit status.
 #[rustfmt::skip]
-pub const ANSWERS: [(&str, &str, u8); 36] = [
+pub const ANSWERS: [(&str, &str, u8); 32] = [
     ("show 0x00000A0000000000000000000000000C", STANDARD_FIELDS, 0),
     ("show 0xa0000000000000000000000000c", STANDARD_FIELDS, 0),
     ("show 0xFFFFFFFFFFFFFFFFFFFFFFFFFFFFFFFF", LARGEST_FIELDS, 0),
     ("show 0xffffffffffffffffffffffffffffffff", LARGEST_FIELDS, 0),
-    ("show 0x0", SMALLEST_FIELDS, 0),
     ("show 0x0605040302000001000000000000000C", ONE_TO_SIX, 0),
     ("edit 0xc radix=16 digit_separator=95 integer_digit_separator_flags=true", "0x000010000000005F000002490000000C\n", 0),
     ("edit 0x00000A0000000000000000000000000C", "0x0A0A0A0000000000000000000000000C\n", 0),
@@ -123,11 +96,8 @@ pub const ANSWERS: [(&str, &str, u8); 36] = [
     ("migrate 0x00000A0000000035000000000000404C", "lexical number format error: 'exponent flags set while disabling exponent notation'\n", 1),
     ("source 0x00000A0000000000000000000000000C", "NumberFormatBuilder::new().build_unchecked()\n", 0),
     ("source 0x0605040302000001000010000000000D", EACH_BYTE_SET, 0),
-    ("source 0x00000A0000000000000000008000000C", RESERVED_BIT_LOST, 1),
-    ("source 0x00000A000000005F000000000000000C", SEPARATOR_LOST, 1),
     ("source 0x00000A0000FFFF0A000000000000000C", BOTH_LOST, 1),
     ("explain 0x00000A0000000000000000000000000C", "", 0),
-    ("explain 0x0A0A10006200005F000000000000000C", PREFIX_IS_DIGIT, 1),
     ("explain 0x00000A0000000035000000000000404C", TWO_REASONS, 1),
     ("explain 0xC", THREE_RULES, 1),
     ("explain 0x00000A0000000000000000008000000C", RESERVED_BIT_EXPLAINED, 1),
@@ -136,7 +106,7 @@ pub const ANSWERS: [(&str, &str, u8); 36] = [
 
 /// Arguments that are refused, with a space between them, and the text and exit status.
 #[rustfmt::skip]
-pub const REFUSALS: [(&str, &str, u8); 42] = [
+pub const REFUSALS: [(&str, &str, u8); 36] = [
     ("", "numfmt: unknown command\n", 2),
     ("shows 0x", "numfmt: unknown command\n", 2),
     ("show", "numfmt: wrong number of arguments\n", 2),
@@ -147,9 +117,6 @@ pub const REFUSALS: [(&str, &str, u8); 42] = [
     ("same 0x 0x 0x", "numfmt: wrong number of arguments\n", 2),
     ("options 0x00000A0000000000000000000000000C 101", "numfmt: wrong number of arguments\n", 2),
     ("options 0x 101 46 46", "numfmt: wrong number of arguments\n", 2),
-    ("migrate", "numfmt: wrong number of arguments\n", 2),
-    ("source", "numfmt: wrong number of arguments\n", 2),
-    ("explain 0x00000A0000000000000000000000000C 0x00000A0000000000000000000000000C", "numfmt: wrong number of arguments\n", 2),
     ("show 0x", "numfmt: bad word\n", 2),
     ("show 0x000000000000000000000000000000000", "numfmt: bad word\n", 2),
     ("show 0X1", "numfmt: bad word\n", 2),
@@ -160,9 +127,6 @@ pub const REFUSALS: [(&str, &str, u8); 42] = [
     ("same 0x 0x1", "numfmt: bad word\n", 2),
     ("options 0x 1 2", "numfmt: bad word\n", 2),
     ("options 0x 256 2", "numfmt: bad word\n", 2),
-    ("migrate 1", "numfmt: bad word\n", 2),
-    ("source 0x", "numfmt: bad word\n", 2),
-    ("explain 0x", "numfmt: bad word\n", 2),
     ("edit 0xC radix=256", "numfmt: bad edit\n", 2),
     ("edit 0xC radix", "numfmt: bad edit\n", 2),
     ("edit 0xC radix=16 radix", "numfmt: bad edit\n", 2),

@@ -13,16 +13,12 @@ pub fn underscored() -> NumberFormatBuilder {
 // Returns a builder of radix 2 with the separator `5`, which each flag allows.
 fn fives() -> NumberFormatBuilder {
     let binary = NumberFormatBuilder::new().radix(2);
-    binary
-        .digit_separator(NonZeroU8::new(0x35))
-        .digit_separator_flags(true)
+    binary.digit_separator(NonZeroU8::new(0x35)).digit_separator_flags(true)
 }
 
 // Returns a builder with the prefix `h` and a suffix.
 fn affixed(suffix: u8) -> NumberFormatBuilder {
-    NumberFormatBuilder::new()
-        .base_prefix(NonZeroU8::new(b'h'))
-        .base_suffix(NonZeroU8::new(suffix))
+    NumberFormatBuilder::new().base_prefix(NonZeroU8::new(b'h')).base_suffix(NonZeroU8::new(suffix))
 }
 
 // Returns a builder whose integer separators are consecutive, but have no position.

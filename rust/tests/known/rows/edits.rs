@@ -22,10 +22,7 @@ const INTERNAL: Edit = Edit::Flag(FlagSetter::IntegerInternalDigitSeparator, tru
 
 /// Edits of the word of decimal numbers, and the edited word.
 pub const EXPONENT_DIGITS: ([Edit; 2], u128) = (
-    [
-        Edit::Flag(FlagSetter::RequiredDigits, false),
-        Edit::Flag(FlagSetter::RequiredExponentDigits, true),
-    ],
+    [Edit::Flag(FlagSetter::RequiredDigits, false), Edit::Flag(FlagSetter::RequiredExponentDigits, true)],
     0x0A0A0A00_00000000_00000000_00000004,
 );
 
@@ -56,14 +53,6 @@ pub const NORMAL_FORMS: [(u128, Error, u128, Error); 15] = [
     (0x24242424_24000024_00000000_0000000C, Error::InvalidPunctuation, 0x24242424_24000000_00000000_0000000C, Error::InvalidPunctuation),
     (0x00000A00_78000058_00000000_0000000C, Error::InvalidPunctuation, 0x0A0A0A00_78000000_00000000_0000000C, Error::Success),
     (0x0A0A0A00_00000000_00000001_0000000C, Error::Success, 0x0A0A0A00_00000000_00000001_0000000C, Error::Success),
-];
-
-/// The bits that hold no field.
-#[rustfmt::skip]
-pub const RESERVED_BITS: [u32; 49] = [
-    18, 19, 20, 21, 22, 23, 24, 25, 26, 27, 28, 29, 30, 31,
-    45, 46, 47, 48, 49, 50, 51, 52, 53, 54, 55, 56, 57, 58, 59, 60, 61, 62, 63,
-    72, 73, 74, 75, 76, 77, 78, 79, 80, 81, 82, 83, 84, 85, 86, 87,
 ];
 
 /// A word, the word that its edits build, and the number of edits that change a new builder. A builder can build the word

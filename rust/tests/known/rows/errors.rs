@@ -58,62 +58,6 @@ pub const OUTCOMES: [(Error, &str); 49] = [
     (Error::Success, "'not actually an error'"),
 ];
 
-/// Returns the result of each test of `error`, in the order of the outcomes.
-#[rustfmt::skip]
-pub fn tests(error: &Error) -> [bool; 49] {
-    [
-        error.is_overflow(),
-        error.is_underflow(),
-        error.is_invalid_digit(),
-        error.is_empty(),
-        error.is_empty_mantissa(),
-        error.is_empty_exponent(),
-        error.is_empty_integer(),
-        error.is_empty_fraction(),
-        error.is_invalid_positive_mantissa_sign(),
-        error.is_missing_mantissa_sign(),
-        error.is_invalid_exponent(),
-        error.is_invalid_positive_exponent_sign(),
-        error.is_missing_exponent_sign(),
-        error.is_exponent_without_fraction(),
-        error.is_invalid_leading_zeros(),
-        error.is_missing_exponent(),
-        error.is_missing_sign(),
-        error.is_invalid_positive_sign(),
-        error.is_invalid_negative_sign(),
-        error.is_invalid_mantissa_radix(),
-        error.is_invalid_exponent_base(),
-        error.is_invalid_exponent_radix(),
-        error.is_invalid_digit_separator(),
-        error.is_invalid_decimal_point(),
-        error.is_invalid_exponent_symbol(),
-        error.is_invalid_base_prefix(),
-        error.is_invalid_base_suffix(),
-        error.is_invalid_punctuation(),
-        error.is_invalid_exponent_flags(),
-        error.is_invalid_mantissa_sign(),
-        error.is_invalid_exponent_sign(),
-        error.is_invalid_special(),
-        error.is_invalid_consecutive_integer_digit_separator(),
-        error.is_invalid_consecutive_fraction_digit_separator(),
-        error.is_invalid_consecutive_exponent_digit_separator(),
-        error.is_invalid_flags(),
-        error.is_invalid_nan_string(),
-        error.is_nan_string_too_long(),
-        error.is_invalid_inf_string(),
-        error.is_inf_string_too_long(),
-        error.is_invalid_infinity_string(),
-        error.is_infinity_string_too_long(),
-        error.is_infinity_string_too_short(),
-        error.is_invalid_float_parse_algorithm(),
-        error.is_invalid_radix(),
-        error.is_invalid_float_precision(),
-        error.is_invalid_negative_exponent_break(),
-        error.is_invalid_positive_exponent_break(),
-        error.is_success(),
-    ]
-}
-
 /// An outcome, and its text.
 #[rustfmt::skip]
 pub const TEXTS: [(Error, &str); 5] = [

@@ -4,48 +4,24 @@
 
 use peltzivar::error::Error;
 
-/// A word, and the error of the first rule that it breaks.
+/// A word, and the error of the first rule that it breaks. The tables of edits and of builders have more words.
 #[rustfmt::skip]
-pub const ERRORS: [(u128, Error); 51] = [
+pub const ERRORS: [(u128, Error); 23] = [
     // Radixes: of the mantissa, of the exponent's base, and of the exponent's digits.
-    (0x00000000_00000000_00000000_00000000, Error::InvalidMantissaRadix),
-    (0xFFFFFFFF_FFFFFFFF_FFFFFFFF_FFFFFFFF, Error::InvalidMantissaRadix),
-    (0x00000000_00000000_00000000_0000000C, Error::InvalidMantissaRadix),
-    (0x25252500_00000000_00000000_0000000C, Error::InvalidMantissaRadix),
-    (0x0A0A0000_00000000_00000000_0000000C, Error::InvalidMantissaRadix),
-    (0x0A0A0100_00000000_00000000_0000000C, Error::InvalidMantissaRadix),
     (0xFFFFFF00_0000007E_00000001_0000000C, Error::InvalidMantissaRadix),
     (0x0A010A00_00000000_00000000_0000000C, Error::InvalidExponentBase),
-    (0x0AFF0A00_00000000_00000000_0000000C, Error::InvalidExponentBase),
     (0x250A0A00_00000000_00000000_0000000C, Error::InvalidExponentRadix),
-    (0x00000A00_00000000_00000000_0000000C, Error::Success),
-    (0x02020200_00000000_00000000_0000000C, Error::Success),
-    (0x08080800_00000000_00000000_0000000C, Error::Success),
-    (0x0A0A0A00_00000000_00000000_0000000C, Error::Success),
-    (0x10101000_00000000_00000000_0000000C, Error::Success),
-    (0x20202000_00000000_00000000_0000000C, Error::Success),
-    // Separators: a sign, digits, the byte `5` in radix 2, and `_`, which no flag allows.
+    // Separators: a sign, and a digit. Prefixes: a sign, and a digit. A suffix that is not allowed ASCII.
     (0x00000A00_0000002B_00000000_0000000C, Error::InvalidDigitSeparator),
     (0x10000A00_00000061_00000000_0000000C, Error::InvalidDigitSeparator),
-    (0x0A0A1000_00000065_00001FFF_0000000C, Error::InvalidDigitSeparator),
-    (0x0A0A0A00_00000035_00000000_0000000C, Error::InvalidDigitSeparator),
-    (0x00000200_00000035_00001FFF_0000000C, Error::Success),
-    (0x000A0200_00000035_00001FFF_0000000C, Error::Success),
-    (0x0A0A0A00_0000005F_00000000_0000000C, Error::Success),
-    (0x00000A00_00000000_00001FFF_0000000C, Error::Success),
-    // Prefixes: a sign, and a digit of radix 16. A suffix that is not allowed ASCII.
     (0x00000A00_2D000000_00000000_0000000C, Error::InvalidBasePrefix),
     (0x0A001000_62000000_00000000_0000000C, Error::InvalidBasePrefix),
     (0x00000A7F_00000000_00000000_0000000C, Error::InvalidBaseSuffix),
-    // Two roles of one byte, or of one letter that is not case-sensitive in both.
-    (0x00000A00_78000078_00000000_0000000C, Error::InvalidPunctuation),
-    (0x24242424_24000024_00000000_0000000C, Error::InvalidPunctuation),
-    (0x00000A68_68000000_00000000_0000000C, Error::InvalidPunctuation),
+    // Two roles of one letter that is not case-sensitive in both.
     (0x00000A48_68000000_00000000_0000000C, Error::InvalidPunctuation),
     (0x00000A48_68000000_00000000_0001000C, Error::InvalidPunctuation),
     (0x00000A48_68000000_00000000_0002000C, Error::InvalidPunctuation),
     (0x00000A48_68000000_00000000_0003000C, Error::Success),
-    (0x00000A00_78000058_00000000_0000000C, Error::InvalidPunctuation),
     (0x00000A00_78000058_00000000_0001000C, Error::Success),
     // Flags that contradict each other. The first of two broken rules decides.
     (0x00000A00_00000000_00000000_0000404C, Error::InvalidExponentFlags),
@@ -54,15 +30,10 @@ pub const ERRORS: [(u128, Error); 51] = [
     (0x00000A00_00000000_00000000_0000018C, Error::InvalidExponentSign),
     (0x00000A00_00000000_00000000_00000C0C, Error::InvalidSpecial),
     (0x00000A00_00000000_00001000_0000040C, Error::InvalidSpecial),
-    (0x00000A00_00000000_00000200_00000C0C, Error::InvalidSpecial),
-    (0x00000A00_00000000_00000000_0000044C, Error::Success),
-    (0x00000A00_00000000_00000200_0000000C, Error::InvalidConsecutiveIntegerDigitSeparator),
     (0x00000A00_00000000_00000400_0000000C, Error::InvalidConsecutiveFractionDigitSeparator),
     (0x00000A00_00000000_00000800_0000000C, Error::InvalidConsecutiveExponentDigitSeparator),
     // Reserved bits come last.
-    (0x00000A00_00000000_00000000_8000000C, Error::InvalidFlags),
     (0x00000A00_00000000_00000200_8000000C, Error::InvalidConsecutiveIntegerDigitSeparator),
-    (0x0A0A0A00_00000000_00000001_0000000C, Error::Success),
     (0x0A0A0A00_0000005F_00000001_0000000C, Error::Success),
 ];
 
@@ -75,14 +46,7 @@ pub const SEPARATORS: [(u128, bool); 4] = [
 ];
 
 /// A radix, and whether it is one that a lawful word may have.
-pub const RADIXES: [(u32, bool); 6] = [
-    (0, false),
-    (1, false),
-    (2, true),
-    (36, true),
-    (37, false),
-    (258, false),
-];
+pub const RADIXES: [(u32, bool); 6] = [(0, false), (1, false), (2, true), (36, true), (37, false), (258, false)];
 
 /// A mask, a shift, and the number in the bits of the mask of the word of decimal numbers, or its radix if that is 0.
 pub const RADIXES_OF_DECIMAL: [(u128, i32, u32); 3] = [

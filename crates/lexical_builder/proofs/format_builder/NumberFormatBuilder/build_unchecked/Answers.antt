@@ -1,6 +1,6 @@
 use Rattle.std.proofs.Common.{◌≡◌, ◌∙◌, ℕ, if◌then◌else◌, ap, sym, subst, arith}
-use Rattle.std.proofs.Common.{sum_by, slice_index}
-use Rattle.std.proofs.lemmas.Nat.{shl_whole}
+use Rattle.std.proofs.Common.{◌*◌, ◌%◌, ◌^◌, bit_or, lt_of_le_of_lt, sum_by, slice_index}
+use Rattle.std.proofs.lemmas.Nat.{and_le_r, or_lt, shl_whole}
 use Rattle.lexical_flags.specs.Layout.{Byte, IsClean, flags}
 use Rattle.lexical_flags.specs.Layout as layout
 use Rattle.lexical_flags.specs.Record.{Record, pack, flag_bits, separator_allowed, raw, HasBytes}
@@ -10,6 +10,15 @@ use Rattle.lexical_builder.specs.declared.format_builder.TheConstants.{WITH_SEPA
 use Rattle.lexical_builder.proofs.UpperHalf.{kept_mask, upper_of, upper-lt, halves_joined}
 use Rattle.lexical_builder.specs.BuilderBits.{byte_index, builder_record}
 use Rattle.lexical_builder.proofs.format_builder.NumberFormatBuilder.build_unchecked.Goals as goal
+
+pub overflow_cast-result : goal.overflow_cast-result
+overflow_cast-result c =
+    let base : ℕ = slice_index c.self.inside.bytes 4 * 2 ^ 48 % 2 ^ 64 in
+    let radix : ℕ = slice_index c.self.inside.bytes 5 * 2 ^ 56 % 2 ^ 64 in
+    record {
+      fits = or_lt 128 _ (bit_or base radix) (lt_of_le_of_lt {m = c.kept_bytes.result} (and_le_r _ _) (omega arith))
+          (or_lt 128 base radix (omega arith) (omega arith));
+    }
 
 pub returns-clause-bytes : goal.returns-clause-bytes
 returns-clause-bytes c = subst HasBytes c.self.view_is (HasBytes-by_name (builder_record c.self.inside) (omega arith)
