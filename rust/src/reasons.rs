@@ -150,11 +150,11 @@ pub const fn reasons(format: u128) -> [Option<Reason>; MAX_REASONS] {
     }
     fill! {
         0 MantissaRadixInRange radix_cause(Byte::MantissaRadix),
-        1 ExponentBaseInRange exponent_cause(Byte::ExponentBase),
-        2 ExponentRadixInRange exponent_cause(Byte::ExponentRadix);
-        3 DigitSeparatorIsPunctuation present_cause(Byte::DigitSeparator),
-        4 BasePrefixIsPunctuation present_cause(Byte::BasePrefix),
-        5 BaseSuffixIsPunctuation present_cause(Byte::BaseSuffix);
+        1 ExponentBaseInRange if_present(Byte::ExponentBase, word.radix_cause(Byte::ExponentBase)),
+        2 ExponentRadixInRange if_present(Byte::ExponentRadix, word.radix_cause(Byte::ExponentRadix));
+        3 DigitSeparatorIsPunctuation if_present(Byte::DigitSeparator, word.byte_cause(Byte::DigitSeparator)),
+        4 BasePrefixIsPunctuation if_present(Byte::BasePrefix, word.byte_cause(Byte::BasePrefix)),
+        5 BaseSuffixIsPunctuation if_present(Byte::BaseSuffix, word.byte_cause(Byte::BaseSuffix));
         6 PunctuationDiffers clash(Byte::DigitSeparator, Byte::BasePrefix),
         7 PunctuationDiffers clash(Byte::DigitSeparator, Byte::BaseSuffix),
         8 PunctuationDiffers clash(Byte::BasePrefix, Byte::BaseSuffix);
@@ -192,8 +192,8 @@ pub const fn options_reasons(
         ($($cause:expr;)*) => { [$(slot(format, None, $cause)),*] };
     }
     slots! {
-        byte_cause(format, options.named(Byte::ExponentCharacter));
-        byte_cause(format, options.named(Byte::DecimalPoint));
+        options.byte_cause(Byte::ExponentCharacter);
+        options.byte_cause(Byte::DecimalPoint);
         options.clash(Byte::ExponentCharacter, Byte::DecimalPoint);
         options.clash(Byte::ExponentCharacter, Byte::DigitSeparator);
         options.clash(Byte::ExponentCharacter, Byte::BasePrefix);
@@ -272,24 +272,25 @@ impl Characters {
         some_if(!is_valid, Cause::OutOfRange(byte))
     }
 
-    // Returns the cause for an exponent byte that is present but not between 2 and 36, if it is.
-    #[inline(always)]
-    const fn exponent_cause(&self, name: Byte) -> Option<Cause> {
-        if self.named(name).value == 0 {
-            None
+    // Returns the cause for a byte that is not punctuation, if it is not.
+    const fn byte_cause(&self, name: Byte) -> Option<Cause> {
+        let byte = self.named(name);
+        if !is_valid_ascii(byte.value) {
+            Some(Cause::NotText(byte))
+        } else if (byte.value == b'+') | (byte.value == b'-') {
+            Some(Cause::IsSign(byte))
         } else {
-            self.radix_cause(name)
+            digit_cause(self.format, byte)
         }
     }
 
-    // Returns the cause for a byte that is neither absent nor punctuation, if it is not.
+    // Returns a cause if the byte is present.
     #[inline(always)]
-    const fn present_cause(&self, name: Byte) -> Option<Cause> {
-        let byte = self.named(name);
-        if byte.value == 0 {
+    const fn if_present(&self, name: Byte, cause: Option<Cause>) -> Option<Cause> {
+        if self.named(name).value == 0 {
             None
         } else {
-            byte_cause(self.format, byte)
+            cause
         }
     }
 
@@ -356,17 +357,6 @@ const fn case_flag(byte: Byte) -> Option<FlagSetter> {
         Byte::BaseSuffix => Some(FlagSetter::CaseSensitiveBaseSuffix),
         Byte::ExponentCharacter => Some(FlagSetter::CaseSensitiveExponent),
         _ => None,
-    }
-}
-
-// Returns the cause for a byte that is not punctuation, if it is not.
-const fn byte_cause(format: u128, byte: NamedByte) -> Option<Cause> {
-    if !is_valid_ascii(byte.value) {
-        Some(Cause::NotText(byte))
-    } else if (byte.value == b'+') | (byte.value == b'-') {
-        Some(Cause::IsSign(byte))
-    } else {
-        digit_cause(format, byte)
     }
 }
 
