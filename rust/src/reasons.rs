@@ -138,31 +138,38 @@ pub const fn reasons(format: u128) -> [Option<Reason>; MAX_REASONS] {
         exponent: 0,
         point: 0,
     };
-    macro_rules! slots {
-        ($($Rule:ident $reason:ident($($argument:expr),*);)*) => {
-            [$(word.$reason(Some(Rule::$Rule), $($argument),*)),*]
+    // If the word satisfies all rules of a group, its slots stay `None`. The others are filled in place, since copying
+    // all slots would take longer than the tests.
+    let mut slots = [None; MAX_REASONS];
+    macro_rules! fill {
+        ($($($index:literal $Rule:ident $cause:ident($($argument:expr),*)),*;)*) => {
+            $(if !($(Rule::$Rule.is_kept(format))&*) {
+                $(slots[$index] = slot(format, Some(Rule::$Rule), word.$cause($($argument),*));)*
+            })*
         };
     }
-    slots! {
-        MantissaRadixInRange radix_reason(Byte::MantissaRadix);
-        ExponentBaseInRange exponent_reason(Byte::ExponentBase);
-        ExponentRadixInRange exponent_reason(Byte::ExponentRadix);
-        DigitSeparatorIsPunctuation present_reason(Byte::DigitSeparator);
-        BasePrefixIsPunctuation present_reason(Byte::BasePrefix);
-        BaseSuffixIsPunctuation present_reason(Byte::BaseSuffix);
-        PunctuationDiffers clash(Byte::DigitSeparator, Byte::BasePrefix);
-        PunctuationDiffers clash(Byte::DigitSeparator, Byte::BaseSuffix);
-        PunctuationDiffers clash(Byte::BasePrefix, Byte::BaseSuffix);
-        ExponentFlagsAgree both_set(FlagSetter::NoExponentNotation, FlagSetter::RequiredExponentNotation);
-        MantissaSignFlagsAgree both_set(FlagSetter::NoPositiveMantissaSign, FlagSetter::RequiredMantissaSign);
-        ExponentSignFlagsAgree both_set(FlagSetter::NoPositiveExponentSign, FlagSetter::RequiredExponentSign);
-        SpecialCaseFlagsAgree both_set(FlagSetter::NoSpecial, FlagSetter::CaseSensitiveSpecial);
-        SpecialSeparatorFlagsAgree both_set(FlagSetter::NoSpecial, FlagSetter::SpecialDigitSeparator);
-        IntegerConsecutiveIsAllowed needs_position(Part::Integer);
-        FractionConsecutiveIsAllowed needs_position(Part::Fraction);
-        ExponentConsecutiveIsAllowed needs_position(Part::Exponent);
-        ReservedBitsAreZero reserved_bits();
+    fill! {
+        0 MantissaRadixInRange radix_cause(Byte::MantissaRadix),
+        1 ExponentBaseInRange if_present(Byte::ExponentBase, word.radix_cause(Byte::ExponentBase)),
+        2 ExponentRadixInRange if_present(Byte::ExponentRadix, word.radix_cause(Byte::ExponentRadix));
+        3 DigitSeparatorIsPunctuation if_present(Byte::DigitSeparator, word.byte_cause(Byte::DigitSeparator)),
+        4 BasePrefixIsPunctuation if_present(Byte::BasePrefix, word.byte_cause(Byte::BasePrefix)),
+        5 BaseSuffixIsPunctuation if_present(Byte::BaseSuffix, word.byte_cause(Byte::BaseSuffix));
+        6 PunctuationDiffers clash(Byte::DigitSeparator, Byte::BasePrefix),
+        7 PunctuationDiffers clash(Byte::DigitSeparator, Byte::BaseSuffix),
+        8 PunctuationDiffers clash(Byte::BasePrefix, Byte::BaseSuffix);
+        9 ExponentFlagsAgree both_set(FlagSetter::NoExponentNotation, FlagSetter::RequiredExponentNotation),
+        10 MantissaSignFlagsAgree both_set(FlagSetter::NoPositiveMantissaSign, FlagSetter::RequiredMantissaSign),
+        11 ExponentSignFlagsAgree both_set(FlagSetter::NoPositiveExponentSign, FlagSetter::RequiredExponentSign),
+        12 SpecialCaseFlagsAgree both_set(FlagSetter::NoSpecial, FlagSetter::CaseSensitiveSpecial),
+        13 SpecialSeparatorFlagsAgree both_set(FlagSetter::NoSpecial, FlagSetter::SpecialDigitSeparator),
+        14 IntegerConsecutiveIsAllowed needs_position(Part::Integer),
+        15 FractionConsecutiveIsAllowed needs_position(Part::Fraction),
+        16 ExponentConsecutiveIsAllowed needs_position(Part::Exponent);
     }
+    let reserved = word.reserved_bits();
+    slots[17] = slot(format, Some(Rule::ReservedBitsAreZero), reserved);
+    slots
 }
 
 /// Returns the reasons why numbers in `format` cannot have the exponent character `exponent` and the decimal point
@@ -181,36 +188,41 @@ pub const fn options_reasons(
         exponent,
         point: decimal_point,
     };
-    [
-        byte_reason(format, None, options.named(Byte::ExponentCharacter)),
-        byte_reason(format, None, options.named(Byte::DecimalPoint)),
-        options.clash(None, Byte::ExponentCharacter, Byte::DecimalPoint),
-        options.clash(None, Byte::ExponentCharacter, Byte::DigitSeparator),
-        options.clash(None, Byte::ExponentCharacter, Byte::BasePrefix),
-        options.clash(None, Byte::ExponentCharacter, Byte::BaseSuffix),
-        options.clash(None, Byte::DecimalPoint, Byte::DigitSeparator),
-        options.clash(None, Byte::DecimalPoint, Byte::BasePrefix),
-        options.clash(None, Byte::DecimalPoint, Byte::BaseSuffix),
-    ]
+    macro_rules! slots {
+        ($($cause:expr;)*) => { [$(slot(format, None, $cause)),*] };
+    }
+    slots! {
+        options.byte_cause(Byte::ExponentCharacter);
+        options.byte_cause(Byte::DecimalPoint);
+        options.clash(Byte::ExponentCharacter, Byte::DecimalPoint);
+        options.clash(Byte::ExponentCharacter, Byte::DigitSeparator);
+        options.clash(Byte::ExponentCharacter, Byte::BasePrefix);
+        options.clash(Byte::ExponentCharacter, Byte::BaseSuffix);
+        options.clash(Byte::DecimalPoint, Byte::DigitSeparator);
+        options.clash(Byte::DecimalPoint, Byte::BasePrefix);
+        options.clash(Byte::DecimalPoint, Byte::BaseSuffix);
+    }
 }
 
-impl Reason {
-    // Returns the reason why a word breaks `rule`, or why options do not fit if it is `None`. The function is not inlined,
-    // so that a slot without a reason costs few instructions.
-    #[inline(never)]
-    const fn new(format: u128, rule: Option<Rule>, cause: Cause) -> Reason {
-        let followers = match rule {
-            Some(Rule::MantissaRadixInRange) => (
-                some_if(raw_exponent_base(format) == 0, Rule::ExponentBaseInRange),
-                some_if(raw_exponent_radix(format) == 0, Rule::ExponentRadixInRange),
-            ),
-            _ => (None, None),
-        };
-        Reason {
-            rule,
-            followers,
-            cause,
+// Returns the reason for a cause, if there is one: why a word breaks `rule`, or why options do not fit if it is `None`.
+#[inline(always)]
+const fn slot(format: u128, rule: Option<Rule>, cause: Option<Cause>) -> Option<Reason> {
+    match cause {
+        Some(cause) => {
+            let followers = match rule {
+                Some(Rule::MantissaRadixInRange) => (
+                    some_if(raw_exponent_base(format) == 0, Rule::ExponentBaseInRange),
+                    some_if(raw_exponent_radix(format) == 0, Rule::ExponentRadixInRange),
+                ),
+                _ => (None, None),
+            };
+            Some(Reason {
+                rule,
+                followers,
+                cause,
+            })
         }
+        None => None,
     }
 }
 
@@ -252,41 +264,39 @@ impl Characters {
         }
     }
 
-    // Returns the reason for a radix that is not between 2 and 36, if it is not.
+    // Returns the cause for a radix that is not between 2 and 36, if it is not.
     #[inline(always)]
-    const fn radix_reason(&self, rule: Option<Rule>, name: Byte) -> Option<Reason> {
+    const fn radix_cause(&self, name: Byte) -> Option<Cause> {
         let byte = self.named(name);
-        if flags::is_valid_radix(byte.value as u32) {
-            None
+        let is_valid = flags::is_valid_radix(byte.value as u32);
+        some_if(!is_valid, Cause::OutOfRange(byte))
+    }
+
+    // Returns the cause for a byte that is not punctuation, if it is not.
+    const fn byte_cause(&self, name: Byte) -> Option<Cause> {
+        let byte = self.named(name);
+        if !is_valid_ascii(byte.value) {
+            Some(Cause::NotText(byte))
+        } else if (byte.value == b'+') | (byte.value == b'-') {
+            Some(Cause::IsSign(byte))
         } else {
-            Some(Reason::new(self.format, rule, Cause::OutOfRange(byte)))
+            digit_cause(self.format, byte)
         }
     }
 
-    // Returns the reason for an exponent byte that is present but not between 2 and 36, if it is.
+    // Returns a cause if the byte is present.
     #[inline(always)]
-    const fn exponent_reason(&self, rule: Option<Rule>, name: Byte) -> Option<Reason> {
+    const fn if_present(&self, name: Byte, cause: Option<Cause>) -> Option<Cause> {
         if self.named(name).value == 0 {
             None
         } else {
-            self.radix_reason(rule, name)
+            cause
         }
     }
 
-    // Returns the reason for a byte that is neither absent nor punctuation, if it is not.
+    // Returns the cause for two bytes that match the same byte, if they do.
     #[inline(always)]
-    const fn present_reason(&self, rule: Option<Rule>, name: Byte) -> Option<Reason> {
-        let byte = self.named(name);
-        if byte.value == 0 {
-            None
-        } else {
-            byte_reason(self.format, rule, byte)
-        }
-    }
-
-    // Returns the reason for two bytes that match the same byte, if they do.
-    #[inline(always)]
-    const fn clash(&self, rule: Option<Rule>, first: Byte, second: Byte) -> Option<Reason> {
+    const fn clash(&self, first: Byte, second: Byte) -> Option<Cause> {
         let (a, b) = (self.named(first), self.named(second));
         if roles_disjoint(
             a.value,
@@ -296,7 +306,7 @@ impl Characters {
         ) {
             None
         } else {
-            Some(Reason::new(self.format, rule, self.clash_cause(a, b)))
+            Some(self.clash_cause(a, b))
         }
     }
 
@@ -314,36 +324,29 @@ impl Characters {
         }
     }
 
-    // Returns the reason for two flags that are both set, if they are.
+    // Returns the cause for two flags that are both set, if they are.
     #[inline(always)]
-    const fn both_set(&self, rule: Option<Rule>, a: FlagSetter, b: FlagSetter) -> Option<Reason> {
-        if a.is_set(self.format) & b.is_set(self.format) {
-            Some(Reason::new(self.format, rule, Cause::BothSet(a, b)))
-        } else {
-            None
-        }
+    const fn both_set(&self, a: FlagSetter, b: FlagSetter) -> Option<Cause> {
+        some_if(
+            a.is_set(self.format) & b.is_set(self.format),
+            Cause::BothSet(a, b),
+        )
     }
 
-    // Returns the reason for consecutive digit separators in a part that has no position for one, if there is none.
+    // Returns the cause for consecutive digit separators in a part that has no position for one, if there is none.
     #[inline(always)]
-    const fn needs_position(&self, rule: Option<Rule>, part: Part) -> Option<Reason> {
+    const fn needs_position(&self, part: Part) -> Option<Cause> {
         let allowed = FormatView::new(self.format).separators(part);
-        if allowed.consecutive & !(allowed.internal | allowed.leading | allowed.trailing) {
-            Some(Reason::new(self.format, rule, Cause::NeedsPosition(part)))
-        } else {
-            None
-        }
+        let is_lonely =
+            allowed.consecutive & !(allowed.internal | allowed.leading | allowed.trailing);
+        some_if(is_lonely, Cause::NeedsPosition(part))
     }
 
-    // Returns the reason for reserved bits that are set, if any.
+    // Returns the cause for reserved bits that are set, if any.
     #[inline(always)]
-    const fn reserved_bits(&self, rule: Option<Rule>) -> Option<Reason> {
+    const fn reserved_bits(&self) -> Option<Cause> {
         let bits = self.format & Rule::ReservedBitsAreZero.mask();
-        if bits == 0 {
-            None
-        } else {
-            Some(Reason::new(self.format, rule, Cause::ReservedBits(bits)))
-        }
+        some_if(bits != 0, Cause::ReservedBits(bits))
     }
 }
 
@@ -354,21 +357,6 @@ const fn case_flag(byte: Byte) -> Option<FlagSetter> {
         Byte::BaseSuffix => Some(FlagSetter::CaseSensitiveBaseSuffix),
         Byte::ExponentCharacter => Some(FlagSetter::CaseSensitiveExponent),
         _ => None,
-    }
-}
-
-// Returns the reason for a byte that is not punctuation, if it is not.
-const fn byte_reason(format: u128, rule: Option<Rule>, byte: NamedByte) -> Option<Reason> {
-    let cause = if !is_valid_ascii(byte.value) {
-        Some(Cause::NotText(byte))
-    } else if (byte.value == b'+') | (byte.value == b'-') {
-        Some(Cause::IsSign(byte))
-    } else {
-        digit_cause(format, byte)
-    };
-    match cause {
-        Some(cause) => Some(Reason::new(format, rule, cause)),
-        None => None,
     }
 }
 

@@ -507,12 +507,7 @@ weaken P Q step [] all = tt
 weaken P Q step (None ∷ list) all = (tt, weaken P Q step list all.1)
 weaken P Q step (Some r ∷ list) all = (step r all.0, weaken P Q step list all.1)
 
--- If `P` holds for no reason, then there is none. If there is none, then each has every property.
-empty : (P : Reason → Type 0) → ((r : Reason) → P r → ⊥) → (list : List (Option Reason)) → EachReason P list → NoReason list
-empty P out [] all = tt
-empty P out (None ∷ list) all = (refl, empty P out list all.1)
-empty P out (Some r ∷ list) all = absurd (out r all.0)
-
+-- If there is no reason, then each reason has every property.
 without : (P : Reason → Type 0) (list : List (Option Reason)) → NoReason list → EachReason P list
 without P [] none = tt
 without P (None ∷ list) none = (tt, without P list none.1)
@@ -530,6 +525,13 @@ no_causes : (f : Cause → Reason) (Q : Reason → Type 0) → ((c : Cause) → 
 no_causes f Q out [] all = tt
 no_causes f Q out (None ∷ list) all = (refl, no_causes f Q out list all.1)
 no_causes f Q out (Some c ∷ list) all = absurd (out c all.0)
+
+-- If no cause explains why `D` fails for a word, then there is no reason.
+unexplained : (word e p : ℕ) (D : ℕ → Type 0) (f : Cause → Reason) → D word → (list : List (Option Cause))
+    → EachCause (Explains word e p D) list → NoReason (map (option_map f) list)
+unexplained word e p D f d [] all = tt
+unexplained word e p D f d (None ∷ list) all = (refl, unexplained word e p D f d list all.1)
+unexplained word e p D f d (Some c ∷ list) all = absurd (fails word e p D c all.0 d)
 
 -- A cause of a word is true of each word that agrees with it under the mask of the cause.
 elsewhere : (word e p other : ℕ) (D : ℕ → Type 0) (cause : Cause) → Explains word e p D cause
@@ -572,16 +574,16 @@ followers_broken word rules.MantissaRadixInRange other broken (inr same) holds =
 followers_broken word _ other broken (inl same) holds = cc
 followers_broken word _ other broken (inr same) holds = cc
 
--- Each reason explains why its rule is broken.
-reasoned : (word : ℕ) (rule : Rule) → EachReason (Reasoned word) (slots word rule)
+-- Each cause explains why its rule is broken, and so does each reason.
+causes_explained : (word : ℕ) (rule : Rule) → EachCause (Explains word 0 0 (Holds rule)) (causes_of (shape_of rule) word)
 unfolding Holds
+causes_explained word rules.ReservedBitsAreZero = shape_explained reserved_zero word
+causes_explained word rule = shape_explained (shape_of rule) word
+
+reasoned : (word : ℕ) (rule : Rule) → EachReason (Reasoned word) (slots word rule)
 reasoned word rule =
     lift (reason_of (raw word) (Some rule)) (Explains word 0 0 (Holds rule)) (Reasoned word) step (causes_of (shape_of rule) word)
-    (explained rule) where
-      explained : (q : Rule) → EachCause (Explains word 0 0 (Holds q)) (causes_of (shape_of q) word)
-      explained rules.ReservedBitsAreZero = shape_explained reserved_zero word
-      explained q = shape_explained (shape_of q) word
-
+    (causes_explained word rule) where
       step : (c : Cause) → Explains word 0 0 (Holds rule) c → Reasoned word (reason_of (raw word) (Some rule) c)
       step c h =
           let out = fails word 0 0 (Holds rule) c h in
@@ -601,25 +603,19 @@ join : (P : Option Reason → Type 0) (xs ys : List (Option Reason)) → AllByRe
 join P [] ys first second = second
 join P (x ∷ xs) ys first second = (first.0, join P xs ys first.1 second)
 
-split : (P : Option Reason → Type 0) (xs ys : List (Option Reason)) → AllByRecursion P (xs ++ ys)
-    → AllByRecursion P xs × AllByRecursion P ys
-split P [] ys both = (tt, both)
-split P (x ∷ xs) ys both = let rest = split P xs ys both.1 in ((both.0, rest.0), rest.1)
-
 of_rules : (P : Option Reason → Type 0) (word : ℕ) → ((rule : Rule) → AllByRecursion P (slots word rule))
     → (list : List Rule) → AllByRecursion P (flat_map (slots word) list)
 of_rules P word each [] = tt
 of_rules P word each (rule ∷ list) = join P (slots word rule) _ (each rule) (of_rules P word each list)
 
-each_rule : (P : Option Reason → Type 0) (word : ℕ) (list : List Rule) → AllByRecursion P (flat_map (slots word) list)
-    → AllByRecursion (λ rule. AllByRecursion P (slots word rule)) list
-each_rule P word [] all = tt
-each_rule P word (rule ∷ list) all =
-    let parts = split P (slots word rule) _ all in (parts.0, each_rule P word list parts.1)
-
-every : (Q : Rule → Type 0) → AllByRecursion Q rules_in_order → (rule : Rule) → Q rule
-every Q all rules.MantissaRadixInRange = all.0
-every Q all _ = assumption all
+-- If a word satisfies each rule of a list, then their slots are `None`.
+pub kept : (word : ℕ) (list : List Rule) → AllByRecursion (λ rule. Holds rule word) list
+    → NoReason (flat_map (slots word) list)
+kept word [] all = tt
+kept word (rule ∷ list) all =
+    join (λ o. o ≡ None) (slots word rule) _
+    (unexplained word 0 0 (Holds rule) (reason_of (raw word) (Some rule)) all.0 (causes_of (shape_of rule) word)
+    (causes_explained word rule)) (kept word list all.1)
 
 all_reasoned : (word : ℕ) → EachReason (Reasoned word) (reason_slots word)
 all_reasoned word = of_rules (λ o. IfSome o (Reasoned word)) word (reasoned word) rules_in_order
@@ -644,9 +640,8 @@ by_rules word rule = (
 ) where
   of : (q : Rule) → EachReason (λ r. Breaks r q → ⊥) (reason_slots word) → (a : Rule)
       → EachReason (λ r. Breaks r q → ⊥) (slots word a)
-  of q fine =
-      every (λ a. EachReason (λ r. Breaks r q → ⊥) (slots word a))
-      (each_rule (λ o. IfSome o (λ r. Breaks r q → ⊥)) word rules_in_order fine)
+  of q fine rules.PunctuationDiffers = (assumption fine, (assumption fine, (assumption fine, tt)))
+  of q fine _ = (assumption fine, tt)
 
   zero_is : {q : Rule} {n : ℕ} → n ≡ 0 → then_some (n == 0) q ≡ Some q
   zero_is {q} zero = ap (λ t. then_some t q) (eq-eqb _ 0 zero)
@@ -679,8 +674,7 @@ by_rules word rule = (
 pub lawful_without_reason : (word : ℕ) → (Lawful word ↔ ((rule : Rule) → Holds rule word))
     → Lawful word ↔ NoReason (reason_slots word)
 lawful_without_reason word all = (
-  λ lawful. empty (Reasoned word) (λ r h. h.broken h.first (inl h.is_first) (all.0 lawful h.first)) (reason_slots word)
-      (all_reasoned word),
+  λ lawful. let h = all.0 lawful in kept word rules_in_order (grind arith),
   λ none. all.1 (λ rule. (by_rules word rule).1 (without (λ r. Breaks r rule → ⊥) (reason_slots word) none)),
 )
 
@@ -714,10 +708,7 @@ module _ (word e p : ℕ) (e_below : e < 256) (p_below : p < 256) where
   pub options_fit : OptionsFit word e p ↔ NoReason (options_slots word e p)
   unfolding Fit
   options_fit = (
-    λ fit.
-        empty (λ r. Explains word e p Fit r.cause) (λ r h. fails word e p Fit r.cause h fit) (options_slots word e p)
-        (lift (reason_of (raw word) None) (Explains word e p Fit) (λ r. Explains word e p Fit r.cause) (λ c h. h)
-        (options_causes word e p) explained),
+    λ fit. unexplained word e p Fit (reason_of (raw word) None) fit (options_causes word e p) explained,
     λ none.
         fits (no_causes (reason_of (raw word) None) (λ r. ⊥) (λ c h. h) (options_causes word e p)
         (without (λ r. ⊥) (options_slots word e p) none)),

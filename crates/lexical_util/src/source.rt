@@ -1,6 +1,7 @@
 //! Prints format words as Rust code.
 
-use crate::edits::{ArgumentKind, edits_of};
+use crate::edits::{ArgumentKind, Edit, edits_of};
+use lexical_base::error::{EMPTY_PIECE, Piece, ShortText};
 use std::fmt;
 
 /// A format word that is printed as Rust code. The code is an expression that builds the word.
@@ -24,19 +25,30 @@ impl fmt::Display for BuilderExpression {
         let (edits, count) = edits_of(self.0);
         f.write_str("NumberFormatBuilder::new()")?;
         for edit in edits.iter().take(count) {
-            write!(f, ".{}(", edit.name())?;
-            match (edit.setter().kind(), edit.argument_byte()) {
-                (ArgumentKind::Flag, byte) => f.write_str(if byte != 0 {
-                    "true"
-                } else {
-                    "false"
-                })?,
-                (ArgumentKind::OptionalByte, 0) => f.write_str("None")?,
-                (ArgumentKind::OptionalByte, byte) => write!(f, "NonZeroU8::new({byte})")?,
-                (ArgumentKind::Byte, byte) => write!(f, "{byte}")?,
-            }
-            f.write_str(")")?;
+            write!(f, ".{}({})", edit.name(), argument(edit))?;
         }
         f.write_str(".build_unchecked()")
     }
+}
+
+// Returns the argument of the call that an edit makes.
+fn argument(edit: &Edit) -> ShortText {
+    let (start, byte, end) = match (edit.setter().kind(), edit.argument_byte()) {
+        (ArgumentKind::Flag, 0) => ("false", EMPTY_PIECE, ""),
+        (ArgumentKind::Flag, _) => ("true", EMPTY_PIECE, ""),
+        (ArgumentKind::OptionalByte, 0) => ("None", EMPTY_PIECE, ""),
+        (ArgumentKind::OptionalByte, byte) => (
+            "NonZeroU8::new(",
+            Piece::Number(byte as usize),
+            ")",
+        ),
+        (ArgumentKind::Byte, byte) => ("", Piece::Number(byte as usize), ""),
+    };
+    ShortText(
+        EMPTY_PIECE,
+        EMPTY_PIECE,
+        Piece::Words(start),
+        byte,
+        Piece::Words(end),
+    )
 }

@@ -67,18 +67,19 @@ impl Answer {
 
     /// Writes the text to `out` and flushes `out`. After an error, nothing more is written.
     pub fn print<W: Write>(self, out: &mut W) -> io::Result<()> {
-        match self {
-            Answer::Fields(word) => print_fields(word, out)?,
-            Answer::Word(word) => print_word(word, out)?,
-            Answer::Sameness(true) => out.write_all(b"same\n")?,
-            Answer::Sameness(false) => out.write_all(b"different\n")?,
-            Answer::Outcome(error) => writeln!(out, "{error}")?,
-            Answer::Acceptance(true) => out.write_all(b"accepted\n")?,
-            Answer::Acceptance(false) => out.write_all(b"refused\n")?,
-            Answer::Source(word) => print_source(word, out)?,
-            Answer::Explanation(word) => print_explanation(word, out)?,
-            Answer::Refused(refusal) => writeln!(out, "numfmt: {}", refusal.text())?,
-        }
+        let printed = match self {
+            Answer::Fields(word) => print_fields(word, out),
+            Answer::Word(word) => print_word(word, out),
+            Answer::Sameness(true) => out.write_all(b"same\n"),
+            Answer::Sameness(false) => out.write_all(b"different\n"),
+            Answer::Outcome(error) => writeln!(out, "{error}"),
+            Answer::Acceptance(true) => out.write_all(b"accepted\n"),
+            Answer::Acceptance(false) => out.write_all(b"refused\n"),
+            Answer::Source(word) => print_source(word, out),
+            Answer::Explanation(word) => print_explanation(word, out),
+            Answer::Refused(refusal) => writeln!(out, "numfmt: {}", refusal.text()),
+        };
+        printed?;
         out.flush()
     }
 }
@@ -104,12 +105,18 @@ fn print_word<W: Write>(word: u128, out: &mut W) -> io::Result<()> {
 fn print_fields<W: Write>(word: u128, out: &mut W) -> io::Result<()> {
     out.write_all(b"flags ")?;
     print_word(word & flags::FLAG_MASK, out)?;
-    writeln!(out, "digit_separator {}", flags::digit_separator(word))?;
-    writeln!(out, "base_prefix {}", flags::base_prefix(word))?;
-    writeln!(out, "base_suffix {}", flags::base_suffix(word))?;
-    writeln!(out, "mantissa_radix {}", flags::mantissa_radix(word))?;
-    writeln!(out, "exponent_base {}", flags::exponent_base(word))?;
-    writeln!(out, "exponent_radix {}", flags::exponent_radix(word))
+    let bytes = [
+        ("digit_separator", flags::digit_separator(word) as u32),
+        ("base_prefix", flags::base_prefix(word) as u32),
+        ("base_suffix", flags::base_suffix(word) as u32),
+        ("mantissa_radix", flags::mantissa_radix(word)),
+        ("exponent_base", flags::exponent_base(word)),
+        ("exponent_radix", flags::exponent_radix(word)),
+    ];
+    for (name, byte) in &bytes {
+        writeln!(out, "{name} {byte}")?;
+    }
+    Ok(())
 }
 
 // Writes the expression that builds `word`. If it builds a different word, comments before it state what is lost: set
