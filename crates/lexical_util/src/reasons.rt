@@ -223,20 +223,24 @@ pub const fn options_reasons(
         exponent,
         point: decimal_point,
     };
-    macro_rules! slots {
-        ($($cause:expr;)*) => { [$(slot(format, None, $cause)),*] };
+    let mut slots = [None; MAX_OPTIONS_REASONS];
+    macro_rules! fill {
+        ($($index:literal $cause:ident($($argument:expr),*);)*) => {
+            $(slots[$index] = slot(format, None, options.$cause($($argument),*));)*
+        };
     }
-    slots! {
-        options.byte_cause(Byte::ExponentCharacter);
-        options.byte_cause(Byte::DecimalPoint);
-        options.clash(Byte::ExponentCharacter, Byte::DecimalPoint);
-        options.clash(Byte::ExponentCharacter, Byte::DigitSeparator);
-        options.clash(Byte::ExponentCharacter, Byte::BasePrefix);
-        options.clash(Byte::ExponentCharacter, Byte::BaseSuffix);
-        options.clash(Byte::DecimalPoint, Byte::DigitSeparator);
-        options.clash(Byte::DecimalPoint, Byte::BasePrefix);
-        options.clash(Byte::DecimalPoint, Byte::BaseSuffix);
+    fill! {
+        0 byte_cause(Byte::ExponentCharacter);
+        1 byte_cause(Byte::DecimalPoint);
+        2 clash(Byte::ExponentCharacter, Byte::DecimalPoint);
+        3 clash(Byte::ExponentCharacter, Byte::DigitSeparator);
+        4 clash(Byte::ExponentCharacter, Byte::BasePrefix);
+        5 clash(Byte::ExponentCharacter, Byte::BaseSuffix);
+        6 clash(Byte::DecimalPoint, Byte::DigitSeparator);
+        7 clash(Byte::DecimalPoint, Byte::BasePrefix);
+        8 clash(Byte::DecimalPoint, Byte::BaseSuffix);
     }
+    slots
 }
 
 // Returns the reason for a cause, if there is one: why a word breaks `rule`, or why options do not fit if it is `None`.
