@@ -209,10 +209,10 @@ impl NumberFormatBuilder {
             exponent_radix,
         ] = self.bytes;
         let flags = word_flags(self.flags);
-        let upper = (kept_separator(flags, separator) as u64)
-            | (prefix as u64) << PREFIX_SHIFT
+        let upper = (prefix as u64) << PREFIX_SHIFT
             | (suffix as u64) << SUFFIX_SHIFT
             | (radix as u64) << MANTISSA_SHIFT
+            | (kept_separator(flags, separator) as u64)
             | (exponent_base as u64) << BASE_SHIFT
             | (exponent_radix as u64) << RADIX_SHIFT;
         flags | (upper as u128) << 64

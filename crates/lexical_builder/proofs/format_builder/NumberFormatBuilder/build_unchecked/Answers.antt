@@ -1,6 +1,6 @@
 use Rattle.std.proofs.Common.{◌≡◌, ◌∙◌, ℕ, if◌then◌else◌, ap, sym, subst, arith}
-use Rattle.std.proofs.Common.{sum_by, slice_index}
-use Rattle.std.proofs.lemmas.Nat.{shl_whole}
+use Rattle.std.proofs.Common.{◌*◌, ◌%◌, ◌^◌, sum_by, slice_index}
+use Rattle.std.proofs.lemmas.Nat.{or_lt, shl_whole}
 use Rattle.lexical_flags.specs.Layout.{Byte, IsClean, flags}
 use Rattle.lexical_flags.specs.Layout as layout
 use Rattle.lexical_flags.specs.Record.{Record, pack, trim, flag_bits, separator_allowed, raw, HasBytes}
@@ -9,6 +9,13 @@ use Rattle.lexical_flags.proofs.FlagBits.{separator_allowed-flags}
 use Rattle.lexical_builder.proofs.UpperHalf.{upper_of, upper-lt, halves_joined}
 use Rattle.lexical_builder.specs.BuilderBits.{byte_index, builder_record}
 use Rattle.lexical_builder.proofs.format_builder.NumberFormatBuilder.build_unchecked.Goals as goal
+
+pub overflow_cast-result : goal.overflow_cast-result
+overflow_cast-result c =
+    let moved : ℕ → ℕ → ℕ = λ i k. slice_index c.self.inside.bytes i * 2 ^ k % 2 ^ 64 in
+    let two = or_lt 128 (moved 1 24) (moved 2 32) (omega arith) (omega arith) in
+    let four = or_lt 128 _ c.kept_separator.result (or_lt 128 _ (moved 3 40) two (omega arith)) (omega arith) in
+    record { fits = or_lt 128 _ (moved 5 56) (or_lt 128 _ (moved 4 48) four (omega arith)) (omega arith) }
 
 pub returns-clause-bytes : goal.returns-clause-bytes
 returns-clause-bytes c = subst HasBytes c.self.view_is (HasBytes-by_name (builder_record c.self.inside) (omega arith)
