@@ -49,8 +49,8 @@ accepted_from_roles word e p h =
       exponent_is_punctuation = IsPunctuation-from_apart r (r.flag layout.case_sensitive_exponent) e h.exponent_is_text of_exponent.1;
       point_is_punctuation = IsPunctuation-from_apart r true p h.point_is_text others.0;
       apart = of_exponent.0;
-      exponent_is_new = of_exponent.1.1.1;
-      point_is_new = others.0.1.1;
+      exponent_is_new = assumption of_exponent;
+      point_is_new = assumption others;
     }
 
 -- If options are accepted in a lawful word, then no byte plays two of the seven roles.
