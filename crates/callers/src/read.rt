@@ -2,10 +2,11 @@
 
 ghost use Rattle.std.specs.Prelude.{◌≡◌, ℕ, ◌+◌, ◌*◌, ◌<◌, ◌^◌, IfErr, IsErr, IsTrue, is_some, length, not, position};
 ghost use Rattle.std.specs.Option.{SomeIff};
-ghost use Rattle.lexical_util.specs.Additions.ByteRoles.{first_role, used_separator};
+ghost use Rattle.lexical_util.specs.Additions.ByteRoles.{first_role};
 ghost use Rattle.lexical_util.specs.Digits.{byte_value};
 ghost use Rattle.lexical_util.specs.Layout as layout;
 ghost use Rattle.lexical_util.specs.Record.{raw};
+ghost use Rattle.lexical_util.specs.Roles.{used_separator};
 ghost use Rattle.lexical_util.specs.Rules.{Lawful, IsErrorOf};
 ghost use Rattle.callers.specs.Reading.{is_mantissa_digit, is_neighbour, is_skipped, reading};
 

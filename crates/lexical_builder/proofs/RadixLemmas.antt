@@ -4,8 +4,8 @@ use Rattle.std.proofs.lemmas.Bool.Decides.{nat_tests}
 use Rattle.lexical_flags.specs.Layout as layout
 use Rattle.lexical_flags.specs.Literals.{on_literals}
 use Rattle.lexical_flags.specs.Record.{effective, Record, HasBytes, raw, pack}
-use Rattle.lexical_flags.specs.declared.format_flags.all_rules.Rule.{Rule}
-use Rattle.lexical_flags.specs.declared.format_flags.all_rules.Rule.TheVariants as rules
+use Rattle.lexical_flags.specs.declared.format_flags.rule.Rule.{Rule}
+use Rattle.lexical_flags.specs.declared.format_flags.rule.Rule.TheVariants as rules
 use Rattle.lexical_flags.specs.Rules.{IsRadix, Meets, shape_of, Holds, Lawful}
 use Rattle.lexical_flags.proofs.Packing.{raw-pack, pack-clean, trim-same}
 use Rattle.lexical_builder.specs.Writes.{radix_record}

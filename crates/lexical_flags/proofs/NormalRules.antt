@@ -11,8 +11,8 @@ use Rattle.lexical_flags.specs.Record.{Record, raw, fill, trim, set_byte, effect
 use Rattle.lexical_flags.specs.Record.{SeparatorAllowedOrAbsent}
 use Rattle.lexical_flags.specs.Roles.{Disjoint, cased, signs, prefix, suffix}
 use Rattle.lexical_base.specs.Digits.{digits_of}
-use Rattle.lexical_flags.specs.declared.format_flags.all_rules.Rule.{Rule}
-use Rattle.lexical_flags.specs.declared.format_flags.all_rules.Rule.TheVariants as rules
+use Rattle.lexical_flags.specs.declared.format_flags.rule.Rule.{Rule}
+use Rattle.lexical_flags.specs.declared.format_flags.rule.Rule.TheVariants as rules
 use Rattle.lexical_flags.specs.Rules.{IsRadix, IsAbsentOrPunctuation, IsPunctuation, Meets, shape_of, Holds, IsErrorOf, Lawful}
 use Rattle.lexical_flags.proofs.DisjointLemmas.{Disjoint-from}
 use Rattle.lexical_flags.proofs.Packing.{trim-same}

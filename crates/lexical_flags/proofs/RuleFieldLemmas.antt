@@ -14,8 +14,8 @@ use Rattle.lexical_flags.specs.Rules.{Meets, Holds, lacks_position, separator_fl
 use Rattle.std.specs.List.{list_all, AllByRecursion}
 use Rattle.std.proofs.lemmas.Bool.{and_parts, eqb-true}
 use Rattle.lexical_flags.specs.Additions.RuleFields.{flags_of, bytes_of, mask_read}
-use Rattle.lexical_flags.specs.declared.format_flags.all_rules.Rule.{Rule}
-use Rattle.lexical_flags.specs.declared.format_flags.all_rules.Rule.TheVariants as rules
+use Rattle.lexical_flags.specs.declared.format_flags.rule.Rule.{Rule}
+use Rattle.lexical_flags.specs.declared.format_flags.rule.Rule.TheVariants as rules
 use Rattle.lexical_flags.proofs.ByteParts.{masked_part}
 use Rattle.lexical_flags.proofs.FlagBits.{flag_test}
 use Rattle.lexical_flags.proofs.ReservedBits.{reserved_bits}

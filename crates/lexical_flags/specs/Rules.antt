@@ -5,8 +5,8 @@ use Rattle.lexical_base.specs.Ascii.{allowed_ascii}
 use Rattle.lexical_base.specs.declared.error.Error.{Error}
 use Rattle.lexical_base.specs.declared.error.Error.TheVariants as errors
 use Rattle.lexical_flags.specs.Layout as layout
-use Rattle.lexical_flags.specs.declared.format_flags.all_rules.Rule.{Rule}
-use Rattle.lexical_flags.specs.declared.format_flags.all_rules.Rule.TheVariants as rules
+use Rattle.lexical_flags.specs.declared.format_flags.rule.Rule.{Rule}
+use Rattle.lexical_flags.specs.declared.format_flags.rule.Rule.TheVariants as rules
 use Rattle.lexical_flags.specs.Layout.{IsClean, Flag, Byte}
 use Rattle.lexical_flags.specs.Layout.{no_exponent_notation, required_exponent_notation, no_positive_mantissa_sign}
 use Rattle.lexical_flags.specs.Layout.{required_mantissa_sign, no_positive_exponent_sign, required_exponent_sign}

@@ -10,8 +10,8 @@ use Rattle.lexical_flags.specs.Record.{Record, set_byte, raw, fill, pack, word_o
 use Rattle.lexical_flags.specs.Roles.{Disjoint, AreDisjoint, cased, other_case, separator, prefix, suffix, exponent}
 use Rattle.lexical_flags.specs.Roles.{point, format_roles}
 use Rattle.lexical_flags.specs.Rules.{IsPunctuation, Meets, shape_of, Holds}
-use Rattle.lexical_flags.specs.declared.format_flags.all_rules.Rule.{Rule}
-use Rattle.lexical_flags.specs.declared.format_flags.all_rules.Rule.TheVariants as rules
+use Rattle.lexical_flags.specs.declared.format_flags.rule.Rule.{Rule}
+use Rattle.lexical_flags.specs.declared.format_flags.rule.Rule.TheVariants as rules
 use Rattle.lexical_flags.specs.Options.{OptionsFit}
 use Rattle.lexical_builder.specs.Writes.{after}
 use Rattle.lexical_util.specs.NormalForm.{normal_form_of}

@@ -23,9 +23,9 @@ use Rattle.lexical_flags.specs.Rules.{radix_in_range, absent_or_punctuation, rol
 use Rattle.lexical_flags.specs.Rules.{reserved_zero, shape_of, Meets, lacks_position, separator_flags}
 use Rattle.lexical_flags.specs.Options.{OptionsFit}
 use Rattle.lexical_flags.specs.Additions.Masks.{reserved_mask}
-use Rattle.lexical_flags.specs.contracts.format_flags.all_rules.Rule.{the_type}
-use Rattle.lexical_flags.specs.declared.format_flags.all_rules.Rule.{Rule}
-use Rattle.lexical_flags.specs.declared.format_flags.all_rules.Rule.TheVariants as rules
+use Rattle.lexical_flags.specs.contracts.format_flags.rule.Rule.{the_type}
+use Rattle.lexical_flags.specs.declared.format_flags.rule.Rule.{Rule}
+use Rattle.lexical_flags.specs.declared.format_flags.rule.Rule.TheVariants as rules
 use Rattle.lexical_flags.proofs.RuleFieldLemmas.{byte}
 use Rattle.lexical_flags.proofs.CaseLemmas.{cases_apart, differ_apart, same_clash}
 use Rattle.lexical_flags.proofs.ReservedBits.{reserved_bits}

@@ -6,7 +6,7 @@ ghost use Rattle.std.specs.Bool.{then_some};
 ghost use Rattle.lexical_flags.specs.Options.{OptionsFit};
 ghost use Rattle.lexical_flags.specs.Record.{raw};
 ghost use Rattle.lexical_flags.specs.Rules.{Holds, Lawful, separator_flags, lacks_position};
-ghost use Rattle.lexical_flags.specs.declared.format_flags.all_rules.Rule.{Rule};
+ghost use Rattle.lexical_flags.specs.declared.format_flags.rule.Rule.{Rule};
 ghost use Rattle.lexical_util.specs.Groups.{any_flag};
 ghost use Rattle.lexical_util.specs.Edits.{flags_of};
 ghost use Rattle.lexical_util.specs.Additions.Reasons.{EachReason, NoReason, Breaks, Blames, BlamesForOptions};

@@ -14,8 +14,8 @@ use Rattle.lexical_flags.specs.Rules.{roles_differ, not_both, position_allowed, 
 use Rattle.lexical_flags.specs.Rules.{lacks_position}
 use Rattle.lexical_flags.specs.Options.{OptionsFit}
 use Rattle.lexical_flags.specs.Additions.Masks.{byte_mask, reserved_mask}
-use Rattle.lexical_flags.specs.declared.format_flags.all_rules.Rule.{Rule}
-use Rattle.lexical_flags.specs.declared.format_flags.all_rules.Rule.TheVariants as rules
+use Rattle.lexical_flags.specs.declared.format_flags.rule.Rule.{Rule}
+use Rattle.lexical_flags.specs.declared.format_flags.rule.Rule.TheVariants as rules
 use Rattle.lexical_util.specs.Edits.{flags_of}
 use Rattle.lexical_util.specs.Groups.{any_flag}
 use Rattle.lexical_util.specs.Additions.EditMasks.{mask_of_setter}

@@ -5,10 +5,10 @@ ghost use Rattle.std.specs.Prelude.{◌≡◌, [], ◌∷◌, map};
 ghost use Rattle.lexical_base.specs.Digits.{digit_of};
 ghost use Rattle.lexical_flags.specs.Layout as layout;
 ghost use Rattle.lexical_flags.specs.Record.{raw, effective_exponent_radix};
-ghost use Rattle.lexical_flags.specs.Roles.{cased, exponent as exponent_set, point, prefix, signs, suffix};
+ghost use Rattle.lexical_flags.specs.Roles.{cased, exponent as exponent_set, point, prefix, signs, suffix, used_separator};
 ghost use Rattle.lexical_flags.specs.Rules.{Lawful, separator_flags};
 ghost use Rattle.lexical_flags.specs.Options.{OptionsFit};
-ghost use Rattle.lexical_util.specs.Additions.ByteRoles.{used_separator, first_role, IsOnlyRole};
+ghost use Rattle.lexical_util.specs.Additions.ByteRoles.{first_role, IsOnlyRole};
 
 use super::NumberFormat;
 use lexical_base::digit::char_to_digit;

@@ -12,7 +12,7 @@ ghost use Rattle.lexical_util.specs.Listing.{IsEditOf};
 ghost use Rattle.lexical_util.specs.declared.edits.setters.Edit.TheVariants as edits;
 ghost use Rattle.lexical_util.specs.declared.edits.setters.FlagSetter.TheVariants as setters;
 ghost use Rattle.lexical_util.specs.declared.feature_format.roles.Role.TheVariants as roles;
-ghost use Rattle.lexical_flags.specs.declared.format_flags.all_rules.Rule.TheVariants as rules;
+ghost use Rattle.lexical_flags.specs.declared.format_flags.rule.Rule.TheVariants as rules;
 ghost use Rattle.lexical_util.specs.declared.reasons.Byte.TheVariants as bytes;
 ghost use Rattle.lexical_util.specs.declared.reasons.Cause.TheVariants as causes;
 
