@@ -1,9 +1,8 @@
 -- The bits that a rule reads, for `Rule::mask`.
 use Rattle.std.specs.Prelude.{ℕ, ◌+◌, List, [], ◌∷◌, sum_by}
-use Rattle.lexical_flags.specs.Layout.{Flag, Byte}
+use Rattle.lexical_flags.specs.Layout.{Flag, Byte, separator_flags}
 use Rattle.lexical_flags.specs.Layout as layout
 use Rattle.lexical_flags.specs.Additions.Masks.{byte_mask, mask_of, reserved_mask}
-use Rattle.lexical_flags.specs.Rules.{separator_flags}
 use Rattle.lexical_flags.specs.Rules.{Shape, radix_in_range, absent_or_punctuation, roles_differ, not_both}
 use Rattle.lexical_flags.specs.Rules.{position_allowed, shape_of}
 use Rattle.lexical_flags.specs.declared.format_flags.rule.Rule.{Rule}

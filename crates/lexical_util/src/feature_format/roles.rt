@@ -1,12 +1,13 @@
 //! The roles of bytes in the numbers of a format.
 #![tactic(auto)]
 
-ghost use Rattle.std.specs.Prelude.{◌≡◌, [], ◌∷◌, map};
+ghost use Rattle.std.specs.Prelude.{◌≡◌};
 ghost use Rattle.lexical_base.specs.Digits.{digit_of};
 ghost use Rattle.lexical_flags.specs.Layout as layout;
+ghost use Rattle.lexical_flags.specs.Layout.{separators_in};
 ghost use Rattle.lexical_flags.specs.Record.{raw, effective_exponent_radix};
 ghost use Rattle.lexical_flags.specs.Roles.{cased, exponent as exponent_set, point, prefix, signs, suffix, used_separator};
-ghost use Rattle.lexical_flags.specs.Rules.{Lawful, separator_flags};
+ghost use Rattle.lexical_flags.specs.Rules.{Lawful};
 ghost use Rattle.lexical_flags.specs.Options.{OptionsFit};
 ghost use Rattle.lexical_util.specs.Additions.ByteRoles.{first_role, IsOnlyRole};
 
@@ -110,8 +111,10 @@ impl NumberFormat {
     /// Returns where digit separators are allowed in `part` of a number.
     #[must_use]
     pub const fn separators(&self, part: Part) -> Separators
-        ensures { map (raw self.now).flag (separator_flags part)
-            ≡ result.internal ∷ result.leading ∷ result.trailing ∷ result.consecutive ∷ [] }
+        ensures internal { result.internal ≡ (raw self.now).flag (separators_in part).internal }
+        ensures leading { result.leading ≡ (raw self.now).flag (separators_in part).leading }
+        ensures trailing { result.trailing ≡ (raw self.now).flag (separators_in part).trailing }
+        ensures consecutive { result.consecutive ≡ (raw self.now).flag (separators_in part).consecutive }
     {
         match part {
             Part::Integer => Separators {
