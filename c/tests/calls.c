@@ -2,6 +2,7 @@
  * those that Python does not call. It compiles as C and as C++. test_python.py tests the results of the others. */
 #include "peltzivar.h"
 
+#include <ctype.h>
 #include <stdio.h>
 #include <string.h>
 
@@ -157,7 +158,11 @@ static void test_texts(void) {
     CHECK(!peltzivar_parse_word("0xaBc]", 5, &read) && is_word(read, 0, 0xABC));
     CHECK(peltzivar_parse_word("0x", 2, &read) == PELTZIVAR_EMPTY && is_word(read, 0, 0xABC));
     CHECK(peltzivar_parse_word("0x12 4", 6, &read) == PELTZIVAR_INVALID_DIGIT);
-    CHECK(peltzivar_parse_word("0x1\xFF", 4, &read) == PELTZIVAR_INVALID_DIGIT);
+    for (int byte = 0; byte < 256; byte++) {
+        const char digits[] = {'0', 'x', '1', (char)byte, '0'};
+        const peltzivar_error error = peltzivar_parse_word(digits, 5, &read);
+        CHECK(isxdigit(byte) ? error == PELTZIVAR_SUCCESS : error == PELTZIVAR_INVALID_DIGIT);
+    }
     CHECK(peltzivar_parse_word("0x000000000000000000000000000000000", 35, &read) == PELTZIVAR_OVERFLOW);
     /* The longest source: each flag differs from its default, and each byte has three decimal digits. */
     CHECK(peltzivar_source(longest, source, sizeof source) == 1294 && strlen(source) == 1294);

@@ -8,6 +8,7 @@ import pathlib
 import pickle
 import re
 import shutil
+import string
 import subprocess
 import sys
 import tempfile
@@ -117,6 +118,8 @@ class Words(unittest.TestCase):
                 self.assertRaises(TypeError, make, word)
             for text in ("", "0x", "C", " 0x0", "0x" + 33 * "0", "0x\u0660", "0x\udc80"):
                 self.assertRaisesRegex(ValueError, "is not a format word", make.parse, text)
+        for byte in {*map(chr, range(256))} - {*string.hexdigits}:
+            self.assertRaisesRegex(ValueError, "is not a format word", FormatView.parse, f"0x1{byte}0")
 
     def test_what_is_not_a_setting_is_refused(self):
         rows = [
