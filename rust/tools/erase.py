@@ -47,9 +47,8 @@ LEFT_OUT = re.compile(r"(lib|main)\.rt|(laws|examples|tests)(\.rt|/.*)")
 MODULES = {"format": "word", "feature_format": "view"}
 VIEW = ("NumberFormat", "FormatView")
 
-# Tests and their tables that plain Rust copies, and the folder of the copies. The other tests are only for Rattle.
+# Tests and tables that plain Rust copies, and the folder of the copies. The other tests are only for Rattle.
 COPIED = {
-    "lexical_tests/src/rows/*.rt": "tests/known/rows",
     "lexical_tests/src/*.rt": "tests/known",
     "numfmt/src/tests/rows.rt": "numfmt/tests/program",
 }
