@@ -214,10 +214,10 @@ class Words(unittest.TestCase):
         self.assertEqual([view.role_of("p", ".", byte) for byte in "0f+_XhP."], [Role[name] for name in names])
         self.assertEqual([view.role_of(112, 0, byte) for byte in (112, ".", 0, "\u00e9", 256, "g")], [Role.EXPONENT] + 5 * [None])
         self.assertRaisesRegex(ValueError, "an option is", view.role_of, "\u00e9", ".", "0")
-        for number, name in FLAGS[18:30]:
-            part, position = name.split("_")[:2]
-            allowed = FormatView(1 << int(number)).separators(Part[part.upper()])
-            self.assertEqual((sum(allowed), getattr(allowed, position)), (1, True))
+        for number, name in FLAGS:
+            if found := re.fullmatch(r"(\w+?)_(\w+)_digit_separator", name):
+                allowed = FormatView(1 << int(number)).separators(Part[found[1].upper()])
+                self.assertEqual((sum(allowed), getattr(allowed, found[2])), (1, True))
         self.assertRaises(ValueError, view.separators, 3)
 
     def test_setters_have_the_bits_and_defaults_of_the_tables(self):
@@ -237,6 +237,9 @@ class Words(unittest.TestCase):
                 self.assertIs(getattr(view, name), str(bit) in bits.split(), (name, bit))
         names = {name for _, name in FLAGS + BYTES} | {name for name, _ in GROUPS}
         self.assertEqual({it.name.lower() for it in Setter}, names)
+        self.assertEqual({number for number in range(256) if bytes(CALLS.setter_mask(number)).strip(b"\0")}, set(Setter))
+        for setter in Setter:
+            self.assertEqual(Edit(f"{setter.name.lower()}={'0x1' if 64 <= setter < 128 else 'true'}")._edit.setter, setter)
         self.assertEqual([getattr(FormatView(0), name) for _, name in BYTES], [None, None, None, 0, 0, 0])
 
 
