@@ -68,16 +68,12 @@ def part(used):
 def attributes():
     """Returns the lines. Each attribute has the first paragraph of its setter's documentation."""
     documented = re.findall(r"((?:^ +///.*\n)+)(?: +#.*\n)* +pub const fn (\w+)\(", SETTERS, re.M)
-    paragraphs = {name: " ".join(text.split("///\n")[0].replace("///", " ").split()) for text, name in documented}
-    for setter, number in re.findall(r"\bPELTZIVAR_SET_(\w+) = (\d+)", HEADER):
-        name, kind, absent = setter.lower(), "bool", ""
-        if name.startswith(("digit_separator", "base_")) and 64 <= int(number) < 128:
-            kind, absent = "Value", " None if it is absent."
-        elif 64 <= int(number) < 128:
-            kind, absent = "int", " The mantissa radix if it is absent." if name.startswith("exponent") else ""
-        meaning = re.sub(r"^Sets or clears all flags (.*?)([,.])", r"Whether any of the flags \1 is set\2", paragraphs[name])
+    meanings = {name: " ".join(text.split("///\n")[0].replace("///", " ").split()) for text, name in documented}
+    for name, bit in re.findall(r"\bPELTZIVAR_SET_(\w+) = (\d+)", HEADER):
+        kind = "bool" if not 64 <= int(bit) < 128 else "Value" if int(bit) < 104 else "int"
+        meaning = re.sub(r"^Sets or clears all flags (.*?)([,.])", r"Whether any of the flags \1 is set\2", meanings[name.lower()])
         meaning = re.sub("^Sets (.)", lambda found: found[1].upper(), meaning).replace("×", "*")
-        yield f'    {name}: {kind} = _field("{meaning}{absent}")'
+        yield f'    {name.lower()}: {kind} = _field("{meaning}")'
 
 
 def made(text):

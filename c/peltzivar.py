@@ -488,6 +488,9 @@ def _field(meaning: str) -> Any:
 class FormatView:
     """A view of a format word, lawful or not. `int(view)` is the word, and `str(view)` is its text.
 
+    An absent digit separator, base prefix or base suffix is None. In place of an absent exponent base or exponent radix,
+    the attribute has the mantissa radix.
+
     Raises ValueError if the word is negative or has more than 128 bits.
     """
 
@@ -525,12 +528,12 @@ class FormatView:
     fraction_consecutive_digit_separator: bool = _field("Whether the format allows consecutive digit separators in the fraction. If so, a parser accepts several separators in a row wherever it accepts a single one: `0.1__2`, `0.__12`, `0.12__`. In a lawful format, this flag is set only if the internal, leading or trailing separator flag of the fraction is set too.")
     exponent_consecutive_digit_separator: bool = _field("Whether the format allows consecutive digit separators in the exponent. If so, a parser accepts several separators in a row wherever it accepts a single one: `1e1__2`, `1e__12`, `1e12__`. In a lawful format, this flag is set only if the internal, leading or trailing separator flag of the exponent is set too.")
     special_digit_separator: bool = _field("Whether the format allows digit separators in special values. If so, a parser accepts `N__a_N_` as `NaN`. Digit separators can be before, between and after the letters, and can be consecutive.")
-    digit_separator: Value = _field("The digit separator: the byte that separates groups of digits, such as the `_` in `1_000`. None if it is absent.")
-    base_prefix: Value = _field("The base prefix: the byte that may follow a leading zero to indicate the radix, such as the `x` in `0x1F`. None if it is absent.")
-    base_suffix: Value = _field("The base suffix: the byte that may follow the digits to indicate the radix, such as the `h` in `1Fh`. None if it is absent.")
+    digit_separator: Value = _field("The digit separator: the byte that separates groups of digits, such as the `_` in `1_000`.")
+    base_prefix: Value = _field("The base prefix: the byte that may follow a leading zero to indicate the radix, such as the `x` in `0x1F`.")
+    base_suffix: Value = _field("The base suffix: the byte that may follow the digits to indicate the radix, such as the `h` in `1Fh`.")
     mantissa_radix: int = _field("The mantissa radix: the radix of the integer and fraction digits.")
-    exponent_base: int = _field("The exponent base: the base that is raised to the exponent, such as the 2 in 1 * 2^3. The mantissa radix if it is absent.")
-    exponent_radix: int = _field("The exponent radix: the radix of the exponent digits. The mantissa radix if it is absent.")
+    exponent_base: int = _field("The exponent base: the base that is raised to the exponent, such as the 2 in 1 * 2^3.")
+    exponent_radix: int = _field("The exponent radix: the radix of the exponent digits.")
     required_digits: bool = _field("Whether any of the flags that require digits is set. An integer parser always requires a digit.")
     internal_digit_separator: bool = _field("Whether any of the flags that allow a digit separator between digits is set.")
     leading_digit_separator: bool = _field("Whether any of the flags that allow a digit separator before digits is set.")
