@@ -5,6 +5,7 @@
 //! docs/CALLING.md explains these callers.
 #![tactic(auto)]
 
+pub mod build;
 pub mod digits;
 pub mod edit;
 pub mod formats;

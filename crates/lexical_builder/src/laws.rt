@@ -1,13 +1,18 @@
 //! Theorems on writes to the fields of a builder. Each is a clause of a function with an empty body.
 
-ghost use Rattle.std.specs.Prelude.{◌≡◌, List, [], ◌++◌, None};
+ghost use Rattle.std.specs.Prelude.{◌≡◌, ℕ, List, [], ◌++◌, None, IsTrue, unwrap_or};
+ghost use Rattle.lexical_flags.specs.Layout as layout;
 ghost use Rattle.lexical_flags.specs.Layout.{Flag, Byte};
-ghost use Rattle.lexical_flags.specs.Record.{Record};
+ghost use Rattle.lexical_flags.specs.Record.{Record, HasBytes, raw, pack, separator_allowed};
 ghost use Rattle.lexical_builder.specs.Writes.{Write, after, last_flag, last_byte};
 
-/// States that an empty list of writes changes nothing, that applying two lists in turn is equivalent to applying both
-/// as one list, and that a field that no write writes keeps its value.
+/// States the fields of a record after writes, that an empty list of writes changes nothing, that applying two lists in
+/// turn is equivalent to applying both as one list, and that a field that no write writes keeps its value.
 pub fn write_facts()
+    ensures flag { (r : Record) → (writes : List Write) → (f : Flag)
+        → (after r writes).flag f ≡ unwrap_or (last_flag writes f) (r.flag f) }
+    ensures byte { (r : Record) → (writes : List Write) → (b : Byte)
+        → (after r writes).byte b ≡ unwrap_or (last_byte writes b) (r.byte b) }
     ensures none { (r : Record) → after r [] ≡ r }
     ensures append { (r : Record) → (first second : List Write)
         → after (after r first) second ≡ after r (first ++ second) }
@@ -15,4 +20,23 @@ pub fn write_facts()
         → (after r writes).flag f ≡ r.flag f }
     ensures kept_byte { (r : Record) → (writes : List Write) → (b : Byte) → last_byte writes b ≡ None
         → (after r writes).byte b ≡ r.byte b }
+{}
+
+/// States the fields of a packed word one by one. They are the fields of the record.
+pub fn builder_facts()
+    ensures flag { (r : Record) → HasBytes r → (f : Flag) → (raw (pack r)).flag f ≡ r.flag f }
+    ensures base_prefix { (r : Record) → HasBytes r
+        → (raw (pack r)).byte layout.base_prefix ≡ r.byte layout.base_prefix }
+    ensures base_suffix { (r : Record) → HasBytes r
+        → (raw (pack r)).byte layout.base_suffix ≡ r.byte layout.base_suffix }
+    ensures mantissa_radix { (r : Record) → HasBytes r
+        → (raw (pack r)).byte layout.mantissa_radix ≡ r.byte layout.mantissa_radix }
+    ensures exponent_base { (r : Record) → HasBytes r
+        → (raw (pack r)).byte layout.exponent_base ≡ r.byte layout.exponent_base }
+    ensures exponent_radix { (r : Record) → HasBytes r
+        → (raw (pack r)).byte layout.exponent_radix ≡ r.byte layout.exponent_radix }
+
+    // The digit separator is kept only if a flag of the record allows one.
+    ensures digit_separator { (r : Record) → HasBytes r → IsTrue (separator_allowed r)
+        → (raw (pack r)).byte layout.digit_separator ≡ r.byte layout.digit_separator }
 {}
