@@ -153,6 +153,7 @@ pub enum FlagSetter {
 /// A setter of [`NumberFormatBuilder`][crate::format_builder::NumberFormatBuilder]. An [`Edit`] is a setter
 /// with its argument.
 #[derive(Debug, Clone, Copy, PartialEq, Eq, Hash, PartialOrd, Ord)]
+#[non_exhaustive]
 pub enum Setter {
     /// A setter that takes a `bool`.
     Flag(FlagSetter),
@@ -174,6 +175,7 @@ pub enum Setter {
 
 /// The kind of argument that a setter takes.
 #[derive(Debug, Clone, Copy, PartialEq, Eq, Hash)]
+#[non_exhaustive]
 pub enum ArgumentKind {
     /// The setter takes a `bool`.
     Flag,
@@ -186,6 +188,7 @@ pub enum ArgumentKind {
 /// A call to a setter of [`NumberFormatBuilder`][crate::format_builder::NumberFormatBuilder], stored as a
 /// value. An edit holds the setter and its argument.
 #[derive(Debug, Clone, Copy, PartialEq, Eq, Hash, PartialOrd, Ord)]
+#[non_exhaustive]
 pub enum Edit {
     /// Sets a flag, or every flag of a group, to the given value.
     Flag(FlagSetter, bool),
