@@ -119,7 +119,7 @@ class Header(unittest.TestCase):
             body = re.search(rf"^pub enum {enum} \{{(.*?)^\}}", (TOP / "rust/src" / path).read_text(), re.M | re.S)[1]
             return [in_c(name) for name in re.findall(r"^    (\w+)", body, re.M)]
 
-        rules = variants("format_flags/all_rules.rs", "Rule")
+        rules = variants("format_flags/rule.rs", "Rule")
         self.assertEqual(self.numbers(r"RULE_(\w+)"), {name: number for number, name in enumerate(rules, 1)})
         roles = ["NONE", *variants("view/roles.rs", "Role")]
         self.assertEqual(self.numbers(r"ROLE_(\w+)"), {name: number for number, name in enumerate(roles)})
