@@ -40,6 +40,14 @@ fn each_setter_has_its_constant() {
     }
 }
 
+#[test]
+fn a_builder_has_a_getter_for_each_flag() {
+    let getters = include_str!("../src/format_builder/getters.rs");
+    for flag in FlagSetter::FLAGS {
+        assert!(getters.contains(&format!(" get_{flag}(&self) -> bool")), "{flag}");
+    }
+}
+
 /// Compares both views and the format of a word, if there is one. An absent byte of the constant view is 0.
 #[rustfmt::skip]
 fn views_are_same<const W: u128>() {
