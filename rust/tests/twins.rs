@@ -60,7 +60,7 @@ fn a_builder_has_a_getter_for_each_field() {
     }
 }
 
-/// Compares the bytes of both views, and of the format of a word, with its edits. An absent byte of the constant view is 0.
+/// Compares the bytes of both views and of the format with the edits of the word. An absent byte of one view is 0.
 fn bytes_are_same<const W: u128>() {
     let (constant, view) = (NumberFormat::<W>::new(), FormatView::new(W));
     let both = |byte: Option<NonZeroU8>| (byte, byte.map_or(0, NonZeroU8::get));
