@@ -1,7 +1,7 @@
 //! The inputs on which the calls are compared. All of them follow from one seed.
 
 use crate::random::Random;
-use peltzivar::Edit;
+use crate::rows::with_setters;
 use std::fmt::{self, Debug, Formatter};
 use upstream::format_flags::FLAG_MASK;
 
@@ -13,7 +13,22 @@ pub struct SetterCall {
     pub value: u8,
 }
 
-const SETTERS: usize = Edit::NAMES.len();
+macro_rules! names {
+    (
+        { $($Flag:ident $flag:ident $get:ident $CONST:ident;)* }
+        { $($Group:ident $group:ident;)* }
+    ) => {
+        /// The names of the setters of `lexical-util`, by their index.
+        const NAMES: &[&str] = &[
+            $(stringify!($flag),)* $(stringify!($group),)*
+            "digit_separator", "base_prefix", "base_suffix", "mantissa_radix", "radix", "exponent_base", "exponent_radix",
+        ];
+    };
+}
+
+with_setters!(names);
+
+const SETTERS: usize = NAMES.len();
 
 /// The number of setters that take a `bool`. The seven byte setters follow them.
 pub const OF_FLAGS: usize = SETTERS - 7;
@@ -21,7 +36,7 @@ pub const OF_FLAGS: usize = SETTERS - 7;
 impl Debug for SetterCall {
     fn fmt(&self, f: &mut Formatter) -> fmt::Result {
         let flag = (self.setter < OF_FLAGS).then_some((self.value % 2 == 1).to_string());
-        write!(f, "{}={}", Edit::NAMES[self.setter], flag.unwrap_or(self.value.to_string()))
+        write!(f, "{}={}", NAMES[self.setter], flag.unwrap_or(self.value.to_string()))
     }
 }
 
