@@ -33,6 +33,12 @@ const SETTERS: usize = NAMES.len();
 /// The number of setters that take a `bool`. The seven byte setters follow them.
 pub const OF_FLAGS: usize = SETTERS - 7;
 
+impl SetterCall {
+    pub fn name(&self) -> &'static str {
+        NAMES[self.setter]
+    }
+}
+
 impl Debug for SetterCall {
     fn fmt(&self, f: &mut Formatter) -> fmt::Result {
         let flag = (self.setter < OF_FLAGS).then_some((self.value % 2 == 1).to_string());
@@ -47,7 +53,7 @@ pub fn single_calls(values: u16) -> impl Iterator<Item = SetterCall> {
 
 /// Returns the calls that give a new builder the fields of a word as they stand.
 pub fn calls_of(word: u128) -> Vec<SetterCall> {
-    let flags = (0..18).chain(32..45).map(|bit| (word >> bit) as u8 & 1).zip(0..31);
+    let flags = (0..128).filter(|bit| FLAG_MASK >> bit & 1 == 1).map(|bit| (word >> bit) as u8 & 1).zip(0..);
     let bytes = [64, 88, 96, 104, 112, 120].map(|shift| (word >> shift) as u8);
     let bytes = bytes.into_iter().zip([0, 1, 2, 3, 5, 6].map(|index| OF_FLAGS + index));
     flags.chain(bytes).map(|(value, setter)| SetterCall { setter, value }).collect()
