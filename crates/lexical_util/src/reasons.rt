@@ -28,7 +28,7 @@ use lexical_flags::laws::rule_facts;
 
 mod mask;
 mod note;
-mod text;
+mod sentences;
 
 pub use note::{MAX_NOTES, Note, notes, notes_beside_reasons, notes_of_fields};
 

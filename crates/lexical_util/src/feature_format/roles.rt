@@ -12,10 +12,10 @@ ghost use Rattle.lexical_flags.specs.Options.{OptionsFit};
 ghost use Rattle.lexical_util.specs.Additions.ByteRoles.{first_role, IsOnlyRole};
 
 use super::NumberFormat;
+use crate::laws::byte_facts;
 use lexical_base::digit::char_to_digit;
 use lexical_flags::format_flags as flags;
 use lexical_flags::format_flags::Part;
-use lexical_flags::laws::role_facts;
 
 /// The role of a byte in a number.
 #[derive(Debug, Clone, Copy, PartialEq, Eq, Hash)]
@@ -154,7 +154,7 @@ impl NumberFormat {
         ensures only { Lawful self.now → OptionsFit self.now exponent decimal_point
             → IsOnlyRole (raw self.now) exponent decimal_point byte result }
     {
-        role_facts();
+        byte_facts();
         self.first_role(exponent, decimal_point, byte)
     }
 

@@ -1,4 +1,4 @@
-// Made by rust/tools/erase.py from crates/lexical_util/src/edits/text.rt: change that file.
+// Made by rust/tools/erase.py from crates/lexical_util/src/edits/settings.rt: change that file.
 
 //! Settings, which are edits written as text: `NAME=VALUE`.
 

@@ -1,4 +1,4 @@
-// Made by rust/tools/erase.py from crates/lexical_util/src/reasons/text.rt: change that file.
+// Made by rust/tools/erase.py from crates/lexical_util/src/reasons/sentences.rt: change that file.
 
 //! Prints reasons and notes as sentences.
 
