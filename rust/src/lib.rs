@@ -109,6 +109,8 @@ mod lists;
 mod numeral;
 #[doc(hidden)]
 pub mod reasons;
+#[doc(hidden)]
+pub mod short_text;
 pub mod source;
 mod text;
 mod view;
