@@ -93,7 +93,7 @@ pub const ANSWERS: [(&[&str], &str, u8); 33] = [
     (&["migrate", "0x00000A0000000000000000008000000C"], "0x0A0A0A0000000000000000000000000C\n", 0),
     (&["migrate", "0x0"], "lexical number format error: 'invalid radix for mantissa digits'\n", 1),
     (&["migrate", "0x00000A0000000035000000000000404C"], "lexical number format error: 'exponent flags set while disabling exponent notation'\n", 1),
-    (&["source", "0x00000A0000000000000000000000000C"], "NumberFormatBuilder::new().build_unchecked()\n", 0),
+    (&["source", "0x00000A0000000000000000000000000C"], "NumberFormatBuilder::new().build_or_panic()\n", 0),
     (&["source", "0x0605040302000001000010000000000D"], EACH_BYTE_SET, 0),
     (&["source", "0x00000A0000FFFF0A000000000000000C"], BOTH_LOST, 1),
     (&["explain", "0x00000A0000000000000000000000000C"], "", 0),
