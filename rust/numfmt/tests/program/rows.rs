@@ -39,7 +39,7 @@ const EACH_BYTE_SET: &str = "NumberFormatBuilder::new().required_integer_digits(
 const BOTH_LOST: &str =
     "// This code makes another word, without the reserved bits 0xFFFF000000000000000000
 // This code makes another word, without the digit separator 10: no flag allows one
-NumberFormatBuilder::new().digit_separator(NonZeroU8::new(10)).build_unchecked()
+NumberFormatBuilder::new().build_unchecked()
 ";
 
 const TWO_REASONS: &str = "the digit separator '5' is a digit in radix 10
