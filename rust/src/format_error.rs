@@ -2,9 +2,9 @@
 
 use core::fmt;
 
-use crate::digit::digit_to_char;
-use crate::error::{Error, Piece, ShortText};
+use crate::error::Error;
 use crate::reasons::{options_reasons, reasons, Reason, MAX_REASONS};
+use crate::short_text::ShortText;
 
 /// Why a word is not a [`Format`][crate::Format], why a text is not one, or why a format does not accept options.
 ///
@@ -85,22 +85,12 @@ impl FormatError {
     }
 
     /// Returns the text of a panic: the description of the error, a colon, and the first reason as a sentence.
-    pub(crate) const fn message(&self) -> Message {
-        let mut message = Message {
-            bytes: [0; 512],
-            length: 0,
-        };
-        message.put(self.code.description());
-        if let Some(reason) = self.first_reason() {
-            let ShortText(first, second, third, fourth, fifth) = reason.text();
-            message.put(": ");
-            message.put_piece(first);
-            message.put_piece(second);
-            message.put_piece(third);
-            message.put_piece(fourth);
-            message.put_piece(fifth);
+    pub(crate) const fn message(&self) -> ShortText {
+        let message = ShortText::of(self.code.description());
+        match self.first_reason() {
+            Some(reason) => message.and(": ").and(reason.text().as_str()),
+            None => message,
         }
-        message
     }
 }
 
@@ -129,66 +119,5 @@ impl fmt::Debug for FormatError {
 impl From<FormatError> for Error {
     fn from(error: FormatError) -> Self {
         error.code
-    }
-}
-
-/// Text of at most 512 bytes that a `const fn` can build.
-pub(crate) struct Message {
-    bytes: [u8; 512],
-    length: usize,
-}
-
-impl Message {
-    pub(crate) const fn text(&self) -> &str {
-        match core::str::from_utf8(self.bytes.split_at(self.length).0) {
-            Ok(text) => text,
-            Err(_) => "",
-        }
-    }
-
-    const fn put(&mut self, text: &str) {
-        let mut index = 0;
-        while index < text.len() {
-            self.put_byte(text.as_bytes()[index]);
-            index += 1;
-        }
-    }
-
-    const fn put_byte(&mut self, byte: u8) {
-        if self.length < self.bytes.len() {
-            self.bytes[self.length] = byte;
-            self.length += 1;
-        }
-    }
-
-    const fn put_piece(&mut self, piece: Piece) {
-        match piece {
-            Piece::Words(words) => self.put(words),
-            Piece::Number(number) => self.put_digits(number as u128, 10),
-            Piece::Hexadecimal(number) => {
-                self.put("0x");
-                self.put_digits(number, 16);
-            }
-            Piece::NumberedByte(name, byte) | Piece::QuotedByte(name, byte) => {
-                let is_number = matches!(piece, Piece::NumberedByte(..));
-                self.put("the ");
-                self.put(name);
-                if is_number || !byte.is_ascii_graphic() || byte == b'\'' {
-                    self.put(" ");
-                    self.put_digits(byte as u128, 10);
-                } else {
-                    self.put(" '");
-                    self.put_byte(byte);
-                    self.put("'");
-                }
-            }
-        }
-    }
-
-    const fn put_digits(&mut self, number: u128, radix: u128) {
-        if number >= radix {
-            self.put_digits(number / radix, radix);
-        }
-        self.put_byte(digit_to_char((number % radix) as u32));
     }
 }
