@@ -11,3 +11,4 @@ pub mod edit;
 pub mod formats;
 pub mod keep;
 pub mod read;
+pub mod roles;

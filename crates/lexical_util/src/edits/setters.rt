@@ -329,7 +329,6 @@ fn named(name: &str) -> Option<Setter>
 impl Setter {
     /// Returns the setter with the given name, or `None` if there is no such setter.
     #[must_use]
-    #[tactic(auto, using(crate::proofs::SettingLemmas::same_name))]
     pub fn from_name(name: &str) -> Option<Setter>
         ensures { (setter : Setter) → (result ≡ Some setter) ↔ (name_of setter ≡ name.now) }
     {
