@@ -78,11 +78,20 @@ EVERYWHERE = [
     ("fn fmt<W: fmt::Write>(&self, f: &mut fmt::Formatter<W>)", "fn fmt(&self, f: &mut fmt::Formatter<'_>)"),
 ]
 
+# Types that may grow. In plain Rust, a match outside the crate has to have an arm for what they lack today.
+GROWS = {
+    "enum": "ArgumentKind Byte Cause Class Edit Error FlagSetter Note Part Radixes Role Rule Setter SettingErrorKind",
+    "struct": "NamedByte Separators",
+}
+for kind, types in GROWS.items():
+    items = [f"pub {kind} {name} {{" for name in types.split()]
+    EVERYWHERE += [(item, f"#[non_exhaustive] {item}") for item in items]
+
 # Attributes that plain Rust has in place of those of the source: the end of the path, and both texts.
 COMPARED = "Clone, Copy, PartialEq, Eq, PartialOrd, Ord, Hash"
 DEPRECATED = '#[deprecated = "Use `build_strict` or `build_unchecked` instead."]'
 ATTRIBUTES = [
-    ("error.rt", "#[derive(Clone, Copy, Debug)]", f"#[derive({COMPARED}, Debug)] #[non_exhaustive]"),
+    ("error.rt", "#[derive(Clone, Copy, Debug)]", f"#[derive({COMPARED}, Debug)]"),
     ("format_builder.rt", "#[derive(Drop)]", "#[derive(Clone, Copy, PartialEq, Eq, Hash)] #[must_use]"),
     ("format_builder.rt", "pub const fn build(&self)", f"{DEPRECATED} pub const fn build(&self)"),
     ("feature_format.rt", "#[derive(Clone, Copy)]", f"#[derive({COMPARED})]"),

@@ -138,7 +138,6 @@ pub enum Error {
 
 /// The class of an [`Error`].
 #[derive(Clone, Copy, Debug, PartialEq, Eq, PartialOrd, Ord, Hash)]
-#[non_exhaustive]
 pub enum Class {
     /// An error in the text that a parser reads.
     Parse,

@@ -155,6 +155,7 @@ pub enum FlagSetter {
 /// A setter of [`NumberFormatBuilder`][crate::format_builder::NumberFormatBuilder]. An [`Edit`] is a setter
 /// with its argument.
 #[derive(Debug, Clone, Copy, PartialEq, Eq, Hash, PartialOrd, Ord)]
+#[non_exhaustive]
 pub enum Setter {
     /// A setter that takes a `bool`.
     Flag(FlagSetter),
@@ -176,6 +177,7 @@ pub enum Setter {
 
 /// The kind of argument that a setter takes.
 #[derive(Debug, Clone, Copy, PartialEq, Eq, Hash)]
+#[non_exhaustive]
 pub enum ArgumentKind {
     /// The setter takes a `bool`.
     Flag,
@@ -188,6 +190,7 @@ pub enum ArgumentKind {
 /// A call to a setter of [`NumberFormatBuilder`][crate::format_builder::NumberFormatBuilder], stored as a
 /// value. An edit holds the setter and its argument.
 #[derive(Debug, Clone, Copy, PartialEq, Eq, Hash, PartialOrd, Ord)]
+#[non_exhaustive]
 pub enum Edit {
     /// Sets a flag, or every flag of a group, to the given value.
     Flag(FlagSetter, bool),

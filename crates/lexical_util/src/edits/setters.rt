@@ -73,7 +73,6 @@ macro_rules! with_setters {
 /// sets one flag, or all flags of one of the nine flag groups. A variant has the name of its setter,
 /// whose documentation has an example.
 #[derive(Debug, Clone, Copy, PartialEq, Eq, Hash, PartialOrd, Ord)]
-#[non_exhaustive]
 pub enum FlagSetter {
     /// Sets whether the format requires digits before the decimal point.
     RequiredIntegerDigits,
