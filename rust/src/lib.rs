@@ -110,6 +110,7 @@ mod numeral;
 pub mod reasons;
 #[doc(hidden)]
 pub mod short_text;
+#[expect(clippy::exhaustive_structs, reason = "written by callers")]
 pub mod source;
 mod text;
 mod view;
