@@ -12,16 +12,7 @@ exponent_base 10
 exponent_radix 10
 ";
 
-const LARGEST_FIELDS: &str = "flags 0x000000000000000000001FFF0003FFFF
-digit_separator 255
-base_prefix 255
-base_suffix 255
-mantissa_radix 255
-exponent_base 255
-exponent_radix 255
-";
-
-const ONE_TO_SIX: &str = "flags 0x0000000000000000000000000000000C
+const ONE_TO_SIX: &str = "flags 0x0000000000000000000010000000000C
 digit_separator 1
 base_prefix 2
 base_suffix 3
@@ -83,13 +74,11 @@ note: case_sensitive_base_suffix is set, but there is no base suffix
 
 /// Lists of arguments, the text that they print, and the exit status.
 #[rustfmt::skip]
-pub const ANSWERS: [(&[&str], &str, u8); 36] = [
+pub const ANSWERS: [(&[&str], &str, u8); 32] = [
     (&[], STANDARD_FIELDS, 0),
     (&["show", "0x00000A0000000000000000000000000C"], STANDARD_FIELDS, 0),
     (&["show", "0xa0000000000000000000000000c"], STANDARD_FIELDS, 0),
-    (&["show", "0xFFFFFFFFFFFFFFFFFFFFFFFFFFFFFFFF"], LARGEST_FIELDS, 0),
-    (&["show", "0xffffffffffffffffffffffffffffffff"], LARGEST_FIELDS, 0),
-    (&["show", "0x0605040302000001000000000000000C"], ONE_TO_SIX, 0),
+    (&["show", "0x0605040302ABCD0100001000fed0000c"], ONE_TO_SIX, 0),
     (&["edit", "0xc", "radix=16", "digit_separator=95", "integer_digit_separator_flags=true"], "0x000010000000005F000002490000000C\n", 0),
     (&["edit", "0x00000A0000000000000000000000000C"], "0x0A0A0A0000000000000000000000000C\n", 0),
     (&["edit", "0x00000A0000000000000000000000000C", "radix=007"], "0x0A0A070000000000000000000000000C\n", 0),
@@ -102,8 +91,6 @@ pub const ANSWERS: [(&[&str], &str, u8); 36] = [
     (&["options", "0x1010100000000000000000000000000C", "101", "46"], "refused\n", 1),
     (&["options", "0x1010100000000000000000000000000C", "94", "46"], "accepted\n", 0),
     (&["options", "0x1010100000000000000000000000000C", "094", "046"], "accepted\n", 0),
-    (&["options", "0x0A0A0A0000000000000000000000000C", "101", "101"], "refused\n", 1),
-    (&["options", "0x0A0A0A0000000000000000000000000C", "0", "46"], "refused\n", 1),
     (&["options", "0x00000A0045000000000000000001000C", "101", "46"], "refused\n", 1),
     (&["options", "0x00000A0045000000000000000001000C", "46", "101"], "accepted\n", 0),
     (&["migrate", "0x00000A0000000000000000008000000C"], "0x0A0A0A0000000000000000000000000C\n", 0),
@@ -124,7 +111,7 @@ pub const ANSWERS: [(&[&str], &str, u8); 36] = [
 
 /// Lists of arguments that are refused, the text that states why, and the exit status.
 #[rustfmt::skip]
-pub const REFUSALS: [(&[&str], &str, u8); 52] = [
+pub const REFUSALS: [(&[&str], &str, u8); 44] = [
     (&[""], "numfmt: unknown command\n", 2),
     (&["shows", "0x"], "numfmt: unknown command\n", 2),
     (&["show 0xC"], "numfmt: unknown command\n", 2),
@@ -157,17 +144,9 @@ pub const REFUSALS: [(&[&str], &str, u8); 52] = [
     (&["source", ""], "numfmt: bad word\n", 2),
     (&["explain", "C"], "numfmt: bad word\n", 2),
     (&["edit", "0xC", "radix=256"], "numfmt: bad edit\n", 2),
-    (&["edit", "0xC", "radix"], "numfmt: bad edit\n", 2),
     (&["edit", "0xC", "radix=16", "radix"], "numfmt: bad edit\n", 2),
-    (&["edit", "0x00000A0000000000000000000000000C", "radix="], "numfmt: bad edit\n", 2),
-    (&["edit", "0x00000A0000000000000000000000000C", "radix=0010"], "numfmt: bad edit\n", 2),
-    (&["edit", "0x00000A0000000000000000000000000C", "radix=none"], "numfmt: bad edit\n", 2),
     (&["edit", "0x00000A0000000000000000000000000C", "base_prefix='x'"], "numfmt: bad edit\n", 2),
     (&["edit", "0x00000A0000000000000000000000000C", "base_prefix=0x78"], "numfmt: bad edit\n", 2),
-    (&["edit", "0x00000A0000000000000000000000000C", "=true"], "numfmt: bad edit\n", 2),
-    (&["edit", "0x00000A0000000000000000000000000C", "no_special=True"], "numfmt: bad edit\n", 2),
-    (&["edit", "0x00000A0000000000000000000000000C", "no_special=true="], "numfmt: bad edit\n", 2),
-    (&["edit", "0x00000A0000000000000000000000000C", "STANDARD=true"], "numfmt: bad edit\n", 2),
     (&["edit", "0xC", "radix=16\r"], "numfmt: bad edit\n", 2),
     (&["edit", "0xC", "radix = 16"], "numfmt: bad edit\n", 2),
     (&["edit", "0xC", "radix=16 radix=10"], "numfmt: bad edit\n", 2),
