@@ -165,7 +165,7 @@ PELTZIVAR_MUST_USE PELTZIVAR_API peltzivar_error peltzivar_parse_word(
 /* Writes a word as `0x` followed by 32 uppercase hexadecimal digits. */
 PELTZIVAR_API size_t peltzivar_word_text(peltzivar_word format, char *text, size_t len);
 
-/* Writes Rust code that builds a word, such as "NumberFormatBuilder::new().mantissa_radix(16).build_unchecked()". The
+/* Writes Rust code that builds a word, such as "NumberFormatBuilder::new().mantissa_radix(16).build_or_panic()". The
  * result of the code is the word itself if and only if peltzivar_is_built returns true for the word. */
 PELTZIVAR_API size_t peltzivar_source(peltzivar_word format, char *text, size_t len);
 

@@ -39,7 +39,21 @@ const EACH_BYTE_SET: &str = "NumberFormatBuilder::new().required_integer_digits(
 const BOTH_LOST: &str =
     "// This code makes another word, without the reserved bits 0xFFFF000000000000000000
 // This code makes another word, without the digit separator 10: no flag allows one
-NumberFormatBuilder::new().digit_separator(NonZeroU8::new(10)).build_unchecked()
+NumberFormatBuilder::new().build_unchecked()
+";
+
+const LAWFUL_AND_LOST: &str =
+    "// This code makes another word, without the digit separator '_': no flag allows one
+NumberFormatBuilder::new().build_or_panic()
+";
+
+const EACH_BYTE_SHOWN: &str = "NumberFormatBuilder::new().integer_internal_digit_separator(true)\
+.digit_separator(NonZeroU8::new(b'!')).base_prefix(NonZeroU8::new(b'~')).base_suffix(NonZeroU8::new(32))\
+.mantissa_radix(34).exponent_base(NonZeroU8::new(35)).exponent_radix(NonZeroU8::new(36)).build_or_panic()
+";
+
+const BYTES_WITH_ESCAPES: &str = "NumberFormatBuilder::new().base_prefix(NonZeroU8::new(39))\
+.base_suffix(NonZeroU8::new(92)).build_or_panic()
 ";
 
 const TWO_REASONS: &str = "the digit separator '5' is a digit in radix 10
@@ -69,7 +83,7 @@ note: case_sensitive_base_suffix is set, but there is no base suffix
 
 /// Lists of arguments, the text that they print, and the exit status.
 #[rustfmt::skip]
-pub const ANSWERS: [(&[&str], &str, u8); 33] = [
+pub const ANSWERS: [(&[&str], &str, u8); 36] = [
     (&[], STANDARD_FIELDS, 0),
     (&["show", "0x00000A0000000000000000000000000C"], STANDARD_FIELDS, 0),
     (&["show", "0xa0000000000000000000000000c"], STANDARD_FIELDS, 0),
@@ -95,9 +109,12 @@ pub const ANSWERS: [(&[&str], &str, u8); 33] = [
     (&["migrate", "0x00000A0000000000000000008000000C"], "0x0A0A0A0000000000000000000000000C\n", 0),
     (&["migrate", "0x0"], "lexical number format error: 'invalid radix for mantissa digits'\n", 1),
     (&["migrate", "0x00000A0000000035000000000000404C"], "lexical number format error: 'exponent flags set while disabling exponent notation'\n", 1),
-    (&["source", "0x00000A0000000000000000000000000C"], "NumberFormatBuilder::new().build_unchecked()\n", 0),
+    (&["source", "0x00000A0000000000000000000000000C"], "NumberFormatBuilder::new().build_or_panic()\n", 0),
     (&["source", "0x0605040302000001000010000000000D"], EACH_BYTE_SET, 0),
     (&["source", "0x00000A0000FFFF0A000000000000000C"], BOTH_LOST, 1),
+    (&["source", "0x00000A000000005F000000000000000C"], LAWFUL_AND_LOST, 1),
+    (&["source", "0x242322207E000021000000010000000C"], EACH_BYTE_SHOWN, 0),
+    (&["source", "0x00000A5C27000000000000000000000C"], BYTES_WITH_ESCAPES, 0),
     (&["explain", "0x00000A0000000000000000000000000C"], "", 0),
     (&["explain", "0x00000A0000000035000000000000404C"], TWO_REASONS, 1),
     (&["explain", "0xC"], THREE_RULES, 1),
