@@ -30,7 +30,7 @@ const ROWS: [(u128, u128, &[&str]); 35] = [
     (0x00000A0000000000000000000000407C, 0x4070, &["no_exponent_notation and required_exponent_notation cannot both be set", "no_positive_mantissa_sign and required_mantissa_sign cannot both be set"]),
     (0x00000A00000000000000000000000DCC, 0xD80, &["no_positive_exponent_sign and required_exponent_sign cannot both be set", "no_special and case_sensitive_special cannot both be set"]),
     (0x00000A000000005F00000E000000000C, 0xFFF00000000, &["integer_consecutive_digit_separator requires an internal, leading or trailing flag for the same part of the number", "fraction_consecutive_digit_separator requires an internal, leading or trailing flag for the same part of the number", "exponent_consecutive_digit_separator requires an internal, leading or trailing flag for the same part of the number"]),
-    (0x00000A0000FFFF00FFFFE000FFFC000C, 0xFFFF00FFFFE000FFFC0000, &["reserved bits are set: 0xFFFF00FFFFE000FFFC0000, which any edit clears"]),
+    (0x00000A0000FFFF00800000008000000C, 0xFFFF008000000080000000, &["reserved bits are set: 0xFFFF008000000080000000, which any edit clears"]),
     // Notes on lawful words. A space and a single quote are printed as numbers.
     (0x00000A000000005F000000000000000C, 0xFF00001FFF00000000, &["no flag allows the digit separator '_'"]),
     (0x00000A0000000020000000000000000C, 0xFF00001FFF00000000, &["no flag allows the digit separator 32"]),
