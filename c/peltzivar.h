@@ -14,7 +14,7 @@
  * This program prints "the base prefix 'b' is a digit in radix 16", and its status is 1.
  *
  * A number format states how numbers may be written: their radix, prefix, signs and digit separators. A format is a
- * 128-bit word with 31 flags and six bytes, the fields of the word. All other bits are reserved. A byte other than the
+ * 128-bit word with flags and six bytes, the fields of the word. All other bits are reserved. A byte other than the
  * mantissa radix is absent if it is 0. The exponent base and the exponent radix are the exponent bytes. If one of them
  * is absent, the mantissa radix is used in its place. The flags in bits 32 to 44 are the digit separator flags.
  *
@@ -165,7 +165,7 @@ PELTZIVAR_MUST_USE PELTZIVAR_API peltzivar_error peltzivar_parse_word(
 /* Writes a word as `0x` followed by 32 uppercase hexadecimal digits. */
 PELTZIVAR_API size_t peltzivar_word_text(peltzivar_word format, char *text, size_t len);
 
-/* Writes Rust code that builds a word, such as "NumberFormatBuilder::new().mantissa_radix(16).build_unchecked()". The
+/* Writes Rust code that builds a word, such as "NumberFormatBuilder::new().mantissa_radix(16).build_or_panic()". The
  * result of the code is the word itself if and only if peltzivar_is_built returns true for the word. */
 PELTZIVAR_API size_t peltzivar_source(peltzivar_word format, char *text, size_t len);
 

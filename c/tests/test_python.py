@@ -179,7 +179,7 @@ class Words(unittest.TestCase):
 
     def test_other_calls(self):
         self.assertEqual(int(Format().normal_form()), 0x0A0A0A0000000000000000000000000C)
-        source = "NumberFormatBuilder::new().no_special(true).mantissa_radix(16).build_unchecked()"
+        source = "NumberFormatBuilder::new().no_special(true).mantissa_radix(16).build_or_panic()"
         self.assertEqual(FormatView(0x0000100000000000000000000000040C).source(), source)
         self.assertRegex(FormatView((1 << 128) - 1).source(), r"^NumberFormatBuilder::new\(\).{900,}\.build_unchecked\(\)$")
         self.assertRaisesRegex(AttributeError, "no_special=True", setattr, Format(), "no_special", True)

@@ -14,7 +14,8 @@ mod settings;
 pub use listing::{edits_of, is_built};
 pub(crate) use setters::mask_of;
 pub use setters::{
-    field_edits_of, ArgumentKind, Edit, FlagSetter, Setter, ALL_SETTERS, FIELD_COUNT, SETTERS,
+    field_edits_of, ArgumentKind, Edit, FlagSetter, Setter, ALL_SETTERS, FIELD_COUNT, FLAG_COUNT,
+    SETTERS,
 };
 pub(crate) use settings::Fault;
 pub use settings::{byte_from_decimal, SettingError, SettingErrorKind};

@@ -22,6 +22,7 @@ use crate::view::{FormatView, Role, Separators};
 /// Any word is allowed, whether or not it is [lawful][crate::Rule]. [`FormatView`] has the same methods for a word that
 /// is known only at run time, but an absent byte is `None` there, and 0 here, as in `lexical-util`.
 #[derive(Clone, Copy, PartialEq, Eq, Hash)]
+#[expect(clippy::exhaustive_structs, reason = "written by callers")]
 pub struct NumberFormat<const FORMAT: u128>;
 
 impl<const FORMAT: u128> NumberFormat<FORMAT> {

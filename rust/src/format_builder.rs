@@ -18,11 +18,13 @@ const FIRST_SEPARATOR: u32 = u128::count_ones(flags::FLAG_MASK % (1 << 32));
 // The mask of the flags below the digit separator flags. Their bits in a builder are the same as in a format word.
 const LOW_FLAGS: u32 = (1 << FIRST_SEPARATOR) - 1;
 
-// The flags that are set in a new builder, at their bits in a format word.
-const NEW_FLAGS: u128 = 0xC;
+// The flags that are set in a new builder. They have the same bits in a format word.
+const NEW_FLAGS: u128 = flags::REQUIRED_EXPONENT_DIGITS | flags::REQUIRED_MANTISSA_DIGITS;
 
 // The word whose mantissa radix, exponent base and exponent radix are 1, and whose other bits are 0.
-const ONE_IN_EACH_RADIX: u128 = 0x01010100_00000000_00000000_00000000;
+const ONE_IN_EACH_RADIX: u128 = 1 << flags::MANTISSA_RADIX_SHIFT
+    | 1 << flags::EXPONENT_BASE_SHIFT
+    | 1 << flags::EXPONENT_RADIX_SHIFT;
 
 // The index of each byte in a builder.
 const DIGIT_SEPARATOR: usize = 0;
@@ -89,7 +91,7 @@ impl NumberFormatBuilder {
     /// other flags are false.
     pub const fn new() -> Self {
         NumberFormatBuilder {
-            flags: 0xC,
+            flags: NEW_FLAGS as u32,
             bytes: [0, 0, 0, 10, 0, 0],
         }
     }

@@ -1,5 +1,5 @@
 //! A number format states how numbers may be written: their radix, prefix, signs and digit separators. Here, a format
-//! is a `u128` that holds 31 flags and six bytes. This crate is for code that parses, writes or checks numbers. It
+//! is a `u128` that holds flags and six bytes. This crate is for code that parses, writes or checks numbers. It
 //! builds, reads, checks and edits formats, and explains why a format is not lawful. It does not parse numbers.
 //!
 //! The [`u128`] is called the *format word*. It can be a const generic argument. The word is *lawful* if it satisfies
@@ -81,9 +81,8 @@
 //! documentation, `Proved of the source` heads what the contracts of a call state.
 //!
 //! The following parts are written by hand: [`Format`], [`NumberFormat`], the iterators and conversions,
-//! `Display`, `FromStr` and `Debug` of words, `build_or_panic`, the tests of slices in [`ascii`], and the printing of
-//! numbers in decimal. A build of this crate proves nothing. You trust the program that generated the files, the
-//! handwritten parts, and `rustc`.
+//! `Display`, `FromStr` and `Debug` of words, `build_or_panic`, and the tests of slices in [`ascii`]. A build of this
+//! crate proves nothing. You trust the program that generated the files, the handwritten parts, and `rustc`.
 #![no_std]
 #![forbid(unsafe_code)]
 
@@ -109,6 +108,9 @@ mod lists;
 mod numeral;
 #[doc(hidden)]
 pub mod reasons;
+#[doc(hidden)]
+pub mod short_text;
+#[expect(clippy::exhaustive_structs, reason = "written by callers")]
 pub mod source;
 mod text;
 mod view;

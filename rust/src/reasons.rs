@@ -47,6 +47,7 @@ pub enum Byte {
 /// The radixes of a format word in which a byte is a digit, with their values. An absent exponent radix follows the
 /// mantissa radix, so it is not listed.
 #[derive(Debug, Clone, Copy, PartialEq, Eq, Hash)]
+#[non_exhaustive]
 pub enum Radixes {
     /// The byte is a digit only in the mantissa radix.
     Mantissa(u8),
@@ -63,6 +64,7 @@ pub enum Radixes {
 
 /// A byte with its value.
 #[derive(Debug, Clone, Copy, PartialEq, Eq, Hash)]
+#[non_exhaustive]
 pub struct NamedByte {
     /// Which byte this is.
     pub name: Byte,

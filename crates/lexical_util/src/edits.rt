@@ -24,7 +24,8 @@ mod settings;
 pub use listing::{edits_of, is_built};
 pub(crate) use setters::mask_of;
 pub use setters::{
-    ALL_SETTERS, ArgumentKind, Edit, FIELD_COUNT, FlagSetter, SETTERS, Setter, field_edits_of,
+    ALL_SETTERS, ArgumentKind, Edit, FIELD_COUNT, FLAG_COUNT, FlagSetter, SETTERS, Setter,
+    field_edits_of,
 };
 pub(crate) use settings::Fault;
 pub use settings::{SettingError, SettingErrorKind, byte_from_decimal};

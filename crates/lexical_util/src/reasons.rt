@@ -40,7 +40,6 @@ pub const MAX_OPTIONS_REASONS: usize = 9;
 
 /// A byte of a format word, or a character that options choose.
 #[derive(Debug, Clone, Copy, PartialEq, Eq, Hash)]
-#[non_exhaustive]
 pub enum Byte {
     /// The digit separator.
     DigitSeparator,
@@ -88,7 +87,6 @@ pub struct NamedByte {
 
 /// The cause of a [`Reason`]: the fields that are to blame, with their values.
 #[derive(Debug, Clone, Copy, PartialEq, Eq, Hash)]
-#[non_exhaustive]
 pub enum Cause {
     /// The mantissa radix, or an exponent base or exponent radix that is present, is not between 2 and 36.
     OutOfRange(NamedByte),

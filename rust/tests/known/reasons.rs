@@ -1,6 +1,6 @@
 //! The sentences and bits of reasons and notes.
 
-use peltzivar::reasons::{Byte, NamedByte};
+use peltzivar::reasons::Byte;
 use peltzivar::{Cause, FormatView};
 
 /// A word, the bits that its reasons and notes blame, and their sentences.
@@ -86,7 +86,7 @@ fn options_have_their_reasons() {
 #[test]
 fn a_reason_has_its_cause() {
     let reason = FormatView::new(0x00000A092B000000000000000000000C).reasons().next();
-    let name = Byte::BasePrefix;
-    let cause = Cause::IsSign(NamedByte { name, value: b'+' });
-    assert_eq!(reason.map(|it| it.cause()), Some(cause));
+    let cause = reason.map(|it| it.cause());
+    let Some(Cause::IsSign(byte)) = cause else { panic!("{cause:?}") };
+    assert_eq!((byte.name, byte.value), (Byte::BasePrefix, b'+'));
 }

@@ -23,7 +23,6 @@ pub(crate) enum Fault {
 
 /// What is wrong with a string that is not a setting.
 #[derive(Debug, Clone, Copy, PartialEq, Eq, Hash)]
-#[non_exhaustive]
 pub enum SettingErrorKind {
     /// The string has no `=`.
     NoEquals,

@@ -23,7 +23,6 @@ pub const MAX_NOTES: usize = 3;
 /// Only the fields that the variants name can have a note. For example, an exponent flag has no note, even if the
 /// format forbids exponents.
 #[derive(Debug, Clone, Copy, PartialEq, Eq, Hash)]
-#[non_exhaustive]
 pub enum Note {
     /// The digit separator is set, but no flag allows one. Packing the fields of a builder drops the separator, and the
     /// normal form has none. Options still cannot use the same byte.

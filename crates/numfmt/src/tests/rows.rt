@@ -1,7 +1,7 @@
 //! Runs of the program, as tables: arguments, the text that is printed, and the exit status. `rust/tools/erase.py` copies
 //! them to plain Rust.
 
-pub const STANDARD_FIELDS: &str = "flags 0x0000000000000000000000000000000C
+const STANDARD_FIELDS: &str = "flags 0x0000000000000000000000000000000C
 digit_separator 0
 base_prefix 0
 base_suffix 0
@@ -37,7 +37,21 @@ const EACH_BYTE_SET: &str = "NumberFormatBuilder::new().required_integer_digits(
 const BOTH_LOST: &str =
     "// This code makes another word, without the reserved bits 0xFFFF000000000000000000
 // This code makes another word, without the digit separator 10: no flag allows one
-NumberFormatBuilder::new().digit_separator(NonZeroU8::new(10)).build_unchecked()
+NumberFormatBuilder::new().build_unchecked()
+";
+
+const LAWFUL_AND_LOST: &str =
+    "// This code makes another word, without the digit separator '_': no flag allows one
+NumberFormatBuilder::new().build_or_panic()
+";
+
+const EACH_BYTE_SHOWN: &str = "NumberFormatBuilder::new().integer_internal_digit_separator(true)\
+.digit_separator(NonZeroU8::new(b'!')).base_prefix(NonZeroU8::new(b'~')).base_suffix(NonZeroU8::new(32))\
+.mantissa_radix(34).exponent_base(NonZeroU8::new(35)).exponent_radix(NonZeroU8::new(36)).build_or_panic()
+";
+
+const BYTES_WITH_ESCAPES: &str = "NumberFormatBuilder::new().base_prefix(NonZeroU8::new(39))\
+.base_suffix(NonZeroU8::new(92)).build_or_panic()
 ";
 
 const TWO_REASONS: &str = "the digit separator '5' is a digit in radix 10
@@ -65,133 +79,100 @@ const TWO_NOTES: &str = "note: case_sensitive_base_prefix is set, but there is n
 note: case_sensitive_base_suffix is set, but there is no base suffix
 ";
 
-/// Arguments with a space between them, the text that they print, and the exit status.
+/// Lists of arguments, the text that they print, and the exit status.
 #[rattlefmt::skip]
-pub const ANSWERS: [(&str, &str, u8); 32] = [
-    ("show 0x00000A0000000000000000000000000C", STANDARD_FIELDS, 0),
-    ("show 0xa0000000000000000000000000c", STANDARD_FIELDS, 0),
-    ("show 0xFFFFFFFFFFFFFFFFFFFFFFFFFFFFFFFF", LARGEST_FIELDS, 0),
-    ("show 0xffffffffffffffffffffffffffffffff", LARGEST_FIELDS, 0),
-    ("show 0x0605040302000001000000000000000C", ONE_TO_SIX, 0),
-    ("edit 0xc radix=16 digit_separator=95 integer_digit_separator_flags=true", "0x000010000000005F000002490000000C\n", 0),
-    ("edit 0x00000A0000000000000000000000000C", "0x0A0A0A0000000000000000000000000C\n", 0),
-    ("edit 0x00000A0000000000000000000000000C radix=007", "0x0A0A070000000000000000000000000C\n", 0),
-    ("edit 0x00000A0000000000000000000000000C digit_separator=0 exponent_base=none", "0x0A000A0000000000000000000000000C\n", 0),
-    ("check 0x00000A0000000000000000000000000C", "'not actually an error'\n", 0),
-    ("check 0xC", "lexical number format error: 'invalid radix for mantissa digits'\n", 1),
-    ("check 0x00000A0000000000000000008000000C", "lexical number format error: 'invalid flags enabled without the format feature'\n", 1),
-    ("same 0x00000A0000000000000000000000000C 0x0A0A0A0000000000000000000000000C", "same\n", 0),
-    ("same 0x0 0xC", "different\n", 1),
-    ("options 0x1010100000000000000000000000000C 101 46", "refused\n", 1),
-    ("options 0x1010100000000000000000000000000C 94 46", "accepted\n", 0),
-    ("options 0x1010100000000000000000000000000C 094 046", "accepted\n", 0),
-    ("options 0x0A0A0A0000000000000000000000000C 101 101", "refused\n", 1),
-    ("options 0x0A0A0A0000000000000000000000000C 0 46", "refused\n", 1),
-    ("options 0x00000A0045000000000000000001000C 101 46", "refused\n", 1),
-    ("options 0x00000A0045000000000000000001000C 46 101", "accepted\n", 0),
-    ("migrate 0x00000A0000000000000000008000000C", "0x0A0A0A0000000000000000000000000C\n", 0),
-    ("migrate 0x0", "lexical number format error: 'invalid radix for mantissa digits'\n", 1),
-    ("migrate 0x00000A0000000035000000000000404C", "lexical number format error: 'exponent flags set while disabling exponent notation'\n", 1),
-    ("source 0x00000A0000000000000000000000000C", "NumberFormatBuilder::new().build_unchecked()\n", 0),
-    ("source 0x0605040302000001000010000000000D", EACH_BYTE_SET, 0),
-    ("source 0x00000A0000FFFF0A000000000000000C", BOTH_LOST, 1),
-    ("explain 0x00000A0000000000000000000000000C", "", 0),
-    ("explain 0x00000A0000000035000000000000404C", TWO_REASONS, 1),
-    ("explain 0xC", THREE_RULES, 1),
-    ("explain 0x00000A0000000000000000008000000C", RESERVED_BIT_EXPLAINED, 1),
-    ("explain 0x00000A0000000000000000000003000C", TWO_NOTES, 0),
+pub const ANSWERS: [(&[&str], &str, u8); 36] = [
+    (&[], STANDARD_FIELDS, 0),
+    (&["show", "0x00000A0000000000000000000000000C"], STANDARD_FIELDS, 0),
+    (&["show", "0xa0000000000000000000000000c"], STANDARD_FIELDS, 0),
+    (&["show", "0xFFFFFFFFFFFFFFFFFFFFFFFFFFFFFFFF"], LARGEST_FIELDS, 0),
+    (&["show", "0xffffffffffffffffffffffffffffffff"], LARGEST_FIELDS, 0),
+    (&["show", "0x0605040302000001000000000000000C"], ONE_TO_SIX, 0),
+    (&["edit", "0xc", "radix=16", "digit_separator=95", "integer_digit_separator_flags=true"], "0x000010000000005F000002490000000C\n", 0),
+    (&["edit", "0x00000A0000000000000000000000000C"], "0x0A0A0A0000000000000000000000000C\n", 0),
+    (&["edit", "0x00000A0000000000000000000000000C", "radix=007"], "0x0A0A070000000000000000000000000C\n", 0),
+    (&["edit", "0x00000A0000000000000000000000000C", "digit_separator=0", "exponent_base=none"], "0x0A000A0000000000000000000000000C\n", 0),
+    (&["check", "0x00000A0000000000000000000000000C"], "'not actually an error'\n", 0),
+    (&["check", "0xC"], "lexical number format error: 'invalid radix for mantissa digits'\n", 1),
+    (&["check", "0x00000A0000000000000000008000000C"], "lexical number format error: 'invalid flags enabled without the format feature'\n", 1),
+    (&["same", "0x00000A0000000000000000000000000C", "0x0A0A0A0000000000000000000000000C"], "same\n", 0),
+    (&["same", "0x0", "0xC"], "different\n", 1),
+    (&["options", "0x1010100000000000000000000000000C", "101", "46"], "refused\n", 1),
+    (&["options", "0x1010100000000000000000000000000C", "94", "46"], "accepted\n", 0),
+    (&["options", "0x1010100000000000000000000000000C", "094", "046"], "accepted\n", 0),
+    (&["options", "0x0A0A0A0000000000000000000000000C", "101", "101"], "refused\n", 1),
+    (&["options", "0x0A0A0A0000000000000000000000000C", "0", "46"], "refused\n", 1),
+    (&["options", "0x00000A0045000000000000000001000C", "101", "46"], "refused\n", 1),
+    (&["options", "0x00000A0045000000000000000001000C", "46", "101"], "accepted\n", 0),
+    (&["migrate", "0x00000A0000000000000000008000000C"], "0x0A0A0A0000000000000000000000000C\n", 0),
+    (&["migrate", "0x0"], "lexical number format error: 'invalid radix for mantissa digits'\n", 1),
+    (&["migrate", "0x00000A0000000035000000000000404C"], "lexical number format error: 'exponent flags set while disabling exponent notation'\n", 1),
+    (&["source", "0x00000A0000000000000000000000000C"], "NumberFormatBuilder::new().build_or_panic()\n", 0),
+    (&["source", "0x0605040302000001000010000000000D"], EACH_BYTE_SET, 0),
+    (&["source", "0x00000A0000FFFF0A000000000000000C"], BOTH_LOST, 1),
+    (&["source", "0x00000A000000005F000000000000000C"], LAWFUL_AND_LOST, 1),
+    (&["source", "0x242322207E000021000000010000000C"], EACH_BYTE_SHOWN, 0),
+    (&["source", "0x00000A5C27000000000000000000000C"], BYTES_WITH_ESCAPES, 0),
+    (&["explain", "0x00000A0000000000000000000000000C"], "", 0),
+    (&["explain", "0x00000A0000000035000000000000404C"], TWO_REASONS, 1),
+    (&["explain", "0xC"], THREE_RULES, 1),
+    (&["explain", "0x00000A0000000000000000008000000C"], RESERVED_BIT_EXPLAINED, 1),
+    (&["explain", "0x00000A0000000000000000000003000C"], TWO_NOTES, 0),
 ];
 
-/// Arguments that are refused, with a space between them, and the text and exit status.
+/// Lists of arguments that are refused, the text that states why, and the exit status.
 #[rattlefmt::skip]
-pub const REFUSALS: [(&str, &str, u8); 36] = [
-    ("", "numfmt: unknown command\n", 2),
-    ("shows 0x", "numfmt: unknown command\n", 2),
-    ("show", "numfmt: wrong number of arguments\n", 2),
-    ("show 0x 0x", "numfmt: wrong number of arguments\n", 2),
-    ("edit", "numfmt: wrong number of arguments\n", 2),
-    ("check 0x00000A0000000000000000000000000C 0x00000A0000000000000000000000000C", "numfmt: wrong number of arguments\n", 2),
-    ("same 0x00000A0000000000000000000000000C", "numfmt: wrong number of arguments\n", 2),
-    ("same 0x 0x 0x", "numfmt: wrong number of arguments\n", 2),
-    ("options 0x00000A0000000000000000000000000C 101", "numfmt: wrong number of arguments\n", 2),
-    ("options 0x 101 46 46", "numfmt: wrong number of arguments\n", 2),
-    ("show 0x", "numfmt: bad word\n", 2),
-    ("show 0x000000000000000000000000000000000", "numfmt: bad word\n", 2),
-    ("show 0X1", "numfmt: bad word\n", 2),
-    ("show 12", "numfmt: bad word\n", 2),
-    ("edit 0x radix", "numfmt: bad word\n", 2),
-    ("check 0xg", "numfmt: bad word\n", 2),
-    ("same 0x1 0x", "numfmt: bad word\n", 2),
-    ("same 0x 0x1", "numfmt: bad word\n", 2),
-    ("options 0x 1 2", "numfmt: bad word\n", 2),
-    ("options 0x 256 2", "numfmt: bad word\n", 2),
-    ("edit 0xC radix=256", "numfmt: bad edit\n", 2),
-    ("edit 0xC radix", "numfmt: bad edit\n", 2),
-    ("edit 0xC radix=16 radix", "numfmt: bad edit\n", 2),
-    ("edit 0x00000A0000000000000000000000000C radix=", "numfmt: bad edit\n", 2),
-    ("edit 0x00000A0000000000000000000000000C radix=0010", "numfmt: bad edit\n", 2),
-    ("edit 0x00000A0000000000000000000000000C radix=none", "numfmt: bad edit\n", 2),
-    ("edit 0x00000A0000000000000000000000000C base_prefix='x'", "numfmt: bad edit\n", 2),
-    ("edit 0x00000A0000000000000000000000000C base_prefix=0x78", "numfmt: bad edit\n", 2),
-    ("edit 0x00000A0000000000000000000000000C =true", "numfmt: bad edit\n", 2),
-    ("edit 0x00000A0000000000000000000000000C no_special=True", "numfmt: bad edit\n", 2),
-    ("edit 0x00000A0000000000000000000000000C no_special=true=", "numfmt: bad edit\n", 2),
-    ("edit 0x00000A0000000000000000000000000C STANDARD=true", "numfmt: bad edit\n", 2),
-    ("options 0x00000A0000000000000000000000000C 256 46", "numfmt: bad byte\n", 2),
-    ("options 0x00000A0000000000000000000000000C e 46", "numfmt: bad byte\n", 2),
-    ("options 0x00000A0000000000000000000000000C 101 none", "numfmt: bad byte\n", 2),
-    ("options 0x00000A0000000000000000000000000C 101 ", "numfmt: bad byte\n", 2),
-];
-
-/// An edit, and the text that `edit` prints for it and the word that has only the flag with bit 44.
-#[rattlefmt::skip]
-pub const EDITS: [(&str, &str); 48] = [
-    ("required_integer_digits=true", "0x00000000000000000000100000000001\n"),
-    ("required_fraction_digits=true", "0x00000000000000000000100000000002\n"),
-    ("required_exponent_digits=true", "0x00000000000000000000100000000004\n"),
-    ("required_mantissa_digits=true", "0x00000000000000000000100000000008\n"),
-    ("no_positive_mantissa_sign=true", "0x00000000000000000000100000000010\n"),
-    ("required_mantissa_sign=true", "0x00000000000000000000100000000020\n"),
-    ("no_exponent_notation=true", "0x00000000000000000000100000000040\n"),
-    ("no_positive_exponent_sign=true", "0x00000000000000000000100000000080\n"),
-    ("required_exponent_sign=true", "0x00000000000000000000100000000100\n"),
-    ("no_exponent_without_fraction=true", "0x00000000000000000000100000000200\n"),
-    ("no_special=true", "0x00000000000000000000100000000400\n"),
-    ("case_sensitive_special=true", "0x00000000000000000000100000000800\n"),
-    ("no_integer_leading_zeros=true", "0x00000000000000000000100000001000\n"),
-    ("no_float_leading_zeros=true", "0x00000000000000000000100000002000\n"),
-    ("required_exponent_notation=true", "0x00000000000000000000100000004000\n"),
-    ("case_sensitive_exponent=true", "0x00000000000000000000100000008000\n"),
-    ("case_sensitive_base_prefix=true", "0x00000000000000000000100000010000\n"),
-    ("case_sensitive_base_suffix=true", "0x00000000000000000000100000020000\n"),
-    ("integer_internal_digit_separator=true", "0x00000000000000000000100100000000\n"),
-    ("fraction_internal_digit_separator=true", "0x00000000000000000000100200000000\n"),
-    ("exponent_internal_digit_separator=true", "0x00000000000000000000100400000000\n"),
-    ("integer_leading_digit_separator=true", "0x00000000000000000000100800000000\n"),
-    ("fraction_leading_digit_separator=true", "0x00000000000000000000101000000000\n"),
-    ("exponent_leading_digit_separator=true", "0x00000000000000000000102000000000\n"),
-    ("integer_trailing_digit_separator=true", "0x00000000000000000000104000000000\n"),
-    ("fraction_trailing_digit_separator=true", "0x00000000000000000000108000000000\n"),
-    ("exponent_trailing_digit_separator=true", "0x00000000000000000000110000000000\n"),
-    ("integer_consecutive_digit_separator=true", "0x00000000000000000000120000000000\n"),
-    ("fraction_consecutive_digit_separator=true", "0x00000000000000000000140000000000\n"),
-    ("exponent_consecutive_digit_separator=true", "0x00000000000000000000180000000000\n"),
-    ("special_digit_separator=true", "0x00000000000000000000100000000000\n"),
-    ("required_digits=true", "0x0000000000000000000010000000000F\n"),
-    ("internal_digit_separator=true", "0x00000000000000000000100700000000\n"),
-    ("leading_digit_separator=true", "0x00000000000000000000103800000000\n"),
-    ("trailing_digit_separator=true", "0x0000000000000000000011C000000000\n"),
-    ("consecutive_digit_separator=true", "0x000000000000000000001E0000000000\n"),
-    ("digit_separator_flags=true", "0x000000000000000000001FFF00000000\n"),
-    ("integer_digit_separator_flags=true", "0x00000000000000000000124900000000\n"),
-    ("fraction_digit_separator_flags=true", "0x00000000000000000000149200000000\n"),
-    ("exponent_digit_separator_flags=true", "0x00000000000000000000192400000000\n"),
-    ("digit_separator=1", "0x00000000000000010000100000000000\n"),
-    ("base_prefix=1", "0x00000000010000000000100000000000\n"),
-    ("base_suffix=1", "0x00000001000000000000100000000000\n"),
-    ("mantissa_radix=1", "0x00000100000000000000100000000000\n"),
-    ("radix=1", "0x00000100000000000000100000000000\n"),
-    ("exponent_base=1", "0x00010000000000000000100000000000\n"),
-    ("exponent_radix=1", "0x01000000000000000000100000000000\n"),
-    ("special_digit_separator=false", "0x00000000000000000000000000000000\n"),
+pub const REFUSALS: [(&[&str], &str, u8); 52] = [
+    (&[""], "numfmt: unknown command\n", 2),
+    (&["shows", "0x"], "numfmt: unknown command\n", 2),
+    (&["show 0xC"], "numfmt: unknown command\n", 2),
+    (&[" show", "0xC"], "numfmt: unknown command\n", 2),
+    (&["show"], "numfmt: wrong number of arguments\n", 2),
+    (&["show", "0x", "0x"], "numfmt: wrong number of arguments\n", 2),
+    (&["edit"], "numfmt: wrong number of arguments\n", 2),
+    (&["check", "0x00000A0000000000000000000000000C", "0x00000A0000000000000000000000000C"], "numfmt: wrong number of arguments\n", 2),
+    (&["same", "0x00000A0000000000000000000000000C"], "numfmt: wrong number of arguments\n", 2),
+    (&["same", "0x", "0x", "0x"], "numfmt: wrong number of arguments\n", 2),
+    (&["options", "0x00000A0000000000000000000000000C", "101"], "numfmt: wrong number of arguments\n", 2),
+    (&["options", "0x", "101", "46", "46"], "numfmt: wrong number of arguments\n", 2),
+    (&["migrate"], "numfmt: wrong number of arguments\n", 2),
+    (&["source"], "numfmt: wrong number of arguments\n", 2),
+    (&["explain", "0xC", "0xC"], "numfmt: wrong number of arguments\n", 2),
+    (&["show", "0x"], "numfmt: bad word\n", 2),
+    (&["show", "0x000000000000000000000000000000000"], "numfmt: bad word\n", 2),
+    (&["show", "0X1"], "numfmt: bad word\n", 2),
+    (&["show", "12"], "numfmt: bad word\n", 2),
+    (&["edit", "0x", "radix"], "numfmt: bad word\n", 2),
+    (&["check", "0xg"], "numfmt: bad word\n", 2),
+    (&["same", "0x1", "0x"], "numfmt: bad word\n", 2),
+    (&["same", "0x", "0x1"], "numfmt: bad word\n", 2),
+    (&["options", "0x", "1", "2"], "numfmt: bad word\n", 2),
+    (&["options", "0x", "256", "2"], "numfmt: bad word\n", 2),
+    (&["show", "0xC\r"], "numfmt: bad word\n", 2),
+    (&["check", " 0xC"], "numfmt: bad word\n", 2),
+    (&["same", "0xC", "0xC "], "numfmt: bad word\n", 2),
+    (&["migrate", "0x C"], "numfmt: bad word\n", 2),
+    (&["source", ""], "numfmt: bad word\n", 2),
+    (&["explain", "C"], "numfmt: bad word\n", 2),
+    (&["edit", "0xC", "radix=256"], "numfmt: bad edit\n", 2),
+    (&["edit", "0xC", "radix"], "numfmt: bad edit\n", 2),
+    (&["edit", "0xC", "radix=16", "radix"], "numfmt: bad edit\n", 2),
+    (&["edit", "0x00000A0000000000000000000000000C", "radix="], "numfmt: bad edit\n", 2),
+    (&["edit", "0x00000A0000000000000000000000000C", "radix=0010"], "numfmt: bad edit\n", 2),
+    (&["edit", "0x00000A0000000000000000000000000C", "radix=none"], "numfmt: bad edit\n", 2),
+    (&["edit", "0x00000A0000000000000000000000000C", "base_prefix='x'"], "numfmt: bad edit\n", 2),
+    (&["edit", "0x00000A0000000000000000000000000C", "base_prefix=0x78"], "numfmt: bad edit\n", 2),
+    (&["edit", "0x00000A0000000000000000000000000C", "=true"], "numfmt: bad edit\n", 2),
+    (&["edit", "0x00000A0000000000000000000000000C", "no_special=True"], "numfmt: bad edit\n", 2),
+    (&["edit", "0x00000A0000000000000000000000000C", "no_special=true="], "numfmt: bad edit\n", 2),
+    (&["edit", "0x00000A0000000000000000000000000C", "STANDARD=true"], "numfmt: bad edit\n", 2),
+    (&["edit", "0xC", "radix=16\r"], "numfmt: bad edit\n", 2),
+    (&["edit", "0xC", "radix = 16"], "numfmt: bad edit\n", 2),
+    (&["edit", "0xC", "radix=16 radix=10"], "numfmt: bad edit\n", 2),
+    (&["options", "0x00000A0000000000000000000000000C", "256", "46"], "numfmt: bad byte\n", 2),
+    (&["options", "0x00000A0000000000000000000000000C", "e", "46"], "numfmt: bad byte\n", 2),
+    (&["options", "0x00000A0000000000000000000000000C", "101", "none"], "numfmt: bad byte\n", 2),
+    (&["options", "0x00000A0000000000000000000000000C", "101", ""], "numfmt: bad byte\n", 2),
+    (&["options", "0xC", " 101", "46"], "numfmt: bad byte\n", 2),
+    (&["options", "0xC", "101", "46\n"], "numfmt: bad byte\n", 2),
 ];
