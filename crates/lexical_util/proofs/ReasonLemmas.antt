@@ -12,7 +12,6 @@ use Rattle.std.proofs.lemmas.Bool.{not_from_true, not-false}
 use Rattle.std.proofs.lemmas.Bool.Decides.{nat_tests}
 use Rattle.std.proofs.lemmas.Nat.{and_assoc, and_comm, and_or_self, or_comm, pow_pos}
 use lib.Bits.{and_self, and_zero_l}
-use denote.Enum.Declared.{tag_of}
 use Rattle.lexical_base.specs.Ascii.{between, allowed_ascii}
 use Rattle.lexical_base.specs.Digits.{digits_of}
 use Rattle.lexical_flags.specs.Layout as layout
@@ -24,7 +23,6 @@ use Rattle.lexical_flags.specs.Rules.{radix_in_range, absent_or_punctuation, rol
 use Rattle.lexical_flags.specs.Rules.{reserved_zero, shape_of, Meets, lacks_position}
 use Rattle.lexical_flags.specs.Options.{OptionsFit}
 use Rattle.lexical_flags.specs.Additions.Masks.{mask_of, reserved_mask}
-use Rattle.lexical_flags.specs.contracts.format_flags.rule.Rule.{the_type}
 use Rattle.lexical_flags.specs.declared.format_flags.rule.Rule.{Rule}
 use Rattle.lexical_flags.specs.declared.format_flags.rule.Rule.TheVariants as rules
 use Rattle.lexical_flags.specs.declared.format_flags.parts.Part.{Part}
@@ -88,10 +86,6 @@ flag_agrees v w s same =
     λ n. any_by_mask n (mask_of_setter s) (flags_of s) refl (flags_ascend s) in
     sym (test v) ∙ ap (λ n. not (n == 0)) same ∙ test w
 
-unset_agrees : (v w : ℕ) (flag : Option FlagSetter) → SameUnder (flag_mask flag) v w → IsUnset v flag → IsUnset w flag
-unset_agrees v w None same h = tt
-unset_agrees v w (Some s) same h = sym (flag_agrees v w s same) ∙ h
-
 lacks_agrees : (v w : ℕ) (part : Part) → SameUnder (mask_of (separator_flags part)) v w
     → lacks_position (raw v) part ≡ lacks_position (raw w) part
 lacks_agrees v w part same = agree part (each part same) where
@@ -107,55 +101,41 @@ lacks_agrees v w part same = agree part (each part same) where
 -- A cause of a word is true of each word that agrees with it under the mask of the cause.
 stays : (v w e p : ℕ) (cause : Cause) → SameUnder (mask_of_cause (raw v) cause) v w → IsTrueOf v e p cause
     → IsTrueOf w e p cause
-stays v w e p (causes.OutOfRange b) same (has, fact) =
-    let both = halves v w _ _ same in (sym (value_agrees v w e p b.name both.0) ∙ has, fact)
-stays v w e p (causes.NotText b) same (has, fact) = (sym (value_agrees v w e p b.name same) ∙ has, fact)
-stays v w e p (causes.IsSign b) same (has, fact) = (sym (value_agrees v w e p b.name same) ∙ has, fact)
-stays v w e p (causes.IsDigit b (radixes.Mantissa m)) same (has, (m_is, digit)) =
-    let all = halves v w _ _ same in
-    let both = halves v w _ _ all.0 in (
-      sym (value_agrees v w e p b.name both.0) ∙ has,
-      (sym (byte v w _ both.1 layout.mantissa_radix refl) ∙ m_is, digit),
-    )
-stays v w e p (causes.IsDigit b (radixes.Exponent x)) same (has, (x_is, digit)) =
-    let both = halves v w _ _ same in (
-      sym (value_agrees v w e p b.name both.0) ∙ has,
-      (sym (byte v w _ both.1 layout.exponent_radix refl) ∙ x_is, digit),
-    )
-stays v w e p (causes.IsDigit b (radixes.Both m x)) same (has, (m_is, m_digit, x_is, x_digit)) =
-    let all = halves v w _ _ same in
-    let both = halves v w _ _ all.0 in (
-      sym (value_agrees v w e p b.name both.0) ∙ has,
-      (
-        sym (byte v w _ both.1 layout.mantissa_radix refl) ∙ m_is,
-        m_digit,
-        sym (byte v w _ all.1 layout.exponent_radix refl) ∙ x_is,
-        x_digit,
-      ),
-    )
-stays v w e p (causes.Same a b) same (a_has, b_has, some, equal) =
-    let both = halves v w _ _ same in (
-      sym (value_agrees v w e p a.name both.0) ∙ a_has,
-      sym (value_agrees v w e p b.name both.1) ∙ b_has,
-      some,
-      equal,
-    )
-stays v w e p (causes.DifferInCase a f b g) same (a_has, b_has, differ, other, f_off, g_off) =
-    let all = halves v w _ _ same in
-    let front = halves v w _ _ all.0 in
-    let both = halves v w _ _ front.0 in (
-      sym (value_agrees v w e p a.name both.0) ∙ a_has,
-      sym (value_agrees v w e p b.name both.1) ∙ b_has,
-      differ,
-      other,
-      unset_agrees v w f front.1 f_off,
-      unset_agrees v w g all.1 g_off,
-    )
-stays v w e p (causes.BothSet a b) same (a_set, b_set) =
-    let both = halves v w _ _ same in
-    (sym (flag_agrees v w a both.0) ∙ a_set, sym (flag_agrees v w b both.1) ∙ b_set)
-stays v w e p (causes.NeedsPosition part) same h = sym (lacks_agrees v w part same) ∙ h
-stays v w e p (causes.ReservedBits bits) same (some, inside, set) = (some, inside, sym same ∙ set)
+stays v w e p = stay where
+  has : (b : NamedByte) → SameUnder (mask_of_byte b.name) v w → Has v e p b → Has w e p b
+  has b same is = sym (value_agrees v w e p b.name same) ∙ is
+
+  unset : (flag : Option FlagSetter) → SameUnder (flag_mask flag) v w → IsUnset v flag → IsUnset w flag
+  unset None same h = tt
+  unset (Some s) same h = sym (flag_agrees v w s same) ∙ h
+
+  stay : (cause : Cause) → SameUnder (mask_of_cause (raw v) cause) v w → IsTrueOf v e p cause → IsTrueOf w e p cause
+  stay (causes.OutOfRange b) same (is, fact) = let own = halves v w _ _ same in (has b own.0 is, fact)
+  stay (causes.NotText b) same (is, fact) = (has b same is, fact)
+  stay (causes.IsSign b) same (is, fact) = (has b same is, fact)
+  stay (causes.IsDigit b (radixes.Mantissa m)) same (is, (m_is, digit)) =
+      let all = halves v w _ _ same in
+      let own = halves v w _ _ all.0 in
+      (has b own.0 is, (sym (byte v w _ own.1 layout.mantissa_radix refl) ∙ m_is, digit))
+  stay (causes.IsDigit b (radixes.Exponent x)) same (is, (x_is, digit)) =
+      let own = halves v w _ _ same in
+      (has b own.0 is, (sym (byte v w _ own.1 layout.exponent_radix refl) ∙ x_is, digit))
+  stay (causes.IsDigit b (radixes.Both m x)) same (is, (m_is, m_digit, x_is, x_digit)) =
+      let all = halves v w _ _ same in
+      let own = halves v w _ _ all.0 in
+      let m_same = sym (byte v w _ own.1 layout.mantissa_radix refl) ∙ m_is in
+      (has b own.0 is, (m_same, m_digit, sym (byte v w _ all.1 layout.exponent_radix refl) ∙ x_is, x_digit))
+  stay (causes.Same a b) same (a_is, b_is, some, equal) =
+      let both = halves v w _ _ same in (has a both.0 a_is, has b both.1 b_is, some, equal)
+  stay (causes.DifferInCase a f b g) same (a_is, b_is, differ, other, f_off, g_off) =
+      let all = halves v w _ _ same in
+      let front = halves v w _ _ all.0 in
+      let both = halves v w _ _ front.0 in
+      (has a both.0 a_is, has b both.1 b_is, differ, other, unset f front.1 f_off, unset g all.1 g_off)
+  stay (causes.BothSet a b) same (a_set, b_set) =
+      let both = halves v w _ _ same in (sym (flag_agrees v w a both.0) ∙ a_set, sym (flag_agrees v w b both.1) ∙ b_set)
+  stay (causes.NeedsPosition part) same h = sym (lacks_agrees v w part same) ∙ h
+  stay (causes.ReservedBits bits) same (some, inside, set) = (some, inside, sym same ∙ set)
 
 -- `Explains word e p D cause` holds if `cause` is true of `word`, and `D` fails for each word of which it is true.
 record Explains (word e p : ℕ) (D : ℕ → Type 0) (cause : Cause) : Type 0 where
@@ -294,29 +274,18 @@ set_is w f = ap (any_flag w) (setter_alone f) ∙ one _ where
   one true = refl
   one false = refl
 
--- A case flag that a reason names is not set. If it is not set in another word either, then a byte that is not
--- case-sensitive in the first word is not case-sensitive in the other word.
-unset_own : (w : ℕ) (b : Byte) → IsUnset w (unset_flag (raw w) b)
-unset_own w b = own (case_flag b) where
-  test : (f : Flag) (set : Bool) → (raw w).flag f ≡ set → IsUnset w (if set then None else Some (setter_of f))
-  test f true is = tt
-  test f false is = set_is w f ∙ is
+-- The case flag that a reason of `v` names is not set in `w` if and only if a byte that is not case-sensitive in `v` is
+-- not case-sensitive in `w` either.
+unset_is : (v w : ℕ) (b : Byte) → IsUnset w (unset_flag (raw v) b) ↔ (is_cased (raw v) b ≡ false → is_cased (raw w) b ≡ false)
+unset_is v w b = is (case_flag b) where
+  own : (f : Flag) (set : Bool) → IsUnset w (if set then None else Some (setter_of f)) ↔ (set ≡ false → (raw w).flag f ≡ false)
+  own f true = (λ h off. absurd (true≢false off), λ h. tt)
+  own f false = (λ h off. sym (set_is w f) ∙ h, λ h. set_is w f ∙ h refl)
 
-  own : (flag : Option Flag) → IsUnset w (if (option_map_or (raw w).flag flag true) then None else option_map setter_of flag)
-  own None = tt
-  own (Some f) = test f _ refl
-
-unset_same : (v w : ℕ) (b : Byte) → IsUnset w (unset_flag (raw v) b) → is_cased (raw v) b ≡ false
-    → is_cased (raw w) b ≡ false
-unset_same v w b = same (case_flag b) where
-  off : (f : Flag) (set : Bool) → IsUnset w (if set then None else Some (setter_of f)) → set ≡ false → (raw w).flag f ≡ false
-  off f true h is = absurd (true≢false is)
-  off f false h is = sym (set_is w f) ∙ h
-
-  same : (flag : Option Flag) → IsUnset w (if (option_map_or (raw v).flag flag true) then None else option_map setter_of flag)
-      → option_map_or (raw v).flag flag true ≡ false → option_map_or (raw w).flag flag true ≡ false
-  same None h is = is
-  same (Some f) h is = off f _ h is
+  is : (flag : Option Flag) → IsUnset w (if (option_map_or (raw v).flag flag true) then None else option_map setter_of flag)
+      ↔ (option_map_or (raw v).flag flag true ≡ false → option_map_or (raw w).flag flag true ≡ false)
+  is None = (λ h off. off, λ h. tt)
+  is (Some f) = own f _
 
 -- `Apart r e p pairs` holds if the bytes of no pair clash, and `clashes r e p pairs` lists the causes of those that do.
 abbrev Apart : Record → ℕ → ℕ → List (Byte × Byte) → Type 0
@@ -367,11 +336,11 @@ module _ (word e p : ℕ) (e_below : e < 256) (p_below : p < 256) (D : ℕ → T
             refl,
             λ same. true≢false (sym (eq-eqb _ _ same) ∙ test),
             other,
-            unset_own word a,
-            unset_own word b,
+            (unset_is word word a).1 (λ h. h),
+            (unset_is word word b).1 (λ h. h),
           );
           refutes = λ w is d.
-              still_clash _ first _ second _ _ (unset_same word w a is.4) (unset_same word w b is.5) clash
+              still_clash _ first _ second _ _ ((unset_is word w a).0 is.4) ((unset_is word w b).0 is.5) clash
               (subst (λ n. Disjoint (cased (is_cased (raw w) a) n) (cased (is_cased (raw w) b) second)) is.0
               (subst (λ n. Disjoint (role (raw w) e p a) (cased (is_cased (raw w) b) n)) is.1 (apart w d)));
         }
@@ -742,22 +711,3 @@ module _ (word e p : ℕ) (e_below : e < 256) (p_below : p < 256) where
         options_settled.1 (no_causes (reason_of (raw word) None) (λ r. ⊥) (λ c h. h) (options_causes word e p)
         (without (λ r. ⊥) (options_slots word e p) none)),
   )
-
--- THE NUMBERS OF RULES
-
--- The number of a variant of `Rule` is its index in the order of the rules, so rules with equal numbers are equal.
-rule_at : ℕ → Rule
-rule_at number = slice_index_or rules_in_order number rules.ReservedBitsAreZero
-
-rule_of_number : (rule : Rule) → rule_at (tag_of the_type rule) ≡ rule
-unfolding rule_at
-rule_of_number rules.MantissaRadixInRange = refl
-rule_of_number _ = refl
-
--- A rule that is there is `rule` if and only if their numbers are equal.
-pub is_rule : (own : Option Rule) (a rule : Rule) → own ≡ Some a
-    → IsTrue (tag_of the_type a == tag_of the_type rule) ↔ (own ≡ Some rule)
-is_rule own a rule is = (
-  λ same. is ∙ ap Some (sym (rule_of_number a) ∙ ap rule_at (eqb-true _ _ same) ∙ rule_of_number rule),
-  λ same. eq-eqb _ _ (ap (tag_of the_type) (some_is a rule (sym is ∙ same))),
-)
