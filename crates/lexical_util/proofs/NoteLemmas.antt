@@ -5,18 +5,17 @@ use Rattle.std.proofs.Common.{bit_or, zero, suc}
 use Rattle.std.specs.Prelude.{Contains}
 use Rattle.std.specs.Bool.{then_some}
 use Rattle.std.specs.List.{AllByRecursion, list_any}
-use Rattle.std.specs.Option.{IfSome}
 use Rattle.std.proofs.lemmas.Bool.{true≢false, eqb-true, eq-eqb, and_parts}
 use Rattle.std.proofs.lemmas.Bool.Decides.{nat_tests}
 use Rattle.std.proofs.lemmas.Nat.{and_assoc, and_comm, and_or_apart}
 use lib.Bits.{and_self, and_zero_l}
-use Rattle.lexical_base.specs.Ascii.{ByteSet, allowed_ascii}
+use Rattle.lexical_base.specs.Ascii.{ByteSet}
 use Rattle.lexical_base.specs.Digits.{digits_of}
 use Rattle.lexical_flags.specs.Layout as layout
 use Rattle.lexical_flags.specs.Layout.{Flag, bit, digit_separator_flags}
 use Rattle.lexical_flags.specs.Record.{Record, raw, trim, effective, separator_allowed}
-use Rattle.lexical_flags.specs.Roles.{Disjoint, AreDisjoint, cased, other_case, digits, signs, separator, used_separator}
-use Rattle.lexical_flags.specs.Roles.{prefix, suffix, exponent, point, format_roles}
+use Rattle.lexical_flags.specs.Roles.{Disjoint, AreDisjoint, cased, other_case, digits, separator, used_separator}
+use Rattle.lexical_flags.specs.Roles.{prefix, suffix, exponent, point}
 use Rattle.lexical_flags.specs.Rules.{IsPunctuation, Holds}
 use Rattle.lexical_flags.specs.Options.{OptionsFit}
 use Rattle.lexical_flags.specs.Additions.Masks.{byte_mask, mask_of}
@@ -25,13 +24,11 @@ use Rattle.lexical_flags.specs.declared.format_flags.rule.Rule.{Rule}
 use Rattle.lexical_flags.specs.declared.format_flags.rule.Rule.TheVariants as rules
 use Rattle.lexical_flags.proofs.RuleFieldLemmas.{flag, byte, flags_agree, SameFlag, SameByte, kept_alike}
 use Rattle.lexical_flags.proofs.CaseLemmas.{differ_apart}
-use Rattle.lexical_util.specs.Edits.{flags_of}
-use Rattle.lexical_util.specs.Groups.{any_flag}
 use Rattle.lexical_util.specs.Additions.ByteRoles.{role_set}
 use Rattle.lexical_util.specs.Additions.EditMasks.{mask_of_setter}
 use Rattle.lexical_util.specs.Additions.Reasons.{value_of, mask_of_byte, EachReason, Breaks, Blames}
-use Rattle.lexical_util.specs.Additions.Notes.{mask_of_note, idle_mask, IsSetCaseFlag, IsIdle, AreNotes, Explains, Clears}
-use Rattle.lexical_util.specs.Additions.Notes.{SameRules, ChangeNothing}
+use Rattle.lexical_util.specs.Additions.Notes.{mask_of_note, idle_mask, IsSetCaseFlag, IsIdle, AreNotes, AreReasons, Clears}
+use Rattle.lexical_util.specs.Additions.Notes.{ChangeNothing}
 use Rattle.lexical_util.specs.Private.{named, is_cased, separator_note, case_note, unless_blamed, blamed}
 use Rattle.lexical_util.specs.declared.edits.setters.FlagSetter.{FlagSetter}
 use Rattle.lexical_util.specs.declared.edits.setters.FlagSetter.TheVariants as setters
@@ -393,7 +390,7 @@ module _ (v w mask : ℕ) (clears : Clears mask v w) where
   kept q apart h = kept_alike q v w (stay (mask_read q) apart) h
 
   -- If no reason blames a bit under `mask`, then a rule that is broken stays broken.
-  broken : (list : List (Option Reason)) → Explains v list → EachReason (λ r. bit_and r.mask mask ≡ 0) list → (q : Rule)
+  broken : (list : List (Option Reason)) → AreReasons v list → EachReason (λ r. bit_and r.mask mask ≡ 0) list → (q : Rule)
       → Holds q w → Holds q v
   broken list h free q holds = (h.rules q).1 (each list (h.blame w) free) where
     each : (list : List (Option Reason)) → EachReason (Blames v w) list → EachReason (λ r. bit_and r.mask mask ≡ 0) list
@@ -535,7 +532,7 @@ idle_part m (notes.CaseFlagOfNonLetter f b) none = (zero_halves m (mask_of_sette
 
 -- If reasons explain which rules a word breaks, and notes beside them are on `r`, from which the word is packed, then
 -- clearing what these notes name changes nothing.
-change_nothing : (word : ℕ) (r : Record) (reasons : List (Option Reason)) (found : List (Option Note)) → Explains word reasons
+change_nothing : (word : ℕ) (r : Record) (reasons : List (Option Reason)) (found : List (Option Note)) → AreReasons word reasons
     → ((note : Note) → IsReady r note → IsReady (raw word) note) → AreNotes r reasons found → ChangeNothing word found
 change_nothing word r reasons found explains packed are note there other clears =
     let idle = (are note).0 there in
@@ -548,11 +545,11 @@ change_nothing word r reasons found explains packed are note there other clears 
       no_more_options = λ same. alike_options other word (turned word other own.like same);
     }
 
-pub idle_in_word : (word : ℕ) (reasons : List (Option Reason)) (found : List (Option Note)) → Explains word reasons
+pub idle_in_word : (word : ℕ) (reasons : List (Option Reason)) (found : List (Option Note)) → AreReasons word reasons
     → AreNotes (raw word) reasons found → ChangeNothing word found
 idle_in_word word reasons found explains are = change_nothing word (raw word) reasons found explains (λ note h. h) are
 
 pub idle_in_builder : (word : ℕ) (r : Record) (reasons : List (Option Reason)) (found : List (Option Note)) → raw word ≡ trim r
-    → Explains word reasons → AreNotes r reasons found → ChangeNothing word found
+    → AreReasons word reasons → AreNotes r reasons found → ChangeNothing word found
 idle_in_builder word r reasons found fields explains are =
     change_nothing word r reasons found explains (λ note h. subst (λ s. IsReady s note) (sym fields) (ready_packed r note h)) are

@@ -1,5 +1,5 @@
 -- Definitions for private functions and for the proofs of this crate. No public contract cites them.
-use Rattle.std.specs.Prelude.{ℕ, ◌≡◌, ◌==◌, ◌&&◌, Bool, true, false, not, if◌then◌else◌, Option, None, Some, option_map}
+use Rattle.std.specs.Prelude.{ℕ, ◌==◌, ◌&&◌, Bool, true, false, not, if◌then◌else◌, Option, None, Some, option_map}
 use Rattle.std.specs.Prelude.{List, [], ◌∷◌, bit_and, bit_or}
 use Rattle.std.specs.Bool.{then_some}
 use Rattle.std.specs.List.{list_any}
@@ -8,7 +8,7 @@ use Rattle.lexical_base.specs.Ascii.{ByteSet, between, allowed_ascii}
 use Rattle.lexical_base.specs.Digits.{digits_of}
 use Rattle.lexical_flags.specs.Layout as layout
 use Rattle.lexical_flags.specs.Layout.{Flag, separator_flags}
-use Rattle.lexical_flags.specs.Record.{Record, raw, separator_allowed}
+use Rattle.lexical_flags.specs.Record.{Record, separator_allowed}
 use Rattle.lexical_flags.specs.Roles.{are_disjoint, cased, signs, other_case}
 use Rattle.lexical_flags.specs.Additions.Masks.{byte_mask, mask_of, reserved_mask}
 use Rattle.lexical_flags.specs.declared.format_flags.rule.Rule.{Rule}

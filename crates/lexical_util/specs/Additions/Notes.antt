@@ -58,9 +58,9 @@ abbrev pub AreNotes : Record → List (Option Reason) → List (Option Note) →
 AreNotes r reasons found = (note : Note) → Contains found (Some note)
     ↔ (IsIdle r note × EachReason (λ reason. bit_and reason.mask (mask_of_note note) ≡ 0) reasons)
 
--- `Explains word reasons` holds if `word` breaks a rule if and only if it does so because of one of `reasons`, each of
+-- `AreReasons word reasons` holds if `word` breaks a rule if and only if it does so because of one of `reasons`, each of
 -- which has the bits that it depends on in its mask.
-pub record Explains (word : ℕ) (reasons : List (Option Reason)) : Type 0 where
+pub record AreReasons (word : ℕ) (reasons : List (Option Reason)) : Type 0 where
   pub rules : (rule : Rule) → Holds rule word ↔ EachReason (λ r. Breaks r rule → ⊥) reasons
   pub blame : (other : ℕ) → EachReason (Blames word other) reasons
 

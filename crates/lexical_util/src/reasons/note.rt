@@ -4,7 +4,7 @@ ghost use Rattle.std.specs.Prelude.{◌≡◌, ◌==◌, ℕ, [], ◌∷◌, Opt
 ghost use Rattle.lexical_flags.specs.Layout as layout;
 ghost use Rattle.lexical_flags.specs.Record.{pack, raw, set_byte};
 ghost use Rattle.lexical_flags.specs.Roles.{other_case};
-ghost use Rattle.lexical_util.specs.Additions.Notes.{mask_of_note, IsIdle, AreNotes, Explains, ChangeNothing};
+ghost use Rattle.lexical_util.specs.Additions.Notes.{mask_of_note, IsIdle, AreNotes, AreReasons, ChangeNothing};
 ghost use Rattle.lexical_util.specs.Private.{separator_note, case_note, unless_blamed, blamed};
 ghost use Rattle.lexical_util.specs.declared.edits.setters.FlagSetter.TheVariants as setters;
 ghost use Rattle.lexical_util.specs.declared.reasons.Byte.TheVariants as bytes;
@@ -60,10 +60,10 @@ impl Note {
 /// fields that it names.
 #[must_use]
 pub const fn notes(format: u128) -> [Option<Note>; MAX_NOTES]
-    // These are the notes beside reasons that explain which rules the word breaks.
-    ensures found { (found : List (Option Reason)) × (Explains format found × AreNotes (raw format) found result) }
+    // No reason of the word blames a field of these notes, and these are all such notes.
+    ensures found { (slots : List (Option Reason)) × (AreReasons format slots × AreNotes (raw format) slots result) }
 
-    // Clearing what is set without effect changes nothing.
+    // What a note names can be cleared without changing a rule, a role or an option.
     ensures idle { ChangeNothing format result }
 {
     notes_beside_reasons(format, &reasons(format))
@@ -76,7 +76,7 @@ pub const fn notes_beside_reasons(
     reasons: &[Option<Reason>],
 ) -> [Option<Note>; MAX_NOTES]
     ensures found { AreNotes (raw format) reasons.now result }
-    ensures idle { Explains format reasons.now → ChangeNothing format result }
+    ensures idle { AreReasons format reasons.now → ChangeNothing format result }
 {
     notes_beside(blamed(reasons), format, flags::digit_separator(format))
 }
@@ -86,7 +86,8 @@ pub const fn notes_beside_reasons(
 /// A digit separator that no flag allows has a note, although the builder does not pack it.
 #[must_use]
 pub const fn notes_of_fields(builder: &NumberFormatBuilder) -> [Option<Note>; MAX_NOTES]
-    ensures found { (found : List (Option Reason)) × (Explains (pack builder.now) found × AreNotes builder.now found result) }
+    ensures found { (slots : List (Option Reason))
+        × (AreReasons (pack builder.now) slots × AreNotes builder.now slots result) }
     ensures idle { ChangeNothing (pack builder.now) result }
 {
     let separator = match builder.get_digit_separator() {

@@ -1,7 +1,6 @@
-use Rattle.std.proofs.Common.{rules, ◌≡◌, ◌↔◌, List, [], ◌∷◌, ◌++◌, Option, sym, subst, flat_map, take, drop}
+use Rattle.std.proofs.Common.{rules, ◌≡◌, ◌↔◌, [], ◌∷◌, ◌++◌, subst, flat_map, take, drop}
 use Rattle.lexical_flags.specs.Rules.{Holds, Lawful, radix_rules, punctuation_rules, flag_rules}
 use Rattle.lexical_flags.specs.declared.format_flags.rule.Rule.TheVariants as all
-use Rattle.lexical_util.specs.declared.reasons.Reason.{Reason}
 use Rattle.lexical_util.specs.Additions.Reasons.{EachReason, NoReason, Breaks, Blames}
 use Rattle.lexical_util.proofs.ReasonLemmas.{slots, reason_slots, blame, by_rules, lawful_without_reason}
 use Rattle.lexical_util.proofs.reasons.reasons.Goals as goal

@@ -1,6 +1,5 @@
 use Rattle.std.proofs.Common.{ap, refl, arith, subst, sym, unwrap_or, inl, inr}
 use Rattle.lexical_flags.specs.Rules.{Holds, IsPunctuation}
-use Rattle.lexical_flags.specs.declared.format_flags.rule.Rule.{Rule}
 use Rattle.lexical_flags.specs.declared.format_flags.rule.Rule.TheVariants as rules
 use Rattle.lexical_util.proofs.laws.examples.reason_examples.Goals as goal
 
