@@ -4,12 +4,12 @@ use Rattle.lexical_flags.specs.Layout as layout
 use Rattle.lexical_flags.specs.Layout.{digit_separator_flags}
 use Rattle.lexical_flags.specs.Record.{Record, raw, separator_allowed}
 use Rattle.lexical_flags.specs.Roles.{other_case}
-use Rattle.lexical_flags.specs.Rules.{Holds}
+use Rattle.lexical_flags.specs.Rules.{Holds, Lawful}
 use Rattle.lexical_flags.specs.Options.{OptionsFit}
 use Rattle.lexical_flags.specs.Additions.Masks.{byte_mask, mask_of}
 use Rattle.lexical_flags.specs.declared.format_flags.rule.Rule.{Rule}
 use Rattle.lexical_util.specs.Additions.ByteRoles.{role_set}
-use Rattle.lexical_util.specs.Additions.Reasons.{value_of, mask_of_byte, EachReason, Breaks, Blames}
+use Rattle.lexical_util.specs.Additions.Reasons.{value_of, mask_of_byte, EachReason, NoReason, Breaks, Blames}
 use Rattle.lexical_util.specs.Additions.EditMasks.{mask_of_setter}
 use Rattle.lexical_util.specs.declared.edits.setters.FlagSetter.{FlagSetter}
 use Rattle.lexical_util.specs.declared.edits.setters.FlagSetter.TheVariants as setters
@@ -58,9 +58,10 @@ abbrev pub AreNotes : Record → List (Option Reason) → List (Option Note) →
 AreNotes r reasons found = (note : Note) → Contains found (Some note)
     ↔ (IsIdle r note × EachReason (λ reason. bit_and reason.mask (mask_of_note note) ≡ 0) reasons)
 
--- `AreReasons word reasons` holds if `word` breaks a rule if and only if it does so because of one of `reasons`, each of
--- which has the bits that it depends on in its mask.
+-- `AreReasons word reasons` holds if there are `reasons` if and only if `word` breaks a rule, it breaks a rule if and only
+-- if it does so because of one of them, and each has the bits on which it depends in its mask.
 pub record AreReasons (word : ℕ) (reasons : List (Option Reason)) : Type 0 where
+  pub lawful : Lawful word ↔ NoReason reasons
   pub rules : (rule : Rule) → Holds rule word ↔ EachReason (λ r. Breaks r rule → ⊥) reasons
   pub blame : (other : ℕ) → EachReason (Blames word other) reasons
 

@@ -28,7 +28,7 @@ returns c =
     let found : AreNotes r reasons c.notes_beside.result =
     subst (AreNotes r reasons) (ap (λ m. all_notes m r) (sym c.blamed.ensures) ∙ sym same) (are_notes r reasons) in
     let explains : AreReasons c.build_unchecked-format.result reasons =
-    record { rules = c.reasons.ensures.rules; blame = c.reasons.ensures.blame } in
+    record { lawful = c.reasons.ensures.lawful; rules = c.reasons.ensures.rules; blame = c.reasons.ensures.blame } in
     let idle = idle_in_builder c.build_unchecked-format.result r reasons c.notes_beside.result
     c.build_unchecked-format.ensures.fields explains found in record {
       found = (reasons, (subst (λ w. AreReasons w reasons) c.build_unchecked-format.ensures.word explains, found));
