@@ -47,6 +47,7 @@ const TWO_REASONS: &str = "the digit separator '5' is a digit in radix 10
     error: lexical number format error: 'invalid digit separator: must be ASCII and not a digit or a `+/-` sign'
     field: digit_separator=53
     field: mantissa_radix=10
+    field: exponent_radix=none
 no_exponent_notation and required_exponent_notation cannot both be set
     error: lexical number format error: 'exponent flags set while disabling exponent notation'
     field: no_exponent_notation=true
@@ -58,6 +59,8 @@ const THREE_RULES: &str = "the mantissa radix 0 is not between 2 and 36
     error: lexical number format error: 'invalid exponent base'
     error: lexical number format error: 'invalid radix for exponent digits'
     field: mantissa_radix=0
+    field: exponent_base=none
+    field: exponent_radix=none
 ";
 
 const RESERVED_BIT_EXPLAINED: &str = "reserved bits are set: 0x80000000, which any edit clears
