@@ -8,8 +8,8 @@ use crate::short_text::ShortText;
 
 /// Why a word is not a [`Format`][crate::Format], why a text is not one, or why a format does not accept options.
 ///
-/// `Display` prints the first of the [`reasons`][Self::reasons]. If there are none, it prints the
-/// [`code`][Self::code].
+/// `Display` prints the first of the [`reasons`][Self::reasons]. If there are none, it prints that a word begins with
+/// `0x` if the text does not, and otherwise the [`code`][Self::code].
 ///
 /// ```
 /// use core::num::NonZeroU8;
@@ -98,9 +98,10 @@ impl core::error::Error for FormatError {}
 
 impl fmt::Display for FormatError {
     fn fmt(&self, f: &mut fmt::Formatter<'_>) -> fmt::Result {
-        match self.first_reason() {
-            Some(reason) => fmt::Display::fmt(&reason, f),
-            None => fmt::Display::fmt(&self.code, f),
+        match (self.first_reason(), self.code.index()) {
+            (Some(reason), _) => fmt::Display::fmt(&reason, f),
+            (None, Some(0 | 1)) => f.write_str("a format word begins with `0x`"),
+            (None, _) => fmt::Display::fmt(&self.code, f),
         }
     }
 }

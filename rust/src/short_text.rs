@@ -72,6 +72,7 @@ impl ShortText {
         }
     }
 
+    // Appends `words`, if they fit.
     const fn put(&mut self, words: &str) {
         let start = self.length;
         // The length is never above the capacity. A compiler that knows this copies all bytes at once.
@@ -86,7 +87,7 @@ impl ShortText {
         self.length = start + words.len();
     }
 
-    // Appends `byte`, if it is an ASCII character.
+    // Appends `byte`, if it is an ASCII character and fits.
     const fn put_byte(&mut self, byte: u8) {
         if byte.is_ascii() && self.length < CAPACITY {
             self.bytes[self.length] = byte;
@@ -94,6 +95,7 @@ impl ShortText {
         }
     }
 
+    // Appends the decimal digits of `n` that fit.
     const fn put_decimal(&mut self, n: usize) {
         let has_front = n >= 10;
         if has_front {
@@ -102,6 +104,7 @@ impl ShortText {
         self.put_byte(b'0' + (n % 10) as u8);
     }
 
+    // Appends the hexadecimal digits of `n` that fit.
     const fn put_hexadecimal(&mut self, n: u128) {
         let has_front = n >= 16;
         if has_front {

@@ -88,7 +88,8 @@ impl ShortText {
     pub const fn quoted(mut self, byte: u8) -> ShortText
         ensures character { IsTrue (is_ascii_graphic byte) → byte ≢ 39 → length self + 3 ≤ 256 →
             result ≡ self ++ 39 ∷ byte ∷ 39 ∷ [] }
-        ensures number { IsFalse (is_ascii_graphic byte) ⊎ (byte ≡ 39) → length self + 20 ≤ 256 → result ≡ self ++ decimal byte }
+        ensures number { IsFalse (is_ascii_graphic byte) ⊎ (byte ≡ 39) → length self + 20 ≤ 256 →
+            result ≡ self ++ decimal byte }
     {
         if byte.is_ascii_graphic() && byte != b'\'' {
             self.put_byte(b'\'');
@@ -100,6 +101,7 @@ impl ShortText {
         }
     }
 
+    // Appends `words`, if they fit.
     const fn put(&mut self, words: &str)
         ensures { length self.old + length words.now ≤ 256 → self.new ≡ self.old ++ words.now }
     {
@@ -116,7 +118,7 @@ impl ShortText {
         self.length = start + words.len();
     }
 
-    // Appends `byte`, if it is an ASCII character.
+    // Appends `byte`, if it is an ASCII character and fits.
     const fn put_byte(&mut self, byte: u8)
         ensures fits { byte < 128 → length self.old < 256 → self.new ≡ self.old ++ byte ∷ [] }
         ensures kept { take (length self.old) self.new ≡ self.old }
@@ -127,6 +129,7 @@ impl ShortText {
         }
     }
 
+    // Appends the decimal digits of `n` that fit.
     const fn put_decimal(&mut self, n: usize)
         ensures { length self.old + length (decimal n) ≤ 256 → self.new ≡ self.old ++ decimal n }
     {
@@ -137,6 +140,7 @@ impl ShortText {
         self.put_byte(b'0' + (n % 10) as u8);
     }
 
+    // Appends the hexadecimal digits of `n` that fit.
     const fn put_hexadecimal(&mut self, n: u128)
         ensures { take (length self.old) self.new ≡ self.old }
     {

@@ -14,4 +14,3 @@ mod PunctuationBytes
 pub mod RoleLemmas
 mod OptionLemmas
 pub mod ReservedBits
-mod AgreeLemmas

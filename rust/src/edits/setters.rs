@@ -219,15 +219,16 @@ macro_rules! variants {
     };
 }
 
-const FLAGS: usize = u128::count_ones(FLAG_MASK) as usize;
+/// The number of flags in a format word.
+pub const FLAG_COUNT: usize = u128::count_ones(FLAG_MASK) as usize;
 
-/// The number of fields in a format word: 31 flags and six bytes.
-pub const FIELD_COUNT: usize = FLAGS + 6;
+/// The number of fields in a format word: all flags and six bytes.
+pub const FIELD_COUNT: usize = FLAG_COUNT + 6;
 
 /// All setters that take a `bool`, in the order of the variants of [`FlagSetter`]: first the flag setters, then the
 /// nine group setters.
 #[doc(hidden)]
-pub const SETTERS: [FlagSetter; FLAGS + 9] = with_setters!(variants());
+pub const SETTERS: [FlagSetter; FLAG_COUNT + 9] = with_setters!(variants());
 
 // Makes an array of all setters: the flag setters, the group setters, then the byte setters.
 macro_rules! all_setters {

@@ -2,7 +2,7 @@
 
 ghost use Rattle.std.specs.Prelude.{◌≡◌, ◌↔◌, Bool, IfSome, IsSome, min, if◌then◌else◌};
 ghost use Rattle.lexical_flags.specs.Record.{raw};
-ghost use Rattle.lexical_builder.specs.BuilderBits.{flags_with};
+ghost use Rattle.lexical_builder.specs.Writes.{flags_with};
 ghost use Rattle.lexical_util.specs.Edits.{flags_of, writes_of};
 ghost use Rattle.lexical_util.specs.Groups.{any_flag};
 ghost use Rattle.lexical_util.specs.Additions.EditMasks.{argument_byte, mask_of_setter, mask_of_edit};
@@ -221,15 +221,16 @@ macro_rules! variants {
     };
 }
 
-const FLAGS: usize = u128::count_ones(FLAG_MASK) as usize;
+/// The number of flags in a format word.
+pub const FLAG_COUNT: usize = u128::count_ones(FLAG_MASK) as usize;
 
-/// The number of fields in a format word: 31 flags and six bytes.
-pub const FIELD_COUNT: usize = FLAGS + 6;
+/// The number of fields in a format word: all flags and six bytes.
+pub const FIELD_COUNT: usize = FLAG_COUNT + 6;
 
 /// All setters that take a `bool`, in the order of the variants of [`FlagSetter`]: first the flag setters, then the
 /// nine group setters.
 #[doc(hidden)]
-pub const SETTERS: [FlagSetter; FLAGS + 9] = with_setters!(variants());
+pub const SETTERS: [FlagSetter; FLAG_COUNT + 9] = with_setters!(variants());
 
 // Makes an array of all setters: the flag setters, the group setters, then the byte setters.
 macro_rules! all_setters {
