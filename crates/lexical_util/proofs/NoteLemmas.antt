@@ -501,19 +501,19 @@ quiet_flag v w f (inl (is, caseless)) clears =
     (no_case _ ((raw w).flag layout.case_sensitive_base_prefix) _ caseless
     ∙ (λ i. cased ((raw w).flag layout.case_sensitive_base_prefix) (same_byte v w _ own layout.base_prefix refl i)))
     (suffix_stays v w _ own refl refl) reads where
-  reads : (q : Rule) → (q ≡ rules.PunctuationDiffers)
-      ⊎ (bit_and (mask_read q) (mask_of (layout.case_sensitive_base_prefix ∷ [])) ≡ 0)
-  reads rules.PunctuationDiffers = inl refl
-  reads q = inr refl
+      reads : (q : Rule) → (q ≡ rules.PunctuationDiffers)
+          ⊎ (bit_and (mask_read q) (mask_of (layout.case_sensitive_base_prefix ∷ [])) ≡ 0)
+      reads rules.PunctuationDiffers = inl refl
+      reads q = inr refl
 quiet_flag v w f (inr (is, caseless)) clears =
     let own : Clears (mask_of (layout.case_sensitive_base_suffix ∷ [])) v w = subst (λ f. Clears (mask_of_setter f) v w) is clears in
     quiet_case v w (mask_of (layout.case_sensitive_base_suffix ∷ [])) own refl refl refl (prefix_stays v w _ own refl refl)
     (no_case _ ((raw w).flag layout.case_sensitive_base_suffix) _ caseless
     ∙ (λ i. cased ((raw w).flag layout.case_sensitive_base_suffix) (same_byte v w _ own layout.base_suffix refl i))) reads where
-  reads : (q : Rule) → (q ≡ rules.PunctuationDiffers)
-      ⊎ (bit_and (mask_read q) (mask_of (layout.case_sensitive_base_suffix ∷ [])) ≡ 0)
-  reads rules.PunctuationDiffers = inl refl
-  reads q = inr refl
+      reads : (q : Rule) → (q ≡ rules.PunctuationDiffers)
+          ⊎ (bit_and (mask_read q) (mask_of (layout.case_sensitive_base_suffix ∷ [])) ≡ 0)
+      reads rules.PunctuationDiffers = inl refl
+      reads q = inr refl
 
 quiet : (v w : ℕ) (note : Note) → IsReady (raw v) note → Clears (idle_mask note) v w → IsQuiet v w
 quiet v w (notes.SeparatorWithoutFlag b) h clears = quiet_separator v w clears h
