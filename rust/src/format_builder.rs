@@ -214,7 +214,8 @@ impl NumberFormatBuilder {
     pub const fn rebuild(format: u128) -> Self {
         let high = (format >> 64) as u64;
         let radix = (high >> MANTISSA_SHIFT) % 256;
-        let exponent_radix = byte_or_radix(high >> RADIX_SHIFT, radix);
+        let exponent_radix = flags::byte_or_radix(high >> RADIX_SHIFT, radix);
+        let exponent_base = flags::byte_or_radix((high >> BASE_SHIFT) % 256, radix);
         NumberFormatBuilder {
             flags: builder_flags(format),
             bytes: [
@@ -222,7 +223,7 @@ impl NumberFormatBuilder {
                 ((high >> PREFIX_SHIFT) % 256) as u8,
                 ((high >> SUFFIX_SHIFT) % 256) as u8,
                 radix as u8,
-                base_or_radix(high),
+                exponent_base as u8,
                 exponent_radix as u8,
             ],
         }
@@ -248,27 +249,6 @@ impl NumberFormatBuilder {
         self.bytes[index] = value;
         self
     }
-}
-
-// Returns an exponent byte of a format word, or the mantissa radix if the byte is 0. Both are 64 bits wide, like the
-// upper half of a word, since a choice between narrower numbers is slower.
-const fn byte_or_radix(byte: u64, mantissa_radix: u64) -> u64 {
-    if byte == 0 {
-        mantissa_radix
-    } else {
-        byte
-    }
-}
-
-// Returns the exponent base in the upper half of a format word, or the mantissa radix if the base is 0. The half is
-// chosen before it is shifted, since a choice between two shifted halves is slower.
-const fn base_or_radix(high: u64) -> u8 {
-    let half = if (high >> BASE_SHIFT) % 256 == 0 {
-        high << (BASE_SHIFT - MANTISSA_SHIFT)
-    } else {
-        high
-    };
-    ((half >> BASE_SHIFT) % 256) as u8
 }
 
 // Returns the flags of a format word, each at its bit in a builder.

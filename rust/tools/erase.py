@@ -76,6 +76,7 @@ REPLACED = [
 # Texts that plain Rust replaces in every file, wherever they occur.
 EVERYWHERE = [
     ("fn fmt<W: fmt::Write>(&self, f: &mut fmt::Formatter<W>)", "fn fmt(&self, f: &mut fmt::Formatter<'_>)"),
+    ("rattlefmt::skip", "rustfmt::skip"),
 ]
 
 # Types that may grow. In plain Rust, a match outside the crate has to have an arm for what they lack today.
