@@ -149,7 +149,7 @@ class Words(unittest.TestCase):
             error = pickle.loads(pickle.dumps(caught.exception))
             self.assertEqual(str(error), "; ".join(sentences))
             self.assertEqual([it.rules for it in error.reasons], [(rule,) for rule in rules])
-        self.assertEqual([it.mask for it in view.reasons()], [0xFF << 104 | 0xFF << 88, 1 << 10 | 1 << 44])
+        self.assertEqual([it.mask for it in view.reasons()], [0xFF << 120 | 0xFF << 104 | 0xFF << 88, 1 << 10 | 1 << 44])
 
     def test_the_words_of_format_that_break_one_rule(self):
         self.assertEqual([int(number) for number, *_ in RULES], list(Rule))

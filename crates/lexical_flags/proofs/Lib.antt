@@ -7,7 +7,7 @@ pub mod FlagBits
 pub mod CommonLemmas
 mod RuleLemmas
 pub mod RuleFieldLemmas
-mod NormalRules
+pub mod NormalRules
 mod DisjointLemmas
 pub mod CaseLemmas
 mod PunctuationBytes

@@ -290,28 +290,33 @@ impl FlagSetter {
     }
 }
 
+// Returns a setter with the given name, or `None` if there is none.
+fn named(name: &str) -> Option<Setter> {
+    macro_rules! setters {
+        (($name:ident)
+            { $($Flag:ident $flag:ident $FLAG:ident;)* } { $($Group:ident $group:ident $GROUP:ident;)* }) => {
+            match $name {
+                $(stringify!($flag) => Some(Setter::Flag(FlagSetter::$Flag)),)*
+                $(stringify!($group) => Some(Setter::Flag(FlagSetter::$Group)),)*
+                "digit_separator" => Some(Setter::DigitSeparator),
+                "base_prefix" => Some(Setter::BasePrefix),
+                "base_suffix" => Some(Setter::BaseSuffix),
+                "mantissa_radix" => Some(Setter::MantissaRadix),
+                "radix" => Some(Setter::Radix),
+                "exponent_base" => Some(Setter::ExponentBase),
+                "exponent_radix" => Some(Setter::ExponentRadix),
+                _ => None,
+            }
+        };
+    }
+    with_setters!(setters(name))
+}
+
 impl Setter {
     /// Returns the setter with the given name, or `None` if there is no such setter.
     #[must_use]
     pub fn from_name(name: &str) -> Option<Setter> {
-        macro_rules! setters {
-            (($name:ident)
-                { $($Flag:ident $flag:ident $FLAG:ident;)* } { $($Group:ident $group:ident $GROUP:ident;)* }) => {
-                match $name {
-                    $(stringify!($flag) => Some(Setter::Flag(FlagSetter::$Flag)),)*
-                    $(stringify!($group) => Some(Setter::Flag(FlagSetter::$Group)),)*
-                    "digit_separator" => Some(Setter::DigitSeparator),
-                    "base_prefix" => Some(Setter::BasePrefix),
-                    "base_suffix" => Some(Setter::BaseSuffix),
-                    "mantissa_radix" => Some(Setter::MantissaRadix),
-                    "radix" => Some(Setter::Radix),
-                    "exponent_base" => Some(Setter::ExponentBase),
-                    "exponent_radix" => Some(Setter::ExponentRadix),
-                    _ => None,
-                }
-            };
-        }
-        with_setters!(setters(name))
+        named(name)
     }
 
     /// Returns the name of the setter.

@@ -65,23 +65,16 @@ macro_rules! built {
 /// Expressions that are compiled here, and those of words in which a bit is flipped, or all bits but one.
 #[test]
 fn an_expression_is_read_back() {
-    let rows = [
-        built!(NumberFormatBuilder::new().no_special(true).mantissa_radix(16).build_or_panic()),
+    for (word, code) in [
         built!(NumberFormatBuilder::new()
             .integer_internal_digit_separator(true)
             .digit_separator(NonZeroU8::new(b'_'))
-            .base_prefix(NonZeroU8::new(b'~'))
-            .base_suffix(NonZeroU8::new(92))
-            .mantissa_radix(36)
+            .base_prefix(NonZeroU8::new(39))
+            .base_suffix(NonZeroU8::new(32))
             .exponent_base(NonZeroU8::new(36))
             .build_or_panic()),
-        built!(NumberFormatBuilder::new()
-            .required_exponent_digits(false)
-            .base_prefix(NonZeroU8::new(39))
-            .build_or_panic()),
-        built!(NumberFormatBuilder::new().base_suffix(NonZeroU8::new(127)).mantissa_radix(0).build_unchecked()),
-    ];
-    for (word, code) in rows {
+        built!(NumberFormatBuilder::new().no_special(true).mantissa_radix(0).build_unchecked()),
+    ] {
         assert_eq!(format!("{:->400.3}", BuilderExpression(word)), code);
     }
     for word in (0..128).map(|bit| 0xC ^ 1 << bit).flat_map(|word| [word, !word]) {
