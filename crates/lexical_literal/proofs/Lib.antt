@@ -1,0 +1,8 @@
+-- Lemmas.
+mod RunLemmas
+mod ScanLemmas
+mod StepLemmas
+mod LiteralLemmas
+mod FrontLemmas
+mod LongestLemmas
+mod RoleLemmas

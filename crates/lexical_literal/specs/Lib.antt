@@ -1,0 +1,7 @@
+pub mod Notation
+pub mod Run
+pub mod Literal
+pub mod Front
+pub mod Parts
+pub mod Syntax
+pub mod Additions
