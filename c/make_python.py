@@ -1,8 +1,9 @@
 #!/usr/bin/env python3
-"""Writes the part of peltzivar.py that comes from peltzivar.h: constants, enumerations, structures and calls.
+"""Writes two parts of peltzivar.py. One has the constants, enumerations, structures and calls of peltzivar.h. The other
+has the attributes of a view, with the documentation of the setters in rust/src.
 
-    c/make_python.py            writes the part between the lines `# Made by make_python.py` and `# End`
-    c/make_python.py --check    ends with status 1 if the part is not up to date
+    c/make_python.py            writes each part between the lines `# Made by make_python.py` and `# End`
+    c/make_python.py --check    ends with status 1 if a part is not up to date
 """
 import pathlib
 import re
@@ -10,6 +11,7 @@ import sys
 
 HERE = pathlib.Path(__file__).resolve().parent
 HEADER = HERE.joinpath("peltzivar.h").read_text()
+SETTERS = HERE.parent.joinpath("rust/src/format_builder/setters.rs").read_text()
 CODE = " ".join(re.sub(r"/\*.*?\*/|^#.*?$", "", HEADER, flags=re.S | re.M).split())
 STRUCTS = {f"peltzivar_{name.lower()}": f"_{name}" for name in ("Word", "Fields", "Edit", "Separators")}
 TYPES = {"bool": "c_bool", "size_t": "c_size_t", **STRUCTS}
@@ -63,10 +65,22 @@ def part(used):
     yield "}"
 
 
+def attributes():
+    """Returns the lines. Each attribute has the first paragraph of its setter's documentation."""
+    documented = re.findall(r"((?:^ +///.*\n)+)(?: +#.*\n)* +pub const fn (\w+)\(", SETTERS, re.M)
+    meanings = {name: " ".join(text.split("///\n")[0].replace("///", " ").split()) for text, name in documented}
+    for name, bit in re.findall(r"\bPELTZIVAR_SET_(\w+) = (\d+)", HEADER):
+        kind = "bool" if not 64 <= int(bit) < 128 else "Value" if int(bit) < 104 else "int"
+        meaning = re.sub(r"^Sets or clears all flags (.*?)([,.])", r"Whether any of the flags \1 is set\2", meanings[name.lower()])
+        meaning = re.sub("^Sets (.)", lambda found: found[1].upper(), meaning).replace("×", "*")
+        yield f'    {name.lower()}: {kind} = _field("{meaning}")'
+
+
 def made(text):
-    head, _, tail = re.fullmatch(r"(.*?# Made by make_python\.py[^\n]*\n)(.*?)(# End\n.*)", text, re.S).groups()
-    used = set(re.findall(r"_library\.(\w+)", head + tail))
-    return head + "\n".join(part(used)) + "\n\n" + tail
+    pattern = r"(.*?# Made by [^\n]*\n).*?(# End\n.*?# Made by [^\n]*\n).*?( *# End\n.*)"
+    start, middle, end = re.fullmatch(pattern, text, re.S).groups()
+    used = set(re.findall(r"_library\.(\w+)", start + middle + end))
+    return "\n".join([start + "\n".join(part(used)), "", middle + "\n".join(attributes()), end])
 
 
 if __name__ == "__main__":

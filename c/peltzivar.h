@@ -19,8 +19,7 @@
  * is absent, the mantissa radix is used in its place. The flags in bits 32 to 44 are the digit separator flags.
  *
  * A setter writes a flag, a group of flags, or a byte. An edit is a setter with a value. A word is lawful if it
- * satisfies all rules below. In the repository, docs/FORMAT.md describes each field and each rule, and the program
- * c/settings.c checks a settings file.
+ * satisfies all rules below. In the repository, docs/FORMAT.md describes each field and each rule.
  *
  * An argument that is a word, an edit, a number or a byte may have any value. A pointer that is passed with a length
  * must point to an array of at least that many elements, but it may be null if the length is 0. Any other pointer must

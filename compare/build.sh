@@ -51,6 +51,7 @@ driver() {
     local root=()
     [ -f "$1/Cargo.toml" ] && root=(Cargo.toml)
     (cd "$1" && tar -c --exclude target rust compare bench "${root[@]}") | tar -xm -C "$work/tree"
+    "$repository/compare/rows.py" "$work/upstream/src" > "$work/tree/compare/rust/src/rows.rs"
     {
         manifest driver "peltzivar=$work/tree/rust" "upstream=$work/upstream"
         printf '\n[[bin]]\nname = "driver"\npath = "%s/rust/src/main.rs"\n' "$work/tree/$2"

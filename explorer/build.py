@@ -51,9 +51,11 @@ def fields():
     ]
     separators = next(group["bits"] for group in groups if group["name"] == "digit_separator_flags")
     flags, numbers = [], []
-    for bit, name, meaning in rows(r"^\| (\d+) \| `(\w+)` \| \w+ \| (.*) \|$"):
+    for bit, name, accepted, rejected in rows(r"^\| (\d+) \| `(\w+)` \| \w+ \|[^|]*\| (`[^|]*`) \| (`[^|]*`) \|$"):
         title, part = next(row[:2] for row in SECTIONS if re.fullmatch(row[2], name))
-        title, part = ("", "separator") if int(bit) in separators else (title, part)
+        meaning = f"rejects {rejected} but accepts {accepted}".replace("` `", "`, `")
+        if int(bit) in separators:
+            title, part, meaning = "", "separator", f"accepts {accepted}".replace("` `", "`, `")
         flags.append({"bit": int(bit), "name": name, "meaning": meaning, "section": title, "part": part})
     for low, name, meaning in rows(r"^\| (\d+) to \d+ \| `(\w+)` \| \d+ \| (.*) \|$"):
         meaning += "; 0 means the mantissa radix" if name.startswith("exponent_") else ""

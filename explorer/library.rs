@@ -119,7 +119,7 @@ pub extern "C" fn literal(low: u64, high: u64, exponent: u8, point: u8, length: 
 
 /// Returns the edits of one flag after which a literal is refused.
 fn refusing(format: Format, options: &reader::Options, text: &[u8]) -> impl Iterator<Item = Edit> {
-    let flags = FlagSetter::ALL.iter().take(31);
+    let flags = FlagSetter::FLAGS.iter();
     let flips = flags.map(move |flag| Edit::Flag(*flag, !flag.is_set(format.word())));
     flips.filter(move |edit| {
         let edited = Format::new(edit_word(format.word(), &[*edit]));

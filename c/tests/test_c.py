@@ -101,22 +101,6 @@ class Programs(unittest.TestCase):
             wanted = re.sub("^    ", "", printed, flags=re.M)
             self.assertEqual(run("bash", "-c", command, cwd=self.folder, env=environment)[0], wanted)
 
-    def test_the_reader_of_settings(self):
-        program = self.made("cc", *STRICT, *SANITIZERS, C / "settings.c", ARCHIVE)
-        rows = [
-            ("# Hexadecimal\nradix = 16\r\n\n base_prefix='x'\ndigit_separator= 95\ninternal_digit_separator =true", 0, "0x000010007800005F000000070000000C"),
-            ("required_digits=true\nbase_prefix = 98\n\nmantissa_radix=16", 1, "line 2, 4: the base prefix 'b' is a digit in radix 16"),
-            ("radix\nno_special = 1\ncolour=7\n", 1, "line 1: radix: expected NAME=VALUE\nline 2: no_special=1: no_special takes `true` or `false`\nline 3: colour=7: unknown setting name"),
-            ("", 0, STANDARD),
-            (f"radix = {'0' * 2000}2", 2, "line 1 is too long"),
-        ]
-        for settings, status, printed in rows:
-            path = self.folder / "settings.txt"
-            path.write_text(settings, newline="")
-            self.assertEqual(run(program, path), (printed + "\n", status))
-        self.assertEqual(run(program, self.folder / "nothing")[1], 2)
-        self.assertEqual(run(program), ("settings: name one file\n", 2))
-
 
 class Header(unittest.TestCase):
     def numbers(self, pattern):
@@ -135,7 +119,7 @@ class Header(unittest.TestCase):
             body = re.search(rf"^pub enum {enum} \{{(.*?)^\}}", (TOP / "rust/src" / path).read_text(), re.M | re.S)[1]
             return [in_c(name) for name in re.findall(r"^    (\w+)", body, re.M)]
 
-        rules = variants("format_flags/all_rules.rs", "Rule")
+        rules = variants("format_flags/rule.rs", "Rule")
         self.assertEqual(self.numbers(r"RULE_(\w+)"), {name: number for number, name in enumerate(rules, 1)})
         roles = ["NONE", *variants("view/roles.rs", "Role")]
         self.assertEqual(self.numbers(r"ROLE_(\w+)"), {name: number for number, name in enumerate(roles)})

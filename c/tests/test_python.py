@@ -8,6 +8,7 @@ import pathlib
 import pickle
 import re
 import shutil
+import string
 import subprocess
 import sys
 import tempfile
@@ -24,7 +25,7 @@ PAGE = (TOP / "docs/FORMAT.md").read_text()
 FLAGS = re.findall(r"^\| (\d+) \| `(\w+)` \| (?:true|false) \|", PAGE, re.M)
 GROUPS = re.findall(r"^\| `(\w+)` \| (\d[\d ]*) \|", PAGE, re.M)
 BYTES = re.findall(r"^\| (\d+) to \d+ \| `(\w+)` \|", PAGE, re.M)
-RULES = re.findall(r"^\| (\d+) \| .* \| `(Invalid\w+)` \| `(\w+)` \| (.*) \|$", PAGE, re.M)
+RULES = re.findall(r"^\| (\d+) \| .* \| `(Invalid\w+)` \| `+('.*')`+ \| `(\w+)` \| (.*) \|$", PAGE, re.M)
 CALLS = peltzivar._library
 ERROR_TEXT = ctypes.CDLL(CALLS.path).peltzivar_error_text
 ERROR_TEXT.argtypes = [ctypes.c_uint32, ctypes.c_size_t, ctypes.c_char_p, ctypes.c_size_t]
@@ -117,6 +118,8 @@ class Words(unittest.TestCase):
                 self.assertRaises(TypeError, make, word)
             for text in ("", "0x", "C", " 0x0", "0x" + 33 * "0", "0x\u0660", "0x\udc80"):
                 self.assertRaisesRegex(ValueError, "is not a format word", make.parse, text)
+        for byte in {*map(chr, range(256))} - {*string.hexdigits}:
+            self.assertRaisesRegex(ValueError, "is not a format word", FormatView.parse, f"0x1{byte}0")
 
     def test_what_is_not_a_setting_is_refused(self):
         rows = [
@@ -150,11 +153,12 @@ class Words(unittest.TestCase):
 
     def test_the_words_of_format_that_break_one_rule(self):
         self.assertEqual([int(number) for number, *_ in RULES], list(Rule))
-        for number, error, word, sentence in RULES:
+        for number, error, description, word, sentence in RULES:
             view = FormatView.parse(word)
             rules = tuple(Rule)[:3] if number == "1" else (Rule(int(number)),)
             self.assertEqual([(it.text, it.rules) for it in view.reasons()], [(sentence, rules)])
             self.assertEqual(view.error(), error_of(error))
+            self.assertEqual(peltzivar._text(CALLS.description, view.error()), description)
 
     def test_notes(self):
         self.assertEqual([it.mask for it in notes_of("digit_separator=95")], [0x1FFF << 32 | 0xFF << 64])
@@ -211,10 +215,10 @@ class Words(unittest.TestCase):
         self.assertEqual([view.role_of("p", ".", byte) for byte in "0f+_XhP."], [Role[name] for name in names])
         self.assertEqual([view.role_of(112, 0, byte) for byte in (112, ".", 0, "\u00e9", 256, "g")], [Role.EXPONENT] + 5 * [None])
         self.assertRaisesRegex(ValueError, "an option is", view.role_of, "\u00e9", ".", "0")
-        for number, name in FLAGS[18:30]:
-            part, position = name.split("_")[:2]
-            allowed = FormatView(1 << int(number)).separators(Part[part.upper()])
-            self.assertEqual((sum(allowed), getattr(allowed, position)), (1, True))
+        for number, name in FLAGS:
+            if found := re.fullmatch(r"(\w+?)_(\w+)_digit_separator", name):
+                allowed = FormatView(1 << int(number)).separators(Part[found[1].upper()])
+                self.assertEqual((sum(allowed), getattr(allowed, found[2])), (1, True))
         self.assertRaises(ValueError, view.separators, 3)
 
     def test_setters_have_the_bits_and_defaults_of_the_tables(self):
@@ -234,6 +238,9 @@ class Words(unittest.TestCase):
                 self.assertIs(getattr(view, name), str(bit) in bits.split(), (name, bit))
         names = {name for _, name in FLAGS + BYTES} | {name for name, _ in GROUPS}
         self.assertEqual({it.name.lower() for it in Setter}, names)
+        self.assertEqual({number for number in range(256) if bytes(CALLS.setter_mask(number)).strip(b"\0")}, set(Setter))
+        for setter in Setter:
+            self.assertEqual(Edit(f"{setter.name.lower()}={'0x1' if 64 <= setter < 128 else 'true'}")._edit.setter, setter)
         self.assertEqual([getattr(FormatView(0), name) for _, name in BYTES], [None, None, None, 0, 0, 0])
 
 

@@ -9,15 +9,15 @@ use crate::format_flags::check;
 
 mod listing;
 mod setters;
-mod text;
+mod settings;
 
 pub use listing::{edits_of, is_built};
 pub(crate) use setters::mask_of;
 pub use setters::{
     field_edits_of, ArgumentKind, Edit, FlagSetter, Setter, ALL_SETTERS, FIELD_COUNT, SETTERS,
 };
-pub(crate) use text::Fault;
-pub use text::{byte_from_decimal, SettingError, SettingErrorKind};
+pub(crate) use settings::Fault;
+pub use settings::{byte_from_decimal, SettingError, SettingErrorKind};
 
 /// Calls the setter of `edit` on `builder`, and returns the new builder.
 #[inline(always)]

@@ -174,79 +174,30 @@ impl Format {
     }
 }
 
+/// Defines the fields of flags. Each has the name of its setter.
+macro_rules! flag_fields {
+    (() { $($Flag:ident $flag:ident $FLAG:ident;)* } $groups:tt) => {
+        fields! { $(
+            #[doc = concat!("Whether `", stringify!($flag), "` is set. Its [setter][NumberFormatBuilder::",
+                stringify!($flag), "] has an example.")]
+            $FLAG $flag bool;
+        )* }
+    };
+}
+
+crate::with_setters!(flag_fields());
+
 fields! {
-    /// Whether the format requires digits before the decimal point.
-    REQUIRED_INTEGER_DIGITS required_integer_digits bool;
-    /// Whether the format requires digits after a decimal point.
-    REQUIRED_FRACTION_DIGITS required_fraction_digits bool;
-    /// Whether the format requires digits after an exponent character.
-    REQUIRED_EXPONENT_DIGITS required_exponent_digits bool;
-    /// Whether the format requires a digit in the mantissa of a float.
-    REQUIRED_MANTISSA_DIGITS required_mantissa_digits bool;
     /// Whether any of the flags that require digits is set.
     REQUIRED_DIGITS required_digits bool;
-    /// Whether the format forbids a `+` before an integer or a float.
-    NO_POSITIVE_MANTISSA_SIGN no_positive_mantissa_sign bool;
-    /// Whether the format requires a sign before an integer or a float.
-    REQUIRED_MANTISSA_SIGN required_mantissa_sign bool;
-    /// Whether the format forbids an exponent in a float.
-    NO_EXPONENT_NOTATION no_exponent_notation bool;
-    /// Whether the format forbids a `+` in the exponent.
-    NO_POSITIVE_EXPONENT_SIGN no_positive_exponent_sign bool;
-    /// Whether the format requires a sign in the exponent.
-    REQUIRED_EXPONENT_SIGN required_exponent_sign bool;
-    /// Whether the format requires a decimal point before an exponent.
-    NO_EXPONENT_WITHOUT_FRACTION no_exponent_without_fraction bool;
-    /// Whether the format forbids all special values.
-    NO_SPECIAL no_special bool;
-    /// Whether special values are case-sensitive.
-    CASE_SENSITIVE_SPECIAL case_sensitive_special bool;
-    /// Whether the format forbids leading zeros in an integer.
-    NO_INTEGER_LEADING_ZEROS no_integer_leading_zeros bool;
-    /// Whether the format forbids leading zeros in a float.
-    NO_FLOAT_LEADING_ZEROS no_float_leading_zeros bool;
-    /// Whether the format requires an exponent in a float.
-    REQUIRED_EXPONENT_NOTATION required_exponent_notation bool;
-    /// Whether the exponent character is case-sensitive.
-    CASE_SENSITIVE_EXPONENT case_sensitive_exponent bool;
-    /// Whether the base prefix is case-sensitive.
-    CASE_SENSITIVE_BASE_PREFIX case_sensitive_base_prefix bool;
-    /// Whether the base suffix is case-sensitive.
-    CASE_SENSITIVE_BASE_SUFFIX case_sensitive_base_suffix bool;
-    /// Whether the format allows a digit separator between integer digits.
-    INTEGER_INTERNAL_DIGIT_SEPARATOR integer_internal_digit_separator bool;
-    /// Whether the format allows a digit separator between fraction digits.
-    FRACTION_INTERNAL_DIGIT_SEPARATOR fraction_internal_digit_separator bool;
-    /// Whether the format allows a digit separator between exponent digits.
-    EXPONENT_INTERNAL_DIGIT_SEPARATOR exponent_internal_digit_separator bool;
     /// Whether any of the flags that allow a digit separator between digits is set.
     INTERNAL_DIGIT_SEPARATOR internal_digit_separator bool;
-    /// Whether the format allows a digit separator before the integer digits.
-    INTEGER_LEADING_DIGIT_SEPARATOR integer_leading_digit_separator bool;
-    /// Whether the format allows a digit separator before the fraction digits.
-    FRACTION_LEADING_DIGIT_SEPARATOR fraction_leading_digit_separator bool;
-    /// Whether the format allows a digit separator before the exponent digits.
-    EXPONENT_LEADING_DIGIT_SEPARATOR exponent_leading_digit_separator bool;
     /// Whether any of the flags that allow a digit separator before digits is set.
     LEADING_DIGIT_SEPARATOR leading_digit_separator bool;
-    /// Whether the format allows a digit separator after the integer digits.
-    INTEGER_TRAILING_DIGIT_SEPARATOR integer_trailing_digit_separator bool;
-    /// Whether the format allows a digit separator after the fraction digits.
-    FRACTION_TRAILING_DIGIT_SEPARATOR fraction_trailing_digit_separator bool;
-    /// Whether the format allows a digit separator after the exponent digits.
-    EXPONENT_TRAILING_DIGIT_SEPARATOR exponent_trailing_digit_separator bool;
     /// Whether any of the flags that allow a digit separator after digits is set.
     TRAILING_DIGIT_SEPARATOR trailing_digit_separator bool;
-    /// Whether the format allows consecutive digit separators in the integer part.
-    INTEGER_CONSECUTIVE_DIGIT_SEPARATOR integer_consecutive_digit_separator bool;
-    /// Whether the format allows consecutive digit separators in the fraction.
-    FRACTION_CONSECUTIVE_DIGIT_SEPARATOR fraction_consecutive_digit_separator bool;
-    /// Whether the format allows consecutive digit separators in the exponent.
-    EXPONENT_CONSECUTIVE_DIGIT_SEPARATOR exponent_consecutive_digit_separator bool;
     /// Whether any of the flags that allow consecutive digit separators is set.
     CONSECUTIVE_DIGIT_SEPARATOR consecutive_digit_separator bool;
-    /// Whether the format allows digit separators in special values.
-    SPECIAL_DIGIT_SEPARATOR special_digit_separator bool;
     /// The [mantissa radix][NumberFormatBuilder::mantissa_radix], between 2 and 36 in a lawful word.
     MANTISSA_RADIX mantissa_radix u32;
     /// The mantissa radix, which [`mantissa_radix`][Self::mantissa_radix] returns too.

@@ -8,21 +8,23 @@
 //! word is *lawful* if it satisfies every [`Rule`]. The reserved bits of a lawful word are 0. The setters of
 //! [`NumberFormatBuilder`][crate::format_builder::NumberFormatBuilder] have an example of each flag's effect.
 
-mod all_rules;
+mod checks;
+mod options;
 mod parts;
-mod rules;
+mod rule;
 
 #[doc(no_inline)]
-pub use crate::format_flags::all_rules::{Rule, RULES};
+pub use crate::format_flags::checks::{
+    check, format_error_impl, is_clean, is_digit_of_either_radix, is_separator_allowed,
+    is_valid_base_prefix, is_valid_base_suffix, is_valid_digit_separator, is_valid_exponent_flags,
+    is_valid_punctuation, is_valid_radix, radix_error_impl, roles_disjoint,
+};
+#[doc(no_inline)]
+pub use crate::format_flags::options::{is_valid_options_punctuation, options_error};
 #[doc(no_inline)]
 pub use crate::format_flags::parts::Part;
 #[doc(no_inline)]
-pub use crate::format_flags::rules::{
-    check, format_error_impl, is_clean, is_digit_of_either_radix, is_separator_allowed,
-    is_valid_base_prefix, is_valid_base_suffix, is_valid_digit_separator, is_valid_exponent_flags,
-    is_valid_options_punctuation, is_valid_punctuation, is_valid_radix, options_error,
-    radix_error_impl, roles_disjoint,
-};
+pub use crate::format_flags::rule::{Rule, RULES};
 
 // FLAGS OTHER THAN DIGIT SEPARATOR FLAGS
 

@@ -64,8 +64,8 @@
 //! # From `lexical-util`
 //!
 //! Modules, types and methods have the same names as in `lexical-util` 1.0.7. To migrate a program, change the name of
-//! the crate in its `use` lines. Alternatively, depend on the package `lexical-util` in the repository, which provides
-//! this crate under that name. The differences are:
+//! the crate in its `use` lines. A word is a `u128`, as there, so it can be the const argument of a call of
+//! `lexical-core`. The differences are:
 //!
 //! - `build_strict` returns a `Result`. In a constant, call `build_or_panic` instead.
 //! - A base prefix, base suffix or exponent character that is a letter matches both cases, unless a flag makes it

@@ -2,7 +2,7 @@
 
 use crate::edits::{apply, edits_of, Edit, FlagSetter, Setter, ALL_SETTERS, SETTERS};
 use crate::format_builder::NumberFormatBuilder;
-use crate::format_flags::{Rule, RULES};
+use crate::format_flags::{Rule, FLAG_MASK, RULES};
 use crate::reasons::{notes, notes_of_fields, options_reasons, reasons, Note, Reason};
 use crate::view::FormatView;
 
@@ -120,6 +120,9 @@ impl FlagSetter {
     /// All setters that take a `bool`: first the flag setters in the order of the flags' bits, and then the group
     /// setters.
     pub const ALL: &'static [FlagSetter] = &SETTERS;
+
+    /// The setters of single flags, in the order of the flags' bits.
+    pub const FLAGS: &'static [FlagSetter] = SETTERS.split_at(FLAG_MASK.count_ones() as usize).0;
 }
 
 impl Setter {

@@ -12,7 +12,7 @@ use crate::view::FormatView;
 
 mod mask;
 mod note;
-mod text;
+mod sentences;
 
 pub use note::{notes, notes_beside_reasons, notes_of_fields, Note, MAX_NOTES};
 

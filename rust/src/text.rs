@@ -3,7 +3,6 @@
 use core::fmt;
 use core::str::FromStr;
 
-use crate::digit::char_to_digit;
 use crate::edits::{Edit, Fault, FlagSetter, Setter, SettingError};
 use crate::error::Error;
 use crate::format_error::{Cause, FormatError};
@@ -16,8 +15,7 @@ impl core::error::Error for SettingError {}
 
 impl core::error::Error for Reason {}
 
-/// Parses a format word, whether or not it is [lawful][crate::Rule]: `0x` followed by 1 to 32 hexadecimal digits. There
-/// may be a `_` between two digits.
+/// Parses a format word, whether or not it is [lawful][crate::Rule]: `0x` followed by 1 to 32 hexadecimal digits.
 ///
 /// The error is [`Error::Empty`], [`Error::InvalidDigit`] or [`Error::Overflow`]. It holds the index at which the
 /// parser stopped.
@@ -25,7 +23,7 @@ impl FromStr for FormatView {
     type Err = Error;
 
     fn from_str(text: &str) -> Result<Self, Error> {
-        word_of(text).map(FormatView::new)
+        parse_word(text).map(FormatView::new)
     }
 }
 
@@ -34,29 +32,9 @@ impl FromStr for Format {
     type Err = FormatError;
 
     fn from_str(text: &str) -> Result<Self, FormatError> {
-        let word = word_of(text);
+        let word = parse_word(text);
         Format::new(word.map_err(|error| FormatError::new(error, Cause::Text))?)
     }
-}
-
-/// Parses a word. A `_` between two digits is skipped.
-fn word_of(text: &str) -> Result<u128, Error> {
-    let bytes = text.as_bytes();
-    if !bytes.starts_with(b"0x") || !bytes.contains(&b'_') {
-        return parse_word(text);
-    }
-    let digit = |index: usize| char_to_digit(*bytes.get(index)?, 16);
-    let is_between = |index| digit(index - 1).and(digit(index + 1)).is_some();
-    let (mut word, mut count) = (0, 0);
-    for (index, byte) in bytes.iter().enumerate().skip(2) {
-        match digit(index) {
-            Some(_) if count == 32 => return Err(Error::Overflow(index)),
-            Some(digit) => (word, count) = (word << 4 | u128::from(digit), count + 1),
-            None if *byte == b'_' && is_between(index) => {}
-            None => return Err(Error::InvalidDigit(index)),
-        }
-    }
-    Ok(word)
 }
 
 /// Prints the word as `0x` followed by 32 hexadecimal digits. [`FromStr`] parses this text into the same word.

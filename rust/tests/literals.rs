@@ -18,13 +18,13 @@ const PAGE: &str = include_str!("../../docs/FORMAT.md");
 fn table(title: &str) -> impl Iterator<Item = Vec<&'static str>> {
     let (_, section) = PAGE.split_once(&format!("## {title}\n")).expect(title);
     let lines = section.lines().take_while(|line| !line.starts_with("## "));
-    let rows = lines.filter(|line| line.starts_with('|')).skip(2);
-    rows.map(|row| row.trim_matches(['|', ' ']).split(" | ").collect())
+    let rows = lines.filter_map(|line| line.strip_prefix('|')?.strip_suffix('|')).skip(2);
+    rows.map(|row| row.split('|').map(|cell| cell.trim_matches([' ', '`'])).collect())
 }
 
-/// Returns the texts in backquotes.
-fn quoted(text: &str) -> impl Iterator<Item = &str> {
-    text.split('`').skip(1).step_by(2)
+/// Returns the texts of a cell.
+fn texts(cell: &'static str) -> impl Iterator<Item = &'static str> {
+    cell.split("` `")
 }
 
 /// Returns the format that settings describe.
@@ -51,50 +51,24 @@ fn read(format: Format, options: Option<&Options>, text: &[u8]) -> Result<Parts,
     result
 }
 
-/// Returns the texts that a sentence accepts and rejects, each with whether it is accepted.
-fn verdicts(sentence: &str) -> Vec<(bool, &str)> {
-    let (mut verdict, mut found) = (None, vec![]);
-    for (index, words) in sentence.split('`').enumerate() {
-        match verdict {
-            Some(verdict) if index % 2 == 1 => found.push((verdict, words)),
-            _ if words == " as " || words.contains(" when ") => break,
-            _ if words.contains("accepts") => verdict = Some(true),
-            _ if words.contains("rejects") => verdict = Some(false),
-            _ if words.contains(", not") => verdict = verdict.map(|verdict| !verdict),
-            _ => (),
-        }
-    }
-    found
-}
-
-const POSITIONS: &str =
-    "digit_separator=95 internal_digit_separator=true leading_digit_separator=true trailing_digit_separator=true";
-
-/// Each flag, by the texts in its row: with the flag, without it, and that a refusal blames the flag.
+/// Each flag, by the texts in its row: with the flag, without it, and that a refusal blames the flag. A flag that allows
+/// digit separators changes the texts that it accepts, and any other flag those that it rejects.
 #[test]
-fn flags_accept_and_reject_what_the_page_says() {
+fn flags_accept_and_reject_the_texts_of_the_page() {
     for row in table("The flags") {
-        let [_, name, _, meaning] = row[..] else { panic!("{row:?}") };
-        let name = name.trim_matches('`');
+        let [_, name, _, with, accepted, rejected] = row[..] else { panic!("{row:?}") };
         let flag: FlagSetter = name.parse().unwrap();
-        let (other, options) = match name {
-            "case_sensitive_base_prefix" => ("mantissa_radix=16 base_prefix=120", None),
-            "case_sensitive_base_suffix" => ("mantissa_radix=16 base_suffix=104", None),
-            _ if name.contains("consecutive") => (POSITIONS, Some(&OPTIONS)),
-            _ => ("digit_separator=95", Some(&OPTIONS)),
-        };
-        let set = format(&format!("{other} {name}=true"));
-        let not_set = Format::new(set.word() & !Edit::Flag(flag, true).mask()).unwrap();
-        for (verdict, text) in verdicts(meaning) {
-            let result = read(set, options, text.as_bytes());
-            assert_eq!(result.is_ok(), verdict, "{name}=true: {text}: {result:?}");
-            let rejects = meaning.starts_with("rejects");
-            let opposite = read(not_set, options, text.as_bytes());
-            assert_eq!(opposite.is_ok(), rejects, "{name}=false: {text}: {opposite:?}");
-            for (result, flips) in [(result, false), (opposite, true)] {
-                if let Err(refusal) = result {
-                    assert_eq!(refusal.edit, Some(Edit::Flag(flag, flips)), "{text}");
-                }
+        let mask = Edit::Flag(flag, true).mask();
+        let set = format(&format!("{with} {name}=true"));
+        let not_set = Format::new(set.word() & !mask).unwrap();
+        let texts = texts(accepted).map(|text| (text, true)).chain(texts(rejected).map(|text| (text, false)));
+        for (text, is_accepted) in texts {
+            let changes = is_accepted == (mask >> 32 != 0);
+            for (format, flips, wanted) in [(set, false, is_accepted), (not_set, true, is_accepted != changes)] {
+                let result = read(format, Some(&OPTIONS), text.as_bytes());
+                assert_eq!(result.is_ok(), wanted, "{name}={}: {text}: {result:?}", !flips);
+                let blamed = result.map_or_else(|refusal| refusal.edit, |_| None);
+                assert!(wanted || !changes || blamed == Some(Edit::Flag(flag, flips)), "{text}: {blamed:?}");
             }
         }
     }
@@ -104,12 +78,12 @@ fn flags_accept_and_reject_what_the_page_says() {
 fn questions_have_the_answers_of_the_page() {
     for row in table("How a reader applies the flags") {
         let [.., settings, accepted, rejected] = row[..] else { panic!("{row:?}") };
-        let format = format(settings.trim_matches('`'));
-        for text in quoted(accepted) {
+        let format = format(settings);
+        for text in texts(accepted) {
             let result = read(format, Some(&OPTIONS), text.as_bytes());
             assert!(result.is_ok(), "{settings}: {text}: {result:?}");
         }
-        for (text, error) in quoted(rejected).step_by(2).zip(quoted(rejected).skip(1).step_by(2)) {
+        for (text, error) in texts(rejected).step_by(2).zip(texts(rejected).skip(1).step_by(2)) {
             let found = read(format, Some(&OPTIONS), text.as_bytes()).map_err(|it| format!("{:?}", it.error));
             assert_eq!(found, Err(error.into()), "{settings}: {text}");
         }
@@ -194,22 +168,6 @@ fn recipes_accept_and_reject_what_their_grammars_do() {
         let (format, options) = recipe(name);
         let result = read(format, options.as_ref(), text.as_bytes());
         assert_eq!(result.is_ok(), wanted, "{row}: {result:?}");
-    }
-}
-
-#[test]
-fn setters_of_recipes_have_the_effects_in_their_comments() {
-    let mut lines = include_str!("../examples/recipes.rs").lines().peekable();
-    for (name, ..) in RECIPES {
-        let (format, options) = recipe(name);
-        lines.find(|line| line.starts_with(&format!("pub const {name}: ")));
-        while let Some(line) = lines.next_if(|line| !line.contains("build_or_panic")) {
-            let comment = line.split_once("//").map_or("", |(_, comment)| comment);
-            for (verdict, text) in verdicts(comment) {
-                let result = read(format, options.as_ref(), text.as_bytes());
-                assert_eq!(result.is_ok(), verdict, "{name}: {text}: {result:?}");
-            }
-        }
     }
 }
 

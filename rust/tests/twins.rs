@@ -1,16 +1,12 @@
-//! What a caller relies on beyond results: the view whose word is a const argument is the view at run time, the types
-//! have their traits, and a panic names its caller.
+//! What a caller relies on beyond results: the view whose word is a const argument, the format and the constants have
+//! what the view at run time has, the types have their traits, and a panic names its caller.
 
-#[allow(unused_macros)]
-#[path = "../../compare/rust/src/rows.rs"]
-mod rows;
-
-use peltzivar::format::{NumberFormatBuilder, STANDARD};
+use peltzivar::edits::edits_of;
+use peltzivar::format::{self, NumberFormatBuilder, STANDARD};
 use peltzivar::{
-    Edit, Error, FlagSetter, Format, FormatError, FormatView, Note, NumberFormat, Part, Reason, Rule, SettingError,
-    SettingErrorKind,
+    with_setters, word, Edit, Error, FlagSetter, Format, FormatError, FormatView, Note, NumberFormat, Part, Reason,
+    Rule, SettingError, SettingErrorKind,
 };
-use rows::{flag_getters, with_getters, with_setters};
 use std::error::Error as StdError;
 use std::fmt::Debug;
 use std::hash::Hash;
@@ -28,68 +24,86 @@ const _: () = {
     are_errors::<Error, FormatError, Reason, SettingError>();
 };
 
-macro_rules! same {
-    ($constant:ident $view:ident; $($NAME:ident $get:ident,)*; $($name:ident,)*; $($check:ident,)*) => {
-        $(assert_eq!(NumberFormat::<W>::$NAME, $view.$get(), "{} of {W:#034X}", stringify!($NAME));
-        assert_eq!($constant.$get(), $view.$get(), "{} of {W:#034X}", stringify!($get));)*
-        $(assert_eq!($constant.$name(), $view.$name(), "{} of {W:#034X}", stringify!($name));)*
-        $(assert_eq!($constant.$check(), $view.$check(), "{} of {W:#034X}", stringify!($check));)*
-        if let Ok(format) = Format::new(W) {
-            $(assert_eq!(format.$get(), $view.$get(), "{} of {W:#034X}", stringify!($get));)*
-            $(assert_eq!(format.$name(), $view.$name(), "{} of {W:#034X}", stringify!($name));)*
-        }
+macro_rules! constants {
+    (() { $($Flag:ident $flag:ident $FLAG:ident;)* } { $($Group:ident $group:ident $GROUP:ident;)* }) => {
+        [
+            $((FlagSetter::$Flag, [format::$FLAG, word::$FLAG]),)*
+            $((FlagSetter::$Group, [format::$GROUP, word::$GROUP]),)*
+        ]
     };
 }
 
-/// Compares the bytes of both views and of the format, if there is one. An absent byte of the constant view is 0.
-macro_rules! same_bytes {
-    ($constant:ident $view:ident; $($NAME:ident $get:ident,)*) => {
-        $(let byte = $view.$get();
-        assert_eq!([NumberFormat::<W>::$NAME, $constant.$get()], [byte.map_or(0, NonZeroU8::get); 2]);
-        assert_eq!(Format::new(W).map_or(byte, |format| format.$get()), byte);)*
-    };
+#[test]
+fn each_setter_has_its_constant() {
+    for (setter, masks) in with_setters!(constants()) {
+        assert_eq!(masks, [Edit::Flag(setter, true).mask(); 2], "{setter}");
+    }
 }
 
-macro_rules! same_getters {
-    (
-        ([$constant:ident $view:ident] $($flag:ident $FLAG:ident)*)
-        { $($truth:ident $T:ident;)* } { $($byte:ident $B:ident;)* } { $($radix:ident $R:ident;)* } { $($mask:ident $M:ident;)* }
-    ) => {
-        same! { $constant $view; $($FLAG $flag,)* $($T $truth,)* $($R $radix,)* RADIX radix,;
-            $($mask,)* has_digit_separator, has_base_prefix, has_base_suffix, radix2, radix4, radix8,;
-            is_valid, error, is_valid_radix, error_radix, }
-        same_bytes! { $constant $view; $($B $byte,)* }
-    };
-}
-
-/// Compares both views of a word.
+/// Compares both views and the format of a word, if there is one. An absent byte of the constant view is 0.
 #[rustfmt::skip]
 fn views_are_same<const W: u128>() {
-    let (constant, view) = (NumberFormat::<W>::new(), FormatView::new(W));
+    let (constant, view, format) = (NumberFormat::<W>::new(), FormatView::new(W), Format::new(W).ok());
     assert_eq!((constant.view(), FormatView::from(constant), FormatView::from(W)), (view, view, view));
     assert_eq!((view.word(), u128::from(view)), (W, W));
     assert_eq!(NumberFormat::<W>::rebuild(), view.rebuild());
-    macro_rules! roles_of {
-        ($view:ident, $byte:ident) => {
-            (
-                [$view.is_separator($byte), $view.is_base_prefix($byte)],
-                [$view.is_base_suffix($byte), $view.is_exponent_character(b'e', $byte)],
-                [$view.mantissa_digit($byte), $view.exponent_digit($byte)],
-                $view.role_of(b'e', b'.', $byte),
-            )
+    macro_rules! same {
+        ($($get:ident($($argument:expr),*))*) => {$(
+            let value = view.$get($($argument),*);
+            assert_eq!(constant.$get($($argument),*), value, "{} of {W:#034X}", stringify!($get));
+            assert_eq!(format.map_or(value, |it| it.$get($($argument),*)), value, "{} of {W:#034X}", stringify!($get));
+        )*};
+    }
+    macro_rules! constants {
+        ($($NAME:ident $get:ident)*) => {
+            $(assert_eq!(NumberFormat::<W>::$NAME, constant.$get(), "{} of {W:#034X}", stringify!($NAME));)*
         };
     }
-    for byte in 0..=255 {
-        assert_eq!(roles_of!(constant, byte), roles_of!(view, byte), "{byte}");
-        if let Ok(format) = Format::new(W) {
-            assert_eq!(roles_of!(format, byte), roles_of!(view, byte), "{byte}");
+    macro_rules! setters {
+        (() { $($Flag:ident $flag:ident $FLAG:ident;)* } { $($Group:ident $group:ident $GROUP:ident;)* }) => {
+            same! { $($flag())* $($group())* }
+            constants! { $($FLAG $flag)* }
+            $(assert_eq!(view.$flag(), FlagSetter::$Flag.is_set(W), "{W:#034X}");)*
+            $(assert_eq!(view.$group() != Default::default(), FlagSetter::$Group.is_set(W), "{W:#034X}");)*
+        };
+    }
+    with_setters!(setters());
+    let both = |byte: Option<NonZeroU8>| (byte, byte.map_or(0, NonZeroU8::get));
+    let effective = |byte: Option<NonZeroU8>| byte.map_or(view.mantissa_radix(), |byte| byte.get().into());
+    for edit in edits_of(W).0 {
+        match edit {
+            Edit::Flag(..) => {}
+            Edit::DigitSeparator(byte) => assert_eq!((view.digit_separator(), constant.digit_separator()), both(byte)),
+            Edit::BasePrefix(byte) => assert_eq!((view.base_prefix(), constant.base_prefix()), both(byte)),
+            Edit::BaseSuffix(byte) => assert_eq!((view.base_suffix(), constant.base_suffix()), both(byte)),
+            Edit::MantissaRadix(radix) => assert_eq!(view.mantissa_radix(), radix.into()),
+            Edit::ExponentBase(byte) => assert_eq!(view.exponent_base(), effective(byte)),
+            Edit::ExponentRadix(byte) => assert_eq!(view.exponent_radix(), effective(byte)),
+            _ => panic!("{edit} is not compared"),
         }
     }
-    for part in [Part::Integer, Part::Fraction, Part::Exponent] {
-        assert_eq!(constant.separators(part), view.separators(part));
-        assert_eq!(Format::new(W).map_or(view.separators(part), |it| it.separators(part)), view.separators(part));
+    if let Some(it) = format {
+        let bytes = [it.digit_separator(), it.base_prefix(), it.base_suffix()];
+        assert_eq!(bytes, [view.digit_separator(), view.base_prefix(), view.base_suffix()]);
     }
-    with_setters!(flag_getters(same_getters [constant view]));
+    same! { mantissa_radix() radix() radix2() radix4() radix8() exponent_base() exponent_radix() }
+    same! { has_digit_separator() has_base_prefix() has_base_suffix() flags() interface_flags() exponent_flags() }
+    constants! {
+        REQUIRED_DIGITS required_digits INTERNAL_DIGIT_SEPARATOR internal_digit_separator
+        LEADING_DIGIT_SEPARATOR leading_digit_separator TRAILING_DIGIT_SEPARATOR trailing_digit_separator
+        CONSECUTIVE_DIGIT_SEPARATOR consecutive_digit_separator DIGIT_SEPARATOR digit_separator BASE_PREFIX base_prefix
+        BASE_SUFFIX base_suffix MANTISSA_RADIX mantissa_radix RADIX radix EXPONENT_BASE exponent_base
+        EXPONENT_RADIX exponent_radix
+    }
+    assert_eq!((constant.is_valid(), constant.error()), (view.is_valid(), view.error()));
+    assert_eq!((constant.is_valid_radix(), constant.error_radix()), (view.is_valid_radix(), view.error_radix()));
+    for byte in 0..=255 {
+        same! { is_separator(byte) is_base_prefix(byte) is_base_suffix(byte) is_exponent_character(b'e', byte) }
+        same! { mantissa_digit(byte) exponent_digit(byte) role_of(b'e', b'.', byte) }
+    }
+    for part in [Part::Integer, Part::Fraction, Part::Exponent] {
+        same! { separators(part) }
+    }
 }
 
 /// Words in which any two bits differ, and a lawful word.

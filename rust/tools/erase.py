@@ -47,9 +47,8 @@ LEFT_OUT = re.compile(r"(lib|main)\.rt|(laws|examples|tests)(\.rt|/.*)")
 MODULES = {"format": "word", "feature_format": "view"}
 VIEW = ("NumberFormat", "FormatView")
 
-# Tests and their tables that plain Rust copies, and the folder of the copies. The other tests are only for Rattle.
+# Tests and tables that plain Rust copies, and the folder of the copies. The other tests are only for Rattle.
 COPIED = {
-    "lexical_tests/src/rows/*.rt": "tests/known/rows",
     "lexical_tests/src/*.rt": "tests/known",
     "numfmt/src/tests/rows.rt": "numfmt/tests/program",
 }
@@ -65,7 +64,7 @@ TEST_FORMS = [
     ("assert!(rt;", "assert!("),
 ]
 
-# Texts that plain Rust replaces: the file, the text, and the replacement.
+# Texts that plain Rust replaces: the end of the path, the text, and the replacement.
 REPLACED = [
     # LLVM gathers entries of 32 bits, and inserts entries of 8 bits one by one.
     ("digit.rt", "const VALUES: [u8; 256] = [", "const VALUES: [u32; 256] = ["),
@@ -79,7 +78,7 @@ EVERYWHERE = [
     ("fn fmt<W: fmt::Write>(&self, f: &mut fmt::Formatter<W>)", "fn fmt(&self, f: &mut fmt::Formatter<'_>)"),
 ]
 
-# Attributes that plain Rust has in place of those of the source: the file, and both texts.
+# Attributes that plain Rust has in place of those of the source: the end of the path, and both texts.
 COMPARED = "Clone, Copy, PartialEq, Eq, PartialOrd, Ord, Hash"
 DEPRECATED = '#[deprecated = "Use `build_strict` or `build_unchecked` instead."]'
 ATTRIBUTES = [
@@ -87,6 +86,7 @@ ATTRIBUTES = [
     ("format_builder.rt", "#[derive(Drop)]", "#[derive(Clone, Copy, PartialEq, Eq, Hash)] #[must_use]"),
     ("format_builder.rt", "pub const fn build(&self)", f"{DEPRECATED} pub const fn build(&self)"),
     ("feature_format.rt", "#[derive(Clone, Copy)]", f"#[derive({COMPARED})]"),
+    ("edits/setters.rt", "macro_rules! with_setters {", "#[doc(hidden)] #[macro_export] macro_rules! with_setters {"),
 ]
 
 # Words that plain Rust must not contain. If one is left, a ghost form was not removed.
@@ -229,7 +229,7 @@ def source_of(path):
     """Returns the source after the replacements. Each keeps the number of lines, so lines keep their numbers."""
     text = path.read_text()
     for file, old, new in REPLACED + ATTRIBUTES:
-        if file == path.name:
+        if path.match(file):
             if text.count(old) != 1:
                 raise Refused(f"{path}: stands {text.count(old)} times, and not once: {old}")
             text = text.replace(old, new)
@@ -252,7 +252,7 @@ def laid_out(text, folder):
 
 def made_files():
     """Returns each generated file with its text."""
-    files, sources, names = {}, "", set()
+    files, sources, read = {}, "", []
     for crate, (folder, root, std) in PLACES.items():
         top = CRATES / crate / "src"
         for path in sorted(top.rglob("*.rt")):
@@ -261,7 +261,7 @@ def made_files():
                 stem, *others = name.with_suffix("").parts
                 stem = MODULES.get(stem, stem) if crate == "lexical_util" else stem
                 sources += path.read_text()
-                names.add(path.name)
+                read.append(path)
                 head = f"{MADE} from crates/{crate}/src/{name}: change that file.\n\n"
                 text = head + renamed(source_of(path).erase(), root, std)
                 files[RUST.joinpath(folder, stem, *others).with_suffix(".rs")] = laid_out(text, folder)
@@ -272,7 +272,7 @@ def made_files():
                 text = text.replace(old, new)
             text = re.sub(r"format!\(in rt\.alloc\(\); ([^)]*)\)\?", r"format!(\1)", text)
             files[RUST.joinpath(folder, path.stem).with_suffix(".rs")] = laid_out(renamed(text, "peltzivar", "std"), folder)
-    unused = [old for file, old, _ in REPLACED + ATTRIBUTES if file not in names]
+    unused = [old for file, old, _ in REPLACED + ATTRIBUTES if not any(path.match(file) for path in read)]
     unused += [old for old, _ in EVERYWHERE if old not in sources]
     if unused:
         raise Refused(f"no source has {', '.join(unused)}")

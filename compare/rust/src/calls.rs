@@ -3,7 +3,7 @@
 
 use crate::inputs::{SetterCall, OF_FLAGS};
 use crate::results::{results, Number, Results};
-use crate::rows::{flag_getters, with_getters, with_outcomes, with_setters};
+use crate::rows::{flag_getters, with_getters, with_outcomes, with_setters, FIELDS};
 use crate::rules::SUCCESS;
 use std::cmp::Ordering;
 use std::num::NonZeroU8;
@@ -151,7 +151,7 @@ pub fn const_view<const WORD: u128>() -> Results<56> {
     with_setters!(flag_getters(view_of view))
 }
 
-pub fn const_rebuild<const WORD: u128>() -> Results<37> {
+pub fn const_rebuild<const WORD: u128>() -> Results<FIELDS> {
     fields(&known::NumberFormat::<WORD>::rebuild())
 }
 
@@ -201,7 +201,7 @@ macro_rules! builders {
             &[$(NumberFormatBuilder::$flag,)* $(NumberFormatBuilder::$group,)*];
 
         /// The getters of a builder; an absent byte is 0.
-        fn fields(builder: &NumberFormatBuilder) -> Results<37> {
+        fn fields(builder: &NumberFormatBuilder) -> Results<FIELDS> {
             results! {
                 $($flag: builder.$get(),)* mantissa_radix: builder.get_mantissa_radix(),
                 digit_separator: builder.get_digit_separator(), base_prefix: builder.get_base_prefix(),
@@ -249,7 +249,7 @@ pub fn builder(start: Option<u128>, calls: &[SetterCall]) -> NumberFormatBuilder
     calls.iter().fold(start, set)
 }
 
-pub fn builder_fields(start: Option<u128>, calls: &[SetterCall]) -> Results<37> {
+pub fn builder_fields(start: Option<u128>, calls: &[SetterCall]) -> Results<FIELDS> {
     fields(&builder(start, calls))
 }
 

@@ -1,7 +1,7 @@
 //! The inputs on which the calls are compared. All of them follow from one seed.
 
 use crate::random::Random;
-use peltzivar::Edit;
+use crate::rows::with_setters;
 use std::fmt::{self, Debug, Formatter};
 use upstream::format_flags::FLAG_MASK;
 
@@ -13,15 +13,36 @@ pub struct SetterCall {
     pub value: u8,
 }
 
-const SETTERS: usize = Edit::NAMES.len();
+macro_rules! names {
+    (
+        { $($Flag:ident $flag:ident $get:ident $CONST:ident;)* }
+        { $($Group:ident $group:ident;)* }
+    ) => {
+        /// The names of the setters of `lexical-util`, by their index.
+        const NAMES: &[&str] = &[
+            $(stringify!($flag),)* $(stringify!($group),)*
+            "digit_separator", "base_prefix", "base_suffix", "mantissa_radix", "radix", "exponent_base", "exponent_radix",
+        ];
+    };
+}
+
+with_setters!(names);
+
+const SETTERS: usize = NAMES.len();
 
 /// The number of setters that take a `bool`. The seven byte setters follow them.
 pub const OF_FLAGS: usize = SETTERS - 7;
 
+impl SetterCall {
+    pub fn name(&self) -> &'static str {
+        NAMES[self.setter]
+    }
+}
+
 impl Debug for SetterCall {
     fn fmt(&self, f: &mut Formatter) -> fmt::Result {
         let flag = (self.setter < OF_FLAGS).then_some((self.value % 2 == 1).to_string());
-        write!(f, "{}={}", Edit::NAMES[self.setter], flag.unwrap_or(self.value.to_string()))
+        write!(f, "{}={}", NAMES[self.setter], flag.unwrap_or(self.value.to_string()))
     }
 }
 
@@ -32,7 +53,7 @@ pub fn single_calls(values: u16) -> impl Iterator<Item = SetterCall> {
 
 /// Returns the calls that give a new builder the fields of a word as they stand.
 pub fn calls_of(word: u128) -> Vec<SetterCall> {
-    let flags = (0..18).chain(32..45).map(|bit| (word >> bit) as u8 & 1).zip(0..31);
+    let flags = (0..128).filter(|bit| FLAG_MASK >> bit & 1 == 1).map(|bit| (word >> bit) as u8 & 1).zip(0..);
     let bytes = [64, 88, 96, 104, 112, 120].map(|shift| (word >> shift) as u8);
     let bytes = bytes.into_iter().zip([0, 1, 2, 3, 5, 6].map(|index| OF_FLAGS + index));
     flags.chain(bytes).map(|(value, setter)| SetterCall { setter, value }).collect()

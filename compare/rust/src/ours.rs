@@ -24,7 +24,7 @@ pub fn view(word: u128) -> Results<56> {
     with_setters!(flag_getters(view_of view))
 }
 
-pub fn rebuild(word: u128) -> Results<37> {
+pub fn rebuild(word: u128) -> Results<FIELDS> {
     fields(&FormatView::new(word).rebuild())
 }
 
@@ -59,7 +59,7 @@ pub fn const_digits<const WORD: u128>(byte: u8) -> Results<3> {
 
 fn edit(call: &SetterCall) -> Edit {
     let value = if call.setter < OF_FLAGS { call.value % 2 } else { call.value };
-    Setter::ALL[call.setter].with_byte(value)
+    Setter::from_name(call.name()).expect("a setter").with_byte(value)
 }
 
 pub fn edits(word: u128, calls: &[SetterCall]) -> Results<3> {
@@ -73,7 +73,7 @@ pub fn edits(word: u128, calls: &[SetterCall]) -> Results<3> {
 }
 
 /// The fields of a new builder after all edits of `edits_of`, and after those that it counts.
-pub fn listed(word: u128) -> [Results<37>; 2] {
+pub fn listed(word: u128) -> [Results<FIELDS>; 2] {
     let (edits, count) = edits_of(word);
     [&edits[..], &edits[..count]].map(|edits| fields(&apply_all(NumberFormatBuilder::new(), edits)))
 }

@@ -40,7 +40,7 @@ pub fn view(word: u128) -> Results<56> {
     with_setters!(flag_getters(bits_of word))
 }
 
-pub fn rebuild(word: u128) -> Results<37> {
+pub fn rebuild(word: u128) -> Results<FIELDS> {
     fields(&NumberFormatBuilder::rebuild(word))
 }
 
@@ -78,15 +78,15 @@ pub fn normal_form(word: u128) -> u128 {
 /// Returns the number of fields in which a word differs from a new builder.
 pub fn distance(word: u128) -> usize {
     let (one, other) = (raw_fields(word), fields(&NumberFormatBuilder::new()));
-    (0..37).filter(|&field| one.values[field] != other.values[field]).count()
+    (0..FIELDS).filter(|&field| one.values[field] != other.values[field]).count()
 }
 
-pub fn raw_fields(word: u128) -> Results<37> {
+pub fn raw_fields(word: u128) -> Results<FIELDS> {
     builder_fields(None, &calls_of(word))
 }
 
 /// The fields that a word has after all edits of `edits_of`, or after those that it counts.
-pub fn listed(word: u128) -> [Results<37>; 2] {
+pub fn listed(word: u128) -> [Results<FIELDS>; 2] {
     [raw_fields(word); 2]
 }
 

@@ -3,10 +3,10 @@ use Rattle.std.specs.Prelude.{ℕ, ◌+◌, ◌-◌, ◌^◌, ◌==◌, ◌&&◌
 use Rattle.std.specs.Prelude.{Bool, List, length, take, filter, get_or, Result, Ok, Err}
 use Rattle.std.specs.List.{position_or_len, range_with_len}
 use Rattle.lexical_util.specs.Layout as layout
-use Rattle.lexical_util.specs.Additions.ByteRoles.{used_separator}
 use Rattle.lexical_util.specs.Ascii.{ByteSet}
 use Rattle.lexical_util.specs.Digits.{byte_value, numeral}
 use Rattle.lexical_util.specs.Record.{Record}
+use Rattle.lexical_util.specs.Roles.{used_separator}
 use Rattle.lexical_util.specs.declared.error.Error.{Error}
 use Rattle.lexical_util.specs.declared.error.Error.TheVariants as errors
 

@@ -2,16 +2,17 @@
 
 ghost use Rattle.std.specs.Prelude.{◌≡◌, ℕ, ◌+◌, ◌*◌, ◌<◌, ◌^◌, IfErr, IsErr, IsTrue, is_some, length, not, position};
 ghost use Rattle.std.specs.Option.{SomeIff};
-ghost use Rattle.lexical_util.specs.Additions.ByteRoles.{first_role, used_separator};
+ghost use Rattle.lexical_util.specs.Additions.ByteRoles.{first_role};
 ghost use Rattle.lexical_util.specs.Digits.{byte_value};
 ghost use Rattle.lexical_util.specs.Layout as layout;
 ghost use Rattle.lexical_util.specs.Record.{raw};
+ghost use Rattle.lexical_util.specs.Roles.{used_separator};
 ghost use Rattle.lexical_util.specs.Rules.{Lawful, IsErrorOf};
 ghost use Rattle.callers.specs.Reading.{is_mantissa_digit, is_neighbour, is_skipped, reading};
 
 use lexical_util::error::Error;
 use lexical_util::format::{NumberFormat, Part, check};
-use lexical_util::laws::flags::role_facts;
+use lexical_util::laws::byte_facts;
 
 /// Reads `text` as a whole number in the mantissa radix of `format`, which may be any lawful format.
 ///
@@ -28,10 +29,10 @@ pub fn read_digits(format: u128, text: &[u8]) -> Result<u64, Error>
     ensures value { result ≡ reading (raw format) text.now }
 
     // No byte is both a digit and the separator, so either may be tested first.
-    ensures apart { (byte : ℕ) → byte < 256 → IsTrue (is_mantissa_digit (raw format) byte)
+    ensures apart { (byte : ℕ) → IsTrue (is_mantissa_digit (raw format) byte)
         → IsTrue (used_separator (raw format) byte) → ⊥ }
 {
-    separator_facts(format);
+    byte_facts();
     let mut number: u64 = 0;
     for (index, byte) in text.iter().enumerate() {
         if let Some(digit) = digit_value(format, *byte) {
@@ -62,15 +63,6 @@ pub fn read_checked(format: u128, text: &[u8]) -> Result<u64, Error>
 {
     check(format)?;
     read_digits(format, text)
-}
-
-// States that no byte is both a digit and the separator.
-fn separator_facts(format: u128)
-    requires { Lawful format }
-    ensures { (byte : ℕ) → byte < 256 → IsTrue (is_mantissa_digit (raw format) byte)
-        → IsTrue (used_separator (raw format) byte) → ⊥ }
-{
-    role_facts();
 }
 
 // Returns the value of `byte` as a digit of the mantissa, or `None` if it is not such a digit.

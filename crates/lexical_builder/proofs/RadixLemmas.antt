@@ -4,10 +4,11 @@ use Rattle.std.proofs.lemmas.Bool.Decides.{nat_tests}
 use Rattle.lexical_flags.specs.Layout as layout
 use Rattle.lexical_flags.specs.Literals.{on_literals}
 use Rattle.lexical_flags.specs.Record.{effective, Record, HasBytes, raw, pack}
-use Rattle.lexical_flags.specs.declared.format_flags.all_rules.Rule.{Rule}
-use Rattle.lexical_flags.specs.declared.format_flags.all_rules.Rule.TheVariants as rules
-use Rattle.lexical_flags.specs.Rules.{IsRadix, Meets, shape_of, Holds, Lawful}
+use Rattle.lexical_flags.specs.declared.format_flags.rule.Rule.{Rule}
+use Rattle.lexical_flags.specs.declared.format_flags.rule.Rule.TheVariants as rules
+use Rattle.lexical_flags.specs.Rules.{IsRadix, shape_of, Holds, Lawful}
 use Rattle.lexical_flags.proofs.Packing.{raw-pack, pack-clean, trim-same}
+use Rattle.lexical_flags.proofs.RuleFieldLemmas.{FieldsMeet}
 use Rattle.lexical_builder.specs.Writes.{radix_record}
 
 -- If a radix is below 256, then each byte of its record is below 256.
@@ -22,7 +23,7 @@ raw-radix radix fits = raw-pack (radix_record radix) (radix-bytes radix fits)
     ∙ trim-same (radix_record radix) (inr refl)
 
 -- If a radix is between 2 and 36, then its record satisfies each rule.
-radix-demands : (radix : ℕ) → IsRadix radix → (rule : Rule) → Meets (shape_of rule) (radix_record radix)
+radix-demands : (radix : ℕ) → IsRadix radix → (rule : Rule) → FieldsMeet (shape_of rule) (radix_record radix)
 unfolding on_literals
 radix-demands radix h rules.MantissaRadixInRange = grind (arith, nat_tests)
 radix-demands radix h rules.ExponentBaseInRange = grind (arith, nat_tests)
@@ -35,7 +36,7 @@ radix-demands radix h _ = search
 radix-kept : (radix : ℕ) → radix < 256 → IsRadix radix → (rule : Rule) → Holds rule (pack (radix_record radix))
 unfolding Holds
 radix-kept radix fits h rules.ReservedBitsAreZero = pack-clean (radix_record radix) (radix-bytes radix fits)
-radix-kept radix fits h rule = subst (Meets (shape_of rule)) (sym (raw-radix radix fits)) (radix-demands radix h rule)
+radix-kept radix fits h rule = subst (FieldsMeet (shape_of rule)) (sym (raw-radix radix fits)) (radix-demands radix h rule)
 
 mantissa_itself : (radix : ℕ) → IsRadix (effective radix radix) → IsRadix radix
 mantissa_itself radix h = grind (arith, nat_tests)

@@ -1,12 +1,12 @@
 -- Lemmas on the test that all flag rules are satisfied, bit by bit.
-use Rattle.std.proofs.Common.{ℕ, ◌≡◌, ◌+◌, ◌-◌, ◌/◌, ◌%◌, ◌^◌, ◌<◌, ◌==◌, ◌&&◌, [], ◌∷◌, inr, true, eqb-true, IsFalse}
+use Rattle.std.proofs.Common.{ℕ, ◌≡◌, ◌+◌, ◌-◌, ◌/◌, ◌%◌, ◌^◌, ◌<◌, ◌==◌, ◌&&◌, ◌||◌, not, inr, true, eqb-true, IsFalse}
 use Rattle.std.proofs.Common.{min, max, bit_and, bit_or, refl, ap, sym, ◌∙◌, arith}
 use Rattle.std.specs.Int.{bit_at, w128}
 use Rattle.std.proofs.lemmas.Bool.Decides.{nat_tests}
 use Rattle.std.proofs.lemmas.Nat.{shr-shr, or_lt}
 use Rattle.std.proofs.lemmas.Nat.Bits.{bit_at_and, bit_at_or, bit_at_not, bit_at-zero, bit_at-lt}
 use Rattle.lexical_base.specs.declared.error.Error.TheVariants.{Success}
-use Rattle.lexical_flags.specs.Rules.{IsFirstError, Holds, flag_rules, lacks_position}
+use Rattle.lexical_flags.specs.Rules.{IsFirstError, Holds, flag_rules}
 
 -- `positions word` has the lowest separator flag of each part in which some position is allowed.
 abbrev positions : ℕ → ℕ
@@ -44,7 +44,7 @@ record Clear (m n o p a b c d e f g : ℕ) : Type 0 where
   next_off : m ≡ 1 → IsFalse ((a == 1) && (b == 1))
   eighth_off : n ≡ 1 → IsFalse ((a == 1) && (c == 1))
   special_off : o ≡ 1 → IsFalse ((a == 1) && (d == 1))
-  placed : p ≡ 1 → IsFalse (lacks_position ((a == 1) ∷ (f == 1) ∷ (g == 1) ∷ (e == 1) ∷ []))
+  placed : p ≡ 1 → IsFalse ((e == 1) && not ((a == 1) || (f == 1) || (g == 1)))
 
 clear : (m n o p a b c d e f g : ℕ) → a < 2 → f < 2 → g < 2
     → max (min a (max (max (min b m) (min c n)) (min d o))) (min (min e p) (1 - max (max a f) g)) ≡ 0

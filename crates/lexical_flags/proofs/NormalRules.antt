@@ -11,10 +11,11 @@ use Rattle.lexical_flags.specs.Record.{Record, raw, fill, trim, set_byte, effect
 use Rattle.lexical_flags.specs.Record.{SeparatorAllowedOrAbsent}
 use Rattle.lexical_flags.specs.Roles.{Disjoint, cased, signs, prefix, suffix}
 use Rattle.lexical_base.specs.Digits.{digits_of}
-use Rattle.lexical_flags.specs.declared.format_flags.all_rules.Rule.{Rule}
-use Rattle.lexical_flags.specs.declared.format_flags.all_rules.Rule.TheVariants as rules
-use Rattle.lexical_flags.specs.Rules.{IsRadix, IsAbsentOrPunctuation, IsPunctuation, Meets, shape_of, Holds, IsErrorOf, Lawful}
+use Rattle.lexical_flags.specs.declared.format_flags.rule.Rule.{Rule}
+use Rattle.lexical_flags.specs.declared.format_flags.rule.Rule.TheVariants as rules
+use Rattle.lexical_flags.specs.Rules.{IsRadix, IsAbsentOrPunctuation, IsPunctuation, shape_of, Holds, IsErrorOf, Lawful}
 use Rattle.lexical_flags.proofs.DisjointLemmas.{Disjoint-from}
+use Rattle.lexical_flags.proofs.RuleFieldLemmas.{FieldsMeet}
 use Rattle.lexical_flags.proofs.Packing.{trim-same}
 use Rattle.lexical_flags.proofs.RuleLemmas.{Holds-from_lawful, Lawful-from_all, IsErrorOf-same}
 
@@ -31,7 +32,7 @@ IsAbsentOrPunctuation-fill r byte =
     (fill_once (r.byte layout.exponent_radix) (r.byte layout.mantissa_radix))
 
 -- The demand of a rule on the filled record is its demand on the record.
-Demands-fill : (rule : Rule) (r : Record) → Meets (shape_of rule) (fill r) ≡ Meets (shape_of rule) r
+Demands-fill : (rule : Rule) (r : Record) → FieldsMeet (shape_of rule) (fill r) ≡ FieldsMeet (shape_of rule) r
 Demands-fill rules.MantissaRadixInRange r = refl
 Demands-fill rules.ExponentBaseInRange r = ap IsRadix (fill_once (r.byte layout.exponent_base) (r.byte layout.mantissa_radix))
 Demands-fill rules.ExponentRadixInRange r = ap IsRadix (fill_once (r.byte layout.exponent_radix) (r.byte layout.mantissa_radix))
@@ -45,31 +46,31 @@ unfolding cased
 Disjoint-nothing A = Disjoint-from _ _ (λ byte below is_zero in_a. absurd (false≢true is_zero))
 
 -- If a record satisfies a rule, then so does the record without its separator.
-Demands-bare : (rule : Rule) (r : Record) → Meets (shape_of rule) r → Meets (shape_of rule) (set_byte r layout.digit_separator 0)
+Demands-bare : (rule : Rule) (r : Record) → FieldsMeet (shape_of rule) r → FieldsMeet (shape_of rule) (set_byte r layout.digit_separator 0)
 unfolding IsPunctuation
 Demands-bare rules.MantissaRadixInRange r h = h
 Demands-bare rules.DigitSeparatorIsPunctuation r h = inl refl
 Demands-bare rules.PunctuationDiffers r h = ((Disjoint-nothing (prefix r), (Disjoint-nothing (suffix r), tt)), h.1)
 Demands-bare _ r h = h
 
-Demands-trim : (rule : Rule) (r : Record) → Meets (shape_of rule) r → Meets (shape_of rule) (trim r)
+Demands-trim : (rule : Rule) (r : Record) → FieldsMeet (shape_of rule) r → FieldsMeet (shape_of rule) (trim r)
 Demands-trim rule r h =
     elim (cases_Bool (separator_allowed r)) [
-      | inl on ↦ subst (Meets (shape_of rule)) (sym (trim-same r (inl on))) h
-      | inr off ↦ subst (λ n. Meets (shape_of rule) (set_byte r layout.digit_separator n))
+      | inl on ↦ subst (FieldsMeet (shape_of rule)) (sym (trim-same r (inl on))) h
+      | inr off ↦ subst (λ n. FieldsMeet (shape_of rule) (set_byte r layout.digit_separator n))
           (sym (cond-false (separator_allowed r) (r.byte layout.digit_separator) 0 off)) (Demands-bare rule r h)
     ]
 
 -- If a record satisfies a rule, then so does the filled and trimmed record.
-pub Demands-kept : (rule : Rule) (r : Record) → Meets (shape_of rule) r → Meets (shape_of rule) (trim (fill r))
+pub Demands-kept : (rule : Rule) (r : Record) → FieldsMeet (shape_of rule) r → FieldsMeet (shape_of rule) (trim (fill r))
 Demands-kept rule r h = Demands-trim rule (fill r) (subst (λ X. X) (sym (Demands-fill rule r)) h)
 
 -- If no separator is dropped, then a record satisfies a rule if and only if the filled and trimmed record does.
-pub Demands-same : (rule : Rule) (r : Record) → SeparatorAllowedOrAbsent r → Meets (shape_of rule) r
-    ↔ Meets (shape_of rule) (trim (fill r))
+pub Demands-same : (rule : Rule) (r : Record) → SeparatorAllowedOrAbsent r → FieldsMeet (shape_of rule) r
+    ↔ FieldsMeet (shape_of rule) (trim (fill r))
 Demands-same rule r used = (
   Demands-kept rule r,
-  λ h. subst (λ X. X) (Demands-fill rule r) (subst (Meets (shape_of rule)) (trim-same (fill r) used) h),
+  λ h. subst (λ X. X) (Demands-fill rule r) (subst (FieldsMeet (shape_of rule)) (trim-same (fill r) used) h),
 )
 
 -- In this section, `normal` is a clean word with the filled and trimmed fields of `word`.
@@ -78,7 +79,7 @@ module _ (word normal : ℕ) (clean : IsClean normal) (fields : raw normal ≡ t
   Holds-kept : (rule : Rule) → Holds rule word → Holds rule normal
   unfolding Holds
   Holds-kept rules.ReservedBitsAreZero h = clean
-  Holds-kept rule h = subst (Meets (shape_of rule)) (sym fields) (Demands-kept rule (raw word) h)
+  Holds-kept rule h = subst (FieldsMeet (shape_of rule)) (sym fields) (Demands-kept rule (raw word) h)
 
   -- If `word` is lawful, then so is `normal`.
   pub Lawful-kept : Lawful word → Lawful normal
@@ -88,7 +89,7 @@ module _ (word normal : ℕ) (clean : IsClean normal) (fields : raw normal ≡ t
   Holds-back : IsClean word → SeparatorAllowedOrAbsent (raw word) → (rule : Rule) → Holds rule normal → Holds rule word
   unfolding Holds
   Holds-back whole used rules.ReservedBitsAreZero h = whole
-  Holds-back whole used rule h = (Demands-same rule (raw word) used).1 (subst (Meets (shape_of rule)) fields h)
+  Holds-back whole used rule h = (Demands-same rule (raw word) used).1 (subst (FieldsMeet (shape_of rule)) fields h)
 
   -- If nothing was dropped from `word`, then `word` and `normal` have the same error.
   pub IsErrorOf-kept : IsClean word → SeparatorAllowedOrAbsent (raw word)

@@ -10,7 +10,7 @@ use Rattle.lexical_flags.specs.Roles.{Disjoint, cased, digits, signs, format_rol
 use Rattle.lexical_flags.specs.Rules.{IsPunctuation, Lawful}
 use Rattle.lexical_base.specs.declared.error.Error.{Error}
 use Rattle.lexical_base.specs.declared.error.Error.TheVariants.{Success}
-use Rattle.lexical_flags.specs.Options.{OptionsFit, OptionsHaveOneRole, SomeOptionsFit, IsOptionsError}
+use Rattle.lexical_flags.specs.Options.{OptionsFit, OptionsHaveOneRole, SomeOptionsHaveOneRole, IsOptionsError}
 use Rattle.lexical_flags.proofs.DisjointLemmas.{Disjoint-from, Disjoint-sym}
 use Rattle.lexical_flags.proofs.RoleLemmas.{Disjoint-digits-cased, Disjoint-signs-cased, not_in, no_digit}
 use Rattle.lexical_flags.proofs.RuleLemmas.{ErrorUnless-unique}
@@ -118,10 +118,10 @@ is_new r byte counts low high separator prefix suffix = (
   ),
 )
 
--- Options fit every lawful word, since at least one of any four bytes from ! to ( differs from separator, prefix and
--- suffix.
-pub room_from_lawful : (word : ℕ) → Lawful word → SomeOptionsFit word
-room_from_lawful word lawful =
+-- A lawful word has options with which no byte plays two roles, since at least one of any four bytes from ! to (
+-- differs from separator, prefix and suffix.
+pub some_from_lawful : (word : ℕ) → Lawful word → SomeOptionsHaveOneRole word
+some_from_lawful word lawful =
     let r : Record = raw word in
     let e : ℕ = free_from 33 (r.byte layout.digit_separator) (r.byte layout.base_prefix) (r.byte layout.base_suffix) in
     let p : ℕ = free_from 37 (r.byte layout.digit_separator) (r.byte layout.base_prefix) (r.byte layout.base_suffix) in
@@ -134,7 +134,7 @@ room_from_lawful word lawful =
       exponent_is_new = is_new r e (r.flag layout.case_sensitive_exponent) e_free.0 (omega arith) e_free.2 e_free.3 e_free.4;
       point_is_new = is_new r p true (omega arith) p_free.1 p_free.2 p_free.3 p_free.4;
     } in
-    record { exponent_byte = e; point_byte = p; fit = roles_from_accepted word e p lawful accepted }
+    record { exponent_byte = e; point_byte = p; one_role = roles_from_accepted word e p lawful accepted }
 
 -- An exponent character and a decimal point have at most one error.
 pub one_options_error : (word e p : ℕ) (a b : Error) → IsOptionsError word e p a → IsOptionsError word e p b → a ≡ b

@@ -12,7 +12,7 @@ use Rattle.lexical_flags.specs.Layout as layout
 use Rattle.lexical_flags.specs.Record.{Record, raw}
 use Rattle.lexical_flags.specs.Roles.{signs}
 use Rattle.lexical_flags.specs.Rules.{IsAbsentOrPunctuation, IsPunctuation}
-use Rattle.lexical_flags.specs.declared.format_flags.rules.TheConstants.{LIMITS}
+use Rattle.lexical_flags.specs.declared.format_flags.checks.TheConstants.{LIMITS}
 
 -- `limit byte` is the number of radixes in which `byte` is absent or punctuation. These are the radixes below it.
 limit : ℕ → ℕ

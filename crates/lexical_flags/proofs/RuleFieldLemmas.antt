@@ -1,24 +1,35 @@
 -- Lemmas that a rule depends only on the bits that it reads.
 use Rattle.std.proofs.Common.{ℕ, ◌≡◌, ◌-◌, ◌*◌, ◌/◌, ◌^◌, ◌==◌, ◌⊎◌, ◌&&◌, ◌||◌, not, true, IsTrue, IsFalse, List, [], ◌∷◌}
-use Rattle.std.proofs.Common.{bit_and, map, refl, ap, sym, subst, ◌∙◌}
+use Rattle.std.proofs.Common.{bit_and, refl, ap, sym, subst, ◌∙◌}
 use Rattle.std.proofs.lemmas.Nat.{and_assoc}
 use Rattle.lexical_base.specs.Ascii.{allowed_ascii}
 use Rattle.lexical_base.specs.Digits.{digits_of}
 use Rattle.lexical_flags.specs.Layout as layout
 use Rattle.lexical_flags.specs.Layout.{Flag, Byte, part, bit, shift}
-use Rattle.lexical_flags.specs.Record.{raw, effective}
-use Rattle.lexical_flags.specs.Roles.{AreDisjoint, cased, signs}
-use Rattle.lexical_flags.specs.Rules.{IsRadix, IsPunctuation, Shape, radix_in_range, absent_or_punctuation}
+use Rattle.lexical_flags.specs.Record.{Record, raw, effective}
+use Rattle.lexical_flags.specs.Roles.{AreDisjoint, cased, format_roles, signs}
+use Rattle.lexical_flags.specs.Rules.{IsRadix, IsPunctuation, IsAbsentOrPunctuation, Shape, radix_in_range, absent_or_punctuation}
 use Rattle.lexical_flags.specs.Rules.{roles_differ, not_both, position_allowed, reserved_zero, shape_of}
-use Rattle.lexical_flags.specs.Rules.{Meets, Holds, lacks_position, separator_flags}
+use Rattle.lexical_flags.specs.Rules.{Holds, lacks_position}
+use Rattle.std.specs.Bool.{⊤}
 use Rattle.std.specs.List.{list_all, AllByRecursion}
 use Rattle.std.proofs.lemmas.Bool.{and_parts, eqb-true}
 use Rattle.lexical_flags.specs.Additions.RuleFields.{flags_of, bytes_of, mask_read}
-use Rattle.lexical_flags.specs.declared.format_flags.all_rules.Rule.{Rule}
-use Rattle.lexical_flags.specs.declared.format_flags.all_rules.Rule.TheVariants as rules
+use Rattle.lexical_flags.specs.declared.format_flags.rule.Rule.{Rule}
+use Rattle.lexical_flags.specs.declared.format_flags.rule.Rule.TheVariants as rules
 use Rattle.lexical_flags.proofs.ByteParts.{masked_part}
 use Rattle.lexical_flags.proofs.FlagBits.{flag_test}
 use Rattle.lexical_flags.proofs.ReservedBits.{reserved_bits}
+
+-- `FieldsMeet shape r` is `Meets shape` of each word with the fields `r`, if `shape` is one of fields. `reserved_zero` is
+-- not.
+abbrev pub FieldsMeet : Shape → Record → Type 0
+FieldsMeet (radix_in_range byte) r = IsRadix (effective (r.byte byte) (r.byte layout.mantissa_radix))
+FieldsMeet (absent_or_punctuation byte) r = IsAbsentOrPunctuation r (r.byte byte)
+FieldsMeet roles_differ r = AreDisjoint (format_roles r)
+FieldsMeet (not_both a b) r = IsFalse (r.flag a && r.flag b)
+FieldsMeet (position_allowed part) r = IsFalse (lacks_position r part)
+FieldsMeet reserved_zero r = ⊤
 
 -- Two words agree in a flag, in a byte, and in all fields on which a shape depends.
 abbrev pub SameFlag : ℕ → ℕ → Flag → Type 0
@@ -62,14 +73,8 @@ module _ (v w mask : ℕ) (same : bit_and v mask ≡ bit_and w mask) where
   bytes_agree (b ∷ bs) inside =
       let parts = and_parts _ _ inside in (byte b (eqb-true _ _ parts.0), bytes_agree bs parts.1)
 
--- If two words agree in the flags of a list, then they have the same list of values.
-pub map_same : (v w : ℕ) (fs : List Flag) → AllByRecursion (SameFlag v w) fs
-    → map (raw v).flag fs ≡ map (raw w).flag fs
-map_same v w [] same = refl
-map_same v w (f ∷ fs) (first, rest) = λ i. first i ∷ map_same v w fs rest i
-
 -- If two words agree in the fields on which a shape depends, then both meet it or neither meets it.
-Meets-same : (v w : ℕ) (shape : Shape) → SameFields v w shape → Meets shape (raw v) ≡ Meets shape (raw w)
+Meets-same : (v w : ℕ) (shape : Shape) → SameFields v w shape → FieldsMeet shape (raw v) ≡ FieldsMeet shape (raw w)
 unfolding IsPunctuation
 Meets-same v w (radix_in_range layout.mantissa_radix) (flags, (m, none)) = ap (λ m. IsRadix (effective m m)) m
 Meets-same v w (radix_in_range byte) (flags, (b, (m, none))) = λ i. IsRadix (effective (b i) (m i))
@@ -79,13 +84,13 @@ Meets-same v w (absent_or_punctuation byte) (flags, (b, (m, (e, none)))) =
 Meets-same v w roles_differ ((p, (s, none)), (separator, (prefix, (suffix, nothing)))) =
     λ i. AreDisjoint (cased true (separator i) ∷ cased (p i) (prefix i) ∷ cased (s i) (suffix i) ∷ [])
 Meets-same v w (not_both a b) ((on, (other, none)), bytes) = λ i. IsFalse (on i && other i)
-Meets-same v w (position_allowed part) (flags, bytes) =
-    ap (λ values. IsFalse (lacks_position values)) (map_same v w (separator_flags part) flags)
+Meets-same v w (position_allowed part) ((between, (before, (after, (several, none)))), bytes) =
+    λ i. IsFalse (several i && not (between i || before i || after i))
 Meets-same v w reserved_zero same = refl
 
 -- If two words agree in the bits that a rule reads, then the demands of the rule on both are equal.
 Demands-same : (rule : Rule) (v w : ℕ) → bit_and v (mask_read rule) ≡ bit_and w (mask_read rule)
-    → Meets (shape_of rule) (raw v) ≡ Meets (shape_of rule) (raw w)
+    → FieldsMeet (shape_of rule) (raw v) ≡ FieldsMeet (shape_of rule) (raw w)
 Demands-same rules.MantissaRadixInRange v w same =
     let shape : Shape = shape_of rules.MantissaRadixInRange in
     Meets-same v w shape (flags_agree v w _ same (flags_of shape) refl, bytes_agree v w _ same (bytes_of shape) refl)

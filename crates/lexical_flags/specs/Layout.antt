@@ -1,5 +1,7 @@
 -- The flags and bytes of a format word, and their bits.
 use Rattle.std.specs.Prelude.{ℕ, ◌≡◌, ◌/◌, ◌%◌, ◌^◌, List, [], ◌∷◌, ◌++◌}
+use Rattle.lexical_flags.specs.declared.format_flags.parts.Part.{Part}
+use Rattle.lexical_flags.specs.declared.format_flags.parts.Part.TheVariants as parts
 
 -- `part word s n` is the number in the `n` bits of `word` from bit `s` up.
 abbrev pub part : ℕ → ℕ → ℕ → ℕ
@@ -132,23 +134,51 @@ digit_separator_flags =
     internal_digit_separator ++ leading_digit_separator ++ trailing_digit_separator ++
     consecutive_digit_separator ++ special_digit_separator ∷ []
 
+-- `SeparatorFlags` has the flags that allow digit separators between, before and after the digits of one part of a
+-- number, and the flag that allows consecutive ones there.
+pub record SeparatorFlags : Type 0 where
+  pub internal : Flag
+  pub leading : Flag
+  pub trailing : Flag
+  pub consecutive : Flag
+
+-- `separators_in part` has the digit separator flags of `part`.
+abbrev pub separators_in : Part → SeparatorFlags
+separators_in parts.Integer = record {
+  internal = integer_internal_digit_separator;
+  leading = integer_leading_digit_separator;
+  trailing = integer_trailing_digit_separator;
+  consecutive = integer_consecutive_digit_separator;
+}
+separators_in parts.Fraction = record {
+  internal = fraction_internal_digit_separator;
+  leading = fraction_leading_digit_separator;
+  trailing = fraction_trailing_digit_separator;
+  consecutive = fraction_consecutive_digit_separator;
+}
+separators_in parts.Exponent = record {
+  internal = exponent_internal_digit_separator;
+  leading = exponent_leading_digit_separator;
+  trailing = exponent_trailing_digit_separator;
+  consecutive = exponent_consecutive_digit_separator;
+}
+
+-- `separator_flags part` lists the digit separator flags of `part`.
+abbrev pub separator_flags : Part → List Flag
+separator_flags part =
+    let own = separators_in part in own.internal ∷ own.leading ∷ own.trailing ∷ own.consecutive ∷ []
+
 -- `integer_digit_separator_flags` lists the digit separator flags of the integer part.
 abbrev pub integer_digit_separator_flags : List Flag
-integer_digit_separator_flags =
-    integer_internal_digit_separator ∷ integer_leading_digit_separator ∷
-    integer_trailing_digit_separator ∷ integer_consecutive_digit_separator ∷ []
+integer_digit_separator_flags = separator_flags parts.Integer
 
 -- `fraction_digit_separator_flags` lists the digit separator flags of the fraction.
 abbrev pub fraction_digit_separator_flags : List Flag
-fraction_digit_separator_flags =
-    fraction_internal_digit_separator ∷ fraction_leading_digit_separator ∷
-    fraction_trailing_digit_separator ∷ fraction_consecutive_digit_separator ∷ []
+fraction_digit_separator_flags = separator_flags parts.Fraction
 
 -- `exponent_digit_separator_flags` lists the digit separator flags of the exponent.
 abbrev pub exponent_digit_separator_flags : List Flag
-exponent_digit_separator_flags =
-    exponent_internal_digit_separator ∷ exponent_leading_digit_separator ∷
-    exponent_trailing_digit_separator ∷ exponent_consecutive_digit_separator ∷ []
+exponent_digit_separator_flags = separator_flags parts.Exponent
 
 -- `flags` lists all flags, in the order of their bits.
 abbrev pub flags : List Flag

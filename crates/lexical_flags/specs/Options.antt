@@ -31,8 +31,8 @@ pub record OptionsHaveOneRole (word exponent_byte point_byte : ℕ) : Type 0 whe
   pub point_is_text : IsTrue (allowed_ascii point_byte)
   pub roles : AreDisjoint (seven_roles (raw word) exponent_byte point_byte)
 
--- `SomeOptionsFit word` holds if some exponent character and decimal point fit `word`.
-pub record SomeOptionsFit (word : ℕ) : Type 0 where
+-- `SomeOptionsHaveOneRole word` holds if `OptionsHaveOneRole` holds of `word` and some two bytes.
+pub record SomeOptionsHaveOneRole (word : ℕ) : Type 0 where
   pub exponent_byte : ℕ
   pub point_byte : ℕ
-  pub fit : OptionsHaveOneRole word exponent_byte point_byte
+  pub one_role : OptionsHaveOneRole word exponent_byte point_byte

@@ -5,7 +5,7 @@ use Rattle.lexical_base.specs.Ascii.{ByteSet, between}
 use Rattle.lexical_base.specs.Digits.{digits_of}
 use Rattle.lexical_flags.specs.Layout as layout
 use Rattle.lexical_flags.specs.Pairs.{ArePairwise}
-use Rattle.lexical_flags.specs.Record.{Record, effective_exponent_radix}
+use Rattle.lexical_flags.specs.Record.{Record, effective_exponent_radix, separator_allowed}
 
 -- `are_disjoint A B` is true if none of the 256 bytes is in both sets.
 unfoldable pub are_disjoint : ByteSet → ByteSet → Bool
@@ -39,6 +39,10 @@ signs byte = (byte == 43) || (byte == 45)
 -- `separator r` is the role of the digit separator of `r`.
 abbrev pub separator : Record → ByteSet
 separator r = cased true (r.byte layout.digit_separator)
+
+-- `used_separator r` is the set that contains the digit separator of `r` if some flag of `r` allows one.
+abbrev pub used_separator : Record → ByteSet
+used_separator r byte = separator_allowed r && separator r byte
 
 -- `prefix r` is the role of the base prefix of `r`.
 abbrev pub prefix : Record → ByteSet

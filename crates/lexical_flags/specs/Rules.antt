@@ -1,13 +1,13 @@
 -- The rules, and the error of the first rule that a word breaks.
-use Rattle.std.specs.Prelude.{ℕ, Bool, false, not, map, ◌≡◌, ◌≤◌, ◌⊎◌, ◌&&◌, ◌||◌, ⊤, IsTrue, IsFalse, List, [], ◌∷◌, ◌++◌}
+use Rattle.std.specs.Prelude.{ℕ, Bool, not, ◌≡◌, ◌≤◌, ◌⊎◌, ◌&&◌, ◌||◌, IsTrue, IsFalse, List, [], ◌∷◌, ◌++◌}
 use Rattle.std.specs.List.{AllByRecursion}
 use Rattle.lexical_base.specs.Ascii.{allowed_ascii}
 use Rattle.lexical_base.specs.declared.error.Error.{Error}
 use Rattle.lexical_base.specs.declared.error.Error.TheVariants as errors
 use Rattle.lexical_flags.specs.Layout as layout
-use Rattle.lexical_flags.specs.declared.format_flags.all_rules.Rule.{Rule}
-use Rattle.lexical_flags.specs.declared.format_flags.all_rules.Rule.TheVariants as rules
-use Rattle.lexical_flags.specs.Layout.{IsClean, Flag, Byte}
+use Rattle.lexical_flags.specs.declared.format_flags.rule.Rule.{Rule}
+use Rattle.lexical_flags.specs.declared.format_flags.rule.Rule.TheVariants as rules
+use Rattle.lexical_flags.specs.Layout.{IsClean, Flag, Byte, separators_in}
 use Rattle.lexical_flags.specs.Layout.{no_exponent_notation, required_exponent_notation, no_positive_mantissa_sign}
 use Rattle.lexical_flags.specs.Layout.{required_mantissa_sign, no_positive_exponent_sign, required_exponent_sign}
 use Rattle.lexical_flags.specs.Layout.{no_special, case_sensitive_special, special_digit_separator}
@@ -32,13 +32,7 @@ IsAbsentOrPunctuation r byte = (byte ≡ 0) ⊎ IsPunctuation r byte
 abbrev pub IsTextOrNone : ℕ → Type 0
 IsTextOrNone byte = (byte ≡ 0) ⊎ IsTrue (allowed_ascii byte)
 
--- `separator_flags part` lists the flags for internal, leading, trailing and consecutive digit separators in `part`.
-abbrev pub separator_flags : Part → List Flag
-separator_flags parts.Integer = layout.integer_digit_separator_flags
-separator_flags parts.Fraction = layout.fraction_digit_separator_flags
-separator_flags parts.Exponent = layout.exponent_digit_separator_flags
-
--- `Shape` is the type of what a rule demands of the fields that are its arguments.
+-- `Shape` is the type of what a rule demands of the fields that are its arguments, or of the reserved bits.
 pub data Shape : Type 0 where
   radix_in_range : Byte → Shape
   absent_or_punctuation : Byte → Shape
@@ -66,30 +60,33 @@ meaning rules.FractionConsecutiveIsAllowed = (position_allowed parts.Fraction, e
 meaning rules.ExponentConsecutiveIsAllowed = (position_allowed parts.Exponent, errors.InvalidConsecutiveExponentDigitSeparator)
 meaning rules.ReservedBitsAreZero = (reserved_zero, errors.InvalidFlags)
 
+-- `shape_of rule` is what `rule` demands.
 abbrev pub shape_of : Rule → Shape
 shape_of rule = (meaning rule).0
 
+-- `error_of rule` is the error of a word whose first broken rule is `rule`.
 abbrev pub error_of : Rule → Error
 error_of rule = (meaning rule).1
 
--- `lacks_position values` is true if the last of four values is true and the others are false.
-abbrev pub lacks_position : List Bool → Bool
-lacks_position (internal ∷ leading ∷ trailing ∷ consecutive ∷ []) = consecutive && not (internal || leading || trailing)
-lacks_position _ = false
+-- `lacks_position r part` is true if `r` allows consecutive digit separators in `part`, but no digit separator between,
+-- before or after its digits.
+abbrev pub lacks_position : Record → Part → Bool
+lacks_position r part =
+    let own = separators_in part in
+    r.flag own.consecutive && not (r.flag own.internal || r.flag own.leading || r.flag own.trailing)
 
--- `Meets shape r` holds if the fields of `r` are as `shape` demands. Reserved bits belong to no field.
-abbrev pub Meets : Shape → Record → Type 0
-Meets (radix_in_range byte) r = IsRadix (effective (r.byte byte) (r.byte layout.mantissa_radix))
-Meets (absent_or_punctuation byte) r = IsAbsentOrPunctuation r (r.byte byte)
-Meets roles_differ r = AreDisjoint (format_roles r)
-Meets (not_both a b) r = IsFalse (r.flag a && r.flag b)
-Meets (position_allowed part) r = IsFalse (lacks_position (map r.flag (separator_flags part)))
-Meets reserved_zero r = ⊤
+-- `Meets shape word` holds if `word` is as `shape` demands.
+abbrev pub Meets : Shape → ℕ → Type 0
+Meets (radix_in_range byte) word = IsRadix (effective ((raw word).byte byte) ((raw word).byte layout.mantissa_radix))
+Meets (absent_or_punctuation byte) word = IsAbsentOrPunctuation (raw word) ((raw word).byte byte)
+Meets roles_differ word = AreDisjoint (format_roles (raw word))
+Meets (not_both a b) word = IsFalse ((raw word).flag a && (raw word).flag b)
+Meets (position_allowed part) word = IsFalse (lacks_position (raw word) part)
+Meets reserved_zero word = IsClean word
 
 -- `Holds rule word` holds if `word` satisfies `rule`.
 unfoldable pub Holds : Rule → ℕ → Type 0
-Holds rules.ReservedBitsAreZero word = IsClean word
-Holds rule word = Meets (shape_of rule) (raw word)
+Holds rule word = Meets (shape_of rule) word
 
 -- `radix_rules` lists the radix rules, in order.
 abbrev pub radix_rules : List Rule

@@ -13,21 +13,23 @@ ghost use Rattle.lexical_flags.specs.Record.{raw, effective, effective_exponent_
 ghost use Rattle.lexical_flags.specs.Common.{common};
 ghost use Rattle.lexical_flags.specs.Rules.{IsRadix, Lawful};
 
-mod all_rules;
+mod checks;
+mod options;
 mod parts;
-mod rules;
+mod rule;
 
 #[doc(no_inline)]
-pub use crate::format_flags::all_rules::{RULES, Rule};
+pub use crate::format_flags::checks::{
+    check, format_error_impl, is_clean, is_digit_of_either_radix, is_separator_allowed,
+    is_valid_base_prefix, is_valid_base_suffix, is_valid_digit_separator, is_valid_exponent_flags,
+    is_valid_punctuation, is_valid_radix, radix_error_impl, roles_disjoint,
+};
+#[doc(no_inline)]
+pub use crate::format_flags::options::{is_valid_options_punctuation, options_error};
 #[doc(no_inline)]
 pub use crate::format_flags::parts::Part;
 #[doc(no_inline)]
-pub use crate::format_flags::rules::{
-    check, format_error_impl, is_clean, is_digit_of_either_radix, is_separator_allowed,
-    is_valid_base_prefix, is_valid_base_suffix, is_valid_digit_separator, is_valid_exponent_flags,
-    is_valid_options_punctuation, is_valid_punctuation, is_valid_radix, options_error,
-    radix_error_impl, roles_disjoint,
-};
+pub use crate::format_flags::rule::{RULES, Rule};
 
 // FLAGS OTHER THAN DIGIT SEPARATOR FLAGS
 

@@ -11,7 +11,7 @@ ghost use Rattle.lexical_flags.specs.Pairs.{ArePairwise};
 ghost use Rattle.lexical_flags.specs.Roles.{Disjoint, AreDisjoint, five_roles};
 ghost use Rattle.lexical_flags.specs.Rules.{Holds, Lawful, IsErrorOf};
 ghost use Rattle.lexical_flags.specs.Additions.RuleFields.{mask_read};
-ghost use Rattle.lexical_flags.specs.declared.format_flags.all_rules.Rule.{Rule};
+ghost use Rattle.lexical_flags.specs.declared.format_flags.rule.Rule.{Rule};
 ghost use Rattle.lexical_flags.specs.Options.{OptionsFit, OptionsHaveOneRole};
 ghost use Rattle.lexical_flags.specs.Constants.{flag_constant, byte_constant, byte_shift, doublings, ShareNoBit};
 ghost use Rattle.lexical_flags.specs.Additions.Masks.{interface_flags, exponent_flags};

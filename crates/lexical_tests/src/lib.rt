@@ -9,7 +9,6 @@ mod errors;
 mod example;
 mod proved_callers;
 mod roles;
-mod rows;
 mod rules;
 mod values;
 mod views;

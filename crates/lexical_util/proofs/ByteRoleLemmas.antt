@@ -1,14 +1,17 @@
 -- In a lawful format with options that fit, a byte plays at most one role.
-use Rattle.std.proofs.Common.{◌≡◌, ◌<◌, ◌⊎◌, inl, inr, ℕ, ◌↔◌, Bool, true, false, cond, List, [], ◌∷◌, Option, Some, None, IsTrue}
-use Rattle.std.proofs.Common.{refl, sym, ap, subst, ◌∙◌}
+use Rattle.std.proofs.Common.{◌≡◌, ◌≢◌, ◌<◌, ◌⊎◌, inl, inr, ℕ, ◌↔◌, Bool, true, false, cond, List, [], ◌∷◌, Option, Some, None, IsTrue}
+use Rattle.std.proofs.Common.{refl, sym, ap, subst, ◌∙◌, arith}
 use Rattle.std.proofs.lemmas.Bool.{and_parts, cond-true, cond_both}
+use Rattle.std.proofs.lemmas.Bool.Decides.{nat_tests}
 use Rattle.std.specs.List.{find}
 use Rattle.lexical_base.specs.Ascii.{ByteSet}
-use Rattle.lexical_flags.specs.Record.{Record, separator_allowed}
-use Rattle.lexical_flags.specs.Roles.{AreDisjoint, Disjoint, seven_roles, separator}
+use Rattle.lexical_flags.specs.Options.{OptionsHaveOneRole}
+use Rattle.lexical_flags.specs.Record.{Record, raw, separator_allowed}
+use Rattle.lexical_flags.specs.Roles.{Disjoint, cased, other_case, digits, separator}
+use Rattle.lexical_flags.specs.Rules.{Lawful}
 use Rattle.lexical_util.specs.declared.feature_format.roles.Role.{Role}
 use Rattle.lexical_util.specs.declared.feature_format.roles.Role.TheVariants as roles
-use Rattle.lexical_util.specs.Additions.ByteRoles.{role_set, roles_in_order, first_role, IsOnlyRole}
+use Rattle.lexical_util.specs.Additions.ByteRoles.{used_separator, role_set, roles_in_order, first_role, IsOnlyRole}
 
 -- `stored_set r e p role` is `role_set r e p role`, with the digit separator even if no flag allows one.
 abbrev stored_set : Record → ℕ → ℕ → Role → ByteSet
@@ -58,32 +61,72 @@ module _ (test : Role → Bool) (role : Role) where
   finds plays alone (x ∷ list) (inr rest) =
       cond_both (test x) (Some x) (find test list) (λ o. o ≡ Some role) (λ is. ap Some (alone x is)) (λ _. finds plays alone list rest)
 
+-- The other case of a byte is a byte, and so is each byte that plays the role of a byte.
+other_below : (own : ℕ) → own < 256 → other_case own < 256
+other_below own below = grind (arith, nat_tests)
+
+cased_below : (counts : Bool) (own byte : ℕ) → own < 256 → IsTrue (cased counts own byte) → byte < 256
+unfolding cased
+cased_below counts own byte below is = grind (arith, nat_tests, other_below own below)
+
 -- These lemmas assume the law that two sets are disjoint if and only if no byte is in both.
 module _ (law : (A B : ByteSet)
-    → Disjoint A B ↔ ((byte : ℕ) → byte < 256 → IsTrue (A byte) → IsTrue (B byte) → ⊥)) where
-  Disjoint-sym : (A B : ByteSet) → Disjoint A B → Disjoint B A
-  Disjoint-sym A B apart = (law B A).1 (λ byte below in_b in_a. (law A B).0 apart byte below in_a in_b)
+    → Disjoint A B ↔ ((byte : ℕ) → byte < 256 → IsTrue (A byte) → IsTrue (B byte) → ⊥)) (word : ℕ) where
+  -- In a lawful format, no byte is both a digit and the digit separator.
+  pub digit_or_separator : Lawful word → (byte : ℕ) → IsTrue (digits (raw word) byte)
+      → IsTrue (used_separator (raw word) byte) → ⊥
+  unfolding Lawful
+  digit_or_separator lawful byte digit used =
+      let stored : IsTrue (separator (raw word) byte) = (and_parts (separator_allowed (raw word)) _ used).1 in
+      let pairs = lawful.roles in
+      (law (digits (raw word)) (separator (raw word))).0 (assumption pairs) byte
+      (cased_below true _ byte (omega arith) stored) digit stored
 
-  -- If a byte is in two stored sets, then their roles are equal.
-  at_most_one : (r : Record) (e p byte : ℕ) → byte < 256 → AreDisjoint (seven_roles r e p) → (a b : Role)
-      → IsTrue (stored_set r e p a byte) → IsTrue (stored_set r e p b byte) → a ≡ b
-  at_most_one r e p byte below pairs roles.Digit roles.Digit plays_a plays_b = refl
-  at_most_one r e p byte below pairs roles.Sign roles.Sign plays_a plays_b = refl
-  at_most_one r e p byte below pairs roles.Separator roles.Separator plays_a plays_b = refl
-  at_most_one r e p byte below pairs roles.Prefix roles.Prefix plays_a plays_b = refl
-  at_most_one r e p byte below pairs roles.Suffix roles.Suffix plays_a plays_b = refl
-  at_most_one r e p byte below pairs roles.Exponent roles.Exponent plays_a plays_b = refl
-  at_most_one r e p byte below pairs roles.Point roles.Point plays_a plays_b = refl
-  at_most_one r e p byte below pairs a b plays_a plays_b =
-      absurd ((law (stored_set r e p a) (stored_set r e p b)).0 (search (Disjoint-sym, pairs)) byte below plays_a plays_b)
+  -- The other lemmas are on a lawful format with options that fit.
+  module _ (e p : ℕ) (fit : OptionsHaveOneRole word e p) where
+    Disjoint-sym : (A B : ByteSet) → Disjoint A B → Disjoint B A
+    Disjoint-sym A B apart = (law B A).1 (λ byte below in_b in_a. (law A B).0 apart byte below in_a in_b)
 
-  -- The first role of a byte is its only role.
-  pub first_role-only : (r : Record) (e p byte : ℕ) → byte < 256 → AreDisjoint (seven_roles r e p)
-      → IsOnlyRole r e p byte (first_role r e p byte)
-  first_role-only r e p byte below pairs role = (
-    λ plays. finds test role plays (λ x is. at_most_one r e p byte below pairs x role (stored r e p byte x is)
-        (stored r e p byte role plays)) roles_in_order (listed role),
-    found test role roles_in_order,
-  ) where
-    test : Role → Bool
-    test own = role_set r e p own byte
+    -- Each byte that plays another role than a digit is below 256.
+    below : (role : Role) → roles.Digit ≢ role → (byte : ℕ) → IsTrue (stored_set (raw word) e p role byte) → byte < 256
+    below roles.Digit other byte is = absurd (other refl)
+    below roles.Sign other byte is = grind (arith, nat_tests)
+    below roles.Separator other byte is = cased_below true _ byte (omega arith) is
+    below roles.Prefix other byte is = cased_below _ _ byte (omega arith) is
+    below roles.Suffix other byte is = cased_below _ _ byte (omega arith) is
+    below roles.Exponent other byte is = let text = fit.exponent_is_text in cased_below _ e byte (grind (arith, nat_tests)) is
+    below roles.Point other byte is = let text = fit.point_is_text in cased_below true p byte (grind (arith, nat_tests)) is
+
+    -- If a byte is in two stored sets, then their roles are equal.
+    one_below : (byte : ℕ) → byte < 256 → (a b : Role) → IsTrue (stored_set (raw word) e p a byte)
+        → IsTrue (stored_set (raw word) e p b byte) → a ≡ b
+    one_below byte small roles.Digit roles.Digit in_a in_b = refl
+    one_below byte small roles.Sign roles.Sign in_a in_b = refl
+    one_below byte small roles.Separator roles.Separator in_a in_b = refl
+    one_below byte small roles.Prefix roles.Prefix in_a in_b = refl
+    one_below byte small roles.Suffix roles.Suffix in_a in_b = refl
+    one_below byte small roles.Exponent roles.Exponent in_a in_b = refl
+    one_below byte small roles.Point roles.Point in_a in_b = refl
+    one_below byte small a b in_a in_b = absurd ((law (stored_set (raw word) e p a) (stored_set (raw word) e p b)).0
+        (search (Disjoint-sym, fit.roles)) byte small in_a in_b)
+
+    one_stored : (byte : ℕ) (a b : Role) → IsTrue (stored_set (raw word) e p a byte)
+        → IsTrue (stored_set (raw word) e p b byte) → a ≡ b
+    one_stored byte roles.Digit roles.Digit in_a in_b = refl
+    one_stored byte roles.Digit b in_a in_b = one_below byte (below b (λ same. cc) byte in_b) roles.Digit b in_a in_b
+    one_stored byte a b in_a in_b = one_below byte (below a (λ same. cc) byte in_a) a b in_a in_b
+
+    -- A byte plays at most one role.
+    pub one_role : (byte : ℕ) (a b : Role) → IsTrue (role_set (raw word) e p a byte)
+        → IsTrue (role_set (raw word) e p b byte) → a ≡ b
+    one_role byte a b in_a in_b =
+        one_stored byte a b (stored (raw word) e p byte a in_a) (stored (raw word) e p byte b in_b)
+
+    -- The first role of a byte is its only role.
+    pub first_role-only : (byte : ℕ) → IsOnlyRole (raw word) e p byte (first_role (raw word) e p byte)
+    first_role-only byte role = (
+      λ plays. finds test role plays (λ x is. one_role byte x role is plays) roles_in_order (listed role),
+      found test role roles_in_order,
+    ) where
+      test : Role → Bool
+      test own = role_set (raw word) e p own byte

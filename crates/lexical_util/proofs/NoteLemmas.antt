@@ -9,10 +9,11 @@ use Rattle.std.proofs.lemmas.Bool.Decides.{nat_tests}
 use Rattle.lexical_flags.specs.Record.{Record, set_byte, raw, fill, pack, word_of, separator_allowed}
 use Rattle.lexical_flags.specs.Roles.{Disjoint, AreDisjoint, cased, other_case, separator, prefix, suffix, exponent}
 use Rattle.lexical_flags.specs.Roles.{point, format_roles}
-use Rattle.lexical_flags.specs.Rules.{IsPunctuation, Meets, shape_of, Holds}
-use Rattle.lexical_flags.specs.declared.format_flags.all_rules.Rule.{Rule}
-use Rattle.lexical_flags.specs.declared.format_flags.all_rules.Rule.TheVariants as rules
+use Rattle.lexical_flags.specs.Rules.{IsPunctuation, shape_of, Holds}
+use Rattle.lexical_flags.specs.declared.format_flags.rule.Rule.{Rule}
+use Rattle.lexical_flags.specs.declared.format_flags.rule.Rule.TheVariants as rules
 use Rattle.lexical_flags.specs.Options.{OptionsFit}
+use Rattle.lexical_flags.proofs.RuleFieldLemmas.{FieldsMeet}
 use Rattle.lexical_builder.specs.Writes.{after}
 use Rattle.lexical_util.specs.NormalForm.{normal_form_of}
 use Rattle.lexical_flags.specs.Additions.Masks.{mask_of}
@@ -60,12 +61,12 @@ same_options s v w alike fields e p =
 
 -- If the demands of a rule on two records are equal, then the words with these records both satisfy the rule, or both
 -- break it.
-Holds-alike : (s : Record) (v w : ℕ) → ReplacesFields s v w → (rule : Rule) → Meets (shape_of rule) (raw v) ≡ Meets (shape_of rule) s
+Holds-alike : (s : Record) (v w : ℕ) → ReplacesFields s v w → (rule : Rule) → FieldsMeet (shape_of rule) (raw v) ≡ FieldsMeet (shape_of rule) s
     → Holds rule v ↔ Holds rule w
 unfolding Holds
 Holds-alike s v w like rules.ReservedBitsAreZero demands = like.clean
 Holds-alike s v w like rule demands =
-    let same : Meets (shape_of rule) (raw v) ≡ Meets (shape_of rule) (raw w) = demands ∙ ap (Meets (shape_of rule)) (sym like.fields_are) in
+    let same : FieldsMeet (shape_of rule) (raw v) ≡ FieldsMeet (shape_of rule) (raw w) = demands ∙ ap (FieldsMeet (shape_of rule)) (sym like.fields_are) in
     (λ h. subst (λ X. X) same h, λ h. subst (λ X. X) (sym same) h)
 
 -- `prefix_off r` and `suffix_off r` are `r` without the case flag of the prefix and of the suffix.
@@ -76,13 +77,13 @@ abbrev pub suffix_off : Record → Record
 suffix_off r = set_flags r (layout.case_sensitive_base_suffix ∷ []) false
 
 Demands-prefix : (r : Record) → prefix r ≡ prefix (prefix_off r) → (rule : Rule)
-    → Meets (shape_of rule) r ≡ Meets (shape_of rule) (prefix_off r)
+    → FieldsMeet (shape_of rule) r ≡ FieldsMeet (shape_of rule) (prefix_off r)
 unfolding IsPunctuation
 Demands-prefix r same rules.PunctuationDiffers = ap (λ A. AreDisjoint (separator r ∷ A ∷ suffix r ∷ [])) same
 Demands-prefix r same _ = refl
 
 Demands-suffix : (r : Record) → suffix r ≡ suffix (suffix_off r) → (rule : Rule)
-    → Meets (shape_of rule) r ≡ Meets (shape_of rule) (suffix_off r)
+    → FieldsMeet (shape_of rule) r ≡ FieldsMeet (shape_of rule) (suffix_off r)
 unfolding IsPunctuation
 Demands-suffix r same rules.PunctuationDiffers = ap (λ A. AreDisjoint (separator r ∷ prefix r ∷ A ∷ [])) same
 Demands-suffix r same _ = refl

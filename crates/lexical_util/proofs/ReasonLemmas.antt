@@ -15,17 +15,18 @@ use denote.Enum.Declared.{tag_of}
 use Rattle.lexical_base.specs.Ascii.{between, allowed_ascii, letters}
 use Rattle.lexical_base.specs.Digits.{digits_of}
 use Rattle.lexical_flags.specs.Layout as layout
-use Rattle.lexical_flags.specs.Layout.{Flag, bit, IsClean}
+use Rattle.lexical_flags.specs.Layout.{Flag, bit, separators_in, IsClean}
 use Rattle.lexical_flags.specs.Record.{Record, raw, effective}
 use Rattle.lexical_flags.specs.Roles.{cased, digits, signs, Disjoint, other_case}
 use Rattle.lexical_flags.specs.Rules.{IsRadix, IsAbsentOrPunctuation, IsPunctuation, Holds, Lawful, rules_in_order, Shape}
 use Rattle.lexical_flags.specs.Rules.{radix_in_range, absent_or_punctuation, roles_differ, not_both, position_allowed}
-use Rattle.lexical_flags.specs.Rules.{reserved_zero, shape_of, Meets, lacks_position, separator_flags}
+use Rattle.lexical_flags.specs.Rules.{reserved_zero, shape_of, Meets, lacks_position}
 use Rattle.lexical_flags.specs.Options.{OptionsFit}
 use Rattle.lexical_flags.specs.Additions.Masks.{reserved_mask}
-use Rattle.lexical_flags.specs.contracts.format_flags.all_rules.Rule.{the_type}
-use Rattle.lexical_flags.specs.declared.format_flags.all_rules.Rule.{Rule}
-use Rattle.lexical_flags.specs.declared.format_flags.all_rules.Rule.TheVariants as rules
+use Rattle.lexical_flags.specs.contracts.format_flags.rule.Rule.{the_type}
+use Rattle.lexical_flags.specs.declared.format_flags.parts.Part.{Part}
+use Rattle.lexical_flags.specs.declared.format_flags.rule.Rule.{Rule}
+use Rattle.lexical_flags.specs.declared.format_flags.rule.Rule.TheVariants as rules
 use Rattle.lexical_flags.proofs.RuleFieldLemmas.{byte}
 use Rattle.lexical_flags.proofs.CaseLemmas.{cases_apart, differ_apart, same_clash}
 use Rattle.lexical_flags.proofs.ReservedBits.{reserved_bits}
@@ -42,7 +43,7 @@ use Rattle.lexical_util.specs.declared.reasons.Cause.{Cause}
 use Rattle.lexical_util.specs.declared.reasons.Cause.TheVariants as causes
 use Rattle.lexical_util.specs.declared.reasons.Reason.{Reason}
 use Rattle.lexical_util.specs.Additions.Reasons.{value_of, named, mask_of_byte, byte_of, is_cased, unset_flag, Claim}
-use Rattle.lexical_util.specs.Additions.Reasons.{has_value, has_flag, has_bits, Has, unset, only_last, mask_of_claim, mask_from}
+use Rattle.lexical_util.specs.Additions.Reasons.{has_value, has_flag, has_bits, Has, unset, mask_of_claim, mask_from}
 use Rattle.lexical_util.specs.Additions.Reasons.{mask_of_claims, claims_of, IsTrueOf, Breaks, Blames}
 use Rattle.lexical_util.specs.Additions.Reasons.{BlamesForOptions, if_present, radix_cause, radixes_where, digit_cause}
 use Rattle.lexical_util.specs.Additions.Reasons.{byte_cause, role, clash, format_pairs, options_pairs, causes_of, followers}
@@ -377,27 +378,30 @@ lacks_parts true false true t h = cc
 lacks_parts true false false true h = cc
 lacks_parts false i l t h = cc
 
--- If only the last of four flags is set, then this is true of each word with these flags.
-position_explained : (word : ℕ) (fs : List Flag) → lacks_position (map (raw word).flag fs) ≡ true
-    → AllByRecursion (Has word 0 0) (only_last fs)
-    × ((w : ℕ) → AllByRecursion (Has w 0 0) (only_last fs) → IsFalse (lacks_position (map (raw w).flag fs)) → ⊥)
-position_explained word (i ∷ l ∷ t ∷ c ∷ []) lacks =
+-- If a part lacks a position in a word, then so it does in each word with the same digit separator flags of the part.
+position_explained : (word : ℕ) (part : Part) → lacks_position (raw word) part ≡ true
+    → AllByRecursion (Has word 0 0) (claims_of (causes.NeedsPosition part))
+    × ((w : ℕ) → AllByRecursion (Has w 0 0) (claims_of (causes.NeedsPosition part)) → IsFalse (lacks_position (raw w) part) → ⊥)
+position_explained word part lacks =
+    let own = separators_in part in
     let parts = lacks_parts _ _ _ _ lacks in (
       (
-        set_is word i ∙ parts.1,
-        (set_is word l ∙ parts.2, (set_is word t ∙ parts.3, (set_is word c ∙ parts.0, tt))),
+        set_is word own.internal ∙ parts.1,
+        (
+          set_is word own.leading ∙ parts.2,
+          (set_is word own.trailing ∙ parts.3, (set_is word own.consecutive ∙ parts.0, tt)),
+        ),
       ),
       λ w all d.
           let second = all.1 in
           let third = second.1 in
           let fourth = third.1 in
-          let il = sym (set_is w i) ∙ all.0 in
-          let ll = sym (set_is w l) ∙ second.0 in
-          let tl = sym (set_is w t) ∙ third.0 in
-          let cl = sym (set_is w c) ∙ fourth.0 in
+          let il = sym (set_is w own.internal) ∙ all.0 in
+          let ll = sym (set_is w own.leading) ∙ second.0 in
+          let tl = sym (set_is w own.trailing) ∙ third.0 in
+          let cl = sym (set_is w own.consecutive) ∙ fourth.0 in
           true≢false (sym (λ k. cl k && not (il k || ll k || tl k)) ∙ d),
     )
-position_explained word _ lacks = absurd (true≢false (sym lacks))
 
 not_clean : (w bits : ℕ) → bits ≢ 0 → bit_and bits reserved_mask ≡ bits → bit_and w bits ≡ bits → IsClean w → ⊥
 not_clean w bits some inside has clean =
@@ -407,25 +411,20 @@ not_clean w bits some inside has clean =
 
 -- RULES
 
--- `Demand shape w` holds if the word `w` is as `shape` demands.
-abbrev Demand : Shape → ℕ → Type 0
-Demand reserved_zero w = IsClean w
-Demand shape w = Meets shape (raw w)
-
 value_is : (w e p : ℕ) (b : layout.Byte) → value_of (raw w) e p (byte_of b) ≡ (raw w).byte b
 value_is w e p layout.digit_separator = refl
 value_is w e p _ = refl
 
 -- Each cause of a shape explains why a word is not as the shape demands.
-shape_explained : (shape : Shape) (word : ℕ) → EachCause (Explains word 0 0 (Demand shape)) (causes_of shape word)
+shape_explained : (shape : Shape) (word : ℕ) → EachCause (Explains word 0 0 (Meets shape)) (causes_of shape word)
 shape_explained (radix_in_range layout.mantissa_radix) word = (
-  if_true (Explains word 0 0 (Demand (radix_in_range layout.mantissa_radix))) _ _ (λ out.
+  if_true (Explains word 0 0 (Meets (radix_in_range layout.mantissa_radix))) _ _ (λ out.
       (((refl, tt), not_radix _ out), λ w all d. not_radix _ out (same_radix _ _ all.0 d))),
   tt,
 )
 shape_explained (radix_in_range b) word =
     let n = named (raw word) 0 0 (byte_of b) in
-    let P = Explains word 0 0 (Demand (radix_in_range b)) in (
+    let P = Explains word 0 0 (Meets (radix_in_range b)) in (
       if_there P n (radix_cause n) (λ some. if_true P _ _ (λ out. (
         ((refl, tt), not_radix n.value out),
         λ w all d. not_radix n.value out (own_radix n.value _ _ some all.0 d),
@@ -434,17 +433,17 @@ shape_explained (radix_in_range b) word =
     )
 shape_explained (absent_or_punctuation b) word =
     let n = named (raw word) 0 0 (byte_of b) in
-    let D = Demand (absent_or_punctuation b) in (
+    let D = Meets (absent_or_punctuation b) in (
       if_there (Explains word 0 0 D) n (byte_cause (raw word) n) (λ some.
           byte_explained word 0 0 n D refl (λ w is d.
           present (raw w) n.value _ some (sym (value_is w 0 0 b) ∙ is) d)),
       tt,
     )
 shape_explained roles_differ word =
-    clashes_explained word 0 0 (omega arith) (omega arith) (Demand roles_differ) format_pairs
+    clashes_explained word 0 0 (omega arith) (omega arith) (Meets roles_differ) format_pairs
     (λ w d. (assumption d, (assumption d, (assumption d, tt))))
 shape_explained (not_both a b) word = (
-  if_true (Explains word 0 0 (Demand (not_both a b))) _ _ (λ h.
+  if_true (Explains word 0 0 (Meets (not_both a b))) _ _ (λ h.
       let parts = and_parts _ _ h in (
         ((parts.0, (parts.1, tt)), tt),
         λ w all d.
@@ -454,12 +453,12 @@ shape_explained (not_both a b) word = (
   tt,
 )
 shape_explained (position_allowed part) word = (
-  if_true (Explains word 0 0 (Demand (position_allowed part))) _ _ (λ h.
-      let both = position_explained word (separator_flags part) h in ((both.0, tt), both.1)),
+  if_true (Explains word 0 0 (Meets (position_allowed part))) _ _ (λ h.
+      let both = position_explained word part h in ((both.0, tt), both.1)),
   tt,
 )
 shape_explained reserved_zero word = (
-  if_true (Explains word 0 0 (Demand reserved_zero)) _ _ (λ set.
+  if_true (Explains word 0 0 (Meets reserved_zero)) _ _ (λ set.
       let some : bit_and word reserved_mask ≢ 0 = λ none. true≢false (sym set ∙ ap not (eq-eqb _ 0 none)) in
       let inside = and_assoc reserved_mask word reserved_mask in
       let own = sym (and_assoc reserved_mask word word) ∙ ap (λ n. bit_and n reserved_mask) (and_self word) in
@@ -473,7 +472,7 @@ Follows (radix_in_range layout.mantissa_radix) word = ⊤
 Follows (radix_in_range b) word = (raw word).byte b ≡ 0 → IsRadix ((raw word).byte layout.mantissa_radix)
 Follows _ word = ⊤
 
-shape_met : (shape : Shape) (word : ℕ) → Follows shape word → NoCause (causes_of shape word) → Demand shape word
+shape_met : (shape : Shape) (word : ℕ) → Follows shape word → NoCause (causes_of shape word) → Meets shape word
 shape_met (radix_in_range layout.mantissa_radix) word follows none =
     let n = (raw word).byte layout.mantissa_radix in own_effective n (is_radix n (no_true _ _ none.0))
 shape_met (radix_in_range b) word follows none =

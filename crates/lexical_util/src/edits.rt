@@ -19,15 +19,15 @@ use lexical_flags::laws::rule_facts;
 
 mod listing;
 mod setters;
-mod text;
+mod settings;
 
 pub use listing::{edits_of, is_built};
 pub(crate) use setters::mask_of;
 pub use setters::{
     ALL_SETTERS, ArgumentKind, Edit, FIELD_COUNT, FlagSetter, SETTERS, Setter, field_edits_of,
 };
-pub(crate) use text::Fault;
-pub use text::{SettingError, SettingErrorKind, byte_from_decimal};
+pub(crate) use settings::Fault;
+pub use settings::{SettingError, SettingErrorKind, byte_from_decimal};
 
 /// Calls the setter of `edit` on `builder`, and returns the new builder.
 #[inline(always)]

@@ -1,13 +1,18 @@
 //! Laws: public functions that do nothing, whose clauses are theorems. To use a law, call it.
 
-ghost use Rattle.std.specs.Prelude.{◌≡◌, ◌↔◌, ℕ, List, All, IsTrue, unwrap_or};
+ghost use Rattle.std.specs.Prelude.{◌≡◌, ◌↔◌, ◌<◌, ℕ, List, All, IsTrue, unwrap_or};
+ghost use Rattle.lexical_base.specs.Digits.{byte_value};
 ghost use Rattle.lexical_flags.specs.Layout as layout;
 ghost use Rattle.lexical_flags.specs.Layout.{Flag};
 ghost use Rattle.lexical_flags.specs.Record.{raw, separator_allowed, effective_exponent_base, effective_exponent_radix};
+ghost use Rattle.lexical_flags.specs.Options.{OptionsFit};
+ghost use Rattle.lexical_flags.specs.Roles.{digits};
 ghost use Rattle.lexical_flags.specs.Rules.{Lawful};
 ghost use Rattle.lexical_builder.specs.Writes.{Write, IsLegal, last_flag, last_byte};
+ghost use Rattle.lexical_util.specs.Additions.ByteRoles.{used_separator, role_set, first_role, IsOnlyRole};
 ghost use Rattle.lexical_util.specs.Edits.{edited};
 ghost use Rattle.lexical_util.specs.NormalForm.{normal_form_of, SameFormat};
+ghost use Rattle.lexical_util.specs.declared.feature_format.roles.Role.{Role};
 
 pub mod examples;
 
@@ -56,3 +61,27 @@ pub fn edit_facts()
         → (raw (edited word writes)).byte layout.digit_separator
         ≡ unwrap_or (last_byte writes layout.digit_separator) ((raw word).byte layout.digit_separator) }
 {}
+
+/// States that no byte plays two roles in the numbers of a lawful format.
+#[inline(always)]
+pub const fn byte_facts()
+    // A byte with a value below either radix of a lawful format is a digit.
+    ensures mantissa_digit { (word byte : ℕ) → Lawful word
+        → byte_value byte < (raw word).byte layout.mantissa_radix → IsTrue (digits (raw word) byte) }
+    ensures exponent_digit { (word byte : ℕ) → Lawful word
+        → byte_value byte < effective_exponent_radix (raw word) → IsTrue (digits (raw word) byte) }
+
+    // In a lawful format, no byte is both a digit and a separator that some flag allows.
+    ensures separator { (word byte : ℕ) → Lawful word → IsTrue (digits (raw word) byte)
+        → IsTrue (used_separator (raw word) byte) → ⊥ }
+
+    // With options that fit, two roles that the same byte plays are equal, and the first role of a byte is its only one.
+    ensures one { (word exponent_byte point_byte : ℕ) → Lawful word → OptionsFit word exponent_byte point_byte
+        → (byte : ℕ) → (a b : Role) → IsTrue (role_set (raw word) exponent_byte point_byte a byte)
+        → IsTrue (role_set (raw word) exponent_byte point_byte b byte) → a ≡ b }
+    ensures only { (word exponent_byte point_byte : ℕ) → Lawful word → OptionsFit word exponent_byte point_byte
+        → (byte : ℕ) → IsOnlyRole (raw word) exponent_byte point_byte byte
+        (first_role (raw word) exponent_byte point_byte byte) }
+{
+    flags::role_facts();
+}

@@ -5,8 +5,8 @@ ghost use Rattle.std.specs.Prelude.{◌≡◌, ◌↔◌, ◌&&◌, ℕ, None, S
 ghost use Rattle.std.specs.Bool.{then_some};
 ghost use Rattle.lexical_flags.specs.Options.{OptionsFit};
 ghost use Rattle.lexical_flags.specs.Record.{raw};
-ghost use Rattle.lexical_flags.specs.Rules.{Holds, Lawful, separator_flags, lacks_position};
-ghost use Rattle.lexical_flags.specs.declared.format_flags.all_rules.Rule.{Rule};
+ghost use Rattle.lexical_flags.specs.Rules.{Holds, Lawful, lacks_position};
+ghost use Rattle.lexical_flags.specs.declared.format_flags.rule.Rule.{Rule};
 ghost use Rattle.lexical_util.specs.Groups.{any_flag};
 ghost use Rattle.lexical_util.specs.Edits.{flags_of};
 ghost use Rattle.lexical_util.specs.Additions.Reasons.{EachReason, NoReason, Breaks, Blames, BlamesForOptions};
@@ -28,7 +28,7 @@ use lexical_flags::laws::rule_facts;
 
 mod mask;
 mod note;
-mod text;
+mod sentences;
 
 pub use note::{MAX_NOTES, Note, notes, notes_beside_reasons, notes_of_fields};
 
@@ -398,7 +398,7 @@ impl Characters {
     // Returns the cause for consecutive digit separators in a part that has no position for one, if there is none.
     #[inline(always)]
     const fn needs_position(&self, part: Part) -> Option<Cause>
-        ensures { result ≡ then_some (lacks_position (map (raw self.now.format).flag (separator_flags part))) (causes.NeedsPosition part) }
+        ensures { result ≡ then_some (lacks_position (raw self.now.format) part) (causes.NeedsPosition part) }
     {
         let allowed = NumberFormat::new(self.format).separators(part);
         let is_lonely = allowed.consecutive

@@ -75,16 +75,24 @@ impl Fields {
     }
 }
 
-/// The number of a setter: the bit of a flag, the lowest bit of a byte, or [`FIRST_GROUP`] plus an index in [`GROUPS`].
+/// The number of a setter: the bit of a flag, the lowest bit of a byte, or the number of a group in [`GROUPS`].
 pub type Setter = u8;
 
 /// The number of no setter.
 pub const NO_SETTER: Setter = 255;
 
-const FIRST_GROUP: Setter = 128;
-
-/// The groups, which follow the 31 flags in the list of all setters.
-const GROUPS: &[FlagSetter] = FlagSetter::ALL.split_at(31).1;
+/// The groups with their numbers.
+const GROUPS: &[(Setter, FlagSetter)] = &[
+    (128, FlagSetter::RequiredDigits),
+    (129, FlagSetter::InternalDigitSeparator),
+    (130, FlagSetter::LeadingDigitSeparator),
+    (131, FlagSetter::TrailingDigitSeparator),
+    (132, FlagSetter::ConsecutiveDigitSeparator),
+    (133, FlagSetter::DigitSeparatorFlags),
+    (134, FlagSetter::IntegerDigitSeparatorFlags),
+    (135, FlagSetter::FractionDigitSeparatorFlags),
+    (136, FlagSetter::ExponentDigitSeparatorFlags),
+];
 
 /// An edit as the number of its setter and a value.
 #[repr(C)]
@@ -110,14 +118,10 @@ pub fn edit_of(setter: Setter, value: u8) -> Option<Edit> {
 
 /// Returns the setter of a flag or a group.
 pub fn flag_setter(setter: Setter) -> Option<FlagSetter> {
-    match setter {
-        0..64 => {
-            let mut all = FlagSetter::ALL.iter().copied();
-            all.find(|it| Edit::Flag(*it, true).mask() == u128::from(1_u64 << setter))
-        }
-        FIRST_GROUP.. => GROUPS.get(usize::from(setter - FIRST_GROUP)).copied(),
-        _ => None,
-    }
+    let bit = |flag: &FlagSetter| Edit::Flag(*flag, true).mask().trailing_zeros() as Setter;
+    let flags = FlagSetter::FLAGS.iter().map(|flag| (bit(flag), *flag));
+    let mut numbered = flags.chain(GROUPS.iter().copied());
+    numbered.find_map(|(number, it)| (number == setter).then_some(it))
 }
 
 impl NumberedEdit {
@@ -134,11 +138,11 @@ impl NumberedEdit {
 
 impl From<Edit> for NumberedEdit {
     fn from(edit: Edit) -> NumberedEdit {
-        let mut groups = (FIRST_GROUP..).zip(GROUPS);
-        let group =
-            groups.find(|(_, group)| matches!(edit, Edit::Flag(setter, _) if setter == **group));
+        let is_set = |group| matches!(edit, Edit::Flag(setter, _) if setter == group);
+        let group = GROUPS.iter().find(|(_, group)| is_set(*group));
+        let bit = edit.mask().trailing_zeros() as Setter;
         NumberedEdit {
-            setter: group.map_or(edit.mask().trailing_zeros() as Setter, |(number, _)| number),
+            setter: group.map_or(bit, |(number, _)| *number),
             value: edit.argument_byte(),
         }
     }

@@ -2,10 +2,8 @@
 
 use crate::arguments::{input, Out};
 use crate::numbers::{error_number, flag_setter, ErrorNumber, Fields, NumberedEdit, Setter, Word};
-use peltzivar::{edits, Error, NumberFormatBuilder};
-
-/// The number of fields of a word.
-const FIELD_COUNT: usize = 37;
+use peltzivar::edits::{self, FIELD_COUNT};
+use peltzivar::{Error, NumberFormatBuilder};
 
 /// Applies the edits in order. Returns `None` if an edit has an unknown setter.
 fn edited(builder: NumberFormatBuilder, list: &[NumberedEdit]) -> Option<NumberFormatBuilder> {

@@ -46,7 +46,7 @@ pub struct Refusal {
 pub fn read(format: Format, options: Option<&Options>, text: &[u8]) -> Result<Parts, Refusal> {
     let (parts, result) = scan(format, options, text);
     let Err(error) = result else { return Ok(parts) };
-    let flags = FlagSetter::ALL.iter().take(31);
+    let flags = FlagSetter::FLAGS.iter();
     let flips = flags.map(|flag| Edit::Flag(*flag, !flag.is_set(format.word())));
     let byte = error.index().and_then(|index| text.get(*index));
     let digit = byte.and_then(|byte| char::from(*byte).to_digit(36));

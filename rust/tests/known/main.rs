@@ -9,7 +9,6 @@ mod edits;
 mod errors;
 mod reasons;
 mod roles;
-mod rows;
 mod rules;
 mod settings;
 mod slices;

@@ -4,10 +4,9 @@ use peltzivar::edits::{ArgumentKind, Edit, FlagSetter, Setter};
 use peltzivar::SettingErrorKind::{BadValue, NoEquals, UnknownName};
 use std::num::NonZeroU8;
 
-/// All 1,872 edits: each is printed as `NAME=VALUE`, and is parsed from this text.
+/// Each edit is printed as `NAME=VALUE`, and is parsed from this text.
 #[test]
 fn edits_are_read_back() {
-    assert_eq!((FlagSetter::ALL.len(), Setter::ALL.len()), (40, 47));
     for (setter, name) in Setter::ALL.iter().zip(Edit::NAMES) {
         let is_flag = setter.kind() == ArgumentKind::Flag;
         for byte in 0..=if is_flag { 1 } else { 255 } {
@@ -39,7 +38,7 @@ fn each_byte_setter_reads_the_same_values() {
         "0x", "0X5F", "0xg1", "0x1g", "0x-1", "0x_", "x5F", "5F", "-1", "+1", "1_0", "", " 1", "NONE",
         "0x100", "0x05F", "256", "0016", "99999999999999999999", "0xFFFFFFFFFFFFFFFFFFFFFFFFFFFFFFFFF",
     ];
-    for setter in &Setter::ALL[40..] {
+    for setter in Setter::ALL.iter().filter(|setter| setter.kind() != ArgumentKind::Flag) {
         let read = |value| format!("{}={value}", setter.name()).parse();
         for (value, byte) in bytes {
             assert_eq!(read(value), Ok(setter.with_byte(byte)), "{setter:?} {value}");

@@ -1,5 +1,5 @@
 -- Masks as sums of powers of two, for `mask`. The flags in a mask, for `interface_flags` and `exponent_flags`.
-use Rattle.std.specs.Prelude.{ℕ, ◌+◌, ◌-◌, ◌*◌, ◌^◌, List, [], ◌∷◌, ◌++◌, sum_by}
+use Rattle.std.specs.Prelude.{ℕ, ◌-◌, ◌*◌, ◌^◌, List, [], ◌∷◌, ◌++◌, sum_by}
 use Rattle.lexical_flags.specs.Layout.{Flag, Byte, bit, shift}
 use Rattle.lexical_flags.specs.Layout as layout
 
@@ -11,9 +11,9 @@ byte_mask b = 255 * 2 ^ shift b
 abbrev pub mask_of : List Flag → ℕ
 mask_of fs = sum_by (λ f. 2 ^ bit f) fs
 
--- `reserved_mask` is the number with 1 in the reserved bits, and 0 in all other bits.
+-- `reserved_mask` is the number with 1 in the reserved bits, which belong to no field, and 0 in all other bits.
 abbrev pub reserved_mask : ℕ
-reserved_mask = (2 ^ 14 - 1) * 2 ^ 18 + (2 ^ 19 - 1) * 2 ^ 45 + (2 ^ 16 - 1) * 2 ^ 72
+reserved_mask = 2 ^ 128 - 1 - mask_of layout.flags - sum_by byte_mask layout.bytes
 
 -- `interface_flags` lists the flags of the constant `INTERFACE_FLAG_MASK`.
 abbrev pub interface_flags : List Flag

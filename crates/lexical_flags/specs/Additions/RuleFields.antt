@@ -1,13 +1,12 @@
 -- The bits that a rule reads, for `Rule::mask`.
 use Rattle.std.specs.Prelude.{ℕ, ◌+◌, List, [], ◌∷◌, sum_by}
-use Rattle.lexical_flags.specs.Layout.{Flag, Byte}
+use Rattle.lexical_flags.specs.Layout.{Flag, Byte, separator_flags}
 use Rattle.lexical_flags.specs.Layout as layout
 use Rattle.lexical_flags.specs.Additions.Masks.{byte_mask, mask_of, reserved_mask}
-use Rattle.lexical_flags.specs.Rules.{separator_flags}
 use Rattle.lexical_flags.specs.Rules.{Shape, radix_in_range, absent_or_punctuation, roles_differ, not_both}
 use Rattle.lexical_flags.specs.Rules.{position_allowed, shape_of}
-use Rattle.lexical_flags.specs.declared.format_flags.all_rules.Rule.{Rule}
-use Rattle.lexical_flags.specs.declared.format_flags.all_rules.Rule.TheVariants as rules
+use Rattle.lexical_flags.specs.declared.format_flags.rule.Rule.{Rule}
+use Rattle.lexical_flags.specs.declared.format_flags.rule.Rule.TheVariants as rules
 
 -- `flags_of shape` lists the flags on which `shape` depends.
 abbrev pub flags_of : Shape → List Flag

@@ -4,7 +4,7 @@
 
 ghost use Rattle.std.specs.Prelude.{[], ◌∷◌};
 ghost use Rattle.lexical_flags.specs.Constants.{ShareNoBit};
-ghost use Rattle.lexical_flags.specs.Options.{SomeOptionsFit};
+ghost use Rattle.lexical_flags.specs.Options.{SomeOptionsHaveOneRole};
 ghost use Rattle.lexical_flags.specs.Pairs.{ArePairwise};
 ghost use Rattle.lexical_flags.specs.Record.{raw, SeparatorAllowedOrAbsent};
 
@@ -24,9 +24,9 @@ pub fn built_examples()
     ensures not_allowed { SeparatorAllowedOrAbsent (raw 0x00000A00_0000005F_00000000_0000000C) → ⊥ }
 {}
 
-/// States that some options fit a word without a prefix or suffix, and that no options fit a word whose prefix and
-/// suffix are both `h`.
-pub fn room_examples()
-    ensures room { SomeOptionsFit 0x0A0A0A00_00000000_00000000_0000000C }
-    ensures no_room { SomeOptionsFit 0x00000A68_68000000_00000000_0000000C → ⊥ }
+/// States that a word without a prefix or suffix has options with which no byte plays two roles. A word whose prefix and
+/// suffix are both `h` has none, since `h` plays two roles with any options.
+pub fn options_examples()
+    ensures some { SomeOptionsHaveOneRole 0x0A0A0A00_00000000_00000000_0000000C }
+    ensures none { SomeOptionsHaveOneRole 0x00000A68_68000000_00000000_0000000C → ⊥ }
 {}

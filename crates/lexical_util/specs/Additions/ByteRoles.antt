@@ -1,15 +1,11 @@
 -- The role of a byte in the numbers of a format, for the calls of `NumberFormat` on roles.
-use Rattle.std.specs.Prelude.{ℕ, ◌≡◌, ◌↔◌, ◌&&◌, IsTrue, Option, Some, List, [], ◌∷◌}
+use Rattle.std.specs.Prelude.{ℕ, ◌≡◌, ◌↔◌, IsTrue, Option, Some, List, [], ◌∷◌}
 use Rattle.std.specs.List.{find}
 use Rattle.lexical_base.specs.Ascii.{ByteSet}
-use Rattle.lexical_flags.specs.Record.{Record, separator_allowed}
-use Rattle.lexical_flags.specs.Roles.{digits, signs, separator, prefix, suffix, exponent, point}
+use Rattle.lexical_flags.specs.Record.{Record}
+use Rattle.lexical_flags.specs.Roles.{digits, signs, used_separator, prefix, suffix, exponent, point}
 use Rattle.lexical_util.specs.declared.feature_format.roles.Role.{Role}
 use Rattle.lexical_util.specs.declared.feature_format.roles.Role.TheVariants as roles
-
--- `used_separator r` is the set that contains the digit separator of `r` if some flag of `r` allows one.
-abbrev pub used_separator : Record → ByteSet
-used_separator r byte = separator_allowed r && separator r byte
 
 -- `role_set r exponent_byte point_byte role` is the set of the bytes that play `role` in the format of `r`, with this
 -- exponent character and this decimal point.

@@ -11,7 +11,7 @@ use Rattle.lexical_flags.specs.Rules.{Holds}
 use Rattle.lexical_flags.specs.Options.{OptionsFit}
 use Rattle.lexical_flags.specs.Additions.Masks.{byte_mask, mask_of}
 use Rattle.lexical_flags.specs.Additions.RuleFields.{mask_read}
-use Rattle.lexical_flags.specs.declared.format_flags.all_rules.Rule.{Rule}
+use Rattle.lexical_flags.specs.declared.format_flags.rule.Rule.{Rule}
 use Rattle.lexical_util.specs.Additions.Reasons.{mask_of_reason, mask_of_byte, named, is_cased}
 use Rattle.lexical_util.specs.Additions.EditMasks.{mask_of_setter}
 use Rattle.lexical_util.specs.declared.edits.setters.FlagSetter.{FlagSetter}

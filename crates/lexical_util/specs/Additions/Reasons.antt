@@ -6,16 +6,15 @@ use Rattle.std.specs.List.{AllByRecursion}
 use Rattle.lexical_base.specs.Ascii.{ByteSet, between, allowed_ascii}
 use Rattle.lexical_base.specs.Digits.{digits_of}
 use Rattle.lexical_flags.specs.Layout as layout
-use Rattle.lexical_flags.specs.Layout.{Flag}
+use Rattle.lexical_flags.specs.Layout.{Flag, separators_in}
 use Rattle.lexical_flags.specs.Record.{Record, raw}
 use Rattle.lexical_flags.specs.Roles.{are_disjoint, cased, signs, other_case}
 use Rattle.lexical_flags.specs.Rules.{IsRadix, Holds, rules_in_order, Shape, radix_in_range, absent_or_punctuation}
-use Rattle.lexical_flags.specs.Rules.{roles_differ, not_both, position_allowed, reserved_zero, shape_of, separator_flags}
-use Rattle.lexical_flags.specs.Rules.{lacks_position}
+use Rattle.lexical_flags.specs.Rules.{roles_differ, not_both, position_allowed, reserved_zero, shape_of, lacks_position}
 use Rattle.lexical_flags.specs.Options.{OptionsFit}
 use Rattle.lexical_flags.specs.Additions.Masks.{byte_mask, reserved_mask}
-use Rattle.lexical_flags.specs.declared.format_flags.all_rules.Rule.{Rule}
-use Rattle.lexical_flags.specs.declared.format_flags.all_rules.Rule.TheVariants as rules
+use Rattle.lexical_flags.specs.declared.format_flags.rule.Rule.{Rule}
+use Rattle.lexical_flags.specs.declared.format_flags.rule.Rule.TheVariants as rules
 use Rattle.lexical_util.specs.Edits.{flags_of}
 use Rattle.lexical_util.specs.Groups.{any_flag}
 use Rattle.lexical_util.specs.Additions.EditMasks.{mask_of_setter}
@@ -115,12 +114,6 @@ unset (Some flag) = has_flag flag false
 abbrev pub has_radix : Byte → ℕ → Claim
 has_radix name value = has_value (record { name = name; value = value })
 
--- `only_last fs` lists the claims that the last flag of `fs` is set and the others are not.
-abbrev pub only_last : List Flag → List Claim
-only_last [] = []
-only_last (f ∷ []) = has_flag (setter_of f) true ∷ []
-only_last (f ∷ fs) = has_flag (setter_of f) false ∷ only_last fs
-
 -- `claims_of cause` lists what `cause` claims of the fields that it names.
 abbrev pub claims_of : Cause → List Claim
 claims_of (causes.OutOfRange byte) = has_value byte ∷ []
@@ -134,7 +127,10 @@ claims_of (causes.Same first second) = has_value first ∷ has_value second ∷ 
 claims_of (causes.DifferInCase first first_flag second second_flag) =
     has_value first ∷ has_value second ∷ unset first_flag ∷ unset second_flag ∷ []
 claims_of (causes.BothSet first second) = has_flag first true ∷ has_flag second true ∷ []
-claims_of (causes.NeedsPosition part) = only_last (separator_flags part)
+claims_of (causes.NeedsPosition part) =
+    let own = separators_in part in
+    has_flag (setter_of own.internal) false ∷ has_flag (setter_of own.leading) false ∷
+    has_flag (setter_of own.trailing) false ∷ has_flag (setter_of own.consecutive) true ∷ []
 claims_of (causes.ReservedBits bits) = has_bits bits ∷ []
 
 -- `Fact cause` holds if the values in `cause` have the property that `cause` states.
@@ -270,8 +266,7 @@ causes_of (not_both a b) word =
     let first = setter_of a in
     let second = setter_of b in
     then_some (any_flag word (flags_of first) && any_flag word (flags_of second)) (causes.BothSet first second) ∷ []
-causes_of (position_allowed part) word =
-    then_some (lacks_position (map (raw word).flag (separator_flags part))) (causes.NeedsPosition part) ∷ []
+causes_of (position_allowed part) word = then_some (lacks_position (raw word) part) (causes.NeedsPosition part) ∷ []
 causes_of reserved_zero word = reserved_cause word ∷ []
 
 -- `followers r rule` has the rules that `r` also breaks if it breaks `rule`: those of absent exponent bytes.

@@ -1,20 +1,21 @@
 //! The roles of bytes in the numbers of a format.
 #![tactic(auto)]
 
-ghost use Rattle.std.specs.Prelude.{◌≡◌, [], ◌∷◌, map};
+ghost use Rattle.std.specs.Prelude.{◌≡◌};
 ghost use Rattle.lexical_base.specs.Digits.{digit_of};
 ghost use Rattle.lexical_flags.specs.Layout as layout;
+ghost use Rattle.lexical_flags.specs.Layout.{separators_in};
 ghost use Rattle.lexical_flags.specs.Record.{raw, effective_exponent_radix};
-ghost use Rattle.lexical_flags.specs.Roles.{cased, exponent as exponent_set, point, prefix, signs, suffix};
-ghost use Rattle.lexical_flags.specs.Rules.{Lawful, separator_flags};
+ghost use Rattle.lexical_flags.specs.Roles.{cased, exponent as exponent_set, point, prefix, signs, suffix, used_separator};
+ghost use Rattle.lexical_flags.specs.Rules.{Lawful};
 ghost use Rattle.lexical_flags.specs.Options.{OptionsFit};
-ghost use Rattle.lexical_util.specs.Additions.ByteRoles.{used_separator, first_role, IsOnlyRole};
+ghost use Rattle.lexical_util.specs.Additions.ByteRoles.{first_role, IsOnlyRole};
 
 use super::NumberFormat;
+use crate::laws::byte_facts;
 use lexical_base::digit::char_to_digit;
 use lexical_flags::format_flags as flags;
 use lexical_flags::format_flags::Part;
-use lexical_flags::laws::role_facts;
 
 /// The role of a byte in a number.
 #[derive(Debug, Clone, Copy, PartialEq, Eq, Hash)]
@@ -110,8 +111,10 @@ impl NumberFormat {
     /// Returns where digit separators are allowed in `part` of a number.
     #[must_use]
     pub const fn separators(&self, part: Part) -> Separators
-        ensures { map (raw self.now).flag (separator_flags part)
-            ≡ result.internal ∷ result.leading ∷ result.trailing ∷ result.consecutive ∷ [] }
+        ensures internal { result.internal ≡ (raw self.now).flag (separators_in part).internal }
+        ensures leading { result.leading ≡ (raw self.now).flag (separators_in part).leading }
+        ensures trailing { result.trailing ≡ (raw self.now).flag (separators_in part).trailing }
+        ensures consecutive { result.consecutive ≡ (raw self.now).flag (separators_in part).consecutive }
     {
         match part {
             Part::Integer => Separators {
@@ -151,7 +154,7 @@ impl NumberFormat {
         ensures only { Lawful self.now → OptionsFit self.now exponent decimal_point
             → IsOnlyRole (raw self.now) exponent decimal_point byte result }
     {
-        role_facts();
+        byte_facts();
         self.first_role(exponent, decimal_point, byte)
     }
 

@@ -12,11 +12,11 @@ ghost use Rattle.lexical_util.specs.Listing.{IsEditOf};
 ghost use Rattle.lexical_util.specs.declared.edits.setters.Edit.TheVariants as edits;
 ghost use Rattle.lexical_util.specs.declared.edits.setters.FlagSetter.TheVariants as setters;
 ghost use Rattle.lexical_util.specs.declared.feature_format.roles.Role.TheVariants as roles;
-ghost use Rattle.lexical_flags.specs.declared.format_flags.all_rules.Rule.TheVariants as rules;
+ghost use Rattle.lexical_flags.specs.declared.format_flags.rule.Rule.TheVariants as rules;
 ghost use Rattle.lexical_util.specs.declared.reasons.Byte.TheVariants as bytes;
 ghost use Rattle.lexical_util.specs.declared.reasons.Cause.TheVariants as causes;
 
-use lexical_flags::laws as flags;
+use crate::laws::byte_facts;
 
 /// States that two lists of writes give each field the same last value, and that two other lists do not.
 pub fn write_examples()
@@ -72,5 +72,5 @@ pub fn role_examples()
     ensures other_role { IsOnlyRole
         (raw 0x0A0A0A00_00000000_00000000_0000000C) 0x65 0x2E 0x2B (Some roles.Digit) → ⊥ }
 {
-    flags::role_facts();
+    byte_facts();
 }

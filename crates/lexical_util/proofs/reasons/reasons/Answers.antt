@@ -2,7 +2,7 @@ use Rattle.std.proofs.Common.{rules, arith, ◌≡◌, ◌∙◌, ℕ, ◌-◌, 
 use Rattle.std.proofs.Common.{replicate, Option, None}
 use Rattle.std.proofs.lemmas.Bool.{and_parts}
 use Rattle.lexical_flags.specs.Rules.{radix_rules, punctuation_rules, flag_rules}
-use Rattle.lexical_flags.specs.declared.format_flags.all_rules.Rule.TheVariants as all
+use Rattle.lexical_flags.specs.declared.format_flags.rule.Rule.TheVariants as all
 use Rattle.lexical_util.specs.declared.reasons.Reason.{Reason}
 use Rattle.lexical_util.specs.Additions.Reasons.{reason_slots}
 use Rattle.lexical_util.proofs.ReasonLemmas.{blame, by_rules, lawful_without_reason, kept}

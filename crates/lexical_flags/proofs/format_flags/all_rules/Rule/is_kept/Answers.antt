@@ -1,8 +1,0 @@
-use Rattle.std.proofs.Common.{◌↔◌, IsTrue, subst, sym}
-use Rattle.lexical_flags.specs.Rules.{Holds}
-use Rattle.lexical_flags.proofs.format_flags.all_rules.Rule.is_kept.Goals as goal
-
-pub returns-in-ReservedBitsAreZero : goal.returns-in-ReservedBitsAreZero
-unfolding Holds
-returns-in-ReservedBitsAreZero c =
-    subst (λ rule. IsTrue c.is_clean.result ↔ Holds rule c.args.format) (sym c.in-ReservedBitsAreZero.is) c.is_clean.ensures

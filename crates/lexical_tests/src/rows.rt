@@ -1,9 +1,0 @@
-//! Values that are known without this program, as tables. `rust/tools/erase.py` copies them to `rust/tests/rows`.
-
-pub mod builders;
-pub mod bytes;
-pub mod edits;
-pub mod errors;
-pub mod roles;
-pub mod rules;
-pub mod views;
