@@ -7,7 +7,7 @@ use Rattle.lexical_util.specs.declared.feature_format.roles.Role.TheVariants as 
 use Rattle.lexical_util.specs.declared.format_flags.Part.{Part}
 use Rattle.lexical_util.specs.declared.format_flags.Part.TheVariants as parts
 use Rattle.lexical_literal.specs.Notation.{Notation}
-use Rattle.lexical_literal.specs.Run.{is_place, separators_of}
+use Rattle.lexical_literal.specs.Run.{is_place}
 use Rattle.lexical_literal.specs.Front.{IsFront}
 use Rattle.lexical_literal.specs.Additions.Summary.{role_in, implies, has_digit, is_led, may_lead, needs_exponent, may_follow, may_stop, may_end, digits_suffice, ends, after_digit, after_separator, takes_digit, is_open, is_signed, forbids_plus, takes, after, move, scan, is_accepted, start}
 use Rattle.lexical_literal.specs.declared.steps.Stage.{Stage}
@@ -125,9 +125,9 @@ module _ (m : Notation) where
       closes true false next can = inl (refl, refl)
       closes false false next can = inr (refl, λ none. absurd (false≢true none))
       closes false true next can = inr (can refl, λ none. absurd (false≢true none))
-      closes true true next can = elim (or_cases (is_place (separators_of m part) true false) _ (can refl)) [
+      closes true true next can = elim (or_cases (is_place m part true false) _ (can refl)) [
         | inl trailing ↦ inl (refl, trailing)
-        | inr both ↦ let each = and_parts (is_place (separators_of m part) true true) next both in inr (each.0, λ _. each.1)
+        | inr both ↦ let each = and_parts (is_place m part true true) next both in inr (each.0, λ _. each.1)
       ]
 
       ends_here : (last : Stage) (gap fresh : Bool) → is_signed m part fresh ≡ true → has_digit last ≡ true → may_end m part (has_digit last) gap ≡ true

@@ -6,3 +6,6 @@ mod LiteralLemmas
 mod FrontLemmas
 mod LongestLemmas
 mod RoleLemmas
+mod SameLemmas
+mod PartLemmas
+mod WriterLemmas

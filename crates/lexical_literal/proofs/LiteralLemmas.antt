@@ -9,7 +9,7 @@ use Rattle.lexical_util.specs.declared.feature_format.roles.Role.TheVariants as 
 use Rattle.lexical_util.specs.declared.format_flags.Part.{Part}
 use Rattle.lexical_util.specs.declared.format_flags.Part.TheVariants as parts
 use Rattle.lexical_literal.specs.Notation.{Notation}
-use Rattle.lexical_literal.specs.Run.{is_run, separators_of}
+use Rattle.lexical_literal.specs.Run.{is_run}
 use Rattle.lexical_literal.specs.Literal.{Literal, IsLiteral, Reads, text_of, requirement, is_present, is_absent, is_plus, is_none_or_one, is_none_or_prefix, has_leading_zero}
 use Rattle.lexical_literal.specs.Additions.Summary.{implies, has_digit, is_led, is_bare, may_lead, needs_exponent, is_signed, may_end, ends, may_stop, may_scale, may_float, start, no_cuts}
 use Rattle.lexical_literal.specs.declared.steps.Cuts.{Cuts}
@@ -365,7 +365,7 @@ module _ (m : Notation) where
         }
 
   pub as_run : (part : Part) (run : List ℕ) → is_rest m part false false run ≡ is_run m part run
-  as_run part run = run_from_start (separators_of m part) (m.digit part) m.separator run
+  as_run part run = run_from_start m part run
 
   -- The parts of a number, after its sign and its prefix.
   build : (sign prefix : List ℕ) (stage : Stage) (fresh : Bool) (text all : List ℕ) → Number stage fresh text → all ≡ sign ++ (prefix ++ text)

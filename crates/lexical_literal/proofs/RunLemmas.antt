@@ -4,20 +4,20 @@ use Rattle.std.proofs.lemmas.Bool.{cases_Bool}
 use Rattle.std.proofs.lemmas.List.Folds.{list_any-append}
 use Rattle.std.specs.List.{list_any}
 use Rattle.lexical_util.specs.Ascii.{ByteSet}
-use Rattle.lexical_util.specs.declared.feature_format.roles.Separators.{Separators}
+use Rattle.lexical_util.specs.Layout.{separators_in}
 use Rattle.lexical_util.specs.declared.format_flags.Part.{Part}
 use Rattle.lexical_literal.specs.Notation.{Notation}
 use Rattle.lexical_literal.specs.Literal.{is_present}
-use Rattle.lexical_literal.specs.Run.{ends_with, is_place, are_fit, separators_of}
+use Rattle.lexical_literal.specs.Run.{ends_with, is_place, are_fit}
 use Rattle.lexical_literal.specs.Additions.Summary.{takes_digit, is_open}
 
--- `run_from a D S has_digit in_gap bytes` is true if the automaton accepts `bytes` after bytes of which one is a digit
+-- `run_from m part has_digit in_gap bytes` is true if the automaton accepts `bytes` after bytes of which one is a digit
 -- if `has_digit`, and the last is a separator if `in_gap`. It tests a separator when the next digit or the end comes.
-abbrev pub run_from : Separators → ByteSet → ByteSet → Bool → Bool → List ℕ → Bool
-run_from a D S has_digit in_gap [] = not in_gap || is_place a has_digit false
-run_from a D S has_digit in_gap (byte ∷ bytes) =
-    if D byte then (not in_gap || is_place a has_digit true) && run_from a D S true false bytes
-    else (S byte && (not in_gap || a.consecutive) && run_from a D S has_digit true bytes)
+abbrev pub run_from : Notation → Part → Bool → Bool → List ℕ → Bool
+run_from m part has_digit in_gap [] = not in_gap || is_place m part has_digit false
+run_from m part has_digit in_gap (byte ∷ bytes) =
+    if m.digit part byte then (not in_gap || is_place m part has_digit true) && run_from m part true false bytes
+    else (m.separator byte && (not in_gap || m.flag (separators_in part).consecutive) && run_from m part has_digit true bytes)
 
 and_true : (x : Bool) → x ≡ (x && true)
 and_true true = refl
@@ -55,13 +55,22 @@ rearrange false false false true f = refl
 rearrange false false false false f = refl
 
 -- The automaton tests what is left of a gap, and then each byte.
-module _ (a : Separators) (D S : ByteSet) where
+module _ (m : Notation) (part : Part) where
+  abbrev D : ByteSet
+  D = m.digit part
+
+  abbrev S : ByteSet
+  S = m.separator
+
+  abbrev consecutive : Bool
+  consecutive = m.flag (separators_in part).consecutive
+
   -- `gap before` is true if the last byte of `before` is no digit.
   abbrev gap : List ℕ → Bool
   gap before = ends_with (λ other. not (D other)) before
 
-  run_from_is : (before after : List ℕ) → run_from a D S (list_any D before) (gap before) after
-      ≡ ((not (gap before) || is_place a (list_any D before) (list_any D after)) && are_fit a D S before after)
+  run_from_is : (before after : List ℕ) → run_from m part (list_any D before) (gap before) after
+      ≡ ((not (gap before) || is_place m part (list_any D before) (list_any D after)) && are_fit m part before after)
   run_from_is before [] = and_true _
   run_from_is before (byte ∷ after) = step (run_from_is (before ++ byte ∷ []) after) (D byte) refl where
     rest : List ℕ
@@ -74,42 +83,42 @@ module _ (a : Separators) (D S : ByteSet) where
     ended = ends_with_push (λ other. not (D other)) before byte
 
     Induction : Type 0
-    Induction = run_from a D S (list_any D rest) (gap rest) after
-        ≡ ((not (gap rest) || is_place a (list_any D rest) (list_any D after)) && are_fit a D S rest after)
+    Induction = run_from m part (list_any D rest) (gap rest) after
+        ≡ ((not (gap rest) || is_place m part (list_any D rest) (list_any D after)) && are_fit m part rest after)
 
-    next : Induction → run_from a D S (list_any D before || D byte) (not (D byte)) after
-        ≡ ((not (not (D byte)) || is_place a (list_any D before || D byte) (list_any D after)) && are_fit a D S rest after)
-    next more = (λ j. run_from a D S (sym seen j) (sym ended j) after) ∙ more
-        ∙ (λ j. (not (ended j) || is_place a (seen j) (list_any D after)) && are_fit a D S rest after)
+    next : Induction → run_from m part (list_any D before || D byte) (not (D byte)) after
+        ≡ ((not (not (D byte)) || is_place m part (list_any D before || D byte) (list_any D after)) && are_fit m part rest after)
+    next more = (λ j. run_from m part (sym seen j) (sym ended j) after) ∙ more
+        ∙ (λ j. (not (ended j) || is_place m part (seen j) (list_any D after)) && are_fit m part rest after)
 
     goal : Bool → Type 0
-    goal d = (if d then (not (gap before) || is_place a (list_any D before) true) && run_from a D S true false after
-        else (S byte && (not (gap before) || a.consecutive) && run_from a D S (list_any D before) true after))
-        ≡ ((not (gap before) || is_place a (list_any D before) (d || list_any D after))
-        && ((d || (S byte && is_place a (list_any D before) (list_any D after) && (a.consecutive || not (gap before)))) && are_fit a D S rest after))
+    goal d = (if d then (not (gap before) || is_place m part (list_any D before) true) && run_from m part true false after
+        else (S byte && (not (gap before) || consecutive) && run_from m part (list_any D before) true after))
+        ≡ ((not (gap before) || is_place m part (list_any D before) (d || list_any D after))
+        && ((d || (S byte && is_place m part (list_any D before) (list_any D after) && (consecutive || not (gap before)))) && are_fit m part rest after))
 
     step : Induction → (d : Bool) → D byte ≡ d → goal d
-    step more true is = ap (λ t. (not (gap before) || is_place a (list_any D before) true) && t) (
-        (λ j. run_from a D S (sym (ap (λ t. list_any D before || t) is ∙ or_true (list_any D before)) j) (not (sym is j)) after)
-        ∙ next more ∙ (λ j. (not (not (is j)) || is_place a (list_any D before || is j) (list_any D after)) && are_fit a D S rest after))
-    step more false is = ap (λ t. (S byte && (not (gap before) || a.consecutive)) && t) (
-        (λ j. run_from a D S (sym (ap (λ t. list_any D before || t) is ∙ or_false (list_any D before)) j) (not (sym is j)) after)
-        ∙ next more ∙ (λ j. (not (not (is j)) || is_place a ((ap (λ t. list_any D before || t) is ∙ or_false (list_any D before)) j) (list_any D after)) && are_fit a D S rest after))
-        ∙ rearrange (gap before) (S byte) a.consecutive (is_place a (list_any D before) (list_any D after)) (are_fit a D S rest after)
+    step more true is = ap (λ t. (not (gap before) || is_place m part (list_any D before) true) && t) (
+        (λ j. run_from m part (sym (ap (λ t. list_any D before || t) is ∙ or_true (list_any D before)) j) (not (sym is j)) after)
+        ∙ next more ∙ (λ j. (not (not (is j)) || is_place m part (list_any D before || is j) (list_any D after)) && are_fit m part rest after))
+    step more false is = ap (λ t. (S byte && (not (gap before) || consecutive)) && t) (
+        (λ j. run_from m part (sym (ap (λ t. list_any D before || t) is ∙ or_false (list_any D before)) j) (not (sym is j)) after)
+        ∙ next more ∙ (λ j. (not (not (is j)) || is_place m part ((ap (λ t. list_any D before || t) is ∙ or_false (list_any D before)) j) (list_any D after)) && are_fit m part rest after))
+        ∙ rearrange (gap before) (S byte) consecutive (is_place m part (list_any D before) (list_any D after)) (are_fit m part rest after)
 
   -- The automaton accepts exactly the digit runs.
-  pub run_from_start : (run : List ℕ) → run_from a D S false false run ≡ are_fit a D S [] run
+  pub run_from_start : (run : List ℕ) → run_from m part false false run ≡ are_fit m part [] run
   run_from_start run = run_from_is [] run
 
 -- `is_rest m part h g run` is true if `run` can follow in `part`, after a digit if `h`, and in a gap if `g`.
 abbrev pub is_rest : Notation → Part → Bool → Bool → List ℕ → Bool
-is_rest m part h g run = run_from (separators_of m part) (m.digit part) m.separator h g run
+is_rest m part h g run = run_from m part h g run
 
 module _ (m : Notation) (part : Part) (h g : Bool) (b : ℕ) (u : List ℕ) where
   pub run_with_digit : m.digit part b ≡ true → takes_digit m part h g ≡ true → is_rest m part true false u ≡ true → is_rest m part h g (b ∷ u) ≡ true
   run_with_digit digit fits rest = grind arith
 
-  pub run_with_separator : m.digit part b ≡ false → m.separator b ≡ true → (not g || (separators_of m part).consecutive) ≡ true
+  pub run_with_separator : m.digit part b ≡ false → m.separator b ≡ true → (not g || m.flag (separators_in part).consecutive) ≡ true
       → is_rest m part h true u ≡ true → is_rest m part h g (b ∷ u) ≡ true
   run_with_separator other separator fits rest = grind arith
 
@@ -122,7 +131,7 @@ module _ (m : Notation) (part : Part) (h g : Bool) (b : ℕ) (u : List ℕ) wher
   pub is_run_separator : m.digit part b ≡ false → is_rest m part h g (b ∷ u) ≡ true → m.separator b ≡ true
   is_run_separator other is = grind arith
 
-  pub separator_fits : m.digit part b ≡ false → is_rest m part h g (b ∷ u) ≡ true → (not g || (separators_of m part).consecutive) ≡ true
+  pub separator_fits : m.digit part b ≡ false → is_rest m part h g (b ∷ u) ≡ true → (not g || m.flag (separators_in part).consecutive) ≡ true
   separator_fits other is = grind arith
 
   pub after_run_separator : m.digit part b ≡ false → is_rest m part h g (b ∷ u) ≡ true → is_rest m part h true u ≡ true
@@ -130,14 +139,14 @@ module _ (m : Notation) (part : Part) (h g : Bool) (b : ℕ) (u : List ℕ) wher
 
 -- After a separator, a digit follows or the run may end.
 pub gap_closes : (m : Notation) (part : Part) (h : Bool) (u : List ℕ) → is_rest m part h true u ≡ true
-    → ((is_place (separators_of m part) h true && list_any (m.digit part) u) || is_place (separators_of m part) h false) ≡ true
-gap_closes m part h [] is = ends (is_place (separators_of m part) h true) (is_place (separators_of m part) h false) is where
+    → ((is_place m part h true && list_any (m.digit part) u) || is_place m part h false) ≡ true
+gap_closes m part h [] is = ends (is_place m part h true) (is_place m part h false) is where
   ends : (x y : Bool) → y ≡ true → ((x && false) || y) ≡ true
   ends x y is = grind arith
 gap_closes m part h (b ∷ u) is = elim (cases_Bool (m.digit part b)) [
-  | inl digit ↦ closed (is_place (separators_of m part) h true) (m.digit part b) (list_any (m.digit part) u) (is_place (separators_of m part) h false)
+  | inl digit ↦ closed (is_place m part h true) (m.digit part b) (list_any (m.digit part) u) (is_place m part h false)
       digit (digit_fits m part h true b u digit is)
-  | inr other ↦ kept (is_place (separators_of m part) h true) (m.digit part b) (list_any (m.digit part) u) (is_place (separators_of m part) h false)
+  | inr other ↦ kept (is_place m part h true) (m.digit part b) (list_any (m.digit part) u) (is_place m part h false)
       other (gap_closes m part h u (after_run_separator m part h true b u other is))
 ] where
   closed : (x d y z : Bool) → d ≡ true → (not true || x) ≡ true → ((x && (d || y)) || z) ≡ true
@@ -150,7 +159,7 @@ gap_closes m part h (b ∷ u) is = elim (cases_Bool (m.digit part b)) [
 pub opens : (m : Notation) (part : Part) (h next : Bool) (u : List ℕ) → is_rest m part h true u ≡ true
     → (list_any (m.digit part) u ≡ true → next ≡ true) → is_open m part h next ≡ true
 opens m part h next u is more = go h (list_any (m.digit part) u) (gap_closes m part h u is) more where
-  go : (h y : Bool) → ((is_place (separators_of m part) h true && y) || is_place (separators_of m part) h false) ≡ true
+  go : (h y : Bool) → ((is_place m part h true && y) || is_place m part h false) ≡ true
       → (y ≡ true → next ≡ true) → is_open m part h next ≡ true
   go true y is more = grind arith
   go false y is more = grind arith
@@ -160,7 +169,7 @@ pub digits_present : (m : Notation) (part : Part) (run : List ℕ) → is_rest m
 digits_present m part [] fit = refl
 digits_present m part (b ∷ u) fit = elim (cases_Bool (m.digit part b)) [
   | inl digit ↦ ap (λ t. t || list_any (m.digit part) u) digit
-  | inr other ↦ some (m.digit part b) (is_place (separators_of m part) false true) (list_any (m.digit part) u)
+  | inr other ↦ some (m.digit part b) (is_place m part false true) (list_any (m.digit part) u)
       (gap_closes m part false u (after_run_separator m part false false b u other fit))
 ] where
   some : (d x y : Bool) → ((x && y) || false) ≡ true → (d || y) ≡ true

@@ -1,6 +1,5 @@
 -- How numbers are written: the bytes that play each role, and the flags.
 use Rattle.std.specs.Prelude.{ℕ, ◌≡◌, ◌↔◌, ◌||◌, Bool, true, false, IsTrue, nat_lt, Option, Some, None}
-use Rattle.lexical_util.specs.Additions.ByteRoles.{used_separator}
 use Rattle.lexical_util.specs.Ascii.{ByteSet}
 use Rattle.lexical_util.specs.Digits.{byte_value}
 use Rattle.lexical_util.specs.Layout as layout
@@ -51,7 +50,7 @@ abbrev pub notation_of : Grammar → Notation
 notation_of g = record {
   flag = (raw g.word).flag;
   digit = λ part byte. nat_lt (byte_value byte) (radix_of (raw g.word) part);
-  separator = used_separator (raw g.word);
+  separator = sets.used_separator (raw g.word);
   prefix = sets.prefix (raw g.word);
   suffix = sets.suffix (raw g.word);
   point = point_of g.options;

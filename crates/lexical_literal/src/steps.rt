@@ -4,11 +4,11 @@ ghost use Rattle.std.specs.Prelude.{◌≡◌, IfNone, IfSome, nat_lt, Some, Non
 ghost use Rattle.lexical_util.specs.Digits.{byte_value};
 ghost use Rattle.lexical_util.specs.Record.{raw};
 ghost use Rattle.lexical_literal.specs.Notation.{notation_of, radix_of, point_of, exponent_character_of};
-ghost use Rattle.lexical_literal.specs.Run.{is_place, separators_of};
+ghost use Rattle.lexical_literal.specs.Run.{is_place};
 ghost use Rattle.lexical_literal.specs.Additions.Summary.{role_in, has_digit, is_led, may_follow, after_digit, after_separator, takes_digit, takes_separator, is_signed, needs_sign, needs_exponent, may_lead, forbids_plus, digits_suffice, may_float, may_point, may_scale, may_stop, ends, is_complete, takes, after, count, total, step};
 
 use crate::syntax::Grammar;
-use lexical_util::format::{Part, Role, Separators};
+use lexical_util::format::{Part, Role};
 
 // Nothing has been read.
 pub(crate) const START: Summary = Summary {
@@ -96,17 +96,11 @@ fn is_digit(grammar: Grammar, part: Part, byte: u8) -> bool
     }
 }
 
-// Returns where separators are allowed in `part`.
-fn separators(grammar: Grammar, part: Part) -> Separators
-    ensures { result ≡ separators_of (notation_of grammar) part }
+// Returns whether a separator may be at a place in `part` with digits before it, or not, and after it, or not.
+fn is_place(grammar: Grammar, part: Part, before: bool, after: bool) -> bool
+    ensures { result ≡ is_place (notation_of grammar) part before after }
 {
-    grammar.view().separators(part)
-}
-
-// Returns whether a separator may be where digits are `before` it, or not, and `after` it, or not.
-fn is_place(allowed: Separators, before: bool, after: bool) -> bool
-    ensures { result ≡ is_place allowed before after }
-{
+    let allowed = grammar.view().separators(part);
     match (before, after) {
         (true, true) => allowed.internal,
         (false, true) => allowed.leading,
@@ -225,14 +219,14 @@ fn after_separator(stage: Stage) -> Stage
 fn takes_digit(grammar: Grammar, part: Part, digit: bool, gap: bool) -> bool
     ensures { result ≡ takes_digit (notation_of grammar) part digit gap }
 {
-    !gap || is_place(separators(grammar, part), digit, true)
+    !gap || is_place(grammar, part, digit, true)
 }
 
 // Returns whether a separator may follow, so that the gap can be closed.
 fn takes_separator(grammar: Grammar, part: Part, digit: bool, gap: bool, next: bool) -> bool
     ensures { result ≡ takes_separator (notation_of grammar) part digit gap next }
 {
-    let allowed = separators(grammar, part);
+    let allowed = grammar.view().separators(part);
     let is_open = if digit {
         allowed.trailing || (allowed.internal && next)
     } else {
@@ -290,7 +284,7 @@ fn ends(grammar: Grammar, read: Summary) -> bool
 {
     let digit = has_digit(read.stage);
     is_signed(grammar, read.part, read.fresh)
-        && ((!read.gap || is_place(separators(grammar, read.part), digit, false))
+        && ((!read.gap || is_place(grammar, read.part, digit, false))
             && digits_suffice(grammar, read.part, digit, read.integer))
 }
 

@@ -7,11 +7,11 @@ use Rattle.std.specs.List.{find}
 use Rattle.lexical_base.specs.Ascii.{ByteSet}
 use Rattle.lexical_flags.specs.Options.{OptionsHaveOneRole}
 use Rattle.lexical_flags.specs.Record.{Record, raw, separator_allowed}
-use Rattle.lexical_flags.specs.Roles.{Disjoint, cased, other_case, digits, separator}
+use Rattle.lexical_flags.specs.Roles.{Disjoint, cased, other_case, digits, separator, used_separator}
 use Rattle.lexical_flags.specs.Rules.{Lawful}
 use Rattle.lexical_util.specs.declared.feature_format.roles.Role.{Role}
 use Rattle.lexical_util.specs.declared.feature_format.roles.Role.TheVariants as roles
-use Rattle.lexical_util.specs.Additions.ByteRoles.{used_separator, role_set, roles_in_order, first_role, IsOnlyRole}
+use Rattle.lexical_util.specs.Additions.ByteRoles.{role_set, roles_in_order, first_role, IsOnlyRole}
 
 -- `stored_set r e p role` is `role_set r e p role`, with the digit separator even if no flag allows one.
 abbrev stored_set : Record → ℕ → ℕ → Role → ByteSet

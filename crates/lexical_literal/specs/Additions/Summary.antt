@@ -1,6 +1,7 @@
 -- What has been read of a number, changed by one byte.
 use Rattle.std.specs.Prelude.{ℕ, Bool, true, false, not, ◌==◌, ◌&&◌, ◌||◌, if◌then◌else◌, ◌+◌, ◌≡◌, length, List, [], ◌∷◌, Option, Some, None}
 use Rattle.lexical_util.specs.Layout as layout
+use Rattle.lexical_util.specs.Layout.{separators_in}
 use Rattle.lexical_util.specs.Roles.{signs}
 use Rattle.lexical_util.specs.declared.feature_format.roles.Role.{Role}
 use Rattle.lexical_util.specs.declared.feature_format.roles.Role.TheVariants as roles
@@ -8,7 +9,7 @@ use Rattle.lexical_util.specs.declared.format_flags.Part.{Part}
 use Rattle.lexical_util.specs.declared.format_flags.Part.TheVariants as parts
 use Rattle.lexical_literal.specs.Literal.{Literal}
 use Rattle.lexical_literal.specs.Notation.{Notation}
-use Rattle.lexical_literal.specs.Run.{is_place, separators_of}
+use Rattle.lexical_literal.specs.Run.{is_place}
 use Rattle.lexical_literal.specs.declared.steps.Cuts.{Cuts}
 use Rattle.lexical_literal.specs.declared.steps.Stage.{Stage}
 use Rattle.lexical_literal.specs.declared.steps.Stage.TheVariants as stages
@@ -69,18 +70,18 @@ after_separator stage = stage
 
 -- `may_end m part digit gap` is true if the digits of `part` may end, after a digit or not, and in a gap or not.
 abbrev pub may_end : Notation → Part → Bool → Bool → Bool
-may_end m part digit gap = not gap || is_place (separators_of m part) digit false
+may_end m part digit gap = not gap || is_place m part digit false
 
 abbrev pub takes_digit : Notation → Part → Bool → Bool → Bool
-takes_digit m part digit gap = not gap || is_place (separators_of m part) digit true
+takes_digit m part digit gap = not gap || is_place m part digit true
 
 -- `is_open m part digit next` is true if a gap can be closed, where another digit may follow or not.
 abbrev pub is_open : Notation → Part → Bool → Bool → Bool
-is_open m part true next = is_place (separators_of m part) true false || (is_place (separators_of m part) true true && next)
-is_open m part false next = is_place (separators_of m part) false true
+is_open m part true next = is_place m part true false || (is_place m part true true && next)
+is_open m part false next = is_place m part false true
 
 abbrev pub takes_separator : Notation → Part → Bool → Bool → Bool → Bool
-takes_separator m part digit gap next = (not gap || (separators_of m part).consecutive) && is_open m part digit next
+takes_separator m part digit gap next = (not gap || m.flag (separators_in part).consecutive) && is_open m part digit next
 
 abbrev pub needs_sign : Notation → Part → Bool
 needs_sign m parts.Integer = m.flag layout.required_mantissa_sign
