@@ -14,7 +14,7 @@
  * This program prints "the base prefix 'b' is a digit in radix 16", and its status is 1.
  *
  * A number format states how numbers may be written: their radix, prefix, signs and digit separators. A format is a
- * 128-bit word with 31 flags and six bytes, the fields of the word. All other bits are reserved. A byte other than the
+ * 128-bit word with flags and six bytes, the fields of the word. All other bits are reserved. A byte other than the
  * mantissa radix is absent if it is 0. The exponent base and the exponent radix are the exponent bytes. If one of them
  * is absent, the mantissa radix is used in its place. The flags in bits 32 to 44 are the digit separator flags.
  *

@@ -14,7 +14,7 @@ import re
 import sys
 
 CALLS = """edit_word normal_form format_error check build_strict is_built edits_of is_valid_options_punctuation
-options_error migrate""".split()
+options_error migrate same_format apply""".split()
 CRATES = ["lexical_base", "lexical_flags", "lexical_builder", "lexical_util"]
 TOP = pathlib.Path(__file__).resolve().parent.parent
 USE = re.compile(r"^ *(?:ghost )?(?:unfoldable )?(?:pub )?use Rattle\.([\w.]+?)(?: as (\w+)|\.\{(.*)\})?;?$", re.M)

@@ -68,6 +68,7 @@ fn read(file: &[u8]) -> (Vec<Setting>, Vec<String>) {
 
 /// Returns the format of a file if the file has no problems, and all problems and notes. A field that no line sets keeps
 /// its default.
+#[must_use]
 pub fn format_of(file: &[u8]) -> (Option<Format>, Vec<String>) {
     let (settings, mut found) = read(file);
     let located = |mask: u128, text: String| {

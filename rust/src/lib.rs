@@ -1,5 +1,5 @@
 //! A number format states how numbers may be written: their radix, prefix, signs and digit separators. Here, a format
-//! is a `u128` that holds 31 flags and six bytes. This crate is for code that parses, writes or checks numbers. It
+//! is a `u128` that holds flags and six bytes. This crate is for code that parses, writes or checks numbers. It
 //! builds, reads, checks and edits formats, and explains why a format is not lawful. It does not parse numbers.
 //!
 //! The [`u128`] is called the *format word*. It can be a const generic argument. The word is *lawful* if it satisfies

@@ -5,7 +5,7 @@ use peltzivar::edits::edits_of;
 use peltzivar::format::{self, NumberFormatBuilder, STANDARD};
 use peltzivar::{
     with_setters, word, Edit, Error, FlagSetter, Format, FormatError, FormatView, Note, NumberFormat, Part, Reason,
-    Rule, SettingError, SettingErrorKind,
+    Rule, Setter, SettingError, SettingErrorKind,
 };
 use std::error::Error as StdError;
 use std::fmt::Debug;
@@ -25,22 +25,65 @@ const _: () = {
 };
 
 macro_rules! constants {
-    (() { $($Flag:ident $flag:ident $FLAG:ident;)* } { $($Group:ident $group:ident $GROUP:ident;)* }) => {
-        [
-            $((FlagSetter::$Flag, [format::$FLAG, word::$FLAG]),)*
-            $((FlagSetter::$Group, [format::$GROUP, word::$GROUP]),)*
-        ]
+    (
+        ($setter:ident)
+        { $($Flag:ident $flag:ident $FLAG:ident;)* } { $($Group:ident $group:ident $GROUP:ident;)* }
+    ) => {
+        match $setter {
+            $(Setter::Flag(FlagSetter::$Flag) => [format::$FLAG, word::$FLAG],)*
+            $(Setter::Flag(FlagSetter::$Group) => [format::$GROUP, word::$GROUP],)*
+            Setter::DigitSeparator => [format::DIGIT_SEPARATOR, word::DIGIT_SEPARATOR],
+            Setter::BasePrefix => [format::BASE_PREFIX, word::BASE_PREFIX],
+            Setter::BaseSuffix => [format::BASE_SUFFIX, word::BASE_SUFFIX],
+            Setter::MantissaRadix => [format::MANTISSA_RADIX, word::MANTISSA_RADIX],
+            Setter::Radix => [format::RADIX, word::RADIX],
+            Setter::ExponentBase => [format::EXPONENT_BASE, word::EXPONENT_BASE],
+            Setter::ExponentRadix => [format::EXPONENT_RADIX, word::EXPONENT_RADIX],
+            _ => [0; 2],
+        }
     };
 }
 
 #[test]
 fn each_setter_has_its_constant() {
-    for (setter, masks) in with_setters!(constants()) {
-        assert_eq!(masks, [Edit::Flag(setter, true).mask(); 2], "{setter}");
+    for &setter in Setter::ALL {
+        assert_eq!(with_setters!(constants(setter)), [setter.mask(); 2], "{}", setter.name());
     }
 }
 
-/// Compares both views and the format of a word, if there is one. An absent byte of the constant view is 0.
+/// No list has the getters of a builder.
+#[test]
+fn a_builder_has_a_getter_for_each_field() {
+    let getters = include_str!("../src/format_builder/getters.rs");
+    for edit in edits_of(STANDARD).0 {
+        assert!(getters.contains(&format!(" get_{}(&self)", edit.name())), "{edit}");
+    }
+}
+
+/// Compares the bytes of both views and of the format with the edits of the word. An absent byte of one view is 0.
+fn bytes_are_same<const W: u128>() {
+    let (constant, view) = (NumberFormat::<W>::new(), FormatView::new(W));
+    let both = |byte: Option<NonZeroU8>| (byte, byte.map_or(0, NonZeroU8::get));
+    let effective = |byte: Option<NonZeroU8>| byte.map_or(view.mantissa_radix(), |byte| byte.get().into());
+    for edit in edits_of(W).0 {
+        match edit {
+            Edit::Flag(..) => {}
+            Edit::DigitSeparator(byte) => assert_eq!((view.digit_separator(), constant.digit_separator()), both(byte)),
+            Edit::BasePrefix(byte) => assert_eq!((view.base_prefix(), constant.base_prefix()), both(byte)),
+            Edit::BaseSuffix(byte) => assert_eq!((view.base_suffix(), constant.base_suffix()), both(byte)),
+            Edit::MantissaRadix(radix) => assert_eq!(view.mantissa_radix(), radix.into()),
+            Edit::ExponentBase(byte) => assert_eq!(view.exponent_base(), effective(byte)),
+            Edit::ExponentRadix(byte) => assert_eq!(view.exponent_radix(), effective(byte)),
+            _ => panic!("{edit} is not compared"),
+        }
+    }
+    if let Ok(it) = Format::new(W) {
+        let bytes = [it.digit_separator(), it.base_prefix(), it.base_suffix()];
+        assert_eq!(bytes, [view.digit_separator(), view.base_prefix(), view.base_suffix()]);
+    }
+}
+
+/// Compares both views of a word, and its format if it is lawful.
 #[rustfmt::skip]
 fn views_are_same<const W: u128>() {
     let (constant, view, format) = (NumberFormat::<W>::new(), FormatView::new(W), Format::new(W).ok());
@@ -68,24 +111,7 @@ fn views_are_same<const W: u128>() {
         };
     }
     with_setters!(setters());
-    let both = |byte: Option<NonZeroU8>| (byte, byte.map_or(0, NonZeroU8::get));
-    let effective = |byte: Option<NonZeroU8>| byte.map_or(view.mantissa_radix(), |byte| byte.get().into());
-    for edit in edits_of(W).0 {
-        match edit {
-            Edit::Flag(..) => {}
-            Edit::DigitSeparator(byte) => assert_eq!((view.digit_separator(), constant.digit_separator()), both(byte)),
-            Edit::BasePrefix(byte) => assert_eq!((view.base_prefix(), constant.base_prefix()), both(byte)),
-            Edit::BaseSuffix(byte) => assert_eq!((view.base_suffix(), constant.base_suffix()), both(byte)),
-            Edit::MantissaRadix(radix) => assert_eq!(view.mantissa_radix(), radix.into()),
-            Edit::ExponentBase(byte) => assert_eq!(view.exponent_base(), effective(byte)),
-            Edit::ExponentRadix(byte) => assert_eq!(view.exponent_radix(), effective(byte)),
-            _ => panic!("{edit} is not compared"),
-        }
-    }
-    if let Some(it) = format {
-        let bytes = [it.digit_separator(), it.base_prefix(), it.base_suffix()];
-        assert_eq!(bytes, [view.digit_separator(), view.base_prefix(), view.base_suffix()]);
-    }
+    bytes_are_same::<W>();
     same! { mantissa_radix() radix() radix2() radix4() radix8() exponent_base() exponent_radix() }
     same! { has_digit_separator() has_base_prefix() has_base_suffix() flags() interface_flags() exponent_flags() }
     constants! {

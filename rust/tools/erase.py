@@ -62,6 +62,7 @@ TEST_FORMS = [
     ("    Ok(())\n", ""),
     ("use std::test::Fail;\n", ""),
     ("assert!(rt;", "assert!("),
+    ("#[allow(deprecated)]", "#[expect(deprecated)]"),
 ]
 
 # Texts that plain Rust replaces: the end of the path, the text, and the replacement.

@@ -30,7 +30,7 @@ macro_rules! edits {
                 Edit::Radix(radix) => builder.radix(radix),
                 Edit::ExponentBase(byte) => builder.exponent_base(byte),
                 Edit::ExponentRadix(byte) => builder.exponent_radix(byte),
-                Edit::Flag(..) => unreachable!("a setter of the rows"),
+                _ => unreachable!("a setter of the rows"),
             }
         }
 

@@ -27,19 +27,26 @@ fn original<T: PartialEq>(ours: T, theirs: T, text: impl FnOnce(T) -> String) ->
     (ours != theirs).then(|| format!(" crate: {}", text(theirs))).unwrap_or_default()
 }
 
-/// All lines, some 20,000.
+/// The bits that are reserved in both libraries.
+const RESERVED: u128 = rules::RESERVED & !peltzivar::format_flags::FLAG_MASK;
+
+/// All lines, some 20,000. The words of the last section have reserved bits. All others have none, so that a library
+/// with a flag at one of these bits returns the same results for them.
 pub fn lines(seed: u64) -> Vec<String> {
     let random = &mut Random::new(seed);
     let mut lines = vec![];
     lines.extend((0..=255).map(|c| format!("byte {c} {} {}", is_valid_ascii(c), is_valid_letter(c))));
     lines.extend(digits());
     lines.extend(outcomes());
-    lines.extend(words(random, 4000).iter().map(|word| fields(*word)));
-    lines.extend(reserved_bits().iter().chain(&words(random, 6000)).map(|word| check(*word)));
-    lines.extend((0..2600).map(|_| options(random)));
+    lines.extend(words(random, 3000).iter().map(|word| fields(*word)));
+    lines.extend(words(random, 5000).iter().map(|word| check(*word)));
+    lines.extend((0..2000).map(|_| options(clean(random), random)));
     lines.extend(single_calls(2).map(|call| edit(BASES[3], &[call])));
-    lines.extend((0..2500).map(|_| edit(random.word(), &random.calls(6))));
+    lines.extend((0..2000).map(|_| edit(clean(random), &random.calls(6))));
     lines.extend((0..2500).map(|_| build(&random.calls(6))));
+    for word in reserved_words(random, 1000) {
+        lines.extend([fields(word), check(word), options(word, random), edit(word, &random.calls(6))]);
+    }
     lines
 }
 
@@ -61,17 +68,25 @@ fn outcomes() -> impl Iterator<Item = String> {
     })
 }
 
-/// Returns words: bases, bases with one bit flipped, and random words.
-fn words(random: &mut Random, count: usize) -> Vec<u128> {
-    let turned = BASES[2..].iter().flat_map(|base| (0..128).map(move |bit| base ^ 1 << bit));
-    let bases = BASES.into_iter().chain(turned);
-    bases.chain(std::iter::repeat_with(|| random.word())).take(count).collect()
+fn clean(random: &mut Random) -> u128 {
+    random.word() & !rules::RESERVED
 }
 
-/// A lawful word with each single reserved bit.
-fn reserved_bits() -> Vec<u128> {
-    let reserved = (0..128).filter(|bit| rules::RESERVED >> bit & 1 == 1);
-    reserved.map(|bit| BASES[3] | 1 << bit).collect()
+/// Returns clean words: bases, bases with one bit flipped, and random words.
+fn words(random: &mut Random, count: usize) -> Vec<u128> {
+    let turned = BASES[2..].iter().flat_map(|base| (0..128).map(move |bit| base ^ 1 << bit));
+    let turned = turned.filter(|word| word & rules::RESERVED == 0);
+    let bases = BASES.into_iter().map(|base| base & !rules::RESERVED).chain(turned);
+    bases.chain(std::iter::repeat_with(|| clean(random))).take(count).collect()
+}
+
+/// Returns words with reserved bits: a lawful word with each single one, bases with all, and random words with some.
+fn reserved_words(random: &mut Random, count: usize) -> Vec<u128> {
+    let bits = (0..128).map(|bit| 1 << bit).filter(|bit| RESERVED & bit != 0);
+    let single = bits.map(|bit| BASES[3] | bit);
+    let all = BASES.into_iter().map(|base| base & !rules::RESERVED | RESERVED);
+    let some = || clean(random) | RESERVED & random.bits() & random.bits() & random.bits();
+    single.chain(all).chain(std::iter::repeat_with(some).filter(|word| word & RESERVED != 0)).take(count).collect()
 }
 
 fn fields(word: u128) -> String {
@@ -85,9 +100,8 @@ fn check(word: u128) -> String {
     format!("check {word:032X} {}{}", name(ours), original(ours, theirs, name))
 }
 
-/// Returns a word and two bytes, which are often bytes of the word or their other case.
-fn options(random: &mut Random) -> String {
-    let word = random.word();
+/// Takes two bytes as options, which are often bytes of the word or their other case.
+fn options(word: u128, random: &mut Random) -> String {
     let mut byte = || match random.below(4) {
         0 => (word >> random.pick(&[64, 88, 96])) as u8,
         1 => (word >> random.pick(&[64, 88, 96])) as u8 ^ 0x20,

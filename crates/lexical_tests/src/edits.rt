@@ -1,13 +1,11 @@
 //! Lists of edits, and calls on whole words.
 
+use crate::views::FLAGS;
 use lexical_util::edits::{
     Edit, FlagSetter, apply_all, edit_word, edits_of, is_built, migrate, normal_form, same_format,
 };
 use lexical_util::error::Error;
-use lexical_util::format::{
-    BASE_PREFIX, BASE_SUFFIX, DIGIT_SEPARATOR, EXPONENT_BASE, FLAG_MASK, NonZeroU8, NumberFormat,
-    NumberFormatBuilder, RADIX_MASK, STANDARD, format_error,
-};
+use lexical_util::format::{NonZeroU8, NumberFormat, NumberFormatBuilder, STANDARD, format_error};
 
 // A word, an edit, and the edited word.
 #[rattlefmt::skip]
@@ -41,13 +39,16 @@ fn unused_separator() -> [Edit; 3] {
     ]
 }
 
+// The bits of all fields.
+const FIELDS: u128 = 0xFFFFFFFF_FF0000FF_00000000_00000000 | FLAGS;
+
 // A word, its error, its normal form, and the error of the normal form.
 #[rattlefmt::skip]
 const NORMAL_FORMS: [(u128, Error, u128, Error); 15] = [
     (0x00000A00_00000000_00000000_0000000C, Error::Success, 0x0A0A0A00_00000000_00000000_0000000C, Error::Success),
     (0x0A0A0A00_00000000_00000000_0000000C, Error::Success, 0x0A0A0A00_00000000_00000000_0000000C, Error::Success),
     (0, Error::InvalidMantissaRadix, 0, Error::InvalidMantissaRadix),
-    (0xFFFFFFFF_FFFFFFFF_FFFFFFFF_FFFFFFFF, Error::InvalidMantissaRadix, 0xFFFFFFFF_FF0000FF_00001FFF_0003FFFF, Error::InvalidMantissaRadix),
+    (0xFFFFFFFF_FFFFFFFF_FFFFFFFF_FFFFFFFF, Error::InvalidMantissaRadix, FIELDS, Error::InvalidMantissaRadix),
     (0x0A0A0A00_0000005F_00000000_0000000C, Error::Success, 0x0A0A0A00_00000000_00000000_0000000C, Error::Success),
     (0x0A0A0A00_00000035_00000000_0000000C, Error::InvalidDigitSeparator, 0x0A0A0A00_00000000_00000000_0000000C, Error::Success),
     (0x00000A00_00000000_00000000_8000000C, Error::InvalidFlags, 0x0A0A0A00_00000000_00000000_0000000C, Error::Success),
@@ -70,16 +71,9 @@ const LISTED: [(u128, u128, usize); 6] = [
     (0, 0, 3),
     (0x00000A00_00000000_00000000_8000000C, 0x00000A00_00000000_00000000_0000000C, 0),
     (0x0A0A0A00_0000005F_00000000_0000000C, 0x0A0A0A00_00000000_00000000_0000000C, 3),
-    (0xFFFFFFFF_FFFFFFFF_FFFFFFFF_FFFFFFFF, 0xFFFFFFFF_FF0000FF_00001FFF_0003FFFF, 35),
+    // A new builder has two of the flags.
+    (0xFFFFFFFF_FFFFFFFF_FFFFFFFF_FFFFFFFF, FIELDS, u128::count_ones(FLAGS) as usize - 2 + 6),
 ];
-
-// The bits that belong to no field.
-const RESERVED: u128 = !(FLAG_MASK
-    | DIGIT_SEPARATOR
-    | BASE_PREFIX
-    | BASE_SUFFIX
-    | RADIX_MASK
-    | EXPONENT_BASE);
 
 // A word as `lexical-util` stored it, and the word or the error that it becomes.
 #[rattlefmt::skip]
@@ -136,7 +130,7 @@ fn each_reserved_bit_is_refused_and_is_lost_in_the_normal_form(rt: HostRuntime) 
     let decimal = NumberFormatBuilder::decimal();
     for bit in 0..128_u32 {
         assert!(rt; bit < 128);
-        if RESERVED & 1 << bit != 0 {
+        if FIELDS & 1 << bit == 0 {
             let word = decimal | 1 << bit;
             assert!(rt; format_error(word) == Error::InvalidFlags, "{bit}");
             assert!(rt; normal_form(word) == decimal, "{bit}");

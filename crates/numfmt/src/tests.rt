@@ -3,7 +3,7 @@
 mod rows;
 
 use crate::program::run;
-use crate::tests::rows::{ANSWERS, EDITS, REFUSALS, STANDARD_FIELDS};
+use crate::tests::rows::{ANSWERS, REFUSALS};
 use std::alloc::Global;
 use std::io;
 use std::io::Write;
@@ -82,21 +82,8 @@ fn check<R: Abort + AllocGlobal>(
 
 #[test]
 fn each_row_is_printed_with_its_status(rt: HostRuntime) -> Result<(), Fail> {
-    check(&rt, &[], STANDARD_FIELDS, 0)?;
-    for (line, text, status) in ANSWERS.iter().chain(&REFUSALS) {
-        let mut args = Vec::new(rt.alloc());
-        for word in line.split(' ') {
-            args.push(word)?;
-        }
-        check(&rt, args.as_slice(), text, *status)?;
-    }
-    Ok(())
-}
-
-#[test]
-fn an_edit_sets_the_bits_of_its_name(rt: HostRuntime) -> Result<(), Fail> {
-    for (edit, text) in &EDITS {
-        check(&rt, &["edit", "0x100000000000", edit], text, 0)?;
+    for (args, text, status) in ANSWERS.iter().chain(&REFUSALS) {
+        check(&rt, args, text, *status)?;
     }
     Ok(())
 }

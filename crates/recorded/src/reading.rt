@@ -15,7 +15,8 @@
 //!
 //! A word is 32 hexadecimal digits, and any other number is decimal. A setter's value is `true`, `false` or a byte,
 //! where 0 means absent. If the library differs from `lexical-util` on purpose, the line has the result that the
-//! library must return, and ends in ` crate: ` and the result of `lexical-util`.
+//! library must return, and ends in ` crate: ` and the result of `lexical-util`. Words with reserved bits are only in the
+//! last section of the file. A new flag at such a bit changes the results in no other line.
 
 use crate::fact::{Fact, Fields};
 use lexical_util::edits::Edit;

@@ -64,7 +64,7 @@ const RADIX_WORDS: [(u8, u128, Error); 7] = [
 ];
 
 #[test]
-#[allow(deprecated)]
+#[expect(deprecated)]
 fn only_lawful_words_pass_the_strict_build() {
     for (builder, word, error) in &built() {
         let packed = [builder.build_unchecked(), builder.build()];

@@ -2,12 +2,10 @@
 
 //! Lists of edits, and calls on whole words.
 
+use crate::views::FLAGS;
 use peltzivar::edits::{apply_all, edit_word, edits_of, is_built, migrate, normal_form, same_format, Edit, FlagSetter};
 use peltzivar::error::Error;
-use peltzivar::word::{
-    format_error, FormatView, NonZeroU8, NumberFormatBuilder, BASE_PREFIX, BASE_SUFFIX, DIGIT_SEPARATOR, EXPONENT_BASE,
-    FLAG_MASK, RADIX_MASK, STANDARD,
-};
+use peltzivar::word::{format_error, FormatView, NonZeroU8, NumberFormatBuilder, STANDARD};
 
 // A word, an edit, and the edited word.
 #[rustfmt::skip]
@@ -38,13 +36,16 @@ fn unused_separator() -> [Edit; 3] {
     ]
 }
 
+// The bits of all fields.
+const FIELDS: u128 = 0xFFFFFFFF_FF0000FF_00000000_00000000 | FLAGS;
+
 // A word, its error, its normal form, and the error of the normal form.
 #[rustfmt::skip]
 const NORMAL_FORMS: [(u128, Error, u128, Error); 15] = [
     (0x00000A00_00000000_00000000_0000000C, Error::Success, 0x0A0A0A00_00000000_00000000_0000000C, Error::Success),
     (0x0A0A0A00_00000000_00000000_0000000C, Error::Success, 0x0A0A0A00_00000000_00000000_0000000C, Error::Success),
     (0, Error::InvalidMantissaRadix, 0, Error::InvalidMantissaRadix),
-    (0xFFFFFFFF_FFFFFFFF_FFFFFFFF_FFFFFFFF, Error::InvalidMantissaRadix, 0xFFFFFFFF_FF0000FF_00001FFF_0003FFFF, Error::InvalidMantissaRadix),
+    (0xFFFFFFFF_FFFFFFFF_FFFFFFFF_FFFFFFFF, Error::InvalidMantissaRadix, FIELDS, Error::InvalidMantissaRadix),
     (0x0A0A0A00_0000005F_00000000_0000000C, Error::Success, 0x0A0A0A00_00000000_00000000_0000000C, Error::Success),
     (0x0A0A0A00_00000035_00000000_0000000C, Error::InvalidDigitSeparator, 0x0A0A0A00_00000000_00000000_0000000C, Error::Success),
     (0x00000A00_00000000_00000000_8000000C, Error::InvalidFlags, 0x0A0A0A00_00000000_00000000_0000000C, Error::Success),
@@ -67,11 +68,9 @@ const LISTED: [(u128, u128, usize); 6] = [
     (0, 0, 3),
     (0x00000A00_00000000_00000000_8000000C, 0x00000A00_00000000_00000000_0000000C, 0),
     (0x0A0A0A00_0000005F_00000000_0000000C, 0x0A0A0A00_00000000_00000000_0000000C, 3),
-    (0xFFFFFFFF_FFFFFFFF_FFFFFFFF_FFFFFFFF, 0xFFFFFFFF_FF0000FF_00001FFF_0003FFFF, 35),
+    // A new builder has two of the flags.
+    (0xFFFFFFFF_FFFFFFFF_FFFFFFFF_FFFFFFFF, FIELDS, u128::count_ones(FLAGS) as usize - 2 + 6),
 ];
-
-// The bits that belong to no field.
-const RESERVED: u128 = !(FLAG_MASK | DIGIT_SEPARATOR | BASE_PREFIX | BASE_SUFFIX | RADIX_MASK | EXPONENT_BASE);
 
 // A word as `lexical-util` stored it, and the word or the error that it becomes.
 #[rustfmt::skip]
@@ -128,7 +127,7 @@ fn each_reserved_bit_is_refused_and_is_lost_in_the_normal_form() {
     let decimal = NumberFormatBuilder::decimal();
     for bit in 0..128_u32 {
         assert!(bit < 128);
-        if RESERVED & 1 << bit != 0 {
+        if FIELDS & 1 << bit == 0 {
             let word = decimal | 1 << bit;
             assert!(format_error(word) == Error::InvalidFlags, "{bit}");
             assert!(normal_form(word) == decimal, "{bit}");

@@ -28,11 +28,14 @@ const GROUPS: [(u128, [bool; 5]); 3] = [
     (0x00000000_00000000_00000000_00000000, [false, false, false, false, false]),
 ];
 
+// All flags.
+pub const FLAGS: u128 = 0x1FFF_0003_FFFF;
+
 // A word, and its bits in seven masks: all flags, interface flags, exponent flags, digit separator flags, and the digit
 // separator flags of the integer, of the fraction and of the exponent.
 #[rustfmt::skip]
 const MASKED: [(u128, [u128; 7]); 2] = [
-    (0xFFFFFFFF_FFFFFFFF_FFFFFFFF_FFFFFFFF, [0x1FFF_0003_FFFF, 0xFFF_0000_63CF, 0x924_0000_43C4, 0x1FFF_0000_0000, 0x249_0000_0000, 0x492_0000_0000, 0x924_0000_0000]),
+    (0xFFFFFFFF_FFFFFFFF_FFFFFFFF_FFFFFFFF, [FLAGS, 0xFFF_0000_63CF, 0x924_0000_43C4, 0x1FFF_0000_0000, 0x249_0000_0000, 0x492_0000_0000, 0x924_0000_0000]),
     (0xC, [0xC, 0xC, 4, 0, 0, 0, 0]),
 ];
 

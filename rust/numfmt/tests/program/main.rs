@@ -4,11 +4,11 @@
 
 mod rows;
 
-use rows::{ANSWERS, EDITS, REFUSALS, STANDARD_FIELDS};
+use rows::{ANSWERS, REFUSALS};
 use std::ffi::{OsStr, OsString};
 use std::fs::File;
 use std::os::unix::ffi::OsStrExt;
-use std::process::Command;
+use std::process::{Command, Stdio};
 
 fn numfmt() -> Command {
     let built = OsString::from(env!("CARGO_BIN_EXE_numfmt"));
@@ -24,14 +24,8 @@ fn run<A: AsRef<OsStr>>(args: &[A]) -> (Option<i32>, String) {
 
 #[test]
 fn prints_the_text_of_each_row_and_ends_with_its_status() {
-    assert_eq!(run::<&str>(&[]), (Some(0), STANDARD_FIELDS.to_string()));
-    for (line, text, status) in ANSWERS.into_iter().chain(REFUSALS) {
-        let args: Vec<&str> = line.split(' ').collect();
-        assert_eq!(run(&args), (Some(status.into()), text.into()), "{line}");
-    }
-    for (edit, text) in EDITS {
-        let printed = run(&["edit", "0x100000000000", edit]);
-        assert_eq!(printed, (Some(0), text.into()), "{edit}");
+    for (args, text, status) in ANSWERS.into_iter().chain(REFUSALS) {
+        assert_eq!(run(args), (Some(status.into()), text.into()), "{args:?}");
     }
 }
 
@@ -45,12 +39,35 @@ fn ends_with_status_3_if_an_argument_is_not_utf_8() {
     }
 }
 
+/// Returns the end of a pipe whose reader has ended.
+fn closed_pipe() -> Stdio {
+    let mut reader = Command::new("true").stdin(Stdio::piped()).spawn().unwrap();
+    let pipe = reader.stdin.take().unwrap();
+    reader.wait().unwrap();
+    pipe.into()
+}
+
 #[test]
 fn ends_with_status_3_if_a_write_fails() {
     for args in [&[][..], &["same", "0x0", "0xC"], &["show", "0xG"]] {
         let full = File::options().write(true).open("/dev/full").unwrap();
-        let output = numfmt().args(args).stdout(full).output().unwrap();
-        assert_eq!(output.status.code(), Some(3), "{args:?}");
-        assert!(output.stderr.is_empty(), "{args:?}");
+        for out in [full.into(), closed_pipe()] {
+            let output = numfmt().args(args).stdout(out).output().unwrap();
+            assert_eq!(output.status.code(), Some(3), "{args:?}");
+            assert!(output.stderr.is_empty(), "{args:?}");
+        }
     }
+}
+
+#[test]
+fn ends_with_status_3_if_only_a_part_is_written() {
+    // The file takes one block, of at most 1,024 bytes. A write beyond it fails.
+    let mut shell = Command::new("sh");
+    shell.args(["-c", "trap '' XFSZ; ulimit -f 1; exec \"$@\"", "sh"]);
+    shell
+        .arg(numfmt().get_program())
+        .args(["explain", "0xFFFFFFFFFFFFFFFFFFFFFFFFFFFFFFFF"]);
+    let path = concat!(env!("CARGO_TARGET_TMPDIR"), "/numfmt");
+    let status = shell.stdout(File::create(path).unwrap()).status().unwrap();
+    assert_eq!(status.code(), Some(3));
 }
