@@ -1,6 +1,7 @@
 -- Lemmas.
 mod RunLemmas
 mod ScanLemmas
+mod ClassLemmas
 mod StepLemmas
 mod LiteralLemmas
 mod FrontLemmas

@@ -11,14 +11,14 @@ use Rattle.lexical_util.specs.declared.format_flags.Part.TheVariants as parts
 use Rattle.lexical_literal.specs.Notation.{Notation}
 use Rattle.lexical_literal.specs.Run.{is_run}
 use Rattle.lexical_literal.specs.Literal.{Literal, IsLiteral, Reads, text_of, requirement, is_present, is_absent, is_plus, is_none_or_one, is_none_or_prefix, has_leading_zero}
-use Rattle.lexical_literal.specs.Additions.Summary.{implies, has_digit, is_led, is_bare, may_lead, needs_exponent, is_signed, may_end, ends, may_stop, may_scale, may_float, start, no_cuts}
+use Rattle.lexical_literal.specs.Additions.Summary.{implies, has_digit, is_fresh, is_lone, is_led, is_bare, after_digit, after_sign, after_point, takes_digit, may_follow, needs_exponent, is_signed, may_end, ends, may_stop, may_scale, may_float, start, no_cuts}
 use Rattle.lexical_literal.specs.declared.steps.Cuts.{Cuts}
 use Rattle.lexical_literal.specs.declared.steps.Stage.{Stage}
 use Rattle.lexical_literal.specs.declared.steps.Stage.TheVariants as stages
 use Rattle.lexical_literal.specs.declared.steps.Summary.{Summary}
 use Rattle.lexical_literal.proofs.RunLemmas.{is_rest, run_from_start, digits_present}
 use Rattle.lexical_literal.proofs.ScanLemmas.{HasRoles, Accepts, Arrives, plus, arrives_byte, digit_role, is_role}
-use Rattle.lexical_literal.proofs.StepLemmas.{reading, led_after, Taken, Run, run_of, run_arrives, stop_arrives}
+use Rattle.lexical_literal.proofs.StepLemmas.{reading, begins, led_after, Taken, Run, run_of, run_arrives, stop_arrives}
 
 -- `Met m f d` holds if `d` is true or the flag `f` is not set.
 abbrev Met : Notation → Flag → Bool → Type 0
@@ -120,18 +120,19 @@ module _ (m : Notation) where
   }
 
   -- After a decimal point or an exponent character, no zero is bare.
-  not_bare : {part : Part} {fresh integer : Bool} {text : List ℕ} → (r : Run m part stages.Free false fresh integer text) → is_bare r.last ≡ true → ⊥
-  not_bare r bare = elim (r.bare_is bare) [ inl first ↦ false≢true first.0 | inr zero ↦ let no : stages.Free ≡ stages.Empty = zero.1 in cc ]
+  not_bare : (part : Part) (stage : Stage) (text : List ℕ) → is_bare stage ≡ false → begins stage ≡ false → (r : Run m part stage false text) → is_bare r.last ≡ true → ⊥
+  not_bare part stage text other after r bare =
+      elim (r.bare_is bare) [ inl first ↦ false≢true (sym other ∙ first.0) | inr zero ↦ false≢true (sym after ∙ zero.1) ]
 
-  fit_of : (part : Part) (stage : Stage) (fresh integer : Bool) (text : List ℕ) → has_digit stage ≡ false → (r : Run m part stage false fresh integer text)
+  fit_of : (part : Part) (stage : Stage) (text : List ℕ) → has_digit stage ≡ false → (r : Run m part stage false text)
       → may_end m part (has_digit r.last) r.last_gap ≡ true → is_rest m part false false r.run ≡ true
-  fit_of part stage fresh integer text none r end = subst (λ t. is_rest m part t false r.run ≡ true) none (r.fit end)
+  fit_of part stage text none r end = subst (λ t. is_rest m part t false r.run ≡ true) none (r.fit end)
 
   -- Whether a part has digits, where none were read before it.
-  any_of : (part : Part) (stage : Stage) (fresh integer : Bool) (text : List ℕ) → has_digit stage ≡ false → (r : Run m part stage false fresh integer text)
+  any_of : (part : Part) (stage : Stage) (text : List ℕ) → has_digit stage ≡ false → (r : Run m part stage false text)
       → may_end m part (has_digit r.last) r.last_gap ≡ true → has_digit r.last ≡ is_present r.run
-  any_of part stage fresh integer text none r end = r.seen ∙ ap (λ t. list_any (m.digit part) r.run || t) none ∙ or_false (list_any (m.digit part) r.run)
-      ∙ digits_present m part r.run (fit_of part stage fresh integer text none r end)
+  any_of part stage text none r end = r.seen ∙ ap (λ t. list_any (m.digit part) r.run || t) none ∙ or_false (list_any (m.digit part) r.run)
+      ∙ digits_present m part r.run (fit_of part stage text none r end)
 
   record Plain (text : List ℕ) : Type 0 where
     exponent : List ℕ
@@ -141,32 +142,32 @@ module _ (m : Notation) where
     digits : Met m layout.required_exponent_digits (is_present exponent)
     suffix_one : is_none_or_one m.suffix suffix ≡ true
 
-  plain_of : (fresh integer : Bool) (text : List ℕ) → (r : Run m parts.Exponent stages.Free false fresh integer text)
-      → (ends m (reading parts.Exponent r.last r.last_gap r.last_fresh integer) && true) ≡ true → is_none_or_one m.suffix r.rest ≡ true
-      → Plain text × (is_signed m parts.Exponent fresh ≡ true)
-  plain_of fresh integer text r end one =
-      let both = and_parts (is_signed m parts.Exponent r.last_fresh) _ (and_parts _ true end).0 in
+  plain_of : (stage : Stage) (text : List ℕ) → has_digit stage ≡ false → (r : Run m parts.Exponent stage false text)
+      → (ends m (reading parts.Exponent r.last r.last_gap) && true) ≡ true → is_none_or_one m.suffix r.rest ≡ true
+      → Plain text × (is_signed m parts.Exponent stage ≡ true)
+  plain_of stage text none r end one =
+      let both = and_parts (is_signed m parts.Exponent r.last) _ (and_parts _ true end).0 in
       let fits = and_parts (may_end m parts.Exponent (has_digit r.last) r.last_gap) _ both.1 in (
         record {
           exponent = r.run;
           suffix = r.rest;
           whole = r.whole;
-          run = fit_of parts.Exponent stages.Free fresh integer text refl r fits.0;
-          digits = subst (λ t. Met m layout.required_exponent_digits t) (any_of parts.Exponent stages.Free fresh integer text refl r fits.0) fits.1;
+          run = fit_of parts.Exponent stage text none r fits.0;
+          digits = subst (λ t. Met m layout.required_exponent_digits t) (any_of parts.Exponent stage text none r fits.0) fits.1;
           suffix_one = one;
         },
         r.signed both.0,
       )
 
-  exponent_plain : (integer : Bool) (text : List ℕ) → Accepts m (Some (reading parts.Exponent stages.Free false false integer)) text → Plain text
-  exponent_plain integer text is =
-      let r = run_of m parts.Exponent integer stages.Free false false text is in
+  exponent_plain : (text : List ℕ) → Accepts m (Some (reading parts.Exponent stages.Free false)) text → Plain text
+  exponent_plain text is =
+      let r = run_of m parts.Exponent stages.Free false text is in
       elim r.follows [
-        | inl done ↦ (plain_of false integer text r done.0 done.1).0
+        | inl done ↦ (plain_of stages.Free text refl r done.0 done.1).0
         | inr (inl point) ↦ absurd (false≢true (and_parts _ false point.4).1)
         | inr (inr (inl exponent_character)) ↦ absurd (false≢true (and_parts _ false exponent_character.4).1)
-        | inr (inr (inr (inl sign))) ↦ absurd (false≢true (r.fresh_is (and_parts r.last_fresh _ sign.4).0).0)
-        | inr (inr (inr (inr prefix))) ↦ absurd (not_bare r prefix.4)
+        | inr (inr (inr (inl sign))) ↦ absurd (false≢true (r.fresh_is (and_parts (is_fresh r.last) _ sign.4).0).0)
+        | inr (inr (inr (inr prefix))) ↦ absurd (not_bare parts.Exponent stages.Free text refl refl r prefix.4)
       ]
 
   record Power (b : ℕ) (text : List ℕ) : Type 0 where
@@ -198,22 +199,22 @@ module _ (m : Notation) where
     };
   }
 
-  power_of : (b : ℕ) → m.exponent_character b ≡ true → not (m.flag layout.no_exponent_notation) ≡ true → (integer : Bool) (text : List ℕ)
-      → Accepts m (Some (reading parts.Exponent stages.Free false true integer)) text → Power b text
-  power_of b exponent_character may integer text is =
-      let r = run_of m parts.Exponent integer stages.Free false true text is in
+  power_of : (b : ℕ) → m.exponent_character b ≡ true → not (m.flag layout.no_exponent_notation) ≡ true → (text : List ℕ)
+      → Accepts m (Some (reading parts.Exponent stages.Mark false)) text → Power b text
+  power_of b exponent_character may text is =
+      let r = run_of m parts.Exponent stages.Mark false text is in
       elim r.follows [
-        | inl done ↦ let p = plain_of true integer text r done.0 done.1 in
+        | inl done ↦ let p = plain_of stages.Mark text refl r done.0 done.1 in
             power_from b text exponent_character may p.0 [] refl (always _ _ refl) (never (m.flag layout.required_exponent_sign) false p.1) text refl
         | inr (inl point) ↦ absurd (false≢true (and_parts _ false point.4).1)
         | inr (inr (inl scale)) ↦ absurd (false≢true (and_parts _ false scale.4).1)
         | inr (inr (inr (inl sign))) ↦
-            let took = and_parts r.last_fresh _ sign.4 in
+            let took = and_parts (is_fresh r.last) _ sign.4 in
             let fresh = r.fresh_is took.0 in
-            let p = exponent_plain integer sign.1 (subst (λ o. Accepts m (Some (reading parts.Exponent o false false integer)) sign.1) fresh.2
-            (subst (λ g. Accepts m (Some (reading parts.Exponent r.last g false integer)) sign.1) fresh.3 sign.5)) in
+            let p = exponent_plain sign.1 (subst (λ o. Accepts m (Some (reading parts.Exponent (after_sign o) false)) sign.1) fresh.2
+            (subst (λ g. Accepts m (Some (reading parts.Exponent (after_sign r.last) g)) sign.1) fresh.3 sign.5)) in
             power_from b sign.1 exponent_character may p (sign.0 ∷ []) sign.3 took.1 (always _ _ refl) text (r.whole ∙ ap (λ t. t ++ r.rest) fresh.1 ∙ sign.2)
-        | inr (inr (inr (inr prefix))) ↦ absurd (not_bare r prefix.4)
+        | inr (inr (inr (inr prefix))) ↦ absurd (not_bare parts.Exponent stages.Mark text refl refl r prefix.4)
       ]
 
   -- What follows an integer.
@@ -227,11 +228,35 @@ module _ (m : Notation) where
     whole : text ≡ point ++ (fraction ++ (exponent_character ++ (sign ++ (exponent ++ suffix))))
     facts : EndFacts any led point fraction exponent_character sign exponent suffix
 
+  -- The stage after a decimal point.
+  point_seen : (any : Bool) → has_digit (after_point any) ≡ false
+  point_seen true = refl
+  point_seen false = refl
+
+  point_settles : (any : Bool) → is_fresh (after_point any) ≡ false
+  point_settles true = refl
+  point_settles false = refl
+
+  point_bare : (any : Bool) → is_bare (after_point any) ≡ false
+  point_bare true = refl
+  point_bare false = refl
+
+  point_begins : (any : Bool) → begins (after_point any) ≡ false
+  point_begins true = refl
+  point_begins false = refl
+
+  point_counts : (any : Bool) → not (is_lone (after_point any)) ≡ any
+  point_counts true = refl
+  point_counts false = refl
+
+  or_swap : (a b : Bool) → (a || b) ≡ (b || a)
+  or_swap a b = grind arith
+
   -- What follows a decimal point.
   fraction_of : (p : ℕ) (any led : Bool) (text : List ℕ) → m.point p ≡ true → Met m layout.required_integer_digits any
-      → Met m layout.no_float_leading_zeros (not led) → Accepts m (Some (reading parts.Fraction stages.Free false false any)) text → Body any led (p ∷ text)
+      → Met m layout.no_float_leading_zeros (not led) → Accepts m (Some (reading parts.Fraction (after_point any) false)) text → Body any led (p ∷ text)
   fraction_of p any led text point integer float is =
-      let r = run_of m parts.Fraction any stages.Free false false text is in
+      let r = run_of m parts.Fraction (after_point any) false text is in
       elim r.follows [
         | inl done ↦
             let both = and_parts _ (may_stop m parts.Fraction r.last) done.0 in
@@ -239,17 +264,22 @@ module _ (m : Notation) where
         | inr (inl again) ↦ absurd (false≢true (and_parts _ false again.4).1)
         | inr (inr (inl exponent_character)) ↦
             let both = and_parts _ (may_scale m parts.Fraction r.last) exponent_character.4 in
-            let e = power_of exponent_character.0 exponent_character.3 both.1 any exponent_character.1 exponent_character.5 in
+            let e = power_of exponent_character.0 exponent_character.3 both.1 exponent_character.1 exponent_character.5 in
             facts r both.0 (exponent_character.0 ∷ []) e.sign e.exponent e.suffix (exponent_character.2 ∙ ap (λ t. exponent_character.0 ∷ t) e.whole) e.facts
-        | inr (inr (inr (inl sign))) ↦ absurd (false≢true (r.fresh_is (and_parts r.last_fresh _ sign.4).0).0)
-        | inr (inr (inr (inr prefix))) ↦ absurd (not_bare r prefix.4)
+        | inr (inr (inr (inl sign))) ↦ absurd (false≢true (sym (point_settles any) ∙ (r.fresh_is (and_parts (is_fresh r.last) _ sign.4).0).0))
+        | inr (inr (inr (inr prefix))) ↦ absurd (not_bare parts.Fraction (after_point any) text (point_bare any) (point_begins any) r prefix.4)
       ] where
-        facts : (r : Run m parts.Fraction stages.Free false false any text) → ends m (reading parts.Fraction r.last r.last_gap r.last_fresh any) ≡ true
+        counted : (r : Run m parts.Fraction (after_point any) false text) → may_end m parts.Fraction (has_digit r.last) r.last_gap ≡ true
+            → not (is_lone r.last) ≡ (any || is_present r.run)
+        counted r end = r.counts ∙ (λ j. digits_present m parts.Fraction r.run (fit_of parts.Fraction (after_point any) text (point_seen any) r end) j || point_counts any j)
+            ∙ or_swap (is_present r.run) any
+
+        facts : (r : Run m parts.Fraction (after_point any) false text) → ends m (reading parts.Fraction r.last r.last_gap) ≡ true
             → (exponent_character sign exponent suffix : List ℕ) → r.rest ≡ exponent_character ++ (sign ++ (exponent ++ suffix)) → TailFacts exponent_character sign exponent suffix → Body any led (p ∷ text)
         facts r end exponent_character sign exponent suffix whole tail =
-            let fits = and_parts (may_end m parts.Fraction (has_digit r.last) r.last_gap) _ (and_parts (is_signed m parts.Fraction r.last_fresh) _ end).1 in
+            let fits = and_parts (may_end m parts.Fraction (has_digit r.last) r.last_gap) _ (and_parts (is_signed m parts.Fraction r.last) _ end).1 in
             let digits = and_parts (implies (m.flag layout.required_fraction_digits) (has_digit r.last)) _ fits.1 in
-            let seen = any_of parts.Fraction stages.Free false any text refl r fits.0 in
+            let seen = any_of parts.Fraction (after_point any) text (point_seen any) r fits.0 in
             record {
               point = p ∷ [];
               fraction = r.run;
@@ -261,11 +291,11 @@ module _ (m : Notation) where
               facts = record {
                 point_one = point;
                 after_point = λ absent. absurd (false≢true absent);
-                run = fit_of parts.Fraction stages.Free false any text refl r fits.0;
+                run = fit_of parts.Fraction (after_point any) text (point_seen any) r fits.0;
                 some = or_true any;
                 integer = integer;
                 digits = subst (λ t. Met m layout.required_fraction_digits t) seen digits.0;
-                mantissa = subst (λ t. Met m layout.required_mantissa_digits (any || t)) seen digits.1;
+                mantissa = subst (λ t. Met m layout.required_mantissa_digits t) (counted r fits.0) digits.1;
                 scaled = always _ _ (or_true (is_absent exponent_character));
                 whole_led = always _ _ refl;
                 float_led = float;
@@ -273,19 +303,19 @@ module _ (m : Notation) where
               };
             }
 
-  record Number (stage : Stage) (fresh : Bool) (text : List ℕ) : Type 0 where
+  record Number (stage : Stage) (text : List ℕ) : Type 0 where
     run : List ℕ
     rest : List ℕ
     whole : text ≡ run ++ rest
     fit : is_rest m parts.Integer false false run ≡ true
-    signed : is_signed m parts.Integer fresh ≡ true
+    signed : is_signed m parts.Integer stage ≡ true
     body : Body (is_present run) (led_after (m.digit parts.Integer) stage run) rest
 
   -- What follows the sign and the prefix, or the sign or the prefix.
-  number_of : (stage : Stage) (fresh : Bool) (text : List ℕ) → has_digit stage ≡ false → (r : Run m parts.Integer stage false fresh false text)
-      → Number stage fresh text ⊎ (Taken m (reading parts.Integer r.last r.last_gap r.last_fresh false) roles.Sign r.rest
-      ⊎ Taken m (reading parts.Integer r.last r.last_gap r.last_fresh false) roles.Prefix r.rest)
-  number_of stage fresh text none r = elim r.follows [
+  number_of : (stage : Stage) (text : List ℕ) → has_digit stage ≡ false → (r : Run m parts.Integer stage false text)
+      → Number stage text ⊎ (Taken m (reading parts.Integer r.last r.last_gap) roles.Sign r.rest
+      ⊎ Taken m (reading parts.Integer r.last r.last_gap) roles.Prefix r.rest)
+  number_of stage text none r = elim r.follows [
     | inl done ↦
         let both = and_parts _ (may_stop m parts.Integer r.last) done.0 in
         let stop = and_parts (not (needs_exponent m)) _ both.1 in
@@ -321,7 +351,7 @@ module _ (m : Notation) where
         let may = and_parts (not (m.flag layout.no_exponent_notation)) _ both.1 in
         let float = and_parts (may_float m r.last) _ may.1 in
         let scale = and_parts (implies (m.flag layout.required_mantissa_digits) (has_digit r.last)) _ float.1 in
-        let e = power_of exponent_character.0 exponent_character.3 may.0 false exponent_character.1 exponent_character.5 in
+        let e = power_of exponent_character.0 exponent_character.3 may.0 exponent_character.1 exponent_character.5 in
         inl (number both.0 (record {
           point = [];
           fraction = [];
@@ -347,20 +377,20 @@ module _ (m : Notation) where
     | inr (inr (inr (inl sign))) ↦ inr (inl sign)
     | inr (inr (inr (inr prefix))) ↦ inr (inr prefix)
   ] where
-    digits : ends m (reading parts.Integer r.last r.last_gap r.last_fresh false) ≡ true → Met m layout.required_integer_digits (has_digit r.last)
-    digits end = (and_parts (may_end m parts.Integer (has_digit r.last) r.last_gap) _ (and_parts (is_signed m parts.Integer r.last_fresh) _ end).1).1
+    digits : ends m (reading parts.Integer r.last r.last_gap) ≡ true → Met m layout.required_integer_digits (has_digit r.last)
+    digits end = (and_parts (may_end m parts.Integer (has_digit r.last) r.last_gap) _ (and_parts (is_signed m parts.Integer r.last) _ end).1).1
 
-    number : ends m (reading parts.Integer r.last r.last_gap r.last_fresh false) ≡ true → Body (has_digit r.last) (is_led r.last) r.rest → Number stage fresh text
+    number : ends m (reading parts.Integer r.last r.last_gap) ≡ true → Body (has_digit r.last) (is_led r.last) r.rest → Number stage text
     number end body =
-        let both = and_parts (is_signed m parts.Integer r.last_fresh) _ end in
+        let both = and_parts (is_signed m parts.Integer r.last) _ end in
         let fits = and_parts (may_end m parts.Integer (has_digit r.last) r.last_gap) _ both.1 in
         record {
           run = r.run;
           rest = r.rest;
           whole = r.whole;
-          fit = fit_of parts.Integer stage fresh false text none r fits.0;
+          fit = fit_of parts.Integer stage text none r fits.0;
           signed = r.signed both.0;
-          body = subst (λ t. Body t (led_after (m.digit parts.Integer) stage r.run) r.rest) (any_of parts.Integer stage fresh false text none r fits.0)
+          body = subst (λ t. Body t (led_after (m.digit parts.Integer) stage r.run) r.rest) (any_of parts.Integer stage text none r fits.0)
               (subst (λ t. Body (has_digit r.last) t r.rest) r.led body);
         }
 
@@ -368,11 +398,11 @@ module _ (m : Notation) where
   as_run part run = run_from_start m part run
 
   -- The parts of a number, after its sign and its prefix.
-  build : (sign prefix : List ℕ) (stage : Stage) (fresh : Bool) (text all : List ℕ) → Number stage fresh text → all ≡ sign ++ (prefix ++ text)
+  build : (sign prefix : List ℕ) (stage : Stage) (text all : List ℕ) → Number stage text → all ≡ sign ++ (prefix ++ text)
       → is_none_or_one signs sign ≡ true → Met m layout.no_positive_mantissa_sign (not (is_plus sign)) → Met m layout.required_mantissa_sign (is_present sign)
       → is_none_or_prefix m.prefix prefix ≡ true
       → ((run : List ℕ) → led_after (m.digit parts.Integer) stage run ≡ (is_absent prefix && has_leading_zero (m.digit parts.Integer) run)) → (l : Literal) × Reads m l all
-  build sign prefix stage fresh text all n whole one plus signed dressed led =
+  build sign prefix stage text all n whole one plus signed dressed led =
       let b = n.body in
       let l : Literal = record {
         sign = sign;
@@ -426,75 +456,77 @@ module _ (m : Notation) where
         met l facts plus signed _ = λ _. refl
 
   -- The zero of a prefix has been read as a digit.
-  prefixed : (sign : List ℕ) (fresh : Bool) (text all : List ℕ) → (r : Run m parts.Integer stages.Empty false fresh false text)
-      → Taken m (reading parts.Integer r.last r.last_gap r.last_fresh false) roles.Prefix r.rest → all ≡ sign ++ text
+  prefixed : (sign : List ℕ) (stage : Stage) (text all : List ℕ) → is_bare stage ≡ false → (r : Run m parts.Integer stage false text)
+      → Taken m (reading parts.Integer r.last r.last_gap) roles.Prefix r.rest → all ≡ sign ++ text
       → is_none_or_one signs sign ≡ true → Met m layout.no_positive_mantissa_sign (not (is_plus sign))
-      → (is_signed m parts.Integer fresh ≡ true → Met m layout.required_mantissa_sign (is_present sign)) → (l : Literal) × Reads m l all
-  prefixed sign fresh text all r prefix whole one plus signed =
-      let zero : (r.run ≡ 48 ∷ []) × (stages.Empty ≡ stages.Empty) × (false ≡ false) =
-      elim (r.bare_is prefix.4) [ inl first ↦ absurd (false≢true first.0) | inr zero ↦ zero ] in
-      let r2 = run_of m parts.Integer false stages.Free false false prefix.1 prefix.5 in
-      elim (number_of stages.Free false prefix.1 refl r2) [
-        | inl n ↦ build sign (48 ∷ prefix.0 ∷ []) stages.Free false prefix.1 all n
-            (whole ∙ ap (λ t. sign ++ t) (r.whole ∙ (λ j. zero.0 j ++ prefix.2 j))) one plus (signed (r.signed (settled r.last_fresh zero.0 (λ is. (r.fresh_is is).1)))) prefix.3 (λ run. refl)
-        | inr (inl sign) ↦ absurd (false≢true (r2.fresh_is (and_parts r2.last_fresh _ sign.4).0).0)
-        | inr (inr again) ↦ absurd (not_bare r2 again.4)
+      → (is_signed m parts.Integer stage ≡ true → Met m layout.required_mantissa_sign (is_present sign)) → (l : Literal) × Reads m l all
+  prefixed sign stage text all other r prefix whole one plus signed =
+      let zero : (r.run ≡ 48 ∷ []) × (begins stage ≡ true) × (false ≡ false) =
+      elim (r.bare_is prefix.4) [ inl first ↦ absurd (false≢true (sym other ∙ first.0)) | inr zero ↦ zero ] in
+      let r2 = run_of m parts.Integer stages.Free false prefix.1 prefix.5 in
+      elim (number_of stages.Free prefix.1 refl r2) [
+        | inl n ↦ build sign (48 ∷ prefix.0 ∷ []) stages.Free prefix.1 all n
+            (whole ∙ ap (λ t. sign ++ t) (r.whole ∙ (λ j. zero.0 j ++ prefix.2 j))) one plus (signed (r.signed (unfresh r.last prefix.4))) prefix.3 (λ run. refl)
+        | inr (inl sign) ↦ absurd (false≢true (r2.fresh_is (and_parts (is_fresh r2.last) _ sign.4).0).0)
+        | inr (inr again) ↦ absurd (not_bare parts.Integer stages.Free prefix.1 refl refl r2 again.4)
       ] where
-        settled : (f : Bool) → r.run ≡ 48 ∷ [] → (f ≡ true → r.run ≡ []) → is_signed m parts.Integer f ≡ true
-        settled false some none = refl
-        settled true some none = let empty : r.run ≡ [] = none refl in cc
+        unfresh : (stage : Stage) → is_bare stage ≡ true → is_signed m parts.Integer stage ≡ true
+        unfresh stages.Bare bare = refl
+        unfresh stages.Start bare = absurd (false≢true bare)
+        unfresh _ bare = absurd (false≢true bare)
 
   -- What is accepted is a literal.
   pub literal_from : (text : List ℕ) → Accepts m (Some start) text → (l : Literal) × Reads m l text
   literal_from text is =
-      let r = run_of m parts.Integer false stages.Empty false true text is in
-      elim (number_of stages.Empty true text refl r) [
-        | inl n ↦ build [] [] stages.Empty true text text n refl refl (always _ _ refl) (never (m.flag layout.required_mantissa_sign) false n.signed) refl (λ run. refl)
+      let r = run_of m parts.Integer stages.Start false text is in
+      elim (number_of stages.Start text refl r) [
+        | inl n ↦ build [] [] stages.Start text text n refl refl (always _ _ refl) (never (m.flag layout.required_mantissa_sign) false n.signed) refl (λ run. refl)
         | inr (inl sign) ↦
-            let took = and_parts r.last_fresh _ sign.4 in
+            let took = and_parts (is_fresh r.last) _ sign.4 in
             let fresh = r.fresh_is took.0 in
             let whole : text ≡ (sign.0 ∷ []) ++ sign.1 = r.whole ∙ ap (λ t. t ++ r.rest) fresh.1 ∙ sign.2 in
-            let r1 = run_of m parts.Integer false stages.Empty false false sign.1 (subst (λ o. Accepts m (Some (reading parts.Integer o false false false)) sign.1) fresh.2
-            (subst (λ g. Accepts m (Some (reading parts.Integer r.last g false false)) sign.1) fresh.3 sign.5)) in
-            elim (number_of stages.Empty false sign.1 refl r1) [
-              | inl n ↦ build (sign.0 ∷ []) [] stages.Empty false sign.1 text n whole sign.3 took.1 (always _ _ refl) refl (λ run. refl)
-              | inr (inl again) ↦ absurd (false≢true (r1.fresh_is (and_parts r1.last_fresh _ again.4).0).0)
-              | inr (inr prefix) ↦ prefixed (sign.0 ∷ []) false sign.1 text r1 prefix whole sign.3 took.1 (λ _. always _ _ refl)
+            let r1 = run_of m parts.Integer stages.Empty false sign.1 (subst (λ o. Accepts m (Some (reading parts.Integer (after_sign o) false)) sign.1) fresh.2
+            (subst (λ g. Accepts m (Some (reading parts.Integer (after_sign r.last) g)) sign.1) fresh.3 sign.5)) in
+            elim (number_of stages.Empty sign.1 refl r1) [
+              | inl n ↦ build (sign.0 ∷ []) [] stages.Empty sign.1 text n whole sign.3 took.1 (always _ _ refl) refl (λ run. refl)
+              | inr (inl again) ↦ absurd (false≢true (r1.fresh_is (and_parts (is_fresh r1.last) _ again.4).0).0)
+              | inr (inr prefix) ↦ prefixed (sign.0 ∷ []) stages.Empty sign.1 text refl r1 prefix whole sign.3 took.1 (λ _. always _ _ refl)
             ]
-        | inr (inr prefix) ↦ prefixed [] true text text r prefix refl refl (always _ _ refl) (λ signed. never (m.flag layout.required_mantissa_sign) false signed)
+        | inr (inr prefix) ↦ prefixed [] stages.Start text text refl r prefix refl refl (always _ _ refl) (λ signed. never (m.flag layout.required_mantissa_sign) false signed)
       ]
 
   -- A LITERAL IS ACCEPTED
 
   module _ (h : HasRoles m) where
-    no_lead : (b : Bool) → false ≡ true → may_lead m ≡ true
-    no_lead b is = absurd (false≢true is)
+    seen_any : (part : Part) (stage : Stage) (run : List ℕ) (digit : Bool) → has_digit stage ≡ false → is_rest m part false false run ≡ true
+        → digit ≡ (list_any (m.digit part) run || has_digit stage) → digit ≡ is_present run
+    seen_any part stage run digit none fit seen = seen ∙ ap (λ t. list_any (m.digit part) run || t) none ∙ or_false (list_any (m.digit part) run)
+        ∙ digits_present m part run fit
 
-    seen_any : (part : Part) (run : List ℕ) (digit : Bool) → is_rest m part false false run ≡ true → digit ≡ (list_any (m.digit part) run || false)
-        → digit ≡ is_present run
-    seen_any part run digit fit seen = seen ∙ or_false (list_any (m.digit part) run) ∙ digits_present m part run fit
-
-    exponent_arrives : (fresh integer : Bool) (exponent suffix : List ℕ) (c : Cuts) → is_signed m parts.Exponent fresh ≡ true
+    exponent_arrives : (stage : Stage) (exponent suffix : List ℕ) (c : Cuts) → has_digit stage ≡ false → led_after (m.digit parts.Exponent) stage exponent ≡ false
+        → is_signed m parts.Exponent stage ≡ true
         → is_rest m parts.Exponent false false exponent ≡ true → Met m layout.required_exponent_digits (is_present exponent)
         → is_none_or_one m.suffix suffix ≡ true
-        → Arrives m (Some (reading parts.Exponent stages.Free false fresh integer)) c (exponent ++ suffix) (record c { exponent = plus exponent c.exponent })
-    exponent_arrives fresh integer exponent suffix c signed run digits one =
+        → Arrives m (Some (reading parts.Exponent stage false)) c (exponent ++ suffix) (record c { exponent = plus exponent c.exponent })
+    exponent_arrives stage exponent suffix c none unled signed run digits one =
         let d : Cuts = record c { exponent = plus exponent c.exponent } in
-        run_arrives m parts.Exponent integer stages.Free false fresh exponent suffix c d signed run (no_lead true)
-        (λ last gap fresh seen led end signed. stop_arrives m h (reading parts.Exponent last gap fresh integer) d suffix refl
-        (and_from _ true (and_from _ _ signed (and_from _ _ end (subst (λ t. Met m layout.required_exponent_digits t) (sym (seen_any parts.Exponent exponent (has_digit last) run seen)) digits))) refl) one)
+        run_arrives m parts.Exponent stage false exponent suffix c d signed (subst (λ t. is_rest m parts.Exponent t false exponent ≡ true) (sym none) run)
+        (λ led. absurd (false≢true (sym unled ∙ led)))
+        (λ last gap seen led counts end signed. stop_arrives m h (reading parts.Exponent last gap) d suffix refl
+        (and_from _ true (and_from _ _ signed (and_from _ _ end (subst (λ t. Met m layout.required_exponent_digits t)
+        (sym (seen_any parts.Exponent stage exponent (has_digit last) none run seen)) digits))) refl) one)
 
-    power_arrives : (b : ℕ) (integer : Bool) (sign exponent suffix : List ℕ) (c : Cuts) → TailFacts (b ∷ []) sign exponent suffix
-        → Arrives m (Some (reading parts.Exponent stages.Free false true integer)) c (sign ++ (exponent ++ suffix))
+    power_arrives : (b : ℕ) (sign exponent suffix : List ℕ) (c : Cuts) → TailFacts (b ∷ []) sign exponent suffix
+        → Arrives m (Some (reading parts.Exponent stages.Mark false)) c (sign ++ (exponent ++ suffix))
         (record c { exponent_sign = plus sign c.exponent_sign; exponent = plus exponent c.exponent })
-    power_arrives b integer [] exponent suffix c facts =
-        exponent_arrives true integer exponent suffix c (not_set (m.flag layout.required_exponent_sign) facts.signed) facts.run facts.digits facts.suffix_one
-    power_arrives b integer (s ∷ []) exponent suffix c facts =
+    power_arrives b [] exponent suffix c facts =
+        exponent_arrives stages.Mark exponent suffix c refl refl (not_set (m.flag layout.required_exponent_sign) facts.signed) facts.run facts.digits facts.suffix_one
+    power_arrives b (s ∷ []) exponent suffix c facts =
         let more : Cuts = record c { exponent_sign = c.exponent_sign + 1 } in
-        arrives_byte m (reading parts.Exponent stages.Free false true integer) s roles.Sign c (exponent ++ suffix) (record more { exponent = plus exponent c.exponent }) refl
+        arrives_byte m (reading parts.Exponent stages.Mark false) s roles.Sign c (exponent ++ suffix) (record more { exponent = plus exponent c.exponent }) refl
         (is_role m h parts.Exponent roles.Sign s (λ e. cc) (λ e. cc) facts.sign_one) facts.plus_sign
-        (exponent_arrives false integer exponent suffix more refl facts.run facts.digits facts.suffix_one)
-    power_arrives b integer (s ∷ x ∷ sign) exponent suffix c facts = absurd (false≢true facts.sign_one)
+        (exponent_arrives stages.Free exponent suffix more refl refl refl facts.run facts.digits facts.suffix_one)
+    power_arrives b (s ∷ x ∷ sign) exponent suffix c facts = absurd (false≢true facts.sign_one)
 
     -- What follows the mantissa.
     tail_arrives : (s : Summary) (exponent_character sign exponent suffix : List ℕ) (c : Cuts) → s.ended ≡ false → TailFacts exponent_character sign exponent suffix → ends m s ≡ true
@@ -510,13 +542,13 @@ module _ (m : Notation) where
         let more : Cuts = record c { exponent_character = c.exponent_character + 1 } in
         arrives_byte m s b roles.Exponent c (sign ++ (exponent ++ suffix)) (record more { exponent_sign = plus sign c.exponent_sign; exponent = plus exponent c.exponent }) going
         (is_role m h s.part roles.Exponent b (λ e. cc) (λ e. cc) facts.mark_one) (and_from _ _ end (scale refl))
-        (subst (λ e. Arrives m (Some (record (reading parts.Exponent stages.Free false true s.integer) { ended = e })) more (sign ++ (exponent ++ suffix))
+        (subst (λ e. Arrives m (Some (record (reading parts.Exponent stages.Mark false) { ended = e })) more (sign ++ (exponent ++ suffix))
         (record more { exponent_sign = plus sign c.exponent_sign; exponent = plus exponent c.exponent })) (sym going)
-        (power_arrives b s.integer sign exponent suffix more facts))
+        (power_arrives b sign exponent suffix more facts))
     tail_arrives s (b ∷ x ∷ exponent_character) sign exponent suffix c going facts end stop scale = absurd (false≢true facts.mark_one)
 
     fraction_arrives : (any led : Bool) (p : ℕ) (fraction exponent_character sign exponent suffix : List ℕ) (c : Cuts) → EndFacts any led (p ∷ []) fraction exponent_character sign exponent suffix
-        → Arrives m (Some (reading parts.Fraction stages.Free false false any)) c (fraction ++ (exponent_character ++ (sign ++ (exponent ++ suffix)))) (record c {
+        → Arrives m (Some (reading parts.Fraction (after_point any) false)) c (fraction ++ (exponent_character ++ (sign ++ (exponent ++ suffix)))) (record c {
           fraction = plus fraction c.fraction;
           exponent_character = plus exponent_character c.exponent_character;
           exponent_sign = plus sign c.exponent_sign;
@@ -524,13 +556,27 @@ module _ (m : Notation) where
         })
     fraction_arrives any led p fraction exponent_character sign exponent suffix c facts =
         let counted : Cuts = record c { fraction = plus fraction c.fraction } in
-        run_arrives m parts.Fraction any stages.Free false false fraction (exponent_character ++ (sign ++ (exponent ++ suffix))) c
-        (record counted { exponent_character = plus exponent_character c.exponent_character; exponent_sign = plus sign c.exponent_sign; exponent = plus exponent c.exponent }) refl facts.run (no_lead true)
-        (λ last gap fresh seen led end signed. tail_arrives (reading parts.Fraction last gap fresh any) exponent_character sign exponent suffix counted refl facts.tail
+        run_arrives m parts.Fraction (after_point any) false fraction (exponent_character ++ (sign ++ (exponent ++ suffix))) c
+        (record counted { exponent_character = plus exponent_character c.exponent_character; exponent_sign = plus sign c.exponent_sign; exponent = plus exponent c.exponent })
+        (point_signed any) (subst (λ t. is_rest m parts.Fraction t false fraction ≡ true) (sym (point_seen any)) facts.run)
+        (λ led. absurd (false≢true (sym (point_led any) ∙ led)))
+        (λ last gap seen led counts end signed. tail_arrives (reading parts.Fraction last gap) exponent_character sign exponent suffix counted refl facts.tail
         (and_from _ _ signed (and_from _ _ end (and_from _ _
-        (subst (λ t. Met m layout.required_fraction_digits t) (sym (seen_any parts.Fraction fraction (has_digit last) facts.run seen)) facts.digits)
-        (subst (λ t. Met m layout.required_mantissa_digits (any || t)) (sym (seen_any parts.Fraction fraction (has_digit last) facts.run seen)) facts.mantissa))))
+        (subst (λ t. Met m layout.required_fraction_digits t) (sym (seen_any parts.Fraction (after_point any) fraction (has_digit last) (point_seen any) facts.run seen)) facts.digits)
+        (subst (λ t. Met m layout.required_mantissa_digits t) (sym (counted_any last counts)) facts.mantissa))))
         (stop_by exponent_character facts.tail) (scale_by exponent_character facts.tail)) where
+          counted_any : (last : Stage) → not (is_lone last) ≡ (list_any (m.digit parts.Fraction) fraction || not (is_lone (after_point any)))
+              → not (is_lone last) ≡ (any || is_present fraction)
+          counted_any last counts = counts ∙ (λ j. digits_present m parts.Fraction fraction facts.run j || point_counts any j) ∙ or_swap (is_present fraction) any
+
+          point_signed : (any : Bool) → is_signed m parts.Fraction (after_point any) ≡ true
+          point_signed true = refl
+          point_signed false = refl
+
+          point_led : (any : Bool) → led_after (m.digit parts.Fraction) (after_point any) fraction ≡ false
+          point_led true = refl
+          point_led false = refl
+
           stop_by : (exponent_character : List ℕ) → TailFacts exponent_character sign exponent suffix → is_absent exponent_character ≡ true → not (needs_exponent m) ≡ true
           stop_by [] facts absent = not_set (needs_exponent m) facts.needs_mark
           stop_by (b ∷ exponent_character) facts absent = absurd (false≢true absent)
@@ -540,23 +586,23 @@ module _ (m : Notation) where
           scale_by (b ∷ exponent_character) facts present = not_set (m.flag layout.no_exponent_notation) facts.no_mark
 
     -- What follows the digits of an integer.
-    end_arrives : (last : Stage) (gap fresh : Bool) (point fraction exponent_character sign exponent suffix : List ℕ) (c : Cuts)
-        → EndFacts (has_digit last) (is_led last) point fraction exponent_character sign exponent suffix → ends m (reading parts.Integer last gap fresh false) ≡ true
-        → Arrives m (Some (reading parts.Integer last gap fresh false)) c (point ++ (fraction ++ (exponent_character ++ (sign ++ (exponent ++ suffix))))) (record c {
+    end_arrives : (last : Stage) (gap : Bool) (point fraction exponent_character sign exponent suffix : List ℕ) (c : Cuts)
+        → EndFacts (has_digit last) (is_led last) point fraction exponent_character sign exponent suffix → ends m (reading parts.Integer last gap) ≡ true
+        → Arrives m (Some (reading parts.Integer last gap)) c (point ++ (fraction ++ (exponent_character ++ (sign ++ (exponent ++ suffix))))) (record c {
           point = plus point c.point;
           fraction = plus fraction c.fraction;
           exponent_character = plus exponent_character c.exponent_character;
           exponent_sign = plus sign c.exponent_sign;
           exponent = plus exponent c.exponent;
         })
-    end_arrives last gap fresh [] fraction exponent_character sign exponent suffix c facts end =
-        subst (λ t. Arrives m (Some (reading parts.Integer last gap fresh false)) c (t ++ (exponent_character ++ (sign ++ (exponent ++ suffix)))) (record c {
+    end_arrives last gap [] fraction exponent_character sign exponent suffix c facts end =
+        subst (λ t. Arrives m (Some (reading parts.Integer last gap)) c (t ++ (exponent_character ++ (sign ++ (exponent ++ suffix)))) (record c {
           fraction = plus t c.fraction;
           exponent_character = plus exponent_character c.exponent_character;
           exponent_sign = plus sign c.exponent_sign;
           exponent = plus exponent c.exponent;
         })) (sym (facts.after_point refl))
-        (tail_arrives (reading parts.Integer last gap fresh false) exponent_character sign exponent suffix c refl facts.tail end (stop_by exponent_character facts) (scale_by exponent_character facts)) where
+        (tail_arrives (reading parts.Integer last gap) exponent_character sign exponent suffix c refl facts.tail end (stop_by exponent_character facts) (scale_by exponent_character facts)) where
           bare : (f a d : Bool) → d ≡ false → implies f (a || d) ≡ true → implies f a ≡ true
           bare f a d none is = grind arith
 
@@ -575,16 +621,16 @@ module _ (m : Notation) where
           scale_by (b ∷ exponent_character) facts present = and_from _ _ (not_set (m.flag layout.no_exponent_notation) facts.tail.no_mark) (and_from _ _ facts.float_led
               (and_from _ _ (bare (m.flag layout.required_mantissa_digits) (has_digit last) _ (none_of (facts.after_point refl)) facts.mantissa)
               (not_set (m.flag layout.no_exponent_without_fraction) facts.scaled)))
-    end_arrives last gap fresh (p ∷ []) fraction exponent_character sign exponent suffix c facts end =
+    end_arrives last gap (p ∷ []) fraction exponent_character sign exponent suffix c facts end =
         let more : Cuts = record c { point = c.point + 1 } in
-        arrives_byte m (reading parts.Integer last gap fresh false) p roles.Point c (fraction ++ (exponent_character ++ (sign ++ (exponent ++ suffix)))) (record more {
+        arrives_byte m (reading parts.Integer last gap) p roles.Point c (fraction ++ (exponent_character ++ (sign ++ (exponent ++ suffix)))) (record more {
           fraction = plus fraction c.fraction;
           exponent_character = plus exponent_character c.exponent_character;
           exponent_sign = plus sign c.exponent_sign;
           exponent = plus exponent c.exponent;
         }) refl (is_role m h parts.Integer roles.Point p (λ e. cc) (λ e. cc) facts.point_one) (and_from _ _ end facts.float_led)
         (fraction_arrives (has_digit last) (is_led last) p fraction exponent_character sign exponent suffix more facts)
-    end_arrives last gap fresh (p ∷ x ∷ point) fraction exponent_character sign exponent suffix c facts end = absurd (false≢true facts.point_one)
+    end_arrives last gap (p ∷ x ∷ point) fraction exponent_character sign exponent suffix c facts end = absurd (false≢true facts.point_one)
 
     module _ (l : Literal) (is : IsLiteral m l) where
       abbrev rest : List ℕ
@@ -638,52 +684,72 @@ module _ (m : Notation) where
         neither (p ∷ []) _ point character = absurd (false≢true (sym (h.integers only p).0 ∙ point))
         neither (p ∷ x ∷ more) _ point character = absurd (false≢true point)
 
-      integer_arrives : (stage : Stage) (fresh : Bool) (c : Cuts) → has_digit stage ≡ false
+      integer_arrives : (stage : Stage) (c : Cuts) → has_digit stage ≡ false
           → led_after (m.digit parts.Integer) stage l.integer ≡ (is_absent l.prefix && has_leading_zero (m.digit parts.Integer) l.integer)
-          → is_signed m parts.Integer fresh ≡ true → Arrives m (Some (reading parts.Integer stage false fresh false)) c (l.integer ++ rest) (lengths l c)
-      integer_arrives stage fresh c none same signed =
-          run_arrives m parts.Integer false stage false fresh l.integer rest c (lengths l c) signed
+          → is_signed m parts.Integer stage ≡ true → Arrives m (Some (reading parts.Integer stage false)) c (l.integer ++ rest) (lengths l c)
+      integer_arrives stage c none same signed =
+          run_arrives m parts.Integer stage false l.integer rest c (lengths l c) signed
           (subst (λ t. is_rest m parts.Integer t false l.integer ≡ true) (sym none) (as_run parts.Integer l.integer ∙ is.integer))
           (λ led. lead _ (is_present l.point || is_present l.exponent_character) (is_present l.exponent_character) (m.flag layout.no_integer_leading_zeros)
           (m.flag layout.no_float_leading_zeros) (m.flag layout.required_exponent_notation) m.integers_only facts.whole_led facts.float_led facts.tail.needs_mark
           no_float (or_right (is_present l.point) (is_present l.exponent_character)) (sym same ∙ led))
-          (λ last gap fresh seen led end signed.
+          (λ last gap seen led counts end signed.
           let any : is_present l.integer ≡ has_digit last =
-          sym (seen_any parts.Integer l.integer (has_digit last) (as_run parts.Integer l.integer ∙ is.integer)
-          (seen ∙ ap (λ t. list_any (m.digit parts.Integer) l.integer || t) none)) in
+          sym (seen_any parts.Integer stage l.integer (has_digit last) none (as_run parts.Integer l.integer ∙ is.integer) seen) in
           let moved = subst (λ t. EndFacts t (is_led last) l.point l.fraction l.exponent_character l.exponent_sign l.exponent l.suffix) any
           (subst (λ t. EndFacts (is_present l.integer) t l.point l.fraction l.exponent_character l.exponent_sign l.exponent l.suffix) (sym (led ∙ same)) facts) in
-          end_arrives last gap fresh l.point l.fraction l.exponent_character l.exponent_sign l.exponent l.suffix (record c { integer = plus l.integer c.integer }) moved
+          end_arrives last gap l.point l.fraction l.exponent_character l.exponent_sign l.exponent l.suffix (record c { integer = plus l.integer c.integer }) moved
           (and_from _ _ signed (and_from _ _ end moved.integer)))
 
       -- A zero, and the end of a prefix, before the integer digits.
-      prefix_arrives : (fresh : Bool) → is_signed m parts.Integer fresh ≡ true → (prefix : List ℕ) → l.prefix ≡ prefix → is_none_or_prefix m.prefix prefix ≡ true → (c : Cuts)
-          → Arrives m (Some (reading parts.Integer stages.Empty false fresh false)) c (prefix ++ (l.integer ++ rest))
+      -- Before the first digit.
+      new_seen : (stage : Stage) → begins stage ≡ true → has_digit stage ≡ false
+      new_seen stages.Start new = refl
+      new_seen stages.Empty new = refl
+      new_seen _ new = absurd (false≢true new)
+
+      new_led : (stage : Stage) → begins stage ≡ true → led_after (m.digit parts.Integer) stage l.integer ≡ has_leading_zero (m.digit parts.Integer) l.integer
+      new_led stages.Start new = refl
+      new_led stages.Empty new = refl
+      new_led _ new = absurd (false≢true new)
+
+      new_follows : (stage : Stage) → begins stage ≡ true → (takes_digit m parts.Integer (has_digit stage) false && may_follow m stage) ≡ true
+      new_follows stages.Start new = refl
+      new_follows stages.Empty new = refl
+      new_follows _ new = absurd (false≢true new)
+
+      new_bare : (stage : Stage) → begins stage ≡ true → after_digit stage false true ≡ stages.Bare
+      new_bare stages.Start new = refl
+      new_bare stages.Empty new = refl
+      new_bare _ new = absurd (false≢true new)
+
+      prefix_arrives : (stage : Stage) → begins stage ≡ true → is_signed m parts.Integer stage ≡ true → (prefix : List ℕ) → l.prefix ≡ prefix → is_none_or_prefix m.prefix prefix ≡ true → (c : Cuts)
+          → Arrives m (Some (reading parts.Integer stage false)) c (prefix ++ (l.integer ++ rest))
           (lengths l (record c { prefix = plus (is_tail prefix) c.prefix; integer = plus (is_tail prefix) c.integer }))
-      prefix_arrives fresh signed [] same one c = integer_arrives stages.Empty fresh c refl
-          (ap (λ t. is_absent t && has_leading_zero (m.digit parts.Integer) l.integer) (sym same)) signed
-      prefix_arrives fresh signed (z ∷ []) same one c = absurd (false≢true one)
-      prefix_arrives fresh signed (z ∷ b ∷ []) same one c =
+      prefix_arrives stage new signed [] same one c = integer_arrives stage c (new_seen stage new)
+          (new_led stage new ∙ ap (λ t. is_absent t && has_leading_zero (m.digit parts.Integer) l.integer) (sym same)) signed
+      prefix_arrives stage new signed (z ∷ []) same one c = absurd (false≢true one)
+      prefix_arrives stage new signed (z ∷ b ∷ []) same one c =
           let both = and_parts (z == 48) _ one in
           let zero : Cuts = record c { integer = c.integer + 1 } in
           let more : Cuts = record zero { prefix = c.prefix + 1 } in
-          subst (λ z. Arrives m (Some (reading parts.Integer stages.Empty false fresh false)) c (z ∷ b ∷ (l.integer ++ rest)) (lengths l more)) (sym (eqb-true z 48 both.0))
-          (arrives_byte m (reading parts.Integer stages.Empty false fresh false) 48 roles.Digit c (b ∷ (l.integer ++ rest)) (lengths l more) refl
-          (digit_role m parts.Integer 48 (h.zero_is_digit parts.Integer)) (and_from _ true signed refl)
-          (arrives_byte m (reading parts.Integer stages.Bare false false false) b roles.Prefix zero (l.integer ++ rest) (lengths l more) refl
+          subst (λ z. Arrives m (Some (reading parts.Integer stage false)) c (z ∷ b ∷ (l.integer ++ rest)) (lengths l more)) (sym (eqb-true z 48 both.0))
+          (arrives_byte m (reading parts.Integer stage false) 48 roles.Digit c (b ∷ (l.integer ++ rest)) (lengths l more) refl
+          (digit_role m parts.Integer 48 (h.zero_is_digit parts.Integer)) (and_from _ _ signed (new_follows stage new))
+          (subst (λ s. Arrives m (Some (reading parts.Integer s false)) zero (b ∷ (l.integer ++ rest)) (lengths l more)) (sym (new_bare stage new)) (arrives_byte m (reading parts.Integer stages.Bare false) b roles.Prefix zero (l.integer ++ rest) (lengths l more) refl
           (is_role m h parts.Integer roles.Prefix b (λ e. cc) (λ e. cc) both.1) refl
-          (integer_arrives stages.Free false more refl (ap (λ t. is_absent t && has_leading_zero (m.digit parts.Integer) l.integer) (sym same)) refl)))
-      prefix_arrives fresh signed (z ∷ b ∷ x ∷ prefix) same one c = absurd (false≢true one)
+          (integer_arrives stages.Free more refl (ap (λ t. is_absent t && has_leading_zero (m.digit parts.Integer) l.integer) (sym same)) refl))))
+      prefix_arrives stage new signed (z ∷ b ∷ x ∷ prefix) same one c = absurd (false≢true one)
 
       sign_arrives : (sign : List ℕ) → is_none_or_one signs sign ≡ true → Met m layout.no_positive_mantissa_sign (not (is_plus sign))
           → Met m layout.required_mantissa_sign (is_present sign) → Arrives m (Some start) no_cuts (sign ++ (l.prefix ++ (l.integer ++ rest)))
           (lengths l (record no_cuts { sign = plus sign 0; prefix = plus (is_tail l.prefix) 0; integer = plus (is_tail l.prefix) 0 }))
-      sign_arrives [] one no_plus signed = prefix_arrives true (not_set (m.flag layout.required_mantissa_sign) signed) l.prefix refl is.prefix no_cuts
+      sign_arrives [] one no_plus signed = prefix_arrives stages.Start refl (not_set (m.flag layout.required_mantissa_sign) signed) l.prefix refl is.prefix no_cuts
       sign_arrives (b ∷ []) one no_plus signed =
           let more : Cuts = record no_cuts { sign = 0 + 1 } in
           arrives_byte m start b roles.Sign no_cuts (l.prefix ++ (l.integer ++ rest))
           (lengths l (record more { prefix = plus (is_tail l.prefix) 0; integer = plus (is_tail l.prefix) 0 })) refl
-          (is_role m h parts.Integer roles.Sign b (λ e. cc) (λ e. cc) one) no_plus (prefix_arrives false refl l.prefix refl is.prefix more)
+          (is_role m h parts.Integer roles.Sign b (λ e. cc) (λ e. cc) one) no_plus (prefix_arrives stages.Empty refl refl l.prefix refl is.prefix more)
       sign_arrives (b ∷ x ∷ sign) one no_plus signed = absurd (false≢true one)
 
       -- A literal is accepted, and its parts are counted.

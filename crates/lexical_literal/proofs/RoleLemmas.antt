@@ -160,6 +160,7 @@ module _ (law : (A B : ByteSet) → Disjoint A B ↔ ((byte : ℕ) → byte < 25
       has_roles = record {
         one = λ a b byte in_a in_b. one_of a b byte (own a byte in_a) (own b byte in_b);
         zero_is_digit = zero_is_digit word lawful;
+        one_mantissa = λ byte. refl;
         integers = integers g.options;
       } where
         integers : (o : Option Options) → lacks_options o ≡ true → (byte : ℕ)

@@ -1,5 +1,5 @@
 -- How a text is read, byte by byte.
-use Rattle.std.proofs.Common.{ℕ, ◌≡◌, Bool, true, false, not, IsTrue, ◌&&◌, ◌||◌, ◌+◌, if◌then◌else◌, List, [], ◌∷◌, ◌++◌, Option, Some, None, refl, sym, ap, subst, ◌∙◌, arith}
+use Rattle.std.proofs.Common.{ℕ, ◌≡◌, Bool, true, false, not, IsTrue, ◌==◌, ◌&&◌, ◌||◌, ◌+◌, if◌then◌else◌, List, [], ◌∷◌, ◌++◌, Option, Some, None, refl, sym, ap, subst, ◌∙◌, arith}
 use Rattle.std.proofs.lemmas.Bool.{false≢true, false_from_ne_true, or_left, or_right}
 use Rattle.lexical_util.specs.Layout as layout
 use Rattle.lexical_util.specs.Roles.{signs}
@@ -12,10 +12,11 @@ use Rattle.lexical_literal.specs.Additions.Summary.{role_in, takes, after, move,
 use Rattle.lexical_literal.specs.declared.steps.Cuts.{Cuts}
 use Rattle.lexical_literal.specs.declared.steps.Summary.{Summary}
 
--- `HasRoles m` holds if no byte plays two roles, 0 is a digit, and integers have neither a decimal point nor an exponent.
+-- `HasRoles m` holds if no byte plays two roles, 0 is a digit, the mantissa has one radix, and integers have neither a decimal point nor an exponent.
 pub record HasRoles (m : Notation) : Type 0 where
   pub one : (a b : Role) (byte : ℕ) → IsTrue (role_set m a byte) → IsTrue (role_set m b byte) → a ≡ b
   pub zero_is_digit : (part : Part) → m.digit part 48 ≡ true
+  pub one_mantissa : (byte : ℕ) → m.digit parts.Fraction byte ≡ m.digit parts.Integer byte
   pub integers : m.integers_only ≡ true → (byte : ℕ) → (m.point byte ≡ false) × (m.exponent_character byte ≡ false)
 
 -- `IsReady m` holds if `m` is the notation of a syntax.
@@ -40,7 +41,7 @@ plus [] n = n
 plus (b ∷ bytes) n = plus bytes (n + 1)
 
 -- The tests of `role_in`, in order.
-abbrev tests : Bool → Bool → Bool → Bool → Bool → Bool → Bool → Option Role
+abbrev pub tests : Bool → Bool → Bool → Bool → Bool → Bool → Bool → Option Role
 tests digit separator point exponent suffix sign prefix =
     if digit then Some roles.Digit
     else (if separator then Some roles.Separator
@@ -72,25 +73,25 @@ module _ (m : Notation) where
   none_accepts text is = false≢true (sym (ap (is_accepted m) (scan_none text)) ∙ is)
 
   -- A byte that is accepted was taken.
-  pub kept : (s : Summary) (b : ℕ) (r : Role) (text : List ℕ) → Accepts m (move m s b (Some r)) text
-      → (not s.ended ≡ true) × (takes m s b r ≡ true) × Accepts m (Some (after s b r)) text
-  kept s b r text is = go (not s.ended) (takes m s b r) is where
-    go : (x y : Bool) → Accepts m (if x && y then Some (after s b r) else None) text → (x ≡ true) × (y ≡ true) × Accepts m (Some (after s b r)) text
+  pub kept : (s : Summary) (b : ℕ) (r : Role) (text : List ℕ) → Accepts m (move m s (b == 43) (b == 48) (Some r)) text
+      → (not s.ended ≡ true) × (takes m s (b == 43) r ≡ true) × Accepts m (Some (after s (b == 48) r)) text
+  kept s b r text is = go (not s.ended) (takes m s (b == 43) r) is where
+    go : (x y : Bool) → Accepts m (if x && y then Some (after s (b == 48) r) else None) text → (x ≡ true) × (y ≡ true) × Accepts m (Some (after s (b == 48) r)) text
     go true true is = (refl, refl, is)
     go true false is = absurd (none_accepts text is)
     go false y is = absurd (none_accepts text is)
 
-  taken : (s : Summary) (b : ℕ) (r : Role) → s.ended ≡ false → takes m s b r ≡ true → move m s b (Some r) ≡ Some (after s b r)
-  taken s b r open_is is = λ j. if not (open_is j) && is j then Some (after s b r) else None
+  taken : (s : Summary) (b : ℕ) (r : Role) → s.ended ≡ false → takes m s (b == 43) r ≡ true → move m s (b == 43) (b == 48) (Some r) ≡ Some (after s (b == 48) r)
+  taken s b r open_is is = λ j. if not (open_is j) && is j then Some (after s (b == 48) r) else None
 
-  pub accepts_byte : (s : Summary) (b : ℕ) (r : Role) (text : List ℕ) → s.ended ≡ false → role_in m s.part b ≡ Some r → takes m s b r ≡ true
-      → Accepts m (Some (after s b r)) text → Accepts m (Some s) (b ∷ text)
-  accepts_byte s b r text open_is role is more = subst (λ o. Accepts m o text) (sym (ap (move m s b) role ∙ taken s b r open_is is)) more
+  pub accepts_byte : (s : Summary) (b : ℕ) (r : Role) (text : List ℕ) → s.ended ≡ false → role_in m s.part b ≡ Some r → takes m s (b == 43) r ≡ true
+      → Accepts m (Some (after s (b == 48) r)) text → Accepts m (Some s) (b ∷ text)
+  accepts_byte s b r text open_is role is more = subst (λ o. Accepts m o text) (sym (ap (move m s (b == 43) (b == 48)) role ∙ taken s b r open_is is)) more
 
   pub arrives_byte : (s : Summary) (b : ℕ) (r : Role) (c : Cuts) (text : List ℕ) (d : Cuts) → s.ended ≡ false → role_in m s.part b ≡ Some r
-      → takes m s b r ≡ true → Arrives m (Some (after s b r)) (count s.part (Some r) c) text d → Arrives m (Some s) c (b ∷ text) d
+      → takes m s (b == 43) r ≡ true → Arrives m (Some (after s (b == 48) r)) (count s.part (Some r) c) text d → Arrives m (Some s) c (b ∷ text) d
   arrives_byte s b r c text d open_is role is more =
-      subst (λ r. Arrives m (move m s b r) (count s.part r c) text d) (sym role)
+      subst (λ r. Arrives m (move m s (b == 43) (b == 48) r) (count s.part r c) text d) (sym role)
       (subst (λ o. Arrives m o (count s.part (Some r) c) text d) (sym (taken s b r open_is is)) more)
 
   -- What a role says of a byte.

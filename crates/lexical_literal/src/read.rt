@@ -9,7 +9,7 @@ ghost use Rattle.lexical_literal.specs.Notation.{notation_of};
 ghost use Rattle.lexical_literal.specs.Parts.{literal_of};
 ghost use Rattle.lexical_literal.specs.Syntax.{IsSyntax};
 
-use crate::steps::{Cuts, NO_CUTS, Progress, START, is_complete, step};
+use crate::steps::{Cuts, NO_CUTS, START, class_of, is_complete, step};
 use crate::syntax::{Grammar, Syntax};
 use lexical_util::laws::flags::role_facts;
 
@@ -174,15 +174,13 @@ fn scan(grammar: Grammar, text: &[u8]) -> Scanned
     ensures longest { IsLongest (notation_of grammar) text.now result.end result.cuts result.is_found }
 {
     role_facts();
-    let mut read = Progress {
-        summary: START,
-        cuts: NO_CUTS,
-    };
+    let mut read = START;
+    let mut counts = NO_CUTS;
     let mut is_found = false;
     let mut end = 0;
     let mut cuts = NO_CUTS;
     for (index, byte) in text.iter().enumerate() {
-        let Some(next) = step(grammar, read, *byte) else {
+        let Some(next) = step(grammar, read, class_of(grammar, *byte)) else {
             return Scanned {
                 valid_up_to: index,
                 is_found,
@@ -190,11 +188,12 @@ fn scan(grammar: Grammar, text: &[u8]) -> Scanned
                 cuts,
             };
         };
-        read = next;
+        read = next.summary;
+        counts = counts.add(next.piece);
         if is_complete(grammar, next.summary) {
             is_found = true;
             end = index + 1;
-            cuts = next.cuts;
+            cuts = counts;
         }
     }
     Scanned {

@@ -1,40 +1,54 @@
-//! The steps of a reader: what has been read of a number, changed by one byte.
+//! The steps of a reader: what has been read of a number, changed by the class of one byte.
 
-ghost use Rattle.std.specs.Prelude.{◌≡◌, IfNone, IfSome, nat_lt, Some, None, ◌+◌, ◌<◌, ◌≤◌};
+ghost use Rattle.std.specs.Prelude.{◌≡◌, IfNone, IfSome, IsFalse, nat_lt, Some, None, ◌+◌, ◌<◌, ◌≤◌};
 ghost use Rattle.lexical_util.specs.Digits.{byte_value};
 ghost use Rattle.lexical_util.specs.Record.{raw};
 ghost use Rattle.lexical_literal.specs.Notation.{notation_of, radix_of, point_of, exponent_character_of};
 ghost use Rattle.lexical_literal.specs.Run.{is_place};
-ghost use Rattle.lexical_literal.specs.Additions.Summary.{role_in, has_digit, is_led, may_follow, after_digit, after_separator, takes_digit, takes_separator, is_signed, needs_sign, needs_exponent, may_lead, forbids_plus, digits_suffice, may_float, may_point, may_scale, may_stop, ends, is_complete, takes, after, count, total, step};
+ghost use Rattle.lexical_literal.specs.Additions.Summary.{class_of, role_of, in_part, piece_of, has_digit, is_fresh, is_led, may_follow, after_digit, after_separator, after_sign, takes_digit, takes_separator, is_signed, needs_exponent, may_lead, forbids_plus, digits_suffice, may_float, may_point, may_scale, may_stop, ends, is_complete, takes, after, add, count, total, class_step};
 
 use crate::syntax::Grammar;
 use lexical_util::format::{Part, Role};
 
-// Nothing has been read.
-pub(crate) const START: Summary = Summary {
-    part: Part::Integer,
-    stage: Stage::Empty,
-    gap: false,
-    fresh: true,
-    integer: false,
-    ended: false,
-};
+/// A class of bytes: bytes of one class mean the same in a number.
+#[derive(Clone, Copy)]
+pub(crate) enum Class {
+    // A byte that plays no role.
+    Other,
+    // The digit 0.
+    Zero,
+    // Another digit of the mantissa and of the exponent.
+    Digit,
+    MantissaDigit,
+    ExponentDigit,
+    Separator,
+    Prefix,
+    Suffix,
+    Point,
+    ExponentCharacter,
+    Plus,
+    Minus,
+}
 
-// No bytes have been read.
-pub(crate) const NO_CUTS: Cuts = Cuts {
-    sign: 0,
-    prefix: 0,
-    integer: 0,
-    point: 0,
-    fraction: 0,
-    exponent_character: 0,
-    exponent_sign: 0,
-    exponent: 0,
-};
+// A part of a literal.
+#[derive(Clone, Copy)]
+pub(crate) enum Piece {
+    Sign,
+    Prefix,
+    Integer,
+    Point,
+    Fraction,
+    ExponentCharacter,
+    ExponentSign,
+    Exponent,
+    Suffix,
+}
 
 // The digits of a part that have been read.
 #[derive(Clone, Copy)]
 pub(crate) enum Stage {
+    // Nothing of the number.
+    Start,
     // No digits of the integer.
     Empty,
     // The digit 0, and no separators.
@@ -43,6 +57,10 @@ pub(crate) enum Stage {
     Zero,
     // A leading zero, and more digits.
     Led,
+    // Nothing since the exponent character.
+    Mark,
+    // No digits of the fraction, after no digits of the integer.
+    Lone,
     // No digits, where a zero is not a leading one.
     Free,
     // Digits without a leading zero.
@@ -57,13 +75,17 @@ pub(crate) struct Summary {
     pub(crate) stage: Stage,
     // Whether the last byte is a separator.
     pub(crate) gap: bool,
-    // Whether a sign may follow.
-    pub(crate) fresh: bool,
-    // Whether the integer before the decimal point has a digit.
-    pub(crate) integer: bool,
     // Whether the suffix has been read.
     pub(crate) ended: bool,
 }
+
+// Nothing has been read.
+pub(crate) const START: Summary = Summary {
+    part: Part::Integer,
+    stage: Stage::Start,
+    gap: false,
+    ended: false,
+};
 
 // The lengths of the parts that have been read. The zero of a prefix counts as a digit of the integer, and the suffix
 // does not count.
@@ -79,11 +101,46 @@ pub(crate) struct Cuts {
     pub(crate) exponent: usize,
 }
 
-// What has been read, and the lengths of its parts.
+// No bytes have been read.
+pub(crate) const NO_CUTS: Cuts = Cuts {
+    sign: 0,
+    prefix: 0,
+    integer: 0,
+    point: 0,
+    fraction: 0,
+    exponent_character: 0,
+    exponent_sign: 0,
+    exponent: 0,
+};
+
+impl Cuts {
+    // Counts one more byte of `piece`.
+    pub(crate) fn add(self, piece: Piece) -> Cuts
+        requires { total self < usize.MAX }
+        ensures value { result ≡ add self piece }
+        ensures grows { total result ≤ total self + 1 }
+    {
+        let mut longer = self;
+        match piece {
+            Piece::Sign => longer.sign += 1,
+            Piece::Prefix => longer.prefix += 1,
+            Piece::Integer => longer.integer += 1,
+            Piece::Point => longer.point += 1,
+            Piece::Fraction => longer.fraction += 1,
+            Piece::ExponentCharacter => longer.exponent_character += 1,
+            Piece::ExponentSign => longer.exponent_sign += 1,
+            Piece::Exponent => longer.exponent += 1,
+            Piece::Suffix => (),
+        }
+        longer
+    }
+}
+
+// What one byte makes of what has been read.
 #[derive(Clone, Copy)]
-pub(crate) struct Progress {
+pub(crate) struct Move {
     pub(crate) summary: Summary,
-    pub(crate) cuts: Cuts,
+    pub(crate) piece: Piece,
 }
 
 // Returns whether `byte` is a digit of `part`.
@@ -93,19 +150,6 @@ fn is_digit(grammar: Grammar, part: Part, byte: u8) -> bool
     match part {
         Part::Integer | Part::Fraction => grammar.view().mantissa_digit(byte).is_some(),
         Part::Exponent => grammar.view().exponent_digit(byte).is_some(),
-    }
-}
-
-// Returns whether a separator may be at a place in `part` with digits before it, or not, and after it, or not.
-fn is_place(grammar: Grammar, part: Part, before: bool, after: bool) -> bool
-    ensures { result ≡ is_place (notation_of grammar) part before after }
-{
-    let allowed = grammar.view().separators(part);
-    match (before, after) {
-        (true, true) => allowed.internal,
-        (false, true) => allowed.leading,
-        (true, false) => allowed.trailing,
-        (false, false) => false,
     }
 }
 
@@ -130,34 +174,127 @@ fn is_exponent_character(grammar: Grammar, byte: u8) -> bool
     }
 }
 
-// Returns the role of `byte` after a front that ends in `part`.
-fn role_in(grammar: Grammar, part: Part, byte: u8) -> Option<Role>
-    ensures { result ≡ role_in (notation_of grammar) part byte }
+// Returns the class of `byte`.
+pub(crate) fn class_of(grammar: Grammar, byte: u8) -> Class
+    ensures { result ≡ class_of (notation_of grammar) byte }
 {
-    if is_digit(grammar, part, byte) {
-        Some(Role::Digit)
-    } else if grammar.view().is_separator(byte) {
-        Some(Role::Separator)
-    } else if is_point(grammar, byte) {
-        Some(Role::Point)
-    } else if is_exponent_character(grammar, byte) {
-        Some(Role::Exponent)
-    } else if grammar.view().is_base_suffix(byte) {
-        Some(Role::Suffix)
-    } else if matches!(byte, b'+' | b'-') {
-        Some(Role::Sign)
-    } else if grammar.view().is_base_prefix(byte) {
-        Some(Role::Prefix)
+    let mantissa = is_digit(grammar, Part::Integer, byte);
+    let exponent = is_digit(grammar, Part::Exponent, byte);
+    if mantissa && exponent {
+        if byte == b'0' {
+            Class::Zero
+        } else {
+            Class::Digit
+        }
+    } else if mantissa {
+        Class::MantissaDigit
+    } else if exponent {
+        Class::ExponentDigit
     } else {
-        None
+        mark_of(grammar, byte)
     }
 }
 
-// Returns whether a digit has been read.
+// Returns the class of a `byte` that is not a digit.
+fn mark_of(grammar: Grammar, byte: u8) -> Class
+    requires mantissa { IsFalse ((notation_of grammar).digit Part.Integer byte) }
+    requires exponent { IsFalse ((notation_of grammar).digit Part.Exponent byte) }
+    ensures { result ≡ class_of (notation_of grammar) byte }
+{
+    let format = grammar.view();
+    if format.is_separator(byte) {
+        Class::Separator
+    } else if is_point(grammar, byte) {
+        Class::Point
+    } else if is_exponent_character(grammar, byte) {
+        Class::ExponentCharacter
+    } else if format.is_base_suffix(byte) {
+        Class::Suffix
+    } else if byte == b'+' {
+        Class::Plus
+    } else if byte == b'-' {
+        Class::Minus
+    } else if format.is_base_prefix(byte) {
+        Class::Prefix
+    } else {
+        Class::Other
+    }
+}
+
+// Returns the role of the bytes of `class`.
+pub(crate) fn role_of(class: Class) -> Option<Role>
+    ensures { result ≡ role_of class }
+{
+    match class {
+        Class::Other => None,
+        Class::Zero | Class::Digit | Class::MantissaDigit | Class::ExponentDigit => {
+            Some(Role::Digit)
+        }
+        Class::Separator => Some(Role::Separator),
+        Class::Prefix => Some(Role::Prefix),
+        Class::Suffix => Some(Role::Suffix),
+        Class::Point => Some(Role::Point),
+        Class::ExponentCharacter => Some(Role::Exponent),
+        Class::Plus | Class::Minus => Some(Role::Sign),
+    }
+}
+
+// Returns the role of a byte of `class` after a front that ends in `part`, where digits are those of the radix of `part`.
+fn in_part(part: Part, class: Class) -> Option<Role>
+    ensures { result ≡ in_part part class }
+{
+    match (class, part) {
+        (Class::MantissaDigit, Part::Exponent)
+        | (Class::ExponentDigit, Part::Integer | Part::Fraction) => None,
+        _ => role_of(class),
+    }
+}
+
+// Returns the piece that a byte with the role `role` belongs to, after a front that ends in `part`.
+fn piece_of(part: Part, role: Role) -> Piece
+    ensures { result ≡ piece_of part role }
+{
+    match (role, part) {
+        (Role::Digit | Role::Separator, Part::Integer) => Piece::Integer,
+        (Role::Digit | Role::Separator, Part::Fraction) => Piece::Fraction,
+        (Role::Digit | Role::Separator, Part::Exponent) => Piece::Exponent,
+        (Role::Sign, Part::Exponent) => Piece::ExponentSign,
+        (Role::Sign, Part::Integer | Part::Fraction) => Piece::Sign,
+        (Role::Prefix, _) => Piece::Prefix,
+        (Role::Point, _) => Piece::Point,
+        (Role::Exponent, _) => Piece::ExponentCharacter,
+        (Role::Suffix, _) => Piece::Suffix,
+    }
+}
+
+// Returns whether a separator may be at a place in `part` with digits before it, or not, and after it, or not.
+fn is_place(grammar: Grammar, part: Part, before: bool, after: bool) -> bool
+    ensures { result ≡ is_place (notation_of grammar) part before after }
+{
+    let allowed = grammar.view().separators(part);
+    match (before, after) {
+        (true, true) => allowed.internal,
+        (false, true) => allowed.leading,
+        (true, false) => allowed.trailing,
+        (false, false) => false,
+    }
+}
+
+// Returns whether the part has a digit.
 fn has_digit(stage: Stage) -> bool
     ensures { result ≡ has_digit stage }
 {
-    !matches!(stage, Stage::Empty | Stage::Free)
+    matches!(
+        stage,
+        Stage::Bare | Stage::Zero | Stage::Led | Stage::Digits
+    )
+}
+
+// Returns whether a sign may follow.
+fn is_fresh(stage: Stage) -> bool
+    ensures { result ≡ is_fresh stage }
+{
+    matches!(stage, Stage::Start | Stage::Mark)
 }
 
 // Returns whether there is a leading zero.
@@ -187,21 +324,44 @@ fn may_follow(grammar: Grammar, stage: Stage) -> bool
     ensures { result ≡ may_follow (notation_of grammar) stage }
 {
     match stage {
-        Stage::Bare | Stage::Zero => { may_lead(grammar) }
-        Stage::Empty | Stage::Led | Stage::Free | Stage::Digits => true,
+        Stage::Bare | Stage::Zero => may_lead(grammar),
+        Stage::Start
+        | Stage::Empty
+        | Stage::Led
+        | Stage::Mark
+        | Stage::Lone
+        | Stage::Free
+        | Stage::Digits => true,
     }
 }
 
 // Returns the stage after a digit.
-fn after_digit(stage: Stage, gap: bool, byte: u8) -> Stage
-    ensures { result ≡ after_digit stage gap byte }
+fn after_digit(stage: Stage, gap: bool, zero: bool) -> Stage
+    ensures { result ≡ after_digit stage gap zero }
 {
     match stage {
-        Stage::Empty if byte != b'0' => Stage::Digits,
-        Stage::Empty if gap => Stage::Zero,
-        Stage::Empty => Stage::Bare,
+        Stage::Start | Stage::Empty if !zero => Stage::Digits,
+        Stage::Start | Stage::Empty if gap => Stage::Zero,
+        Stage::Start | Stage::Empty => Stage::Bare,
         Stage::Bare | Stage::Zero | Stage::Led => Stage::Led,
-        Stage::Free | Stage::Digits => Stage::Digits,
+        Stage::Mark | Stage::Lone | Stage::Free | Stage::Digits => Stage::Digits,
+    }
+}
+
+// Returns the stage after a sign.
+fn after_sign(stage: Stage) -> Stage
+    ensures { result ≡ after_sign stage }
+{
+    match stage {
+        Stage::Start => Stage::Empty,
+        Stage::Mark => Stage::Free,
+        Stage::Empty
+        | Stage::Bare
+        | Stage::Zero
+        | Stage::Led
+        | Stage::Lone
+        | Stage::Free
+        | Stage::Digits => stage,
     }
 }
 
@@ -211,7 +371,14 @@ fn after_separator(stage: Stage) -> Stage
 {
     match stage {
         Stage::Bare => Stage::Zero,
-        Stage::Empty | Stage::Zero | Stage::Led | Stage::Free | Stage::Digits => stage,
+        Stage::Start
+        | Stage::Empty
+        | Stage::Zero
+        | Stage::Led
+        | Stage::Mark
+        | Stage::Lone
+        | Stage::Free
+        | Stage::Digits => after_sign(stage),
     }
 }
 
@@ -235,22 +402,17 @@ fn takes_separator(grammar: Grammar, part: Part, digit: bool, gap: bool, next: b
     (!gap || allowed.consecutive) && is_open
 }
 
-// Returns whether a sign is required in `part`.
-fn needs_sign(grammar: Grammar, part: Part) -> bool
-    ensures { result ≡ needs_sign (notation_of grammar) part }
-{
-    match part {
-        Part::Integer => grammar.view().required_mantissa_sign(),
-        Part::Fraction => false,
-        Part::Exponent => grammar.view().required_exponent_sign(),
-    }
-}
-
 // Returns whether `part` has a sign, or needs none.
-fn is_signed(grammar: Grammar, part: Part, fresh: bool) -> bool
-    ensures { result ≡ is_signed (notation_of grammar) part fresh }
+fn is_signed(grammar: Grammar, part: Part, stage: Stage) -> bool
+    ensures { result ≡ is_signed (notation_of grammar) part stage }
 {
-    !fresh || !needs_sign(grammar, part)
+    let format = grammar.view();
+    let needs_sign = match part {
+        Part::Integer => format.required_mantissa_sign(),
+        Part::Fraction => false,
+        Part::Exponent => format.required_exponent_sign(),
+    };
+    !is_fresh(stage) || !needs_sign
 }
 
 // Returns whether a plus sign is forbidden in `part`.
@@ -265,16 +427,18 @@ fn forbids_plus(grammar: Grammar, part: Part) -> bool
 }
 
 // Returns whether `part` has the digits that it needs.
-fn digits_suffice(grammar: Grammar, part: Part, digit: bool, integer: bool) -> bool
-    ensures { result ≡ digits_suffice (notation_of grammar) part digit integer }
+fn digits_suffice(grammar: Grammar, part: Part, stage: Stage) -> bool
+    ensures { result ≡ digits_suffice (notation_of grammar) part stage }
 {
+    let format = grammar.view();
+    let digit = has_digit(stage);
     match part {
-        Part::Integer => !grammar.view().required_integer_digits() || digit,
+        Part::Integer => !format.required_integer_digits() || digit,
         Part::Fraction => {
-            (!grammar.view().required_fraction_digits() || digit)
-                && (!grammar.view().required_mantissa_digits() || (integer || digit))
+            (!format.required_fraction_digits() || digit)
+                && (!format.required_mantissa_digits() || !matches!(stage, Stage::Lone))
         }
-        Part::Exponent => !grammar.view().required_exponent_digits() || digit,
+        Part::Exponent => !format.required_exponent_digits() || digit,
     }
 }
 
@@ -282,10 +446,9 @@ fn digits_suffice(grammar: Grammar, part: Part, digit: bool, integer: bool) -> b
 fn ends(grammar: Grammar, read: Summary) -> bool
     ensures { result ≡ ends (notation_of grammar) read }
 {
-    let digit = has_digit(read.stage);
-    is_signed(grammar, read.part, read.fresh)
-        && ((!read.gap || is_place(grammar, read.part, digit, false))
-            && digits_suffice(grammar, read.part, digit, read.integer))
+    is_signed(grammar, read.part, read.stage)
+        && ((!read.gap || is_place(grammar, read.part, has_digit(read.stage), false))
+            && digits_suffice(grammar, read.part, read.stage))
 }
 
 // Returns whether a decimal point or an exponent may follow the leading zero, if there is one.
@@ -309,14 +472,15 @@ fn may_point(grammar: Grammar, part: Part, stage: Stage) -> bool
 fn may_scale(grammar: Grammar, part: Part, stage: Stage) -> bool
     ensures { result ≡ may_scale (notation_of grammar) part stage }
 {
+    let format = grammar.view();
     match part {
         Part::Integer => {
-            !grammar.view().no_exponent_notation()
+            !format.no_exponent_notation()
                 && (may_float(grammar, stage)
-                    && ((!grammar.view().required_mantissa_digits() || has_digit(stage))
-                        && !grammar.view().no_exponent_without_fraction()))
+                    && ((!format.required_mantissa_digits() || has_digit(stage))
+                        && !format.no_exponent_without_fraction()))
         }
-        Part::Fraction => !grammar.view().no_exponent_notation(),
+        Part::Fraction => !format.no_exponent_notation(),
         Part::Exponent => false,
     }
 }
@@ -343,23 +507,23 @@ pub(crate) fn is_complete(grammar: Grammar, read: Summary) -> bool
     read.ended || (ends(grammar, read) && may_stop(grammar, read.part, read.stage))
 }
 
-// Returns whether some literal goes on with `byte`, which has the role `role`.
-fn takes(grammar: Grammar, read: Summary, byte: u8, role: Role) -> bool
-    ensures { result ≡ takes (notation_of grammar) read byte role }
+// Returns whether some literal goes on with a byte that has the role `role`, and is a plus sign if `plus` is true.
+fn takes(grammar: Grammar, read: Summary, plus: bool, role: Role) -> bool
+    ensures { result ≡ takes (notation_of grammar) read plus role }
 {
     let digit = has_digit(read.stage);
     match role {
         Role::Digit => {
-            is_signed(grammar, read.part, read.fresh)
+            is_signed(grammar, read.part, read.stage)
                 && (takes_digit(grammar, read.part, digit, read.gap)
                     && may_follow(grammar, read.stage))
         }
         Role::Separator => {
             let next = may_follow(grammar, read.stage);
-            is_signed(grammar, read.part, read.fresh)
+            is_signed(grammar, read.part, read.stage)
                 && takes_separator(grammar, read.part, digit, read.gap, next)
         }
-        Role::Sign => read.fresh && (!forbids_plus(grammar, read.part) || !(byte == b'+')),
+        Role::Sign => is_fresh(read.stage) && (!forbids_plus(grammar, read.part) || !plus),
         Role::Prefix => matches!(read.stage, Stage::Bare),
         Role::Point => ends(grammar, read) && may_point(grammar, read.part, read.stage),
         Role::Exponent => ends(grammar, read) && may_scale(grammar, read.part, read.stage),
@@ -367,81 +531,52 @@ fn takes(grammar: Grammar, read: Summary, byte: u8, role: Role) -> bool
     }
 }
 
-// Returns the summary after `byte`, which has the role `role`.
-fn after(read: Summary, byte: u8, role: Role) -> Summary
-    ensures { result ≡ after read byte role }
+// Returns the summary after a byte that has the role `role`, and is the digit 0 if `zero` is true.
+fn after(read: Summary, zero: bool, role: Role) -> Summary
+    ensures { result ≡ after read zero role }
 {
     let mut next = read;
+    next.gap = match role {
+        Role::Separator => true,
+        Role::Sign | Role::Suffix => read.gap,
+        Role::Digit | Role::Prefix | Role::Point | Role::Exponent => false,
+    };
     match role {
-        Role::Digit => {
-            next.stage = after_digit(read.stage, read.gap, byte);
-            next.gap = false;
-            next.fresh = false;
-        }
-        Role::Separator => {
-            next.stage = after_separator(read.stage);
-            next.gap = true;
-            next.fresh = false;
-        }
-        Role::Sign => next.fresh = false,
-        Role::Prefix => {
-            next.stage = Stage::Free;
-            next.gap = false;
-            next.fresh = false;
-        }
+        Role::Digit => next.stage = after_digit(read.stage, read.gap, zero),
+        Role::Separator => next.stage = after_separator(read.stage),
+        Role::Sign => next.stage = after_sign(read.stage),
+        Role::Prefix => next.stage = Stage::Free,
         Role::Point => {
             next.part = Part::Fraction;
-            next.stage = Stage::Free;
-            next.gap = false;
-            next.fresh = false;
-            next.integer = has_digit(read.stage);
+            next.stage = if has_digit(read.stage) {
+                Stage::Free
+            } else {
+                Stage::Lone
+            };
         }
         Role::Exponent => {
             next.part = Part::Exponent;
-            next.stage = Stage::Free;
-            next.gap = false;
-            next.fresh = true;
+            next.stage = Stage::Mark;
         }
         Role::Suffix => next.ended = true,
     }
     next
 }
 
-// Returns the lengths after a byte with the role `role` in `part`.
-fn count(part: Part, role: Role, cuts: Cuts) -> Cuts
-    requires { total cuts < usize.MAX }
-    ensures value { result ≡ count part (Some role) cuts }
-    ensures grows { total result ≤ total cuts + 1 }
-{
-    let mut longer = cuts;
-    match (role, part) {
-        (Role::Digit | Role::Separator, Part::Integer) => longer.integer += 1,
-        (Role::Digit | Role::Separator, Part::Fraction) => longer.fraction += 1,
-        (Role::Digit | Role::Separator, Part::Exponent) => longer.exponent += 1,
-        (Role::Sign, Part::Exponent) => longer.exponent_sign += 1,
-        (Role::Sign, Part::Integer | Part::Fraction) => longer.sign += 1,
-        (Role::Prefix, _) => longer.prefix += 1,
-        (Role::Point, _) => longer.point += 1,
-        (Role::Exponent, _) => longer.exponent_character += 1,
-        (Role::Suffix, _) => (),
-    }
-    longer
-}
-
-// Returns what has been read after one more byte, or `None` if no literal begins so.
-pub(crate) fn step(grammar: Grammar, read: Progress, byte: u8) -> Option<Progress>
-    requires { total read.cuts < usize.MAX }
-    ensures none { IfNone result (step (notation_of grammar) read.summary byte ≡ None) }
+// Returns what a byte of `class` makes of what has been read, or `None` if no literal begins so.
+pub(crate) fn step(grammar: Grammar, read: Summary, class: Class) -> Option<Move>
+    ensures none { IfNone result (class_step (notation_of grammar) read class ≡ None) }
     ensures some { IfSome result (λ next.
-        (step (notation_of grammar) read.summary byte ≡ Some next.summary)
-        × (count read.summary.part (role_in (notation_of grammar) read.summary.part byte) read.cuts ≡ next.cuts)
-        × (total next.cuts ≤ total read.cuts + 1)) }
+        (class_step (notation_of grammar) read class ≡ Some next.summary)
+        × ((c : Cuts) → count read.part (in_part read.part class) c ≡ add c next.piece)) }
 {
-    let role = role_in(grammar, read.summary.part, byte)?;
-    if !read.summary.ended & takes(grammar, read.summary, byte, role) {
-        Some(Progress {
-            summary: after(read.summary, byte, role),
-            cuts: count(read.summary.part, role, read.cuts),
+    let role = in_part(read.part, class)?;
+    let plus = matches!(class, Class::Plus);
+    let zero = matches!(class, Class::Zero);
+    if !read.ended & takes(grammar, read, plus, role) {
+        Some(Move {
+            summary: after(read, zero, role),
+            piece: piece_of(read.part, role),
         })
     } else {
         None

@@ -9,9 +9,11 @@ ghost use Rattle.lexical_literal.specs.declared.syntax.Options.{Options};
 ghost use Rattle.lexical_literal.specs.Notation.{notation_of, IsOnlyRole};
 ghost use Rattle.lexical_literal.specs.Syntax.{IsSyntax};
 
+use crate::steps::{class_of, role_of};
 use lexical_util::edits::normal_form;
 use lexical_util::error::Error;
 use lexical_util::format::{NumberFormat, Role, check, options_error};
+use lexical_util::laws::flags::role_facts;
 use std::marker::Model;
 
 /// The bytes of numbers that a format does not define.
@@ -120,6 +122,15 @@ impl Syntax {
         ensures { result ≡ self.now.options }
     {
         self.grammar.options
+    }
+
+    /// Returns the only role of `byte`, or `None` if it plays no role.
+    #[must_use]
+    pub fn role_of(&self, byte: u8) -> Option<Role>
+        ensures { IsOnlyRole (notation_of self.now) byte result }
+    {
+        role_facts();
+        role_of(class_of(self.grammar(), byte))
     }
 
     // Returns the format and the options.

@@ -8,8 +8,8 @@ abbrev pub invariant-loop-index : goal.invariant-loop-index
 invariant-loop-index l =
     let m = notation_of l.grammar in
     record {
-      read : scan m (Some start) (take l.index l.text) ≡ Some l.read.summary;
-      counted : tally m (Some start) no_cuts (take l.index l.text) ≡ l.read.cuts;
-      small : total l.read.cuts ≤ l.index;
+      read : scan m (Some start) (take l.index l.text) ≡ Some l.read;
+      counted : tally m (Some start) no_cuts (take l.index l.text) ≡ l.counts;
+      small : total l.counts ≤ l.index;
       latest : Latest m l.text l.end l.cuts l.is_found l.index;
     }
