@@ -10,3 +10,4 @@ mod RoleLemmas
 mod SameLemmas
 mod PartLemmas
 mod WriterLemmas
+mod ExampleLemmas

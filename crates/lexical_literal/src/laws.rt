@@ -12,6 +12,8 @@ ghost use Rattle.lexical_literal.specs.Syntax.{IsSyntax};
 ghost use Rattle.lexical_literal.specs.declared.syntax.Grammar.{Grammar};
 ghost use Rattle.lexical_literal.specs.declared.syntax.Options.{Options};
 
+pub mod examples;
+
 use lexical_util::format::Part;
 use lexical_util::laws::flags::role_facts;
 use lexical_util::laws::normal_form_facts;
