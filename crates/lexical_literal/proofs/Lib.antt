@@ -11,3 +11,4 @@ mod SameLemmas
 mod PartLemmas
 mod WriterLemmas
 mod ExampleLemmas
+mod TableLemmas

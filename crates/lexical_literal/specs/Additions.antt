@@ -1,2 +1,4 @@
 pub mod Summary
+pub mod Moves
 pub mod Longest
+pub mod Tables

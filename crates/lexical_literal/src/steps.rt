@@ -5,6 +5,7 @@ ghost use Rattle.lexical_util.specs.Digits.{byte_value};
 ghost use Rattle.lexical_util.specs.Record.{raw};
 ghost use Rattle.lexical_literal.specs.Notation.{notation_of, radix_of, point_of, exponent_character_of};
 ghost use Rattle.lexical_literal.specs.Run.{is_place};
+ghost use Rattle.lexical_literal.specs.Additions.Moves.{IsMove};
 ghost use Rattle.lexical_literal.specs.Additions.Summary.{class_of, role_of, in_part, piece_of, has_digit, is_fresh, is_led, may_follow, after_digit, after_separator, after_sign, takes_digit, takes_separator, is_signed, needs_exponent, may_lead, forbids_plus, digits_suffice, may_float, may_point, may_scale, may_stop, ends, is_complete, takes, after, add, count, total, class_step};
 
 use crate::syntax::Grammar;
@@ -565,10 +566,7 @@ fn after(read: Summary, zero: bool, role: Role) -> Summary
 
 // Returns what a byte of `class` makes of what has been read, or `None` if no literal begins so.
 pub(crate) fn step(grammar: Grammar, read: Summary, class: Class) -> Option<Move>
-    ensures none { IfNone result (class_step (notation_of grammar) read class ≡ None) }
-    ensures some { IfSome result (λ next.
-        (class_step (notation_of grammar) read class ≡ Some next.summary)
-        × ((c : Cuts) → count read.part (in_part read.part class) c ≡ add c next.piece)) }
+    ensures { IsMove (notation_of grammar) read class result }
 {
     let role = in_part(read.part, class)?;
     let plus = matches!(class, Class::Plus);

@@ -29,7 +29,7 @@ loop-index-preserved c =
     let i = c.loop-index.index in
     let is_ready = ready c.role_facts.ensures.disjoint c.role_facts.ensures.five c.role_facts.ensures.lawful c.args.grammar c.requires in
     let now = c.loop-index.invariant in
-    let next = c.in-Some.ensures.some in
+    let next = c.in-Some.ensures in
     let byte = get_or text i 0 in
     let class = c.class_of.ensures in
     let read = next_scan m is_ready text i c.loop-index.read c.loop-index-test.true now.read
@@ -55,7 +55,7 @@ returns-in_default-clause-error c =
     let is_ready = ready c.role_facts.ensures.disjoint c.role_facts.ensures.five c.role_facts.ensures.lawful c.args.grammar c.requires in
     let s = c.loop-index.read in
     wrong_at m is_ready c.args.text.now c.loop-index.index s c.loop-index-test.true c.loop-index.invariant.read
-    (step_as m is_ready.roles (get_or c.args.text.now c.loop-index.index 0) s c.class_of.result None c.class_of.ensures c.in_default.ensures.none)
+    (step_as m is_ready.roles (get_or c.args.text.now c.loop-index.index 0) s c.class_of.result None c.class_of.ensures c.in_default.ensures)
 
 pub returns-in_default-clause-longest : goal.returns-in_default-clause-longest
 returns-in_default-clause-longest c =
@@ -63,7 +63,7 @@ returns-in_default-clause-longest c =
     let is_ready = ready c.role_facts.ensures.disjoint c.role_facts.ensures.five c.role_facts.ensures.lawful c.args.grammar c.requires in
     longest_from m is_ready c.args.text.now c.loop-index.is_found c.loop-index.end c.loop-index.cuts c.loop-index.index
     (wrong_at m is_ready c.args.text.now c.loop-index.index c.loop-index.read c.loop-index-test.true c.loop-index.invariant.read
-    (step_as m is_ready.roles (get_or c.args.text.now c.loop-index.index 0) c.loop-index.read c.class_of.result None c.class_of.ensures c.in_default.ensures.none))
+    (step_as m is_ready.roles (get_or c.args.text.now c.loop-index.index 0) c.loop-index.read c.class_of.result None c.class_of.ensures c.in_default.ensures))
     c.loop-index.invariant.latest
 
 pub returns-clause-error : goal.returns-clause-error

@@ -1,0 +1,77 @@
+-- Tables of all classes, of all steps, and of what ends a literal.
+use Rattle.std.specs.Prelude.{ℕ, ◌≡◌, ◌+◌, ◌*◌, ◌/◌, ◌%◌, ◌<◌, ◌==◌, Bool, true, false, if◌then◌else◌, None, slice_index_or}
+use Rattle.lexical_util.specs.declared.format_flags.Part.{Part}
+use Rattle.lexical_util.specs.declared.format_flags.Part.TheVariants as parts
+use Rattle.lexical_literal.specs.Notation.{Notation}
+use Rattle.lexical_literal.specs.Additions.Summary.{class_of, is_complete}
+use Rattle.lexical_literal.specs.Additions.Moves.{IsMove}
+use Rattle.lexical_literal.specs.declared.steps.Class.{Class}
+use Rattle.lexical_literal.specs.declared.steps.Class.TheVariants as classes
+use Rattle.lexical_literal.specs.declared.steps.Stage.{Stage}
+use Rattle.lexical_literal.specs.declared.steps.Stage.TheVariants as stages
+use Rattle.lexical_literal.specs.declared.steps.Summary.{Summary}
+use Rattle.lexical_literal.specs.declared.tables.Tables.{Tables}
+
+-- The numbers of parts, stages and classes, in the order of their variants.
+abbrev pub part_number : Part → ℕ
+part_number parts.Integer = 0
+part_number parts.Fraction = 1
+part_number parts.Exponent = 2
+
+abbrev pub stage_number : Stage → ℕ
+stage_number stages.Start = 0
+stage_number stages.Empty = 1
+stage_number stages.Bare = 2
+stage_number stages.Zero = 3
+stage_number stages.Led = 4
+stage_number stages.Mark = 5
+stage_number stages.Lone = 6
+stage_number stages.Free = 7
+stage_number stages.Digits = 8
+
+abbrev pub class_number : Class → ℕ
+class_number classes.Other = 0
+class_number classes.Zero = 1
+class_number classes.Digit = 2
+class_number classes.MantissaDigit = 3
+class_number classes.ExponentDigit = 4
+class_number classes.Separator = 5
+class_number classes.Prefix = 6
+class_number classes.Suffix = 7
+class_number classes.Point = 8
+class_number classes.ExponentCharacter = 9
+class_number classes.Plus = 10
+class_number classes.Minus = 11
+
+abbrev pub gap_number : Bool → ℕ
+gap_number gap = if gap then 1 else 0
+
+-- `part_at n`, `stage_at n` and `class_at n` have the number `n`.
+abbrev pub part_at : ℕ → Part
+part_at n = if n == 0 then parts.Integer else (if n == 1 then parts.Fraction else parts.Exponent)
+
+abbrev pub stage_at : ℕ → Stage
+stage_at n =
+    if n == 0 then stages.Start else (if n == 1 then stages.Empty else (if n == 2 then stages.Bare
+    else (if n == 3 then stages.Zero else (if n == 4 then stages.Led else (if n == 5 then stages.Mark
+    else (if n == 6 then stages.Lone else (if n == 7 then stages.Free else stages.Digits)))))))
+
+abbrev pub class_at : ℕ → Class
+class_at n =
+    if n == 0 then classes.Other else (if n == 1 then classes.Zero else (if n == 2 then classes.Digit
+    else (if n == 3 then classes.MantissaDigit else (if n == 4 then classes.ExponentDigit else (if n == 5 then classes.Separator
+    else (if n == 6 then classes.Prefix else (if n == 7 then classes.Suffix else (if n == 8 then classes.Point
+    else (if n == 9 then classes.ExponentCharacter else (if n == 10 then classes.Plus else classes.Minus))))))))))
+
+-- `row s` is the row of `s` in the tables, and `summary_at n` the summary of the row `n`.
+abbrev pub row : Summary → ℕ
+row s = part_number s.part * 18 + stage_number s.stage * 2 + gap_number s.gap
+
+abbrev pub summary_at : ℕ → Summary
+summary_at n = record { part = part_at (n / 18); stage = stage_at (n / 2 % 9); gap = n % 2 == 1; ended = false }
+
+-- `HasTables m t` holds if `t` has the classes and steps of `m`. It has no row for a number that has ended.
+pub record HasTables (m : Notation) (t : Tables) : Type 0 where
+  pub classes : (byte : ℕ) → byte < 256 → slice_index_or t.classes byte classes.Other ≡ class_of m byte
+  pub moves : (s : Summary) → s.ended ≡ false → (class : Class) → IsMove m s class (slice_index_or t.moves (row s * 16 + class_number class) None)
+  pub ends : (s : Summary) → s.ended ≡ false → slice_index_or t.ends (row s) false ≡ is_complete m s
