@@ -7,10 +7,9 @@ use Rattle.lexical_util.specs.declared.feature_format.roles.Role.TheVariants as 
 use Rattle.lexical_util.specs.declared.format_flags.Part.{Part}
 use Rattle.lexical_util.specs.declared.format_flags.Part.TheVariants as parts
 use Rattle.lexical_literal.specs.Notation.{Notation, role_set, IsOnlyRole}
-use Rattle.lexical_literal.specs.Additions.Summary.{role_in, move, step, count, class_of, in_part, class_step, is_plus, is_zero, role_of}
+use Rattle.lexical_literal.specs.Additions.Summary.{Cuts, role_in, move, step, count, class_of, in_part, class_step, is_plus, is_zero, role_of}
 use Rattle.lexical_literal.specs.declared.steps.Class.{Class}
 use Rattle.lexical_literal.specs.declared.steps.Class.TheVariants as classes
-use Rattle.lexical_literal.specs.declared.steps.Cuts.{Cuts}
 use Rattle.lexical_literal.specs.declared.steps.Summary.{Summary}
 use Rattle.lexical_literal.proofs.ScanLemmas.{HasRoles, tests}
 

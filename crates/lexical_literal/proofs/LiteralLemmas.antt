@@ -11,8 +11,7 @@ use Rattle.lexical_util.specs.declared.format_flags.Part.TheVariants as parts
 use Rattle.lexical_literal.specs.Notation.{Notation}
 use Rattle.lexical_literal.specs.Run.{is_run}
 use Rattle.lexical_literal.specs.Literal.{Literal, IsLiteral, Reads, text_of, requirement, is_present, is_absent, is_plus, is_none_or_one, is_none_or_prefix, has_leading_zero}
-use Rattle.lexical_literal.specs.Additions.Summary.{implies, has_digit, is_fresh, is_lone, is_led, is_bare, after_digit, after_sign, after_point, takes_digit, may_follow, needs_exponent, is_signed, may_end, ends, may_stop, may_scale, may_float, start, no_cuts}
-use Rattle.lexical_literal.specs.declared.steps.Cuts.{Cuts}
+use Rattle.lexical_literal.specs.Additions.Summary.{Cuts, implies, has_digit, is_fresh, is_lone, is_led, is_bare, after_digit, after_sign, after_point, takes_digit, may_follow, needs_exponent, is_signed, may_end, ends, may_stop, may_scale, may_float, start, no_cuts}
 use Rattle.lexical_literal.specs.declared.steps.Stage.{Stage}
 use Rattle.lexical_literal.specs.declared.steps.Stage.TheVariants as stages
 use Rattle.lexical_literal.specs.declared.steps.Summary.{Summary}

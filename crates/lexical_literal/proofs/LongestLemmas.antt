@@ -1,17 +1,20 @@
 -- Fronts of a text, and where the loop is left.
-use Rattle.std.proofs.Common.{ℕ, ◌≡◌, ◌<◌, ◌≤◌, ◌+◌, ◌&&◌, suc, inl, inr, Bool, true, false, not, ◌==◌, List, [], ◌∷◌, ◌++◌, length, get_or, take, drop, Some, None, refl, sym, ap, subst, append_assoc, append-nil, take-append-drop, ◌∙◌, arith}
-use Rattle.std.proofs.lemmas.Bool.{false≢true, cases_lt, and_parts, eqb-true, eq-eqb}
+use Rattle.std.proofs.Common.{ℕ, ◌≡◌, ◌<◌, ◌≤◌, ◌+◌, suc, inl, inr, true, false, not, List, [], ◌∷◌, ◌++◌, length, get_or, take, drop, Some, None, refl, sym, ap, subst, append_assoc, append-nil, take-append-drop, ◌∙◌, arith}
+use Rattle.std.proofs.lemmas.Bool.{false≢true, cases_lt, and_parts}
 use Rattle.std.proofs.lemmas.List.{take-take, take_more, take_all}
 use Rattle.lexical_literal.specs.Notation.{Notation}
 use Rattle.lexical_literal.specs.Literal.{Literal, IsLiteral, Reads, is_none_or_prefix}
-use Rattle.lexical_literal.specs.Additions.Summary.{role_in, scan, step, is_accepted, is_complete, needs_exponent, ends, tally, count, start, no_cuts, HasLengths}
-use Rattle.lexical_literal.specs.Front.{IsFront, IsValidUpTo}
+use Rattle.lexical_literal.specs.Additions.Summary.{Cuts, role_in, scan, step, is_accepted, is_complete, needs_exponent, ends, tally, count, start, no_cuts, HasLengths}
+use Rattle.lexical_literal.specs.Front.{IsFront, IsValidUpTo, NoLiteral}
 use Rattle.lexical_literal.specs.Additions.Longest.{IsLongest}
-use Rattle.lexical_literal.specs.declared.steps.Cuts.{Cuts}
 use Rattle.lexical_literal.specs.declared.steps.Summary.{Summary}
 use Rattle.lexical_literal.proofs.ScanLemmas.{HasRoles, IsReady, Accepts, plus, scan_append, tally_append}
 use Rattle.lexical_literal.proofs.LiteralLemmas.{literal_from, literal_arrives, cuts_of, is_tail}
 use Rattle.lexical_literal.proofs.FrontLemmas.{front_from, front_is_read}
+
+-- At the end, all bytes have been read.
+pub at_end : (i n : ℕ) (P : ℕ → Type 0) → n ≤ i → i ≤ n → P i → P n
+at_end i n P low high is = let same : i ≡ n = omega arith in subst P same is
 
 front_shorter : (m : Notation) (text : List ℕ) (k n : ℕ) → k ≤ n → IsFront m (take n text) → IsFront m (take k text)
 front_shorter m text k n below is = record {
@@ -57,40 +60,11 @@ has_lengths m h l is = record {
   integer : (x : List ℕ) → is_none_or_prefix m.prefix x ≡ true → length l.integer + plus (is_tail x) 0 ≡ plus l.integer (plus (is_tail x) 0)
   integer x one = plus_is l.integer (plus (is_tail x) 0)
 
--- `Latest m text end cuts is_found n` holds if `end` is the longest front of at most `n` bytes that is accepted.
-abbrev pub Latest : Notation → List ℕ → ℕ → Cuts → Bool → ℕ → Type 0
-Latest m text end cuts true n = (end ≤ n) × Accepts m (Some start) (take end text) × (tally m (Some start) no_cuts (take end text) ≡ cuts)
-    × ((more : ℕ) → end < more → more ≤ n → Accepts m (Some start) (take more text) → ⊥)
-Latest m text end cuts false n = (more : ℕ) → more ≤ n → Accepts m (Some start) (take more text) → ⊥
-
--- What the longest front says of the whole text.
-module _ (m : Notation) (text : List ℕ) (end : ℕ) (cuts : Cuts) where
-  whole : end ≡ length text → take end text ≡ text
-  whole same = take_all end text (omega arith)
-
-  abbrev Found : Type 0
-  Found = ((l : Literal) × Reads m l text) × ((l : Literal) → Reads m l text → HasLengths l cuts)
-
-  pub whole_found : (is_found : Bool) → (is_found && (end == length text)) ≡ true → IsLongest m text end cuts is_found → Found
-  whole_found true test longest =
-      let same = whole (eqb-true end (length text) test) in
-      subst (λ t. ((l : Literal) × Reads m l t) × ((l : Literal) → Reads m l t → HasLengths l cuts)) same (longest.1, longest.2)
-  whole_found false test longest = absurd (false≢true test)
-
-  pub whole_none : (is_found : Bool) → (is_found && (end == length text)) ≡ false → IsLongest m text end cuts is_found → (l : Literal) → Reads m l text → ⊥
-  whole_none is_found test longest l reads = go is_found test longest (subst (λ t. Reads m l t) (sym (take_all (length text) text (omega arith))) reads) where
-    go : (is_found : Bool) → (is_found && (end == length text)) ≡ false → IsLongest m text end cuts is_found → Reads m l (take (length text) text) → ⊥
-    go true test longest reads = elim (cases_lt end (length text)) [
-      | inl shorter ↦ longest.3 (length text) shorter (omega arith) l reads
-      | inr past ↦ let within = longest.0 in let same : end ≡ length text = omega arith in false≢true (sym test ∙ eq-eqb end (length text) same)
-    ]
-    go false test longest reads = longest (length text) (omega arith) l reads
-
-  pub front_found : (is_found : Bool) → is_found ≡ true → IsLongest m text end cuts is_found → IsLongest m text end cuts true
-  front_found is_found is longest = subst (IsLongest m text end cuts) is longest
-
-  pub front_none : (is_found : Bool) → is_found ≡ false → IsLongest m text end cuts is_found → IsLongest m text end cuts false
-  front_none is_found is longest = subst (IsLongest m text end cuts) is longest
+-- `IsLatest m text end n` holds if `end` is the longest front of at most `n` bytes that is accepted, or 0 if none is.
+pub record IsLatest (m : Notation) (text : List ℕ) (end n : ℕ) : Type 0 where
+  within : end ≤ n
+  found : 0 < end → Accepts m (Some start) (take end text)
+  no_later : (more : ℕ) → end < more → more ≤ n → Accepts m (Some start) (take more text) → ⊥
 
 module _ (m : Notation) (ready : IsReady m) (text : List ℕ) where
   -- One more byte.
@@ -121,31 +95,29 @@ module _ (m : Notation) (ready : IsReady m) (text : List ℕ) where
   none_complete : is_complete m start ≡ true → ⊥
   none_complete is = false≢true (and_parts (not (needs_exponent m)) false (and_parts (ends m start) _ is).1).1
 
-  pub latest_init : (cuts : Cuts) → Latest m text 0 cuts false 0
-  latest_init cuts more below is = let none : more ≡ 0 = omega arith in none_complete (subst (λ n. Accepts m (Some start) (take n text)) none is)
+  pub latest_init : IsLatest m text 0 0
+  latest_init = record { within = omega arith; found = λ some. absurd (omega arith); no_later = λ more over below is. absurd (omega arith) }
 
   -- One more byte that completes a literal, or does not.
-  pub latest_more : (n : ℕ) (s : Summary) (c : Cuts) → scan m (Some start) (take (n + 1) text) ≡ Some s → tally m (Some start) no_cuts (take (n + 1) text) ≡ c
-      → is_complete m s ≡ true → Latest m text (n + 1) c true (n + 1)
-  latest_more n s c read counted complete = (omega arith, ap (is_accepted m) read ∙ complete, counted, λ more over below is. absurd (omega arith))
+  pub latest_more : (n : ℕ) (s : Summary) → scan m (Some start) (take (n + 1) text) ≡ Some s → is_complete m s ≡ true → IsLatest m text (n + 1) (n + 1)
+  latest_more n s read complete = record {
+    within = omega arith;
+    found = λ some. ap (is_accepted m) read ∙ complete;
+    no_later = λ more over below is. absurd (omega arith);
+  }
 
-  no_more : (n : ℕ) (s : Summary) → scan m (Some start) (take (n + 1) text) ≡ Some s → is_complete m s ≡ false → (more : ℕ) → n < more → more ≤ n + 1
-      → Accepts m (Some start) (take more text) → ⊥
-  no_more n s read incomplete more over below is =
-      let same : more ≡ n + 1 = omega arith in
-      false≢true (sym incomplete ∙ ap (is_accepted m) (sym read) ∙ subst (λ k. Accepts m (Some start) (take k text)) same is)
-
-  pub latest_kept : (is_found : Bool) (end : ℕ) (cuts : Cuts) (n : ℕ) (s : Summary) → scan m (Some start) (take (n + 1) text) ≡ Some s → is_complete m s ≡ false
-      → Latest m text end cuts is_found n → Latest m text end cuts is_found (n + 1)
-  latest_kept true end cuts n s read incomplete latest = (
-    omega (arith, latest.0),
-    latest.1,
-    latest.2,
-    λ more over below is.
-        elim (cases_lt n more) [ inl new ↦ no_more n s read incomplete more new below is | inr old ↦ latest.3 more over old is ],
-  )
-  latest_kept false end cuts n s read incomplete latest = λ more below is.
-      elim (cases_lt n more) [ inl new ↦ no_more n s read incomplete more new below is | inr old ↦ latest more old is ]
+  pub latest_kept : (end n : ℕ) (s : Summary) → scan m (Some start) (take (n + 1) text) ≡ Some s → is_complete m s ≡ false → IsLatest m text end n
+      → IsLatest m text end (n + 1)
+  latest_kept end n s read incomplete latest = record {
+    within = omega (arith, latest.within);
+    found = latest.found;
+    no_later = λ more over below is. elim (cases_lt n more) [
+      | inl new ↦
+          let same : more ≡ n + 1 = omega arith in
+          false≢true (sym incomplete ∙ ap (is_accepted m) (sym read) ∙ subst (λ k. Accepts m (Some start) (take k text)) same is)
+      | inr old ↦ latest.no_later more over old is
+    ];
+  }
 
   accepted : (n : ℕ) (l : Literal) → Reads m l (take n text) → Accepts m (Some start) (take n text)
   accepted n l reads = ap (λ t. is_accepted m (scan m (Some start) t)) reads.whole ∙ (literal_arrives m ready.roles l reads.literal).0
@@ -158,22 +130,37 @@ module _ (m : Notation) (ready : IsReady m) (text : List ℕ) where
     reads = record { whole = append-nil (take more text) ∙ reads.whole; literal = reads.literal };
   })
 
-  pub longest_from : (is_found : Bool) (end : ℕ) (cuts : Cuts) (n : ℕ) → IsValidUpTo m text n → Latest m text end cuts is_found n → IsLongest m text end cuts is_found
-  longest_from true end cuts n wrong latest = (
-    omega (arith, latest.0, wrong.within),
-    literal_from m (take end text) latest.1,
-    λ l reads. subst (HasLengths l)
-        (sym (literal_arrives m ready.roles l reads.literal).1 ∙ ap (tally m (Some start) no_cuts) (sym reads.whole) ∙ latest.2)
-        (has_lengths m ready.roles l reads.literal),
-    λ more over below l reads. elim (cases_lt n more) [
+  pub longest_from : (end n : ℕ) → IsValidUpTo m text n → IsLatest m text end n → IsLongest m text end
+  longest_from end n wrong latest = record {
+    within = omega (arith, latest.within, wrong.within);
+    found = λ some. literal_from m (take end text) (latest.found some);
+    no_longer = λ more over below l reads. elim (cases_lt n more) [
       | inl past ↦ dead n wrong more past below l reads
-      | inr old ↦ latest.3 more over old (accepted more l reads)
-    ],
-  )
-  longest_from false end cuts n wrong latest = λ more below l reads. elim (cases_lt n more) [
-    | inl past ↦ dead n wrong more past below l reads
-    | inr old ↦ latest more old (accepted more l reads)
-  ]
+      | inr old ↦ latest.no_later more over old (accepted more l reads)
+    ];
+    not_empty = λ l reads. none_complete (accepted 0 l reads);
+  }
+
+  -- THE WHOLE TEXT
+
+  -- Where a byte is wrong, the text is not a literal.
+  pub wrong_none : (n : ℕ) → n < length text → IsValidUpTo m text n → NoLiteral m text
+  wrong_none n inside wrong l reads =
+      dead n wrong (length text) inside (omega arith) l (subst (λ t. Reads m l t) (sym (take_all (length text) text (omega arith))) reads)
+
+  module _ (s : Summary) (read : scan m (Some start) (take (length text) text) ≡ Some s) where
+    pub whole_literal : is_complete m s ≡ true → (l : Literal) × Reads m l text
+    whole_literal complete = subst (λ t. (l : Literal) × Reads m l t) (take_all (length text) text (omega arith))
+        (literal_from m (take (length text) text) (ap (is_accepted m) read ∙ complete))
+
+    pub whole_counted : (c : Cuts) → tally m (Some start) no_cuts (take (length text) text) ≡ c → (l : Literal) → Reads m l text
+        → (is_complete m s ≡ true) × HasLengths l c
+    whole_counted c counted l reads =
+        let arrives = literal_arrives m ready.roles l reads.literal in
+        let same = take_all (length text) text (omega arith) ∙ reads.whole in (
+          sym (ap (is_accepted m) read) ∙ ap (λ t. is_accepted m (scan m (Some start) t)) same ∙ arrives.0,
+          subst (HasLengths l) (sym arrives.1 ∙ ap (tally m (Some start) no_cuts) (sym same) ∙ counted) (has_lengths m ready.roles l reads.literal),
+        )
 
   -- A text has one reading.
   pub one_reading : (l k : Literal) → Reads m l text → Reads m k text → l ≡ k

@@ -8,8 +8,7 @@ use Rattle.lexical_util.specs.declared.feature_format.roles.Role.TheVariants as 
 use Rattle.lexical_util.specs.declared.format_flags.Part.{Part}
 use Rattle.lexical_util.specs.declared.format_flags.Part.TheVariants as parts
 use Rattle.lexical_literal.specs.Notation.{Notation, role_set}
-use Rattle.lexical_literal.specs.Additions.Summary.{role_in, takes, after, move, scan, step, is_accepted, count, tally}
-use Rattle.lexical_literal.specs.declared.steps.Cuts.{Cuts}
+use Rattle.lexical_literal.specs.Additions.Summary.{Cuts, role_in, takes, after, move, scan, step, is_accepted, count, tally}
 use Rattle.lexical_literal.specs.declared.steps.Summary.{Summary}
 
 -- `HasRoles m` holds if no byte plays two roles, 0 is a digit, the mantissa has one radix, and integers have neither a decimal point nor an exponent.

@@ -9,8 +9,7 @@ use Rattle.lexical_util.specs.declared.format_flags.Part.{Part}
 use Rattle.lexical_util.specs.declared.format_flags.Part.TheVariants as parts
 use Rattle.lexical_literal.specs.Notation.{Notation, role_set}
 use Rattle.lexical_literal.specs.Literal.{is_none_or_one, has_leading_zero}
-use Rattle.lexical_literal.specs.Additions.Summary.{role_in, has_digit, is_fresh, is_lone, is_led, is_bare, first_digit, needs_sign, may_lead, may_follow, after_digit, after_separator, may_end, takes_digit, is_open, is_signed, ends, may_stop, takes, after, move, add, digits_piece}
-use Rattle.lexical_literal.specs.declared.steps.Cuts.{Cuts}
+use Rattle.lexical_literal.specs.Additions.Summary.{Cuts, role_in, has_digit, is_fresh, is_lone, is_led, is_bare, first_digit, needs_sign, may_lead, may_follow, after_digit, after_separator, may_end, takes_digit, is_open, is_signed, ends, may_stop, takes, after, move, add, digits_piece}
 use Rattle.lexical_literal.specs.declared.steps.Stage.{Stage}
 use Rattle.lexical_literal.specs.declared.steps.Stage.TheVariants as stages
 use Rattle.lexical_literal.specs.declared.steps.Summary.{Summary}

@@ -1,4 +1,3 @@
 pub mod Summary
-pub mod Moves
 pub mod Longest
 pub mod Tables

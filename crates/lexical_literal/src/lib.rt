@@ -4,5 +4,5 @@
 pub mod laws;
 pub mod read;
 mod steps;
-mod tables;
 pub mod syntax;
+mod tables;

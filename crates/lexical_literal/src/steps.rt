@@ -1,12 +1,11 @@
 //! The steps of a reader: what has been read of a number, changed by the class of one byte.
 
-ghost use Rattle.std.specs.Prelude.{◌≡◌, IfNone, IfSome, IsFalse, nat_lt, Some, None, ◌+◌, ◌<◌, ◌≤◌};
+ghost use Rattle.std.specs.Prelude.{◌≡◌, IsFalse, nat_lt};
 ghost use Rattle.lexical_util.specs.Digits.{byte_value};
 ghost use Rattle.lexical_util.specs.Record.{raw};
 ghost use Rattle.lexical_literal.specs.Notation.{notation_of, radix_of, point_of, exponent_character_of};
 ghost use Rattle.lexical_literal.specs.Run.{is_place};
-ghost use Rattle.lexical_literal.specs.Additions.Moves.{IsMove};
-ghost use Rattle.lexical_literal.specs.Additions.Summary.{class_of, role_of, in_part, piece_of, has_digit, is_fresh, is_led, may_follow, after_digit, after_separator, after_sign, takes_digit, takes_separator, is_signed, needs_exponent, may_lead, forbids_plus, digits_suffice, may_float, may_point, may_scale, may_stop, ends, is_complete, takes, after, add, count, total, class_step};
+ghost use Rattle.lexical_literal.specs.Additions.Summary.{IsMove, class_of, role_of, in_part, piece_of, has_digit, is_fresh, is_led, may_follow, after_digit, after_separator, after_sign, after_point, takes_digit, takes_separator, is_signed, needs_exponent, may_lead, forbids_plus, digits_suffice, may_float, may_point, may_scale, may_stop, ends, is_complete, takes, after};
 
 use crate::syntax::Grammar;
 use lexical_util::format::{Part, Role};
@@ -80,62 +79,13 @@ pub(crate) struct Summary {
     pub(crate) ended: bool,
 }
 
-// Nothing has been read.
-pub(crate) const START: Summary = Summary {
-    part: Part::Integer,
-    stage: Stage::Start,
+// A number with a suffix, behind which nothing follows.
+pub(crate) const FINISHED: Summary = Summary {
+    part: Part::Exponent,
+    stage: Stage::Digits,
     gap: false,
-    ended: false,
+    ended: true,
 };
-
-// The lengths of the parts that have been read. The zero of a prefix counts as a digit of the integer, and the suffix
-// does not count.
-#[derive(Clone, Copy)]
-pub(crate) struct Cuts {
-    pub(crate) sign: usize,
-    pub(crate) prefix: usize,
-    pub(crate) integer: usize,
-    pub(crate) point: usize,
-    pub(crate) fraction: usize,
-    pub(crate) exponent_character: usize,
-    pub(crate) exponent_sign: usize,
-    pub(crate) exponent: usize,
-}
-
-// No bytes have been read.
-pub(crate) const NO_CUTS: Cuts = Cuts {
-    sign: 0,
-    prefix: 0,
-    integer: 0,
-    point: 0,
-    fraction: 0,
-    exponent_character: 0,
-    exponent_sign: 0,
-    exponent: 0,
-};
-
-impl Cuts {
-    // Counts one more byte of `piece`.
-    pub(crate) fn add(self, piece: Piece) -> Cuts
-        requires { total self < usize.MAX }
-        ensures value { result ≡ add self piece }
-        ensures grows { total result ≤ total self + 1 }
-    {
-        let mut longer = self;
-        match piece {
-            Piece::Sign => longer.sign += 1,
-            Piece::Prefix => longer.prefix += 1,
-            Piece::Integer => longer.integer += 1,
-            Piece::Point => longer.point += 1,
-            Piece::Fraction => longer.fraction += 1,
-            Piece::ExponentCharacter => longer.exponent_character += 1,
-            Piece::ExponentSign => longer.exponent_sign += 1,
-            Piece::Exponent => longer.exponent += 1,
-            Piece::Suffix => (),
-        }
-        longer
-    }
-}
 
 // What one byte makes of what has been read.
 #[derive(Clone, Copy)]
@@ -537,31 +487,40 @@ fn after(read: Summary, zero: bool, role: Role) -> Summary
     ensures { result ≡ after read zero role }
 {
     let mut next = read;
-    next.gap = match role {
-        Role::Separator => true,
-        Role::Sign | Role::Suffix => read.gap,
-        Role::Digit | Role::Prefix | Role::Point | Role::Exponent => false,
-    };
     match role {
-        Role::Digit => next.stage = after_digit(read.stage, read.gap, zero),
-        Role::Separator => next.stage = after_separator(read.stage),
+        Role::Digit => {
+            next.stage = after_digit(read.stage, read.gap, zero);
+            next.gap = false;
+        }
+        Role::Separator => {
+            next.stage = after_separator(read.stage);
+            next.gap = true;
+        }
         Role::Sign => next.stage = after_sign(read.stage),
-        Role::Prefix => next.stage = Stage::Free,
+        Role::Prefix => {
+            next.stage = Stage::Free;
+            next.gap = false;
+        }
         Role::Point => {
             next.part = Part::Fraction;
-            next.stage = if has_digit(read.stage) {
-                Stage::Free
-            } else {
-                Stage::Lone
-            };
+            next.stage = after_point(has_digit(read.stage));
+            next.gap = false;
         }
         Role::Exponent => {
             next.part = Part::Exponent;
             next.stage = Stage::Mark;
+            next.gap = false;
         }
-        Role::Suffix => next.ended = true,
+        Role::Suffix => next = FINISHED,
     }
     next
+}
+
+// Returns the stage after a decimal point that follows an integer with a digit, or without one.
+fn after_point(digit: bool) -> Stage
+    ensures { result ≡ after_point digit }
+{
+    if digit { Stage::Free } else { Stage::Lone }
 }
 
 // Returns what a byte of `class` makes of what has been read, or `None` if no literal begins so.

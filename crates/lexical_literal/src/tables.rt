@@ -3,23 +3,34 @@
 ghost use Rattle.std.specs.Prelude.{◌≡◌, ◌<◌, ◌/◌, ◌%◌, ℕ, None, false, slice_index_or};
 ghost use Rattle.lexical_literal.specs.Notation.{Notation, notation_of};
 ghost use Rattle.lexical_literal.specs.Additions.Summary.{class_of, is_complete};
-ghost use Rattle.lexical_literal.specs.Additions.Moves.{IsMove};
-ghost use Rattle.lexical_literal.specs.Additions.Tables.{HasTables, part_number, stage_number, class_number, part_at, stage_at, class_at, row, summary_at};
+ghost use Rattle.lexical_literal.specs.Additions.Tables.{HasTables, IsStep, part_number, stage_number, class_number, piece_number, part_at, stage_at, class_at, row, summary_at};
 
-use crate::steps::{self, Class, Move, Stage, Summary};
+use crate::steps::{self, Class, FINISHED, Piece, Stage, Summary};
 use crate::syntax::Grammar;
 use lexical_util::format::Part;
 
-// The rows are summaries, without those of a number that has ended, and the columns of moves are classes.
-const ROWS: usize = 54;
-const COLUMNS: usize = 16;
-const MOVES: usize = ROWS * COLUMNS;
+// The rows of a table are summaries, of which the last has ended. The columns are classes.
+const ROWS: usize = 55;
 
-// The class of each byte, what a class makes of each summary, and whether a number with each summary is a literal.
+const COLUMNS: usize = 16;
+
+const STEPS: usize = ROWS * COLUMNS;
+
+// The row before any byte.
+pub(crate) const START: u8 = 0;
+
+// What one byte makes of what has been read: a row, and the part of the literal that the byte belongs to.
+#[derive(Clone, Copy)]
+pub(crate) struct Step {
+    pub(crate) row: u8,
+    pub(crate) piece: Piece,
+}
+
+// The class of each byte, what each class makes of each row, and whether each row is that of a literal.
 #[derive(Drop)]
 pub(crate) struct Tables {
     classes: [Class; 256],
-    moves: [Option<Move>; MOVES],
+    steps: [Option<Step>; STEPS],
     ends: [bool; ROWS],
 }
 
@@ -74,6 +85,25 @@ fn class_number(class: Class) -> usize
     }
 }
 
+// Returns the place of a piece in a list of lengths.
+#[inline(always)]
+pub(crate) fn piece_number(piece: Piece) -> usize
+    ensures value { result ≡ piece_number piece }
+    ensures small { result < 9 }
+{
+    match piece {
+        Piece::Sign => 0,
+        Piece::Prefix => 1,
+        Piece::Integer => 2,
+        Piece::Point => 3,
+        Piece::Fraction => 4,
+        Piece::ExponentCharacter => 5,
+        Piece::ExponentSign => 6,
+        Piece::Exponent => 7,
+        Piece::Suffix => 8,
+    }
+}
+
 // Returns the part with the number `number`.
 fn part_at(number: usize) -> Part
     ensures { result ≡ part_at number }
@@ -123,24 +153,51 @@ fn class_at(number: usize) -> Class
 }
 
 // Returns the row of a summary.
-fn row(read: Summary) -> usize
+fn row(read: Summary) -> u8
     ensures value { result ≡ row read }
-    ensures small { result < 54 }
+    ensures small { result < 55 }
 {
-    let gap = if read.gap { 1 } else { 0 };
-    part_number(read.part) * 18 + stage_number(read.stage) * 2 + gap
+    if read.ended {
+        54
+    } else {
+        let gap = if read.gap { 1 } else { 0 };
+        (part_number(read.part) * 18 + stage_number(read.stage) * 2 + gap) as u8
+    }
 }
 
 // Returns the summary of a row.
-fn summary_at(row: usize) -> Summary
+fn summary_at(row: u8) -> Summary
     ensures { result ≡ summary_at row }
 {
+    if row == 54 {
+        return FINISHED;
+    }
+    let row = row as usize;
     Summary {
         part: part_at(row / 18),
         stage: stage_at(row / 2 % 9),
         gap: row % 2 == 1,
         ended: false,
     }
+}
+
+// Returns what a byte of `class` makes of a row, or `None` if no literal begins so.
+pub(crate) fn step_from(grammar: Grammar, from: u8, class: Class) -> Option<Step>
+    requires { from < 55 }
+    ensures { IsStep (notation_of grammar) from class result }
+{
+    let next = steps::step(grammar, summary_at(from), class)?;
+    Some(Step {
+        row: row(next.summary),
+        piece: next.piece,
+    })
+}
+
+// Returns whether a row is that of a literal.
+pub(crate) fn is_complete(grammar: Grammar, row: u8) -> bool
+    ensures { result ≡ is_complete (notation_of grammar) (summary_at row) }
+{
+    steps::is_complete(grammar, summary_at(row))
 }
 
 // Returns the classes of all bytes.
@@ -154,26 +211,25 @@ fn classes_of(grammar: Grammar) -> [Class; 256]
     classes
 }
 
-// Returns what each class makes of each summary.
-fn moves_of(grammar: Grammar) -> [Option<Move>; MOVES]
-    ensures { (index : ℕ) → index < 864
-        → IsMove (notation_of grammar) (summary_at (index / 16)) (class_at (index % 16)) (slice_index_or result index None) }
+// Returns what each class makes of each row.
+fn steps_of(grammar: Grammar) -> [Option<Step>; STEPS]
+    ensures { (index : ℕ) → index < 880
+        → IsStep (notation_of grammar) (index / 16) (class_at (index % 16)) (slice_index_or result index None) }
 {
-    let mut moves = [None; MOVES];
-    for index in 0..MOVES {
-        moves[index] = steps::step(grammar, summary_at(index / COLUMNS), class_at(index % COLUMNS));
+    let mut steps = [None; STEPS];
+    for index in 0..STEPS {
+        steps[index] = step_from(grammar, (index / COLUMNS) as u8, class_at(index % COLUMNS));
     }
-    moves
+    steps
 }
 
-// Returns whether a number with each summary is a literal.
+// Returns whether each row is that of a literal.
 fn ends_of(grammar: Grammar) -> [bool; ROWS]
-    ensures { (index : ℕ) → index < 54
-        → slice_index_or result index false ≡ is_complete (notation_of grammar) (summary_at index) }
+    ensures { (row : ℕ) → row < 55 → slice_index_or result row false ≡ is_complete (notation_of grammar) (summary_at row) }
 {
     let mut ends = [false; ROWS];
-    for index in 0..ROWS {
-        ends[index] = steps::is_complete(grammar, summary_at(index));
+    for row in 0..ROWS {
+        ends[row] = is_complete(grammar, row as u8);
     }
     ends
 }
@@ -185,33 +241,34 @@ impl Tables {
     {
         Tables {
             classes: classes_of(grammar),
-            moves: moves_of(grammar),
+            steps: steps_of(grammar),
             ends: ends_of(grammar),
         }
     }
 
     // Returns the class of `byte`.
+    #[inline(always)]
     pub(crate) fn class(&self, byte: u8) -> Class
         ensures { (m : Notation) → HasTables m self.now → result ≡ class_of m byte }
     {
         self.classes[byte as usize]
     }
 
-    // Returns what a byte of `class` makes of what has been read.
-    pub(crate) fn step(&self, read: Summary, class: Class) -> Option<Move>
-        ensures { (m : Notation) → HasTables m self.now → IsMove m read class result }
+    // Returns what a byte of `class` makes of a row.
+    #[inline(always)]
+    pub(crate) fn step(&self, row: u8, class: Class) -> Option<Step>
+        requires { row < 55 }
+        ensures { (m : Notation) → HasTables m self.now → IsStep m row class result }
     {
-        if read.ended {
-            None
-        } else {
-            self.moves[row(read) * COLUMNS + class_number(class)]
-        }
+        self.steps[row as usize * COLUMNS + class_number(class)]
     }
 
-    // Returns whether what has been read is a literal.
-    pub(crate) fn is_complete(&self, read: Summary) -> bool
-        ensures { (m : Notation) → HasTables m self.now → result ≡ is_complete m read }
+    // Returns whether a row is that of a literal.
+    #[inline(always)]
+    pub(crate) fn is_complete(&self, row: u8) -> bool
+        requires { row < 55 }
+        ensures { (m : Notation) → HasTables m self.now → result ≡ is_complete m (summary_at row) }
     {
-        read.ended || self.ends[row(read)]
+        self.ends[row as usize]
     }
 }

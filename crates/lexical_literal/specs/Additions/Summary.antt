@@ -12,7 +12,7 @@ use Rattle.lexical_literal.specs.Notation.{Notation}
 use Rattle.lexical_literal.specs.Run.{is_place}
 use Rattle.lexical_literal.specs.declared.steps.Class.{Class}
 use Rattle.lexical_literal.specs.declared.steps.Class.TheVariants as classes
-use Rattle.lexical_literal.specs.declared.steps.Cuts.{Cuts}
+use Rattle.lexical_literal.specs.declared.steps.Move.{Move}
 use Rattle.lexical_literal.specs.declared.steps.Piece.{Piece}
 use Rattle.lexical_literal.specs.declared.steps.Piece.TheVariants as pieces
 use Rattle.lexical_literal.specs.declared.steps.Stage.{Stage}
@@ -184,6 +184,10 @@ takes m s plus roles.Suffix = ends m s && may_stop m s.part s.stage
 abbrev pub after_point : Bool → Stage
 after_point digit = if digit then stages.Free else stages.Lone
 
+-- `finished` is the summary of a number with a suffix, behind which nothing follows.
+abbrev pub finished : Summary
+finished = record { part = parts.Exponent; stage = stages.Digits; gap = false; ended = true }
+
 -- `after s zero role` is the summary after a byte that has the role `role`, and is the digit 0 if `zero` is true.
 abbrev pub after : Summary → Bool → Role → Summary
 after s zero roles.Digit = record s { stage = after_digit s.stage s.gap zero; gap = false }
@@ -192,7 +196,7 @@ after s zero roles.Sign = record s { stage = after_sign s.stage }
 after s zero roles.Prefix = record s { stage = stages.Free; gap = false }
 after s zero roles.Point = record s { part = parts.Fraction; stage = after_point (has_digit s.stage); gap = false }
 after s zero roles.Exponent = record s { part = parts.Exponent; stage = stages.Mark; gap = false }
-after s zero roles.Suffix = record s { ended = true }
+after s zero roles.Suffix = finished
 
 abbrev pub move : Notation → Summary → Bool → Bool → Option Role → Option Summary
 move m s plus zero None = None
@@ -201,6 +205,55 @@ move m s plus zero (Some role) = if not s.ended && takes m s plus role then Some
 -- `step m s byte` is the summary after one more byte, or `None` if no literal begins so.
 abbrev pub step : Notation → Summary → ℕ → Option Summary
 step m s byte = move m s (byte == 43) (byte == 48) (role_in m s.part byte)
+
+-- `digits_piece part` is the piece of the digits of `part`, and `sign_piece part` that of a sign before them.
+abbrev pub digits_piece : Part → Piece
+digits_piece parts.Integer = pieces.Integer
+digits_piece parts.Fraction = pieces.Fraction
+digits_piece parts.Exponent = pieces.Exponent
+
+abbrev pub sign_piece : Part → Piece
+sign_piece parts.Exponent = pieces.ExponentSign
+sign_piece _ = pieces.Sign
+
+-- `piece_of part role` is the piece that a byte with the role `role` belongs to, after a front that ends in `part`.
+abbrev pub piece_of : Part → Role → Piece
+piece_of part roles.Digit = digits_piece part
+piece_of part roles.Separator = digits_piece part
+piece_of part roles.Sign = sign_piece part
+piece_of part roles.Prefix = pieces.Prefix
+piece_of part roles.Point = pieces.Point
+piece_of part roles.Exponent = pieces.ExponentCharacter
+piece_of part roles.Suffix = pieces.Suffix
+
+-- `Cuts` has the number of bytes of each piece that has been read. The zero of a prefix counts as a digit of the integer,
+-- and the suffix does not count.
+pub record Cuts : Type 0 where
+  pub sign : ℕ
+  pub prefix : ℕ
+  pub integer : ℕ
+  pub point : ℕ
+  pub fraction : ℕ
+  pub exponent_character : ℕ
+  pub exponent_sign : ℕ
+  pub exponent : ℕ
+
+-- `add c piece` counts one more byte of `piece`.
+abbrev pub add : Cuts → Piece → Cuts
+add c pieces.Sign = record c { sign = c.sign + 1 }
+add c pieces.Prefix = record c { prefix = c.prefix + 1 }
+add c pieces.Integer = record c { integer = c.integer + 1 }
+add c pieces.Point = record c { point = c.point + 1 }
+add c pieces.Fraction = record c { fraction = c.fraction + 1 }
+add c pieces.ExponentCharacter = record c { exponent_character = c.exponent_character + 1 }
+add c pieces.ExponentSign = record c { exponent_sign = c.exponent_sign + 1 }
+add c pieces.Exponent = record c { exponent = c.exponent + 1 }
+add c pieces.Suffix = c
+
+-- `count part role c` counts one more byte with the role `role` in `part`.
+abbrev pub count : Part → Option Role → Cuts → Cuts
+count part None c = c
+count part (Some role) c = add c (piece_of part role)
 
 -- `class_of m byte` is the class of `byte`.
 abbrev pub class_of : Notation → ℕ → Class
@@ -251,6 +304,12 @@ is_plus _ = false
 abbrev pub class_step : Notation → Summary → Class → Option Summary
 class_step m s class = move m s (is_plus class) (is_zero class) (in_part s.part class)
 
+-- `IsMove m s class o` holds if `o` is what a byte of `class` makes of `s`, or `None` if no literal begins so.
+abbrev pub IsMove : Notation → Summary → Class → Option Move → Type 0
+IsMove m s class None = class_step m s class ≡ None
+IsMove m s class (Some next) =
+    (class_step m s class ≡ Some next.summary) × ((c : Cuts) → count s.part (in_part s.part class) c ≡ add c next.piece)
+
 -- `scan m s text` is the summary after the bytes of `text`.
 abbrev pub scan : Notation → Option Summary → List ℕ → Option Summary
 scan m s [] = s
@@ -264,43 +323,6 @@ is_accepted m (Some s) = is_complete m s
 abbrev pub start : Summary
 start = record { part = parts.Integer; stage = stages.Start; gap = false; ended = false }
 
--- `digits_piece part` is the piece of the digits of `part`, and `sign_piece part` that of a sign before them.
-abbrev pub digits_piece : Part → Piece
-digits_piece parts.Integer = pieces.Integer
-digits_piece parts.Fraction = pieces.Fraction
-digits_piece parts.Exponent = pieces.Exponent
-
-abbrev pub sign_piece : Part → Piece
-sign_piece parts.Exponent = pieces.ExponentSign
-sign_piece _ = pieces.Sign
-
--- `piece_of part role` is the piece that a byte with the role `role` belongs to, after a front that ends in `part`.
-abbrev pub piece_of : Part → Role → Piece
-piece_of part roles.Digit = digits_piece part
-piece_of part roles.Separator = digits_piece part
-piece_of part roles.Sign = sign_piece part
-piece_of part roles.Prefix = pieces.Prefix
-piece_of part roles.Point = pieces.Point
-piece_of part roles.Exponent = pieces.ExponentCharacter
-piece_of part roles.Suffix = pieces.Suffix
-
--- `add c piece` counts one more byte of `piece`.
-abbrev pub add : Cuts → Piece → Cuts
-add c pieces.Sign = record c { sign = c.sign + 1 }
-add c pieces.Prefix = record c { prefix = c.prefix + 1 }
-add c pieces.Integer = record c { integer = c.integer + 1 }
-add c pieces.Point = record c { point = c.point + 1 }
-add c pieces.Fraction = record c { fraction = c.fraction + 1 }
-add c pieces.ExponentCharacter = record c { exponent_character = c.exponent_character + 1 }
-add c pieces.ExponentSign = record c { exponent_sign = c.exponent_sign + 1 }
-add c pieces.Exponent = record c { exponent = c.exponent + 1 }
-add c pieces.Suffix = c
-
--- `count part role c` counts one more byte with the role `role` in `part`.
-abbrev pub count : Part → Option Role → Cuts → Cuts
-count part None c = c
-count part (Some role) c = add c (piece_of part role)
-
 -- `tally m s c text` has the lengths of the parts after the bytes of `text`.
 abbrev pub tally : Notation → Option Summary → Cuts → List ℕ → Cuts
 tally m s c [] = c
@@ -309,9 +331,6 @@ tally m (Some s) c (byte ∷ text) = tally m (step m s byte) (count s.part (role
 
 abbrev pub no_cuts : Cuts
 no_cuts = record { sign = 0; prefix = 0; integer = 0; point = 0; fraction = 0; exponent_character = 0; exponent_sign = 0; exponent = 0 }
-
-abbrev pub total : Cuts → ℕ
-total c = c.sign + c.prefix + c.integer + c.point + c.fraction + c.exponent_character + c.exponent_sign + c.exponent
 
 -- `HasLengths l c` holds if the parts of `l` have the lengths `c`.
 pub record HasLengths (l : Literal) (c : Cuts) : Type 0 where

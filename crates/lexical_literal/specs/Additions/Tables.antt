@@ -1,15 +1,17 @@
--- Tables of all classes, of all steps, and of what ends a literal.
-use Rattle.std.specs.Prelude.{ℕ, ◌≡◌, ◌+◌, ◌*◌, ◌/◌, ◌%◌, ◌<◌, ◌==◌, Bool, true, false, if◌then◌else◌, None, slice_index_or}
+-- Tables of all classes, of all steps, and of what is a literal.
+use Rattle.std.specs.Prelude.{ℕ, ◌≡◌, ◌+◌, ◌*◌, ◌/◌, ◌%◌, ◌<◌, ◌==◌, Bool, false, if◌then◌else◌, List, Option, None, Some, slice_index, slice_index_or}
 use Rattle.lexical_util.specs.declared.format_flags.Part.{Part}
 use Rattle.lexical_util.specs.declared.format_flags.Part.TheVariants as parts
 use Rattle.lexical_literal.specs.Notation.{Notation}
-use Rattle.lexical_literal.specs.Additions.Summary.{class_of, is_complete}
-use Rattle.lexical_literal.specs.Additions.Moves.{IsMove}
+use Rattle.lexical_literal.specs.Additions.Summary.{Cuts, class_of, class_step, in_part, count, add, finished, is_complete}
 use Rattle.lexical_literal.specs.declared.steps.Class.{Class}
 use Rattle.lexical_literal.specs.declared.steps.Class.TheVariants as classes
 use Rattle.lexical_literal.specs.declared.steps.Stage.{Stage}
 use Rattle.lexical_literal.specs.declared.steps.Stage.TheVariants as stages
 use Rattle.lexical_literal.specs.declared.steps.Summary.{Summary}
+use Rattle.lexical_literal.specs.declared.steps.Piece.{Piece}
+use Rattle.lexical_literal.specs.declared.steps.Piece.TheVariants as pieces
+use Rattle.lexical_literal.specs.declared.tables.Step.{Step}
 use Rattle.lexical_literal.specs.declared.tables.Tables.{Tables}
 
 -- The numbers of parts, stages and classes, in the order of their variants.
@@ -65,13 +67,48 @@ class_at n =
 
 -- `row s` is the row of `s` in the tables, and `summary_at n` the summary of the row `n`.
 abbrev pub row : Summary → ℕ
-row s = part_number s.part * 18 + stage_number s.stage * 2 + gap_number s.gap
+row s = if s.ended then 54 else part_number s.part * 18 + stage_number s.stage * 2 + gap_number s.gap
 
 abbrev pub summary_at : ℕ → Summary
-summary_at n = record { part = part_at (n / 18); stage = stage_at (n / 2 % 9); gap = n % 2 == 1; ended = false }
+summary_at n =
+    if n == 54 then finished
+    else record { part = part_at (n / 18); stage = stage_at (n / 2 % 9); gap = n % 2 == 1; ended = false }
 
--- `HasTables m t` holds if `t` has the classes and steps of `m`. It has no row for a number that has ended.
+-- `IsStep m n class o` holds if `o` is what a byte of `class` makes of the summary of the row `n`, or `None` if no literal
+-- begins so.
+abbrev pub IsStep : Notation → ℕ → Class → Option Step → Type 0
+IsStep m n class None = class_step m (summary_at n) class ≡ None
+IsStep m n class (Some next) =
+    (class_step m (summary_at n) class ≡ Some (summary_at next.row)) × (next.row < 55)
+    × ((c : Cuts) → count (summary_at n).part (in_part (summary_at n).part class) c ≡ add c next.piece)
+
+-- `HasTables m t` holds if `t` has the classes and steps of `m`.
 pub record HasTables (m : Notation) (t : Tables) : Type 0 where
   pub classes : (byte : ℕ) → byte < 256 → slice_index_or t.classes byte classes.Other ≡ class_of m byte
-  pub moves : (s : Summary) → s.ended ≡ false → (class : Class) → IsMove m s class (slice_index_or t.moves (row s * 16 + class_number class) None)
-  pub ends : (s : Summary) → s.ended ≡ false → slice_index_or t.ends (row s) false ≡ is_complete m s
+  pub steps : (n : ℕ) → n < 55 → (class : Class) → IsStep m n class (slice_index_or t.steps (n * 16 + class_number class) None)
+  pub ends : (n : ℕ) → n < 55 → slice_index_or t.ends n false ≡ is_complete m (summary_at n)
+
+-- `piece_number piece` is the place of `piece` in a list of lengths.
+abbrev pub piece_number : Piece → ℕ
+piece_number pieces.Sign = 0
+piece_number pieces.Prefix = 1
+piece_number pieces.Integer = 2
+piece_number pieces.Point = 3
+piece_number pieces.Fraction = 4
+piece_number pieces.ExponentCharacter = 5
+piece_number pieces.ExponentSign = 6
+piece_number pieces.Exponent = 7
+piece_number pieces.Suffix = 8
+
+-- `cuts_of counts` has the lengths in the list `counts`.
+abbrev pub cuts_of : List ℕ → Cuts
+cuts_of counts = record {
+  sign = slice_index counts 0;
+  prefix = slice_index counts 1;
+  integer = slice_index counts 2;
+  point = slice_index counts 3;
+  fraction = slice_index counts 4;
+  exponent_character = slice_index counts 5;
+  exponent_sign = slice_index counts 6;
+  exponent = slice_index counts 7;
+}

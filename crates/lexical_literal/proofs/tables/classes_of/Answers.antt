@@ -7,9 +7,11 @@ use Rattle.lexical_literal.proofs.tables.classes_of.Goals as goal
 
 pub loop-byte-preserved : goal.loop-byte-preserved
 loop-byte-preserved c =
-    let inside : c.loop-byte.byte < length c.loop-byte.classes = omega (arith, c.loop-byte.invariant.size, c.loop-byte-test.true) in
+    let m = notation_of c.args.grammar in
+    let now = c.loop-byte.invariant in
+    let inside : c.loop-byte.byte < length c.loop-byte.classes = omega (arith, now.size, c.loop-byte-test.true) in
     record {
-      size = length-set c.loop-byte.classes c.loop-byte.byte c.class_of.result ∙ c.loop-byte.invariant.size;
-      filled = set_more (λ k class. class ≡ class_of (notation_of c.args.grammar) k) c.loop-byte.classes c.loop-byte.byte c.class_of.result classes.Other inside
-    c.class_of.ensures c.loop-byte.invariant.filled;
+      size = length-set c.loop-byte.classes c.loop-byte.byte c.class_of.result ∙ now.size;
+      filled = set_more (λ k class. class ≡ class_of m k) c.loop-byte.classes c.loop-byte.byte c.class_of.result classes.Other inside
+          c.class_of.ensures now.filled;
     }
