@@ -165,7 +165,7 @@ PELTZIVAR_MUST_USE PELTZIVAR_API peltzivar_error peltzivar_parse_word(
 /* Writes a word as `0x` followed by 32 uppercase hexadecimal digits. */
 PELTZIVAR_API size_t peltzivar_word_text(peltzivar_word format, char *text, size_t len);
 
-/* Writes Rust code that builds a word, such as "NumberFormatBuilder::new().mantissa_radix(16).build_unchecked()". The
+/* Writes Rust code that builds a word, such as "NumberFormatBuilder::new().mantissa_radix(16).build_or_panic()". The
  * result of the code is the word itself if and only if peltzivar_is_built returns true for the word. */
 PELTZIVAR_API size_t peltzivar_source(peltzivar_word format, char *text, size_t len);
 
@@ -225,9 +225,9 @@ PELTZIVAR_API peltzivar_word peltzivar_setter_mask(peltzivar_setter setter);
 /* Writes a reason as a sentence, such as "no_special and case_sensitive_special cannot both be set". */
 PELTZIVAR_API size_t peltzivar_reason_text(peltzivar_word format, size_t index, char *text, size_t len);
 
-/* Returns a mask of the bits on which a reason depends: every word in which these bits have the same values breaks the
- * first rule of the reason. The mask is 0 if there is no such reason. If the word was built from a list of edits, an
- * edit is to blame for the reason if it wrote one of these bits and no later edit wrote that bit. */
+/* Returns a mask of the bits that a reason blames: every word in which these bits have the same values breaks every rule
+ * of the reason. The mask is 0 if there is no such reason. If the word was built from a list of edits, an edit is to
+ * blame for the reason if it wrote one of these bits and no later edit wrote that bit. */
 PELTZIVAR_API peltzivar_word peltzivar_reason_mask(peltzivar_word format, size_t index);
 
 /* Returns the rules that a word breaks because of a reason: bit n is set for the rule with the number n. The result is

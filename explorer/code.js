@@ -20,7 +20,7 @@ class Code {
 
     rust(state, { isBuilt, error }) {
         const calls = this.edits(state.word).map(({ name, isByte, isNumber, value }) => {
-            const byte = isNumber ? String(value) : quoted(value, "b", "\\");
+            const byte = isNumber || "'\\".includes(String.fromCharCode(value)) ? String(value) : quoted(value, "b");
             const optional = value ? `NonZeroU8::new(${byte})` : "None";
             return `    .${name}(${!isByte ? Boolean(value) : name === "mantissa_radix" ? byte : optional})\n`;
         });

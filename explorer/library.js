@@ -127,8 +127,6 @@ function wordText(word) {
 }
 
 /* Returns a byte as a character in single quotes, as in Rust or a setting, or as a number if it is not visible. */
-function quoted(byte, prefix, escape = "") {
-    if (byte <= 32 || byte >= 127) return String(byte);
-    const character = String.fromCharCode(byte);
-    return `${prefix}'${"'\\".includes(character) ? escape : ""}${character}'`;
+function quoted(byte, prefix) {
+    return byte > 32 && byte < 127 ? `${prefix}'${String.fromCharCode(byte)}'` : String(byte);
 }

@@ -138,7 +138,7 @@ static void test_parts(void) {
 
 static void test_texts(void) {
     const peltzivar_word word = {0x12ab, 0x0A0A10000000005F};
-    const peltzivar_word longest = {all_flags() ^ PELTZIVAR_STANDARD.low, 0xFFFFFFFFFF0000FF};
+    const peltzivar_word longest = {all_flags() ^ PELTZIVAR_STANDARD.low, 0xFFFFFF2121000021};
     const char *const whole = "lexical number format error: 'invalid flags enabled without the format feature'";
     char source[PELTZIVAR_SOURCE_SIZE], wanted[100];
     peltzivar_word read = {1, 2};
@@ -165,9 +165,9 @@ static void test_texts(void) {
         CHECK(isxdigit(byte) ? error == PELTZIVAR_SUCCESS : error == PELTZIVAR_INVALID_DIGIT);
     }
     CHECK(peltzivar_parse_word("0x000000000000000000000000000000000", 35, &read) == PELTZIVAR_OVERFLOW);
-    /* The longest source: each flag differs from its default, and each byte has three decimal digits. */
+    /* The longest source: all flags differ from their defaults, radixes have three digits, and other bytes are '!'. */
     CHECK(peltzivar_source(longest, source, sizeof source) == strlen(source) && strlen(source) < sizeof source - 1);
-    CHECK(WRITES("NumberFormatBuilder::new().build_unchecked()", peltzivar_source(words[0], text, sizeof text)));
+    CHECK(WRITES("NumberFormatBuilder::new().build_or_panic()", peltzivar_source(words[0], text, sizeof text)));
 }
 
 /* A null pointer with a length of 0 is accepted as an empty array. */

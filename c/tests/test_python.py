@@ -149,7 +149,7 @@ class Words(unittest.TestCase):
             error = pickle.loads(pickle.dumps(caught.exception))
             self.assertEqual(str(error), "; ".join(sentences))
             self.assertEqual([it.rules for it in error.reasons], [(rule,) for rule in rules])
-        self.assertEqual([it.mask for it in view.reasons()], [0xFF << 104 | 0xFF << 88, 1 << 10 | 1 << 44])
+        self.assertEqual([it.mask for it in view.reasons()], [0xFF << 120 | 0xFF << 104 | 0xFF << 88, 1 << 10 | 1 << 44])
 
     def test_the_words_of_format_that_break_one_rule(self):
         self.assertEqual([int(number) for number, *_ in RULES], list(Rule))
@@ -179,7 +179,7 @@ class Words(unittest.TestCase):
 
     def test_other_calls(self):
         self.assertEqual(int(Format().normal_form()), 0x0A0A0A0000000000000000000000000C)
-        source = "NumberFormatBuilder::new().no_special(true).mantissa_radix(16).build_unchecked()"
+        source = "NumberFormatBuilder::new().no_special(true).mantissa_radix(16).build_or_panic()"
         self.assertEqual(FormatView(0x0000100000000000000000000000040C).source(), source)
         self.assertRegex(FormatView((1 << 128) - 1).source(), r"^NumberFormatBuilder::new\(\).{900,}\.build_unchecked\(\)$")
         self.assertRaisesRegex(AttributeError, "no_special=True", setattr, Format(), "no_special", True)

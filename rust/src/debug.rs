@@ -5,47 +5,27 @@ use core::fmt;
 
 use crate::edits::{edits_of, Edit};
 use crate::feature_format::NumberFormat;
-use crate::format_builder::{NumberFormatBuilder, OptionU8};
+use crate::format_builder::NumberFormatBuilder;
 use crate::format_flags::{Rule, DIGIT_SEPARATOR_SHIFT};
 use crate::lawful::Format;
 use crate::view::FormatView;
 
-/// A byte that is printed as a character if it is visible ASCII, and as a number otherwise.
-struct Character(u8);
-
-impl fmt::Debug for Character {
-    fn fmt(&self, f: &mut fmt::Formatter<'_>) -> fmt::Result {
-        if self.0.is_ascii_graphic() {
-            fmt::Debug::fmt(&char::from(self.0), f)
-        } else {
-            fmt::Debug::fmt(&self.0, f)
-        }
-    }
-}
-
-fn character(byte: OptionU8) -> Character {
-    Character(number(byte))
-}
-
-/// Returns a byte as a number. An absent byte is 0.
-fn number(byte: OptionU8) -> u8 {
-    byte.map_or(0, |byte| byte.get())
-}
-
-/// Writes a struct with `word` and those fields of the format word `fields` that differ from a new builder's.
+/// Writes a struct with `word` and those fields of the format word `fields` that differ from a new builder's. A
+/// separator, prefix or suffix is a character if it is visible ASCII, and any other byte is a number.
 fn write(f: &mut fmt::Formatter<'_>, name: &str, word: u128, fields: u128) -> fmt::Result {
     let mut text = f.debug_struct(name);
     text.field("word", &format_args!("{word:#034X}"));
     let (edits, count) = edits_of(fields);
     for edit in &edits[..count] {
-        match *edit {
-            Edit::Flag(setter, flag) => text.field(setter.name(), &flag),
-            Edit::DigitSeparator(byte) => text.field("digit_separator", &character(byte)),
-            Edit::BasePrefix(byte) => text.field("base_prefix", &character(byte)),
-            Edit::BaseSuffix(byte) => text.field("base_suffix", &character(byte)),
-            Edit::MantissaRadix(radix) | Edit::Radix(radix) => text.field("mantissa_radix", &radix),
-            Edit::ExponentBase(base) => text.field("exponent_base", &number(base)),
-            Edit::ExponentRadix(radix) => text.field("exponent_radix", &number(radix)),
+        let (name, byte) = (edit.name(), edit.argument_byte());
+        match edit {
+            Edit::Flag(_, flag) => text.field(name, flag),
+            Edit::DigitSeparator(_) | Edit::BasePrefix(_) | Edit::BaseSuffix(_)
+                if byte.is_ascii_graphic() =>
+            {
+                text.field(name, &char::from(byte))
+            }
+            _ => text.field(name, &byte),
         };
     }
     let reserved = word & Rule::ReservedBitsAreZero.mask();
@@ -73,12 +53,12 @@ impl fmt::Debug for BrokenRules {
 impl fmt::Debug for NumberFormatBuilder {
     fn fmt(&self, f: &mut fmt::Formatter<'_>) -> fmt::Result {
         let word = self.build_unchecked();
-        let separator = u128::from(number(self.get_digit_separator()));
+        let separator = self.get_digit_separator().map_or(0, |byte| byte.get());
         write(
             f,
             "NumberFormatBuilder",
             word,
-            word | separator << DIGIT_SEPARATOR_SHIFT,
+            word | u128::from(separator) << DIGIT_SEPARATOR_SHIFT,
         )
     }
 }

@@ -14,7 +14,8 @@ mod settings;
 pub use listing::{edits_of, is_built};
 pub(crate) use setters::mask_of;
 pub use setters::{
-    field_edits_of, ArgumentKind, Edit, FlagSetter, Setter, ALL_SETTERS, FIELD_COUNT, SETTERS,
+    field_edits_of, ArgumentKind, Edit, FlagSetter, Setter, ALL_SETTERS, FIELD_COUNT, FLAG_COUNT,
+    SETTERS,
 };
 pub(crate) use settings::Fault;
 pub use settings::{byte_from_decimal, SettingError, SettingErrorKind};
@@ -116,38 +117,35 @@ pub const fn normal_form(format: u128) -> u128 {
     format & flags::FLAG_MASK | (normal_upper(format) as u128) << 64
 }
 
+// The lowest bits of the radixes in the upper half of a format word.
+const MANTISSA_SHIFT: i32 = flags::MANTISSA_RADIX_SHIFT - 64;
+
+const BASE_SHIFT: i32 = flags::EXPONENT_BASE_SHIFT - 64;
+
+const RADIX_SHIFT: i32 = flags::EXPONENT_RADIX_SHIFT - 64;
+
+// The masks of the bytes in the upper half of a format word that stay as they are.
+const KEPT: u64 = ((flags::BASE_PREFIX | flags::BASE_SUFFIX | flags::MANTISSA_RADIX) >> 64) as u64;
+
+const KEPT_WITH_SEPARATOR: u64 = KEPT | (flags::DIGIT_SEPARATOR >> 64) as u64;
+
 // Returns the upper half of the normal form. It is joined without a builder, since one mask for the bytes that stay is
 // faster than a choice for the digit separator.
 const fn normal_upper(format: u128) -> u64 {
     let high = (format >> 64) as u64;
-    exponent_base_bits(high) | exponent_radix_bits(high) | kept_bits(format)
-}
-
-// Returns the exponent base in the upper half of a format word, or the mantissa radix if the base is 0, at its bits.
-const fn exponent_base_bits(high: u64) -> u64 {
-    let half = if (high >> 48) % 256 == 0 {
-        high << 8
-    } else {
-        high
-    };
-    ((half >> 48) % 256) << 48
-}
-
-// Returns the exponent radix in the upper half of a format word, or the mantissa radix if the former is 0, at its bits.
-const fn exponent_radix_bits(high: u64) -> u64 {
-    let radix = high >> 40;
-    let own = high >> 56;
-    let byte = if own == 0 { radix } else { own };
-    byte << 56
+    let radix = (high >> MANTISSA_SHIFT) % 256;
+    let exponent_base = flags::byte_or_radix((high >> BASE_SHIFT) % 256, radix);
+    let exponent_radix = flags::byte_or_radix(high >> RADIX_SHIFT, radix);
+    exponent_base << BASE_SHIFT | exponent_radix << RADIX_SHIFT | kept_bits(format)
 }
 
 // Returns the other bytes at their bits in the upper half, without a digit separator that no flag allows.
 const fn kept_bits(format: u128) -> u64 {
     let high = (format >> 64) as u64;
-    if format & flags::DIGIT_SEPARATOR_FLAG_MASK != 0 {
-        high & 0x0000_FFFF_FF00_00FF
+    if flags::is_separator_allowed(format) {
+        high & KEPT_WITH_SEPARATOR
     } else {
-        high & 0x0000_FFFF_FF00_0000
+        high & KEPT
     }
 }
 

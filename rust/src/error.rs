@@ -4,16 +4,10 @@
 //!
 //! A parser or a checker returns an [`Error`], which is [`Error::Success`] if nothing is wrong.
 
+use crate::short_text::ShortText;
 use core::fmt;
 
-mod decimal;
-mod short_text;
-mod sink;
 mod traits;
-
-use decimal::put_decimal;
-pub use short_text::{Piece, ShortText, EMPTY_PIECE};
-pub use sink::Sink;
 
 /// The outcome of parsing or checking: one of 48 errors, or [`Error::Success`].
 ///
@@ -686,22 +680,14 @@ impl Error {
         }
     }
 
-    /// Puts the text of this [`Error`], as `Display` prints it, into the sink `out`. If the sink is a formatter, its
-    /// options are ignored.
-    ///
-    /// # Errors
-    ///
-    /// Returns an error if [`Sink::put`] returns one.
+    /// Returns the text that `Display` prints.
     #[doc(hidden)]
-    pub fn put_into<S: Sink>(&self, out: &mut S) -> Result<(), fmt::Error> {
-        out.put(self.class().start())?;
-        out.put(self.description())?;
+    #[must_use]
+    pub const fn text(&self) -> ShortText {
+        let text = ShortText::of(self.class().start()).and(self.description());
         match self.index() {
-            Some(index) => {
-                out.put(" at index ")?;
-                put_decimal(out, *index)
-            }
-            None => Ok(()),
+            Some(index) => text.and(" at index ").decimal(*index),
+            None => text,
         }
     }
 }
@@ -724,6 +710,6 @@ impl Class {
 /// All options of the formatter, such as the width, are ignored. Returns an error if the formatter returns one.
 impl fmt::Display for Error {
     fn fmt(&self, f: &mut fmt::Formatter<'_>) -> fmt::Result {
-        self.put_into(f)
+        f.write_str(self.text().as_str())
     }
 }

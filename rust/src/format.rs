@@ -82,7 +82,7 @@ impl NumberFormatBuilder {
     pub const fn build_or_panic(&self) -> u128 {
         match self.build_format() {
             Ok(format) => format.word(),
-            Err(error) => panic!("{}", error.message().text()),
+            Err(error) => panic!("{}", error.message().as_str()),
         }
     }
 }

@@ -18,11 +18,13 @@ const FIRST_SEPARATOR: u32 = u128::count_ones(flags::FLAG_MASK % (1 << 32));
 // The mask of the flags below the digit separator flags. Their bits in a builder are the same as in a format word.
 const LOW_FLAGS: u32 = (1 << FIRST_SEPARATOR) - 1;
 
-// The flags that are set in a new builder, at their bits in a format word.
-const NEW_FLAGS: u128 = 0xC;
+// The flags that are set in a new builder. They have the same bits in a format word.
+const NEW_FLAGS: u128 = flags::REQUIRED_EXPONENT_DIGITS | flags::REQUIRED_MANTISSA_DIGITS;
 
 // The word whose mantissa radix, exponent base and exponent radix are 1, and whose other bits are 0.
-const ONE_IN_EACH_RADIX: u128 = 0x01010100_00000000_00000000_00000000;
+const ONE_IN_EACH_RADIX: u128 = 1 << flags::MANTISSA_RADIX_SHIFT
+    | 1 << flags::EXPONENT_BASE_SHIFT
+    | 1 << flags::EXPONENT_RADIX_SHIFT;
 
 // The index of each byte in a builder.
 const DIGIT_SEPARATOR: usize = 0;
@@ -89,7 +91,7 @@ impl NumberFormatBuilder {
     /// other flags are false.
     pub const fn new() -> Self {
         NumberFormatBuilder {
-            flags: 0xC,
+            flags: NEW_FLAGS as u32,
             bytes: [0, 0, 0, 10, 0, 0],
         }
     }
@@ -212,7 +214,8 @@ impl NumberFormatBuilder {
     pub const fn rebuild(format: u128) -> Self {
         let high = (format >> 64) as u64;
         let radix = (high >> MANTISSA_SHIFT) % 256;
-        let exponent_radix = byte_or_radix(high >> RADIX_SHIFT, radix);
+        let exponent_radix = flags::byte_or_radix(high >> RADIX_SHIFT, radix);
+        let exponent_base = flags::byte_or_radix((high >> BASE_SHIFT) % 256, radix);
         NumberFormatBuilder {
             flags: builder_flags(format),
             bytes: [
@@ -220,7 +223,7 @@ impl NumberFormatBuilder {
                 ((high >> PREFIX_SHIFT) % 256) as u8,
                 ((high >> SUFFIX_SHIFT) % 256) as u8,
                 radix as u8,
-                base_or_radix(high),
+                exponent_base as u8,
                 exponent_radix as u8,
             ],
         }
@@ -246,27 +249,6 @@ impl NumberFormatBuilder {
         self.bytes[index] = value;
         self
     }
-}
-
-// Returns an exponent byte of a format word, or the mantissa radix if the byte is 0. Both are 64 bits wide, like the
-// upper half of a word, since a choice between narrower numbers is slower.
-const fn byte_or_radix(byte: u64, mantissa_radix: u64) -> u64 {
-    if byte == 0 {
-        mantissa_radix
-    } else {
-        byte
-    }
-}
-
-// Returns the exponent base in the upper half of a format word, or the mantissa radix if the base is 0. The half is
-// chosen before it is shifted, since a choice between two shifted halves is slower.
-const fn base_or_radix(high: u64) -> u8 {
-    let half = if (high >> BASE_SHIFT) % 256 == 0 {
-        high << (BASE_SHIFT - MANTISSA_SHIFT)
-    } else {
-        high
-    };
-    ((half >> BASE_SHIFT) % 256) as u8
 }
 
 // Returns the flags of a format word, each at its bit in a builder.

@@ -2,14 +2,14 @@
 
 use core::fmt;
 
-use crate::digit::digit_to_char;
-use crate::error::{Error, Piece, ShortText};
+use crate::error::Error;
 use crate::reasons::{options_reasons, reasons, Reason, MAX_REASONS};
+use crate::short_text::ShortText;
 
 /// Why a word is not a [`Format`][crate::Format], why a text is not one, or why a format does not accept options.
 ///
-/// `Display` prints the first of the [`reasons`][Self::reasons]. If there are none, it prints the
-/// [`code`][Self::code].
+/// `Display` prints the first of the [`reasons`][Self::reasons]. If there are none, it prints that a word begins with
+/// `0x` if the text does not, and otherwise the [`code`][Self::code].
 ///
 /// ```
 /// use core::num::NonZeroU8;
@@ -85,22 +85,12 @@ impl FormatError {
     }
 
     /// Returns the text of a panic: the description of the error, a colon, and the first reason as a sentence.
-    pub(crate) const fn message(&self) -> Message {
-        let mut message = Message {
-            bytes: [0; 512],
-            length: 0,
-        };
-        message.put(self.code.description());
-        if let Some(reason) = self.first_reason() {
-            let ShortText(first, second, third, fourth, fifth) = reason.text();
-            message.put(": ");
-            message.put_piece(first);
-            message.put_piece(second);
-            message.put_piece(third);
-            message.put_piece(fourth);
-            message.put_piece(fifth);
+    pub(crate) const fn message(&self) -> ShortText {
+        let message = ShortText::of(self.code.description());
+        match self.first_reason() {
+            Some(reason) => message.and(": ").and(reason.text().as_str()),
+            None => message,
         }
-        message
     }
 }
 
@@ -108,9 +98,10 @@ impl core::error::Error for FormatError {}
 
 impl fmt::Display for FormatError {
     fn fmt(&self, f: &mut fmt::Formatter<'_>) -> fmt::Result {
-        match self.first_reason() {
-            Some(reason) => fmt::Display::fmt(&reason, f),
-            None => fmt::Display::fmt(&self.code, f),
+        match (self.first_reason(), self.code.index()) {
+            (Some(reason), _) => fmt::Display::fmt(&reason, f),
+            (None, Some(0 | 1)) => f.write_str("a format word begins with `0x`"),
+            (None, _) => fmt::Display::fmt(&self.code, f),
         }
     }
 }
@@ -129,66 +120,5 @@ impl fmt::Debug for FormatError {
 impl From<FormatError> for Error {
     fn from(error: FormatError) -> Self {
         error.code
-    }
-}
-
-/// Text of at most 512 bytes that a `const fn` can build.
-pub(crate) struct Message {
-    bytes: [u8; 512],
-    length: usize,
-}
-
-impl Message {
-    pub(crate) const fn text(&self) -> &str {
-        match core::str::from_utf8(self.bytes.split_at(self.length).0) {
-            Ok(text) => text,
-            Err(_) => "",
-        }
-    }
-
-    const fn put(&mut self, text: &str) {
-        let mut index = 0;
-        while index < text.len() {
-            self.put_byte(text.as_bytes()[index]);
-            index += 1;
-        }
-    }
-
-    const fn put_byte(&mut self, byte: u8) {
-        if self.length < self.bytes.len() {
-            self.bytes[self.length] = byte;
-            self.length += 1;
-        }
-    }
-
-    const fn put_piece(&mut self, piece: Piece) {
-        match piece {
-            Piece::Words(words) => self.put(words),
-            Piece::Number(number) => self.put_digits(number as u128, 10),
-            Piece::Hexadecimal(number) => {
-                self.put("0x");
-                self.put_digits(number, 16);
-            }
-            Piece::NumberedByte(name, byte) | Piece::QuotedByte(name, byte) => {
-                let is_number = matches!(piece, Piece::NumberedByte(..));
-                self.put("the ");
-                self.put(name);
-                if is_number || !byte.is_ascii_graphic() || byte == b'\'' {
-                    self.put(" ");
-                    self.put_digits(byte as u128, 10);
-                } else {
-                    self.put(" '");
-                    self.put_byte(byte);
-                    self.put("'");
-                }
-            }
-        }
-    }
-
-    const fn put_digits(&mut self, number: u128, radix: u128) {
-        if number >= radix {
-            self.put_digits(number / radix, radix);
-        }
-        self.put_byte(digit_to_char((number % radix) as u32));
     }
 }

@@ -245,24 +245,14 @@ pub const fn mantissa_radix(format: u128) -> u32 {
 /// [lawful][Rule], the result is between 2 and 36.
 #[must_use]
 pub const fn exponent_base(format: u128) -> u32 {
-    let base = ((format & EXPONENT_BASE) >> EXPONENT_BASE_SHIFT) as u32;
-    if base == 0 {
-        mantissa_radix(format)
-    } else {
-        base
-    }
+    radix_from_flags(format, EXPONENT_BASE, EXPONENT_BASE_SHIFT)
 }
 
 /// Returns the exponent radix of `format`, or the mantissa radix if the exponent radix is 0. If `format` is
 /// [lawful][Rule], the result is between 2 and 36.
 #[must_use]
 pub const fn exponent_radix(format: u128) -> u32 {
-    let radix = ((format & EXPONENT_RADIX) >> EXPONENT_RADIX_SHIFT) as u32;
-    if radix == 0 {
-        mantissa_radix(format)
-    } else {
-        radix
-    }
+    radix_from_flags(format, EXPONENT_RADIX, EXPONENT_RADIX_SHIFT)
 }
 
 /// Returns the exponent base that `format` stores, or 0 if it is absent.
@@ -292,5 +282,19 @@ pub const fn radix_from_flags(format: u128, mask: u128, shift: i32) -> u32 {
         mantissa_radix(format)
     } else {
         own
+    }
+}
+
+/// Returns `byte`, or `mantissa_radix` if `byte` is 0. Unlike [`radix_from_flags`], this needs no branch: both numbers
+/// are read before one is chosen. They are 64 bits wide, like the upper half of a word, since a choice between narrower
+/// numbers is slower.
+#[doc(hidden)]
+#[must_use]
+#[inline]
+pub const fn byte_or_radix(byte: u64, mantissa_radix: u64) -> u64 {
+    if byte == 0 {
+        mantissa_radix
+    } else {
+        byte
     }
 }

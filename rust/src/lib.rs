@@ -81,9 +81,8 @@
 //! documentation, `Proved of the source` heads what the contracts of a call state.
 //!
 //! The following parts are written by hand: [`Format`], [`NumberFormat`], the iterators and conversions,
-//! `Display`, `FromStr` and `Debug` of words, `build_or_panic`, the tests of slices in [`ascii`], and the printing of
-//! numbers in decimal. A build of this crate proves nothing. You trust the program that generated the files, the
-//! handwritten parts, and `rustc`.
+//! `Display`, `FromStr` and `Debug` of words, `build_or_panic`, and the tests of slices in [`ascii`]. A build of this
+//! crate proves nothing. You trust the program that generated the files, the handwritten parts, and `rustc`.
 #![no_std]
 #![forbid(unsafe_code)]
 
@@ -109,6 +108,9 @@ mod lists;
 mod numeral;
 #[doc(hidden)]
 pub mod reasons;
+#[doc(hidden)]
+pub mod short_text;
+#[expect(clippy::exhaustive_structs, reason = "written by callers")]
 pub mod source;
 mod text;
 mod view;

@@ -47,6 +47,7 @@ pub enum Byte {
 /// The radixes of a format word in which a byte is a digit, with their values. An absent exponent radix follows the
 /// mantissa radix, so it is not listed.
 #[derive(Debug, Clone, Copy, PartialEq, Eq, Hash)]
+#[non_exhaustive]
 pub enum Radixes {
     /// The byte is a digit only in the mantissa radix.
     Mantissa(u8),
@@ -63,6 +64,7 @@ pub enum Radixes {
 
 /// A byte with its value.
 #[derive(Debug, Clone, Copy, PartialEq, Eq, Hash)]
+#[non_exhaustive]
 pub struct NamedByte {
     /// Which byte this is.
     pub name: Byte,
@@ -113,6 +115,8 @@ pub struct Reason {
     // The rules of absent exponent bytes that the word breaks too.
     followers: (Option<Rule>, Option<Rule>),
     cause: Cause,
+    // The bits that the reason blames.
+    mask: u128,
 }
 
 // A format word, with an exponent character and a decimal point that options choose.
@@ -138,38 +142,31 @@ pub const fn reasons(format: u128) -> [Option<Reason>; MAX_REASONS] {
         exponent: 0,
         point: 0,
     };
-    // If the word satisfies all rules of a group, its slots stay `None`. The others are filled in place, since copying
-    // all slots would take longer than the tests.
-    let mut slots = [None; MAX_REASONS];
-    macro_rules! fill {
-        ($($($index:literal $Rule:ident $cause:ident($($argument:expr),*)),*;)*) => {
-            $(if !($(Rule::$Rule.is_kept(format))&*) {
-                $(slots[$index] = slot(format, Some(Rule::$Rule), word.$cause($($argument),*));)*
-            })*
+    macro_rules! slots {
+        ($($Rule:ident $cause:ident($($argument:expr),*);)*) => {
+            [$(word.slot(Some(Rule::$Rule), word.$cause($($argument),*)),)*]
         };
     }
-    fill! {
-        0 MantissaRadixInRange radix_cause(Byte::MantissaRadix),
-        1 ExponentBaseInRange if_present(Byte::ExponentBase, word.radix_cause(Byte::ExponentBase)),
-        2 ExponentRadixInRange if_present(Byte::ExponentRadix, word.radix_cause(Byte::ExponentRadix));
-        3 DigitSeparatorIsPunctuation if_present(Byte::DigitSeparator, word.byte_cause(Byte::DigitSeparator)),
-        4 BasePrefixIsPunctuation if_present(Byte::BasePrefix, word.byte_cause(Byte::BasePrefix)),
-        5 BaseSuffixIsPunctuation if_present(Byte::BaseSuffix, word.byte_cause(Byte::BaseSuffix));
-        6 PunctuationDiffers clash(Byte::DigitSeparator, Byte::BasePrefix),
-        7 PunctuationDiffers clash(Byte::DigitSeparator, Byte::BaseSuffix),
-        8 PunctuationDiffers clash(Byte::BasePrefix, Byte::BaseSuffix);
-        9 ExponentFlagsAgree both_set(FlagSetter::NoExponentNotation, FlagSetter::RequiredExponentNotation),
-        10 MantissaSignFlagsAgree both_set(FlagSetter::NoPositiveMantissaSign, FlagSetter::RequiredMantissaSign),
-        11 ExponentSignFlagsAgree both_set(FlagSetter::NoPositiveExponentSign, FlagSetter::RequiredExponentSign),
-        12 SpecialCaseFlagsAgree both_set(FlagSetter::NoSpecial, FlagSetter::CaseSensitiveSpecial),
-        13 SpecialSeparatorFlagsAgree both_set(FlagSetter::NoSpecial, FlagSetter::SpecialDigitSeparator),
-        14 IntegerConsecutiveIsAllowed needs_position(Part::Integer),
-        15 FractionConsecutiveIsAllowed needs_position(Part::Fraction),
-        16 ExponentConsecutiveIsAllowed needs_position(Part::Exponent);
+    slots! {
+        MantissaRadixInRange radix_cause(Byte::MantissaRadix);
+        ExponentBaseInRange if_present(Byte::ExponentBase, word.radix_cause(Byte::ExponentBase));
+        ExponentRadixInRange if_present(Byte::ExponentRadix, word.radix_cause(Byte::ExponentRadix));
+        DigitSeparatorIsPunctuation if_present(Byte::DigitSeparator, word.byte_cause(Byte::DigitSeparator));
+        BasePrefixIsPunctuation if_present(Byte::BasePrefix, word.byte_cause(Byte::BasePrefix));
+        BaseSuffixIsPunctuation if_present(Byte::BaseSuffix, word.byte_cause(Byte::BaseSuffix));
+        PunctuationDiffers clash(Byte::DigitSeparator, Byte::BasePrefix);
+        PunctuationDiffers clash(Byte::DigitSeparator, Byte::BaseSuffix);
+        PunctuationDiffers clash(Byte::BasePrefix, Byte::BaseSuffix);
+        ExponentFlagsAgree both_set(FlagSetter::NoExponentNotation, FlagSetter::RequiredExponentNotation);
+        MantissaSignFlagsAgree both_set(FlagSetter::NoPositiveMantissaSign, FlagSetter::RequiredMantissaSign);
+        ExponentSignFlagsAgree both_set(FlagSetter::NoPositiveExponentSign, FlagSetter::RequiredExponentSign);
+        SpecialCaseFlagsAgree both_set(FlagSetter::NoSpecial, FlagSetter::CaseSensitiveSpecial);
+        SpecialSeparatorFlagsAgree both_set(FlagSetter::NoSpecial, FlagSetter::SpecialDigitSeparator);
+        IntegerConsecutiveIsAllowed needs_position(Part::Integer);
+        FractionConsecutiveIsAllowed needs_position(Part::Fraction);
+        ExponentConsecutiveIsAllowed needs_position(Part::Exponent);
+        ReservedBitsAreZero reserved_bits();
     }
-    let reserved = word.reserved_bits();
-    slots[17] = slot(format, Some(Rule::ReservedBitsAreZero), reserved);
-    slots
 }
 
 /// Returns the reasons why numbers in `format` cannot have the exponent character `exponent` and the decimal point
@@ -188,49 +185,58 @@ pub const fn options_reasons(
         exponent,
         point: decimal_point,
     };
-    let mut slots = [None; MAX_OPTIONS_REASONS];
-    macro_rules! fill {
-        ($($index:literal $cause:ident($($argument:expr),*);)*) => {
-            $(slots[$index] = slot(format, None, options.$cause($($argument),*));)*
+    macro_rules! slots {
+        ($($cause:ident($($argument:expr),*);)*) => {
+            [$(options.slot(None, options.$cause($($argument),*)),)*]
         };
     }
-    fill! {
-        0 byte_cause(Byte::ExponentCharacter);
-        1 byte_cause(Byte::DecimalPoint);
-        2 clash(Byte::ExponentCharacter, Byte::DecimalPoint);
-        3 clash(Byte::ExponentCharacter, Byte::DigitSeparator);
-        4 clash(Byte::ExponentCharacter, Byte::BasePrefix);
-        5 clash(Byte::ExponentCharacter, Byte::BaseSuffix);
-        6 clash(Byte::DecimalPoint, Byte::DigitSeparator);
-        7 clash(Byte::DecimalPoint, Byte::BasePrefix);
-        8 clash(Byte::DecimalPoint, Byte::BaseSuffix);
-    }
-    slots
-}
-
-// Returns the reason for a cause, if there is one: why a word breaks `rule`, or why options do not fit if it is `None`.
-#[inline(always)]
-const fn slot(format: u128, rule: Option<Rule>, cause: Option<Cause>) -> Option<Reason> {
-    match cause {
-        Some(cause) => {
-            let followers = match rule {
-                Some(Rule::MantissaRadixInRange) => (
-                    some_if(raw_exponent_base(format) == 0, Rule::ExponentBaseInRange),
-                    some_if(raw_exponent_radix(format) == 0, Rule::ExponentRadixInRange),
-                ),
-                _ => (None, None),
-            };
-            Some(Reason {
-                rule,
-                followers,
-                cause,
-            })
-        }
-        None => None,
+    slots! {
+        byte_cause(Byte::ExponentCharacter);
+        byte_cause(Byte::DecimalPoint);
+        clash(Byte::ExponentCharacter, Byte::DecimalPoint);
+        clash(Byte::ExponentCharacter, Byte::DigitSeparator);
+        clash(Byte::ExponentCharacter, Byte::BasePrefix);
+        clash(Byte::ExponentCharacter, Byte::BaseSuffix);
+        clash(Byte::DecimalPoint, Byte::DigitSeparator);
+        clash(Byte::DecimalPoint, Byte::BasePrefix);
+        clash(Byte::DecimalPoint, Byte::BaseSuffix);
     }
 }
 
 impl Characters {
+    // Returns the reason for a cause, if there is one: why a word breaks `rule`, or why options do not fit if it is
+    // `None`.
+    #[inline(always)]
+    const fn slot(&self, rule: Option<Rule>, cause: Option<Cause>) -> Option<Reason> {
+        match cause {
+            Some(cause) => Some(Reason {
+                rule,
+                followers: self.followers(rule),
+                cause,
+                mask: self.mask(&cause),
+            }),
+            None => None,
+        }
+    }
+
+    // Returns the rules that a word also breaks if it breaks `rule`: those of absent exponent bytes.
+    #[inline(always)]
+    const fn followers(&self, rule: Option<Rule>) -> (Option<Rule>, Option<Rule>) {
+        match rule {
+            Some(Rule::MantissaRadixInRange) => (
+                some_if(
+                    raw_exponent_base(self.format) == 0,
+                    Rule::ExponentBaseInRange,
+                ),
+                some_if(
+                    raw_exponent_radix(self.format) == 0,
+                    Rule::ExponentRadixInRange,
+                ),
+            ),
+            _ => (None, None),
+        }
+    }
+
     // Returns a byte with its value.
     #[inline(always)]
     const fn named(&self, name: Byte) -> NamedByte {

@@ -135,22 +135,14 @@ fn views_are_same<const W: u128>() {
 /// Words in which any two bits differ, and a lawful word.
 #[test]
 fn both_views_are_the_same() {
-    const LAWFUL: u128 = 0x000A1000_7800005F_00000249_0002001C;
-    views_are_same::<LAWFUL>();
-    views_are_same::<STANDARD>();
-    views_are_same::<0>();
-    views_are_same::<{ u128::MAX }>();
-    views_are_same::<{ u128::MAX / 3 }>();
-    views_are_same::<{ u128::MAX / 3 * 2 }>();
-    views_are_same::<{ u128::MAX / 5 }>();
-    views_are_same::<{ u128::MAX / 5 * 4 }>();
-    views_are_same::<{ u128::MAX / 17 }>();
-    views_are_same::<{ u128::MAX / 17 * 16 }>();
-    views_are_same::<{ u128::MAX / 257 }>();
-    views_are_same::<{ u128::MAX / 257 * 256 }>();
-    views_are_same::<{ u128::MAX / 0x1_0001 }>();
-    views_are_same::<{ u128::MAX / 0x1_0000_0001 }>();
-    views_are_same::<{ u128::MAX / 0x1_0000_0000_0000_0001 }>();
+    const ALL: u128 = u128::MAX;
+    macro_rules! words {
+        ($($word:expr,)*) => { $(views_are_same::<{ $word }>();)* };
+    }
+    words! {
+        0x000A1000_7800005F_00000249_0002001C, STANDARD, 0, ALL, ALL / 3, ALL / 3 * 2, ALL / 5, ALL / 5 * 4, ALL / 17,
+        ALL / 17 * 16, ALL / 257, ALL / 257 * 256, ALL / 0x1_0001, ALL / 0x1_0000_0001, ALL / 0x1_0000_0000_0000_0001,
+    }
 }
 
 /// A panic names the line that called `build_or_panic`.

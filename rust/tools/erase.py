@@ -35,9 +35,8 @@ PLACES = {
 }
 
 # Files whose counterpart is written by hand, because plain Rust does the same in another way: by loops that the compiler
-# turns into vectors, by one piece for all digits of a number, by derives, by absent bytes that are `None`, and by a type
-# of core.
-BY_HAND = {"ascii/slices.rt", "error/decimal.rt", "error/traits.rt", "feature_format/bytes.rt", "format_builder/non_zero.rt"}
+# turns into vectors, by derives, by absent bytes that are `None`, and by a type of core.
+BY_HAND = {"ascii/slices.rt", "error/traits.rt", "feature_format/bytes.rt", "format_builder/non_zero.rt"}
 
 # Roots and tests, which are written by hand too, laws and examples.
 LEFT_OUT = re.compile(r"(lib|main)\.rt|(laws|examples|tests)(\.rt|/.*)")
@@ -70,23 +69,34 @@ REPLACED = [
     # LLVM gathers entries of 32 bits, and inserts entries of 8 bits one by one.
     ("digit.rt", "const VALUES: [u8; 256] = [", "const VALUES: [u32; 256] = ["),
     ("digit.rt", "VALUES[c as usize] as u32", "VALUES[c as usize]"),
-    # A formatter of core has no type parameter.
-    ("sink.rt", "impl<W: fmt::Write> Sink for fmt::Formatter<W> {", "impl Sink for fmt::Formatter<'_> {"),
+    # A constant panics with a text.
+    ("short_text.rt", "pub fn as_str(", "pub const fn as_str("),
 ]
 
 # Texts that plain Rust replaces in every file, wherever they occur.
 EVERYWHERE = [
     ("fn fmt<W: fmt::Write>(&self, f: &mut fmt::Formatter<W>)", "fn fmt(&self, f: &mut fmt::Formatter<'_>)"),
+    ("rattlefmt::skip", "rustfmt::skip"),
 ]
+
+# Types that may grow. In plain Rust, a match outside the crate has to have an arm for what they lack today.
+GROWS = {
+    "enum": "ArgumentKind Byte Cause Class Edit Error FlagSetter Note Part Radixes Role Rule Setter SettingErrorKind",
+    "struct": "NamedByte Separators",
+}
+for kind, types in GROWS.items():
+    items = [f"pub {kind} {name} {{" for name in types.split()]
+    EVERYWHERE += [(item, f"#[non_exhaustive] {item}") for item in items]
 
 # Attributes that plain Rust has in place of those of the source: the end of the path, and both texts.
 COMPARED = "Clone, Copy, PartialEq, Eq, PartialOrd, Ord, Hash"
 DEPRECATED = '#[deprecated = "Use `build_strict` or `build_unchecked` instead."]'
 ATTRIBUTES = [
-    ("error.rt", "#[derive(Clone, Copy, Debug)]", f"#[derive({COMPARED}, Debug)] #[non_exhaustive]"),
+    ("error.rt", "#[derive(Clone, Copy, Debug)]", f"#[derive({COMPARED}, Debug)]"),
     ("format_builder.rt", "#[derive(Drop)]", "#[derive(Clone, Copy, PartialEq, Eq, Hash)] #[must_use]"),
     ("format_builder.rt", "pub const fn build(&self)", f"{DEPRECATED} pub const fn build(&self)"),
     ("feature_format.rt", "#[derive(Clone, Copy)]", f"#[derive({COMPARED})]"),
+    ("short_text.rt", "#[derive(Drop)]", "#[derive(Clone, Copy)]"),
     ("edits/setters.rt", "macro_rules! with_setters {", "#[doc(hidden)] #[macro_export] macro_rules! with_setters {"),
 ]
 

@@ -1,6 +1,7 @@
-//! A caller of `edit_word`: the fields that it writes, and the fields that it keeps.
+//! Callers of `edits`: the fields that an edit writes and keeps, and the setters that set several flags.
 
-ghost use Rattle.std.specs.Prelude.{◌≡◌, ◌≢◌, true};
+ghost use Rattle.std.specs.Prelude.{◌≡◌, ◌≢◌, true, length, nat_lt};
+ghost use Rattle.lexical_util.specs.Edits.{flags_of};
 ghost use Rattle.lexical_util.specs.Layout as layout;
 ghost use Rattle.lexical_util.specs.Layout.{Flag, bit};
 ghost use Rattle.lexical_util.specs.Record.{raw};
@@ -21,4 +22,32 @@ pub fn with_prefix(format: u128, prefix: NonZeroU8) -> u128
     write_facts();
     let case_matters = Edit::Flag(FlagSetter::CaseSensitiveBasePrefix, true);
     edit_word(format, &[Edit::BasePrefix(Some(prefix)), case_matters])
+}
+
+/// Returns whether `setter` sets several flags. No arm is `_`, so this has to be decided for each new variant too.
+#[rattlefmt::skip]
+pub const fn sets_several(setter: FlagSetter) -> bool
+    ensures { result ≡ nat_lt 1 (length (flags_of setter)) }
+{
+    match setter {
+        FlagSetter::RequiredDigits | FlagSetter::InternalDigitSeparator | FlagSetter::LeadingDigitSeparator
+            | FlagSetter::TrailingDigitSeparator | FlagSetter::ConsecutiveDigitSeparator
+            | FlagSetter::DigitSeparatorFlags | FlagSetter::IntegerDigitSeparatorFlags
+            | FlagSetter::FractionDigitSeparatorFlags | FlagSetter::ExponentDigitSeparatorFlags => true,
+        FlagSetter::RequiredIntegerDigits | FlagSetter::RequiredFractionDigits
+            | FlagSetter::RequiredExponentDigits | FlagSetter::RequiredMantissaDigits
+            | FlagSetter::NoPositiveMantissaSign | FlagSetter::RequiredMantissaSign | FlagSetter::NoExponentNotation
+            | FlagSetter::NoPositiveExponentSign | FlagSetter::RequiredExponentSign
+            | FlagSetter::NoExponentWithoutFraction | FlagSetter::NoSpecial | FlagSetter::CaseSensitiveSpecial
+            | FlagSetter::NoIntegerLeadingZeros | FlagSetter::NoFloatLeadingZeros
+            | FlagSetter::RequiredExponentNotation | FlagSetter::CaseSensitiveExponent
+            | FlagSetter::CaseSensitiveBasePrefix | FlagSetter::CaseSensitiveBaseSuffix
+            | FlagSetter::IntegerInternalDigitSeparator | FlagSetter::FractionInternalDigitSeparator
+            | FlagSetter::ExponentInternalDigitSeparator | FlagSetter::IntegerLeadingDigitSeparator
+            | FlagSetter::FractionLeadingDigitSeparator | FlagSetter::ExponentLeadingDigitSeparator
+            | FlagSetter::IntegerTrailingDigitSeparator | FlagSetter::FractionTrailingDigitSeparator
+            | FlagSetter::ExponentTrailingDigitSeparator | FlagSetter::IntegerConsecutiveDigitSeparator
+            | FlagSetter::FractionConsecutiveDigitSeparator | FlagSetter::ExponentConsecutiveDigitSeparator
+            | FlagSetter::SpecialDigitSeparator => false,
+    }
 }

@@ -5,8 +5,10 @@
 //! docs/CALLING.md explains these callers.
 #![tactic(auto)]
 
+pub mod build;
 pub mod digits;
 pub mod edit;
 pub mod formats;
 pub mod keep;
 pub mod read;
+pub mod roles;

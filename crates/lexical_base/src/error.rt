@@ -2,23 +2,16 @@
 //!
 //! A parser or a checker returns an [`Error`], which is [`Error::Success`] if nothing is wrong.
 
-ghost use Rattle.std.specs.Prelude.{◌≡◌, ◌↔◌, ◌<◌, ◌+◌, length, IsTrue, IsSome, IfSome, IsErr, OnOk, Some};
-ghost use Rattle.std.specs.Fmt.{WritesInCalls, decimal};
+ghost use Rattle.std.specs.Prelude.{◌≡◌, ◌↔◌, ◌<◌, ◌+◌, length, IsTrue, IsSome, IfSome, Some};
 ghost use Rattle.std.specs.Option.{option_copied};
 ghost use Rattle.lexical_base.specs.Outcomes.{rank_of, index_of, IsAt, class_of, start_of_class};
 ghost use Rattle.lexical_base.specs.Outcomes.{description_of, printed_text};
 ghost use Rattle.lexical_base.specs.declared.error.Error.TheVariants as errors;
 
+use crate::short_text::ShortText;
 use std::fmt;
 
-mod decimal;
-mod short_text;
-mod sink;
 mod traits;
-
-use decimal::put_decimal;
-pub use short_text::{EMPTY_PIECE, Piece, ShortText};
-pub use sink::Sink;
 
 /// The outcome of parsing or checking: one of 48 errors, or [`Error::Success`].
 ///
@@ -145,7 +138,6 @@ pub enum Error {
 
 /// The class of an [`Error`].
 #[derive(Clone, Copy, Debug, PartialEq, Eq, PartialOrd, Ord, Hash)]
-#[non_exhaustive]
 pub enum Class {
     /// An error in the text that a parser reads.
     Parse,
@@ -805,26 +797,16 @@ impl Error {
         }
     }
 
-    /// Puts the text of this [`Error`], as `Display` prints it, into the sink `out`. If the sink is a formatter, its
-    /// options are ignored.
-    ///
-    /// # Errors
-    ///
-    /// Returns an error if [`Sink::put`] returns one.
+    /// Returns the text that `Display` prints.
     #[doc(hidden)]
-    pub fn put_into<S: Sink>(&self, out: &mut S) -> Result<(), fmt::Error>
-        ensures text { OnOk result (WritesInCalls S.takes out.old (printed_text self.now) out.new) }
-        ensures failed { IsErr result → S.has_failed out.new }
-        ensures short { OnOk result (length (printed_text self.now) < 256) }
+    #[must_use]
+    pub const fn text(&self) -> ShortText
+        ensures { result ≡ printed_text self.now }
     {
-        out.put(self.class().start())?;
-        out.put(self.description())?;
+        let text = ShortText::of(self.class().start()).and(self.description());
         match self.index() {
-            Some(index) => {
-                out.put(" at index ")?;
-                put_decimal(out, *index)
-            }
-            None => Ok(()),
+            Some(index) => text.and(" at index ").decimal(*index),
+            None => text,
         }
     }
 }
@@ -853,6 +835,6 @@ impl fmt::Display for Error {
     ghost styled_output = { λ error spec. Some (printed_text error) };
 
     fn fmt<W: fmt::Write>(&self, f: &mut fmt::Formatter<W>) -> fmt::Result {
-        self.put_into(f)
+        f.write_str(self.text().as_str())
     }
 }

@@ -6,3 +6,4 @@ pub mod ascii;
 pub mod digit;
 pub mod error;
 pub mod laws;
+pub mod short_text;

@@ -1,3 +1,4 @@
+mod ChangeLemmas
 pub mod OptionByteLemmas
 pub mod WriteLemmas
 pub mod BuilderFlags

@@ -12,9 +12,8 @@ use Rattle.lexical_flags.specs.Record.{Record, HasBytes}
 use Rattle.lexical_flags.proofs.RecordLemmas.{record_same}
 use Rattle.lexical_builder.specs.Writes.{Write, write_flag, write_byte, IsLegal, new_record, flag_written, byte_written}
 use Rattle.lexical_builder.specs.Writes.{after}
-use Rattle.lexical_builder.specs.Writes.{SameWrites, write_flags, last_byte}
+use Rattle.lexical_builder.specs.Writes.{SameWrites, flags_with, write_flags, last_byte}
 use Rattle.lexical_builder.specs.BuilderBits.{byte_index, builder_record_of_parts}
-use Rattle.lexical_builder.specs.BuilderBits.{flags_with}
 
 -- `left_by h writes d` is the value of a field after `writes`, if the value was `d` and `h` is the value that one write
 -- writes to the field.

@@ -1,7 +1,7 @@
--- The place of each field in a builder, the record that a builder represents, and the flags in a mask.
+-- The place of each field in a builder, and the record that a builder represents.
 use Rattle.std.specs.Prelude.{ℕ, ◌+◌, ◌-◌, ◌==◌, nat_lt, if◌then◌else◌, List}
-use Rattle.std.specs.Prelude.{length, slice_index, filter}
-use Rattle.lexical_flags.specs.Layout.{part, Flag, Byte, bit, flags, bytes, base_flags, digit_separator_flags}
+use Rattle.std.specs.Prelude.{length, slice_index}
+use Rattle.lexical_flags.specs.Layout.{part, Flag, Byte, bit, base_flags}
 use Rattle.lexical_flags.specs.Layout as layout
 use Rattle.lexical_flags.specs.Record.{Record}
 use Rattle.lexical_builder.specs.declared.format_builder.NumberFormatBuilder.TheInside.{Inside}
@@ -27,7 +27,3 @@ builder_record_of_parts flags bytes =
 -- `builder_record inside` is the record that the builder `inside` represents.
 abbrev pub builder_record : Inside → Record
 builder_record inside = builder_record_of_parts inside.flags inside.bytes
-
--- `flags_with mask` lists the flags whose bits in a format word are 1 in `mask`.
-abbrev pub flags_with : ℕ → List Flag
-flags_with mask = filter (λ f. part mask (bit f) 1 == 1) flags

@@ -1,9 +1,9 @@
 -- Writes of fields, and the record after them.
 use Rattle.std.specs.Prelude.{◌≡◌, ℕ, ◌<◌, ◌==◌, Bool, not, if◌then◌else◌, List, Option, Some, None, map, unwrap_or}
-use Rattle.std.specs.Prelude.{filter_map, ⊤}
+use Rattle.std.specs.Prelude.{filter, filter_map, ⊤}
 use Rattle.std.specs.List.{last_or}
 use Rattle.std.specs.Bool.{beq}
-use Rattle.lexical_flags.specs.Layout.{Flag, Byte, bit, shift}
+use Rattle.lexical_flags.specs.Layout.{part, Flag, Byte, bit, shift, flags}
 use Rattle.lexical_flags.specs.Record.{Record}
 pub use Rattle.lexical_builder.specs.NewRecord.{new_record, radix_record}
 
@@ -20,6 +20,10 @@ IsLegal (write_byte b value) = value < 256
 -- `write_flags fs value` lists the writes of `value` to each of the flags `fs`.
 abbrev pub write_flags : List Flag → Bool → List Write
 write_flags fs value = map (λ f. write_flag f value) fs
+
+-- `flags_with mask` lists the flags whose bits in a format word are 1 in `mask`.
+abbrev pub flags_with : ℕ → List Flag
+flags_with mask = filter (λ f. part mask (bit f) 1 == 1) flags
 
 -- `flag_written write f` is `Some value` if `write` writes `value` to the flag `f`, and `None` otherwise.
 abbrev pub flag_written : Write → Flag → Option Bool

@@ -2,7 +2,7 @@
 use Rattle.std.proofs.Common.{ℕ, [], ◌∷◌, ◌≡◌, ◌≢◌, ◌<◌, ◌⊎◌, inl, inr, ◌∙◌, ◌↔◌, ◌==◌, ◌||◌, ◌&&◌, Bool, true, false}
 use Rattle.std.proofs.Common.{not, IsTrue, bit_or, bit_xor, eqb-true, refl, ap, sym, subst, arith, min, nat_lt}
 use Rattle.std.specs.Prelude.{position, unwrap_or}
-use Rattle.std.proofs.lemmas.Bool.{false≢true, or_parts, agree_below_at}
+use Rattle.std.proofs.lemmas.Bool.{true≢false, false≢true, or_parts, agree_below_at}
 use Rattle.std.proofs.lemmas.Bool.Decides.{nat_tests}
 use Rattle.lexical_base.specs.Ascii.{letters}
 use Rattle.lexical_base.specs.Digits.{byte_value, digit_characters, uppercase}
@@ -75,6 +75,21 @@ pub same_clash : (a_counts : Bool) (a : ℕ) (b_counts : Bool) → a < 256 → a
 unfolding cased
 same_clash a_counts a b_counts below some apart =
     Disjoint-at _ _ apart a below (grind (arith, nat_tests)) (grind (arith, nat_tests))
+
+-- A role that is not case-sensitive has every byte of the role that the same byte plays elsewhere.
+cased-grows : (c d : Bool) (n byte : ℕ) → (c ≡ false → d ≡ false) → IsTrue (cased c n byte) → IsTrue (cased d n byte)
+unfolding cased
+cased-grows true true n byte weaker inside = inside
+cased-grows false false n byte weaker inside = inside
+cased-grows true false n byte weaker inside = grind (arith, nat_tests)
+cased-grows false true n byte weaker inside = absurd (true≢false (weaker refl))
+
+-- If two bytes clash, then they also clash where no role that was not case-sensitive is case-sensitive.
+pub still_clash : (ac : Bool) (a : ℕ) (bc : Bool) (b : ℕ) (dc ec : Bool) → (ac ≡ false → dc ≡ false) → (bc ≡ false → ec ≡ false)
+    → (Disjoint (cased ac a) (cased bc b) → ⊥) → Disjoint (cased dc a) (cased ec b) → ⊥
+still_clash ac a bc b dc ec first second clash apart =
+    clash (Disjoint-from _ _ (λ byte below is_a is_b.
+    Disjoint-at _ _ apart byte below (cased-grows ac dc a byte first is_a) (cased-grows bc ec b byte second is_b)))
 
 -- If two bytes cannot clash, then their roles are disjoint, whether they are case-sensitive or not.
 far_apart : (a_counts : Bool) (a : ℕ) (b_counts : Bool) (b : ℕ) {near : Bool} → a < 256

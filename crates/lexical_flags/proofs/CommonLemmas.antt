@@ -9,6 +9,7 @@ use Rattle.std.proofs.lemmas.Nat.Bits.{bit_at_and}
 use Rattle.std.proofs.lemmas.Bool.Decides.{nat_tests}
 use Rattle.lexical_flags.specs.Layout.{part}
 use Rattle.lexical_flags.specs.Common.{common, common_at}
+use Rattle.lexical_flags.proofs.ByteParts.{exponent_base_part, exponent_radix_part}
 use Rattle.lexical_flags.proofs.Masks.{and_all}
 
 -- Two bits are both 1 if and only if the smaller one is 1.
@@ -37,3 +38,14 @@ common_part v w z fits sfits =
     ap (λ s. bit_and (bit_and v w / 2 ^ unsigned_abs s) 0xFFFF_FFFF) (to_z-of_z w32 z sfits)
     ∙ and_mask _ 32
     ∙ ap (λ n. n / 2 ^ unsigned_abs z % 2 ^ 32) (sym (common-bit_and v w fits))
+
+-- With the mask and the shift of an exponent byte, this number is the byte.
+pub common_base : (word : ℕ) → common word 0x00FF0000_00000000_00000000_00000000 / 2 ^ 112 % 2 ^ 32 ≡ part word 112 8
+common_base word =
+    ap (λ n. n / 2 ^ 112 % 2 ^ 32) (common-bit_and word 0x00FF0000_00000000_00000000_00000000 (omega arith))
+    ∙ ap (λ n. n % 2 ^ 32) (exponent_base_part word) ∙ omega arith
+
+pub common_radix : (word : ℕ) → common word 0xFF000000_00000000_00000000_00000000 / 2 ^ 120 % 2 ^ 32 ≡ part word 120 8
+common_radix word =
+    ap (λ n. n / 2 ^ 120 % 2 ^ 32) (common-bit_and word 0xFF000000_00000000_00000000_00000000 (omega arith))
+    ∙ ap (λ n. n % 2 ^ 32) (exponent_radix_part word) ∙ omega arith

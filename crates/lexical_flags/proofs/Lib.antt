@@ -7,11 +7,10 @@ pub mod FlagBits
 pub mod CommonLemmas
 mod RuleLemmas
 pub mod RuleFieldLemmas
-mod NormalRules
+pub mod NormalRules
 mod DisjointLemmas
 pub mod CaseLemmas
 mod PunctuationBytes
 pub mod RoleLemmas
 mod OptionLemmas
 pub mod ReservedBits
-mod AgreeLemmas

@@ -46,14 +46,14 @@ unfolding cased
 Disjoint-nothing A = Disjoint-from _ _ (λ byte below is_zero in_a. absurd (false≢true is_zero))
 
 -- If a record satisfies a rule, then so does the record without its separator.
-Demands-bare : (rule : Rule) (r : Record) → FieldsMeet (shape_of rule) r → FieldsMeet (shape_of rule) (set_byte r layout.digit_separator 0)
+pub Demands-bare : (rule : Rule) (r : Record) → FieldsMeet (shape_of rule) r → FieldsMeet (shape_of rule) (set_byte r layout.digit_separator 0)
 unfolding IsPunctuation
 Demands-bare rules.MantissaRadixInRange r h = h
 Demands-bare rules.DigitSeparatorIsPunctuation r h = inl refl
 Demands-bare rules.PunctuationDiffers r h = ((Disjoint-nothing (prefix r), (Disjoint-nothing (suffix r), tt)), h.1)
 Demands-bare _ r h = h
 
-Demands-trim : (rule : Rule) (r : Record) → FieldsMeet (shape_of rule) r → FieldsMeet (shape_of rule) (trim r)
+pub Demands-trim : (rule : Rule) (r : Record) → FieldsMeet (shape_of rule) r → FieldsMeet (shape_of rule) (trim r)
 Demands-trim rule r h =
     elim (cases_Bool (separator_allowed r)) [
       | inl on ↦ subst (FieldsMeet (shape_of rule)) (sym (trim-same r (inl on))) h

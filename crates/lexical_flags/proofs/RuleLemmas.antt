@@ -9,7 +9,7 @@ use Rattle.lexical_base.specs.declared.error.Error.{Error}
 use Rattle.lexical_base.specs.declared.error.Error.TheVariants.{InvalidFlags, Success}
 use Rattle.lexical_flags.specs.Layout as layout
 use Rattle.lexical_flags.specs.Layout.{IsClean}
-use Rattle.lexical_flags.specs.Record.{Record, raw, effective}
+use Rattle.lexical_flags.specs.Record.{Record, raw, effective, effective_exponent_base, effective_exponent_radix}
 use Rattle.lexical_flags.specs.Roles.{Disjoint, AreDisjoint, cased, digits, signs, format_roles, five_roles}
 use Rattle.lexical_flags.specs.declared.format_flags.rule.Rule.{Rule}
 use Rattle.lexical_flags.specs.declared.format_flags.rule.Rule.TheVariants as rules
@@ -84,16 +84,13 @@ pub Lawful-mantissa_radix : (word : ℕ) → Lawful word → IsRadix ((raw word)
 unfolding Lawful
 Lawful-mantissa_radix word h = h.mantissa_radix
 
-own_radix : (own radix : ℕ) → own ≢ 0 → IsRadix (effective own radix) → IsRadix own
-own_radix own radix some h = grind (arith, nat_tests)
-
-pub Lawful-exponent_base : (word : ℕ) → Lawful word → (raw word).byte layout.exponent_base ≢ 0 → IsRadix ((raw word).byte layout.exponent_base)
+pub Lawful-exponent_base : (word : ℕ) → Lawful word → IsRadix (effective_exponent_base (raw word))
 unfolding Lawful
-Lawful-exponent_base word h some = own_radix _ ((raw word).byte layout.mantissa_radix) some h.exponent_base
+Lawful-exponent_base word h = h.exponent_base
 
-pub Lawful-exponent_radix : (word : ℕ) → Lawful word → (raw word).byte layout.exponent_radix ≢ 0 → IsRadix ((raw word).byte layout.exponent_radix)
+pub Lawful-exponent_radix : (word : ℕ) → Lawful word → IsRadix (effective_exponent_radix (raw word))
 unfolding Lawful
-Lawful-exponent_radix word h some = own_radix _ ((raw word).byte layout.mantissa_radix) some h.exponent_radix
+Lawful-exponent_radix word h = h.exponent_radix
 
 -- If separator, prefix and suffix are absent or punctuation, and differ, then the five roles are disjoint.
 five_apart : (r : Record) → IsAbsentOrPunctuation r (r.byte layout.digit_separator)

@@ -10,4 +10,5 @@ mod FieldWrites
 pub mod ReasonLemmas
 mod NoteLemmas
 pub mod NumeralLemmas
+mod SettingLemmas
 mod WordTextLemmas

@@ -1,67 +1,74 @@
--- Lemmas that each reason of a word is true of each word with the same bits under its mask, and breaks its rule there,
+-- Lemmas that each reason of a word is true of each word with the same bits under its mask, and breaks its rules there,
 -- and that a word without a reason for a rule satisfies it. The same for reasons of options.
 use Rattle.std.proofs.Common.{ℕ, ◌≡◌, ◌≢◌, ◌↔◌, ◌==◌, ◌&&◌, ◌||◌, ◌⊎◌, inl, inr, ◌<◌, bit_and, bit_or, option_map}
 use Rattle.std.proofs.Common.{Option, None, Some, unwrap_or, List, [], ◌∷◌, ◌++◌, map, flat_map, Bool, true, false, IsTrue}
-use Rattle.std.proofs.Common.{not, if◌then◌else◌, refl, ap, sym, subst, ◌∙◌, arith, mod-lt, slice_index_or}
-use Rattle.std.specs.Prelude.{IfSome}
-use Rattle.std.specs.Bool.{⊤, IsFalse, then_some}
+use Rattle.std.proofs.Common.{not, if◌then◌else◌, refl, ap, sym, subst, ◌∙◌, arith, mod-lt}
+use Rattle.std.specs.Prelude.{IfSome, MatchOption}
+use Rattle.std.specs.Option.{option_map_or}
+use Rattle.std.specs.Bool.{then_some}
 use Rattle.std.specs.List.{AllByRecursion}
 use Rattle.std.proofs.lemmas.Bool.{true≢false, cases_eq, eqb-true, eq-eqb, or_left, or_right, and_from, and_parts}
 use Rattle.std.proofs.lemmas.Bool.{not_from_true, not-false}
 use Rattle.std.proofs.lemmas.Bool.Decides.{nat_tests}
 use Rattle.std.proofs.lemmas.Nat.{and_assoc, and_comm, and_or_self, or_comm, pow_pos}
 use lib.Bits.{and_self, and_zero_l}
-use denote.Enum.Declared.{tag_of}
-use Rattle.lexical_base.specs.Ascii.{between, allowed_ascii, letters}
+use Rattle.lexical_base.specs.Ascii.{between, allowed_ascii}
 use Rattle.lexical_base.specs.Digits.{digits_of}
 use Rattle.lexical_flags.specs.Layout as layout
-use Rattle.lexical_flags.specs.Layout.{Flag, bit, separators_in, IsClean}
+use Rattle.lexical_flags.specs.Layout.{Flag, IsClean, separator_flags}
 use Rattle.lexical_flags.specs.Record.{Record, raw, effective}
 use Rattle.lexical_flags.specs.Roles.{cased, digits, signs, Disjoint, other_case}
 use Rattle.lexical_flags.specs.Rules.{IsRadix, IsAbsentOrPunctuation, IsPunctuation, Holds, Lawful, rules_in_order, Shape}
 use Rattle.lexical_flags.specs.Rules.{radix_in_range, absent_or_punctuation, roles_differ, not_both, position_allowed}
 use Rattle.lexical_flags.specs.Rules.{reserved_zero, shape_of, Meets, lacks_position}
 use Rattle.lexical_flags.specs.Options.{OptionsFit}
-use Rattle.lexical_flags.specs.Additions.Masks.{reserved_mask}
-use Rattle.lexical_flags.specs.contracts.format_flags.rule.Rule.{the_type}
-use Rattle.lexical_flags.specs.declared.format_flags.parts.Part.{Part}
+use Rattle.lexical_flags.specs.Additions.Masks.{mask_of, reserved_mask}
 use Rattle.lexical_flags.specs.declared.format_flags.rule.Rule.{Rule}
 use Rattle.lexical_flags.specs.declared.format_flags.rule.Rule.TheVariants as rules
-use Rattle.lexical_flags.proofs.RuleFieldLemmas.{byte}
-use Rattle.lexical_flags.proofs.CaseLemmas.{cases_apart, differ_apart, same_clash}
+use Rattle.lexical_flags.specs.declared.format_flags.parts.Part.{Part}
+use Rattle.lexical_flags.specs.declared.format_flags.parts.Part.TheVariants as parts
+use Rattle.lexical_flags.proofs.RuleFieldLemmas.{byte, flags_agree, SameFlag}
+use Rattle.lexical_flags.proofs.CaseLemmas.{differ_apart, same_clash, still_clash}
 use Rattle.lexical_flags.proofs.ReservedBits.{reserved_bits}
 use Rattle.lexical_util.specs.Edits.{flags_of}
 use Rattle.lexical_util.specs.Groups.{any_flag}
 use Rattle.lexical_util.specs.Additions.EditMasks.{mask_of_setter}
 use Rattle.lexical_util.specs.Additions.FieldEdits.{setter_of}
+use Rattle.lexical_util.specs.Additions.Reasons.{value_of, mask_of_byte, Has, IsUnset, IsTrueOf, Breaks, Blames}
+use Rattle.lexical_util.specs.Additions.Reasons.{BlamesForOptions, EachReason, NoReason}
+use Rattle.lexical_util.specs.Private.{named, case_flag, is_cased, unset_flag, if_present, radix_cause, radixes_where}
+use Rattle.lexical_util.specs.Private.{digit_cause, byte_cause, role, clash, reserved_cause, followers, flag_mask}
+use Rattle.lexical_util.specs.Private.{absent_mask, mask_of_cause, reason_of}
 use Rattle.lexical_util.specs.declared.edits.setters.FlagSetter.{FlagSetter}
-use Rattle.lexical_util.specs.declared.edits.setters.FlagSetter.TheVariants as setters
 use Rattle.lexical_util.specs.declared.reasons.Byte.{Byte}
 use Rattle.lexical_util.specs.declared.reasons.Byte.TheVariants as bytes
 use Rattle.lexical_util.specs.declared.reasons.NamedByte.{NamedByte}
+use Rattle.lexical_util.specs.declared.reasons.Radixes.TheVariants as radixes
 use Rattle.lexical_util.specs.declared.reasons.Cause.{Cause}
 use Rattle.lexical_util.specs.declared.reasons.Cause.TheVariants as causes
 use Rattle.lexical_util.specs.declared.reasons.Reason.{Reason}
-use Rattle.lexical_util.specs.Additions.Reasons.{value_of, named, mask_of_byte, byte_of, is_cased, unset_flag, Claim}
-use Rattle.lexical_util.specs.Additions.Reasons.{has_value, has_flag, has_bits, Has, unset, mask_of_claim, mask_from}
-use Rattle.lexical_util.specs.Additions.Reasons.{mask_of_claims, claims_of, IsTrueOf, Breaks, Blames}
-use Rattle.lexical_util.specs.Additions.Reasons.{BlamesForOptions, if_present, radix_cause, radixes_where, digit_cause}
-use Rattle.lexical_util.specs.Additions.Reasons.{byte_cause, role, clash, format_pairs, options_pairs, causes_of, followers}
-use Rattle.lexical_util.specs.Additions.Reasons.{reason_of, slots, reason_slots, options_causes}
-use Rattle.lexical_util.specs.Additions.Reasons.{options_slots, EachReason, NoReason}
 use Rattle.lexical_util.proofs.ListingLemmas.{setter_alone}
 use Rattle.lexical_util.proofs.ViewLemmas.{any_by_mask, flags_ascend}
 
--- CLAIMS AND MASKS
+-- CAUSES AND MASKS
 
--- If two words agree under a mask, then they agree under each part of it.
-agree_inside : (v w mask m : ℕ) → bit_and v mask ≡ bit_and w mask → bit_and mask m ≡ m → bit_and v m ≡ bit_and w m
-agree_inside v w mask m same inside =
-    ap (bit_and v) (sym inside) ∙ sym (and_assoc m v mask) ∙ ap (λ n. bit_and n m) same ∙ and_assoc m w mask
-    ∙ ap (bit_and w) inside
+-- `SameUnder mask v w` holds if `v` and `w` have the same bits under `mask`.
+abbrev pub SameUnder : ℕ → ℕ → ℕ → Type 0
+SameUnder mask v w = bit_and v mask ≡ bit_and w mask
+
+-- If two words agree under a mask, then they agree under each of its two parts.
+pub halves : (v w a b : ℕ) → SameUnder (bit_or a b) v w → SameUnder a v w × SameUnder b v w
+halves v w a b same = (
+  within a (subst (λ n. bit_and n a ≡ a) (or_comm b a) (and_or_self a b)),
+  within b (and_or_self b a),
+) where
+  within : (m : ℕ) → bit_and (bit_or a b) m ≡ m → SameUnder m v w
+  within m inside =
+      ap (bit_and v) (sym inside) ∙ sym (and_assoc m v (bit_or a b)) ∙ ap (λ n. bit_and n m) same
+      ∙ and_assoc m w (bit_or a b) ∙ ap (bit_and w) inside
 
 -- If two words agree under the mask of a byte, then they have the same value of the byte.
-value_agrees : (v w e p : ℕ) (b : Byte) → bit_and v (mask_of_byte b) ≡ bit_and w (mask_of_byte b)
+pub value_agrees : (v w e p : ℕ) (b : Byte) → bit_and v (mask_of_byte b) ≡ bit_and w (mask_of_byte b)
     → value_of (raw v) e p b ≡ value_of (raw w) e p b
 value_agrees v w e p bytes.DigitSeparator same = byte v w _ same layout.digit_separator refl
 value_agrees v w e p bytes.BasePrefix same = byte v w _ same layout.base_prefix refl
@@ -71,33 +78,69 @@ value_agrees v w e p bytes.ExponentBase same = byte v w _ same layout.exponent_b
 value_agrees v w e p bytes.ExponentRadix same = byte v w _ same layout.exponent_radix refl
 value_agrees v w e p _ same = refl
 
--- If a claim is true of a word, then it is true of each word that agrees with it under the mask of the claim.
-Has-agree : (v w e p : ℕ) (claim : Claim) → bit_and v (mask_of_claim claim) ≡ bit_and w (mask_of_claim claim)
-    → Has v e p claim → Has w e p claim
-Has-agree v w e p (has_value b) same h = sym (value_agrees v w e p b.name same) ∙ h
-Has-agree v w e p (has_flag s value) same h =
+-- If two words agree under the mask of a setter, then both have one of its flags set, or neither has.
+flag_agrees : (v w : ℕ) (s : FlagSetter) → SameUnder (mask_of_setter s) v w
+    → any_flag v (flags_of s) ≡ any_flag w (flags_of s)
+flag_agrees v w s same =
     let test : (n : ℕ) → not (bit_and n (mask_of_setter s) == 0) ≡ any_flag n (flags_of s) =
     λ n. any_by_mask n (mask_of_setter s) (flags_of s) refl (flags_ascend s) in
-    sym (test w) ∙ ap (λ n. not (n == 0)) (sym same) ∙ test v ∙ h
-Has-agree v w e p (has_bits bits) same h = sym same ∙ h
+    sym (test v) ∙ ap (λ n. not (n == 0)) same ∙ test w
 
--- If two words agree under the mask of claims that are true of the first, then the claims are true of the second.
-claims_agree : (v w e p : ℕ) (claims : List Claim) → bit_and v (mask_of_claims claims) ≡ bit_and w (mask_of_claims claims)
-    → AllByRecursion (Has v e p) claims → AllByRecursion (Has w e p) claims
-claims_agree v w e p [] same all = tt
-claims_agree v w e p (first ∷ claims) same all =
-    let rest = from (mask_of_claim first) claims same in (Has-agree v w e p first rest.0 all.0, rest.1 all.1) where
-      from : (mask : ℕ) (list : List Claim) → bit_and v (mask_from mask list) ≡ bit_and w (mask_from mask list)
-          → (bit_and v mask ≡ bit_and w mask) × (AllByRecursion (Has v e p) list → AllByRecursion (Has w e p) list)
-      from mask [] same = (same, λ all. tt)
-      from mask (claim ∷ list) same =
-          let m = mask_of_claim claim in
-          let rest = from (bit_or mask m) list same in
-          let left = subst (λ n. bit_and n mask ≡ mask) (or_comm m mask) (and_or_self mask m) in
-          let own = agree_inside v w (bit_or mask m) m rest.0 (and_or_self m mask) in
-          (agree_inside v w (bit_or mask m) mask rest.0 left, λ all. (Has-agree v w e p claim own all.0, rest.1 all.1))
+lacks_agrees : (v w : ℕ) (part : Part) → SameUnder (mask_of (separator_flags part)) v w
+    → lacks_position (raw v) part ≡ lacks_position (raw w) part
+lacks_agrees v w part same = agree part (each part same) where
+  agree : (part : Part) → AllByRecursion (SameFlag v w) (separator_flags part)
+      → lacks_position (raw v) part ≡ lacks_position (raw w) part
+  agree part (between, (before, (after, (several, none)))) = λ i. several i && not (between i || before i || after i)
 
--- CAUSES
+  each : (part : Part) → SameUnder (mask_of (separator_flags part)) v w → AllByRecursion (SameFlag v w) (separator_flags part)
+  each parts.Integer same = flags_agree v w _ same (separator_flags parts.Integer) refl
+  each parts.Fraction same = flags_agree v w _ same (separator_flags parts.Fraction) refl
+  each parts.Exponent same = flags_agree v w _ same (separator_flags parts.Exponent) refl
+
+-- A cause of a word is true of each word that agrees with it under the mask of the cause.
+stays : (v w e p : ℕ) (cause : Cause) → SameUnder (mask_of_cause (raw v) cause) v w → IsTrueOf v e p cause
+    → IsTrueOf w e p cause
+stays v w e p = stay where
+  has : (b : NamedByte) → SameUnder (mask_of_byte b.name) v w → Has v e p b → Has w e p b
+  has b same is = sym (value_agrees v w e p b.name same) ∙ is
+
+  unset : (flag : Option FlagSetter) → SameUnder (flag_mask flag) v w → IsUnset v flag → IsUnset w flag
+  unset None same h = tt
+  unset (Some s) same h = sym (flag_agrees v w s same) ∙ h
+
+  stay : (cause : Cause) → SameUnder (mask_of_cause (raw v) cause) v w → IsTrueOf v e p cause → IsTrueOf w e p cause
+  stay (causes.OutOfRange b) same (is, fact) = let own = halves v w _ _ same in (has b own.0 is, fact)
+  stay (causes.NotText b) same (is, fact) = (has b same is, fact)
+  stay (causes.IsSign b) same (is, fact) = (has b same is, fact)
+  stay (causes.IsDigit b (radixes.Mantissa m)) same (is, (m_is, digit)) =
+      let all = halves v w _ _ same in
+      let own = halves v w _ _ all.0 in
+      (has b own.0 is, (sym (byte v w _ own.1 layout.mantissa_radix refl) ∙ m_is, digit))
+  stay (causes.IsDigit b (radixes.Exponent x)) same (is, (x_is, digit)) =
+      let own = halves v w _ _ same in
+      (has b own.0 is, (sym (byte v w _ own.1 layout.exponent_radix refl) ∙ x_is, digit))
+  stay (causes.IsDigit b (radixes.Both m x)) same (is, (m_is, m_digit, x_is, x_digit)) =
+      let all = halves v w _ _ same in
+      let own = halves v w _ _ all.0 in
+      let m_same = sym (byte v w _ own.1 layout.mantissa_radix refl) ∙ m_is in
+      (has b own.0 is, (m_same, m_digit, sym (byte v w _ all.1 layout.exponent_radix refl) ∙ x_is, x_digit))
+  stay (causes.Same a b) same (a_is, b_is, some, equal) =
+      let both = halves v w _ _ same in (has a both.0 a_is, has b both.1 b_is, some, equal)
+  stay (causes.DifferInCase a f b g) same (a_is, b_is, differ, other, f_off, g_off) =
+      let all = halves v w _ _ same in
+      let front = halves v w _ _ all.0 in
+      let both = halves v w _ _ front.0 in
+      (has a both.0 a_is, has b both.1 b_is, differ, other, unset f front.1 f_off, unset g all.1 g_off)
+  stay (causes.BothSet a b) same (a_set, b_set) =
+      let both = halves v w _ _ same in (sym (flag_agrees v w a both.0) ∙ a_set, sym (flag_agrees v w b both.1) ∙ b_set)
+  stay (causes.NeedsPosition part) same h = sym (lacks_agrees v w part same) ∙ h
+  stay (causes.ReservedBits bits) same (some, inside, set) = (some, inside, sym same ∙ set)
+
+-- `Explains word e p D cause` holds if `cause` is true of `word`, and `D` fails for each word of which it is true.
+record Explains (word e p : ℕ) (D : ℕ → Type 0) (cause : Cause) : Type 0 where
+  is_true : IsTrueOf word e p cause
+  refutes : (w : ℕ) → IsTrueOf w e p cause → D w → ⊥
 
 -- `EachCause P list` holds if `P` holds for each cause in `list`, and `NoCause list` if there is none.
 abbrev EachCause : (Cause → Type 0) → List (Option Cause) → Type 0
@@ -106,35 +149,25 @@ EachCause P list = AllByRecursion (λ o. IfSome o P) list
 abbrev NoCause : List (Option Cause) → Type 0
 NoCause list = AllByRecursion (λ o. o ≡ None) list
 
--- `Explains word e p D cause` holds if `cause` is true of `word`, and `D` fails for each word of which it is true.
-abbrev Explains : ℕ → ℕ → ℕ → (ℕ → Type 0) → Cause → Type 0
-Explains word e p D cause =
-    IsTrueOf word e p cause × ((w : ℕ) → AllByRecursion (Has w e p) (claims_of cause) → D w → ⊥)
+-- `Settled P D list` holds if `P` holds for each cause in `list`, and `D` holds if there is none.
+abbrev Settled : (Cause → Type 0) → Type 0 → List (Option Cause) → Type 0
+Settled P D list = EachCause P list × (NoCause list → D)
 
-fails : (word e p : ℕ) (D : ℕ → Type 0) (cause : Cause) → Explains word e p D cause → D word → ⊥
-fails word e p D cause h d = let is_true = h.0 in h.1 word is_true.0 d
+alone : (P : Cause → Type 0) (D : Type 0) (o : Option Cause) → MatchOption o D P → Settled P D (o ∷ [])
+alone P D None h = ((tt, tt), λ none. h)
+alone P D (Some c) h = ((h, tt), λ none. absurd (let is = none.0 in cc))
 
--- If `P` holds for a cause whenever its condition is true, then it holds for the cause, if there is one.
-if_true : (P : Cause → Type 0) (b : Bool) (c : Cause) → (IsTrue b → P c) → IfSome (then_some b c) P
-if_true P true c h = h refl
-if_true P false c h = tt
+settled_if : (P : Cause → Type 0) (D : Type 0) (b : Bool) (c : Cause) → (IsTrue b → P c) → (b ≡ false → D)
+    → MatchOption (then_some b c) D P
+settled_if P D true c some none = some refl
+settled_if P D false c some none = none refl
 
-no_true : (b : Bool) (c : Cause) → then_some b c ≡ None → b ≡ false
-no_true true c h = cc
-no_true false c h = refl
-
-if_there : (P : Cause → Type 0) (b : NamedByte) (o : Option Cause) → (b.value ≢ 0 → IfSome o P)
-    → IfSome (if_present b o) P
-if_there P b o h = test (b.value == 0) refl where
-  test : (t : Bool) → (b.value == 0) ≡ t → IfSome (if t then None else o) P
-  test true is = tt
-  test false is = h (λ zero. true≢false (sym (eq-eqb _ 0 zero) ∙ is))
-
-not_there : (b : NamedByte) (o : Option Cause) → if_present b o ≡ None → (b.value ≡ 0) ⊎ (o ≡ None)
-not_there b o = test (b.value == 0) refl where
-  test : (t : Bool) → (b.value == 0) ≡ t → (if t then None else o) ≡ None → (b.value ≡ 0) ⊎ (o ≡ None)
-  test true is none = inl (eqb-true _ 0 is)
-  test false is none = inr none
+settled_there : (P : Cause → Type 0) (D : Type 0) (b : NamedByte) (o : Option Cause) → (b.value ≡ 0 → D)
+    → (b.value ≢ 0 → MatchOption o D P) → MatchOption (if_present b o) D P
+settled_there P D b o absent there = test (b.value == 0) refl where
+  test : (t : Bool) → (b.value == 0) ≡ t → MatchOption (if t then None else o) D P
+  test true is = absent (eqb-true _ 0 is)
+  test false is = there (λ zero. true≢false (sym (eq-eqb _ 0 zero) ∙ is))
 
 -- RADIXES
 
@@ -144,15 +177,20 @@ not_radix n out = grind (arith, nat_tests)
 is_radix : (n : ℕ) → not (between 2 36 n) ≡ false → IsRadix n
 is_radix n in_range = grind (arith, nat_tests)
 
-own_radix : (n k m : ℕ) → n ≢ 0 → k ≡ n → IsRadix (effective k m) → IsRadix n
-own_radix n k m some same radix = grind (arith, nat_tests)
-
 -- The mantissa radix is used in place of itself.
 same_radix : (n k : ℕ) → k ≡ n → IsRadix (effective k k) → IsRadix n
 same_radix n k same radix = grind (arith, nat_tests)
 
 own_effective : (n : ℕ) → IsRadix n → IsRadix (effective n n)
 own_effective n radix = grind (arith, nat_tests)
+
+-- A radix that is used is absent or in range, and one that is absent or in range is in range where it is used, unless
+-- it is absent and the mantissa radix is out of range.
+used_radix : (n m : ℕ) → IsRadix (effective n m) → (n ≡ 0) ⊎ IsRadix n
+used_radix n m radix = elim (cases_eq n 0) [
+  | inl none ↦ inl none
+  | inr some ↦ inr (grind (arith, nat_tests))
+]
 
 effective_radix : (n m : ℕ) → (n ≡ 0 → IsRadix m) → (n ≡ 0) ⊎ IsRadix n → IsRadix (effective n m)
 effective_radix n m follows (inl none) = subst (λ k. IsRadix (effective k m)) (sym none) (follows none)
@@ -175,50 +213,37 @@ no_digits : (m x n : ℕ) → digits_of m n ≡ false → digits_of x n ≡ fals
     → IsTrue (digits_of m n || digits_of (effective x m) n) → ⊥
 no_digits m x n mantissa exponent either = grind (arith, nat_tests)
 
--- The cause of a byte that is not punctuation explains why `D`, which demands punctuation, fails.
-byte_explained : (word e p : ℕ) (b : NamedByte) (D : ℕ → Type 0) → Has word e p (has_value b)
-    → ((w : ℕ) → Has w e p (has_value b) → D w → IsPunctuation (raw w) b.value)
-    → IfSome (byte_cause (raw word) b) (Explains word e p D)
+-- The cause of a byte that is not punctuation explains why `D` fails, which demands punctuation.
+byte_settled : (word e p : ℕ) (b : NamedByte) (D : ℕ → Type 0) (N : Type 0) → Has word e p b
+    → ((w : ℕ) → Has w e p b → D w → IsPunctuation (raw w) b.value) → (IsPunctuation (raw word) b.value → N)
+    → MatchOption (byte_cause (raw word) b) N (Explains word e p D)
 unfolding IsPunctuation
-byte_explained word e p b D own free =
-    text (allowed_ascii b.value) (signs b.value) refl refl where
-      digit : (m x : ℕ) → (raw word).byte layout.mantissa_radix ≡ m → (raw word).byte layout.exponent_radix ≡ x
-          → (f g : Bool) → digits_of m b.value ≡ f → digits_of x b.value ≡ g
-          → IfSome (option_map (causes.IsDigit b) (radixes_where m x f g)) (Explains word e p D)
-      digit m x mi xi true true f g = (
-        ((own, (mi, (xi, tt))), (f, g)),
-        λ w all d. let rest = all.1 in (free w all.0 d).1 (mantissa_digit (raw w) m _ rest.0 f),
-      )
-      digit m x mi xi true false f g =
-          (((own, (mi, tt)), f), λ w all d. let rest = all.1 in (free w all.0 d).1 (mantissa_digit (raw w) m _ rest.0 f))
-      digit m x mi xi false true f g =
-          (((own, (xi, tt)), g), λ w all d. let rest = all.1 in (free w all.0 d).1 (exponent_digit (raw w) x _ rest.0 g))
-      digit m x mi xi false false f g = tt
+byte_settled word e p b D N own free enough = text (allowed_ascii b.value) (signs b.value) refl refl where
+  digit : (m x : ℕ) → (raw word).byte layout.mantissa_radix ≡ m → (raw word).byte layout.exponent_radix ≡ x
+      → (f g : Bool) → digits_of m b.value ≡ f → digits_of x b.value ≡ g
+      → (digits_of m b.value ≡ false → digits_of x b.value ≡ false → N)
+      → MatchOption (option_map (causes.IsDigit b) (radixes_where m x f g)) N (Explains word e p D)
+  digit m x mi xi true true f g none = record {
+    is_true = (own, (mi, f, xi, g));
+    refutes = λ w is d. let at = is.1 in (free w is.0 d).1 (mantissa_digit (raw w) m _ at.0 f);
+  }
+  digit m x mi xi true false f g none = record {
+    is_true = (own, (mi, f));
+    refutes = λ w is d. let at = is.1 in (free w is.0 d).1 (mantissa_digit (raw w) m _ at.0 f);
+  }
+  digit m x mi xi false true f g none = record {
+    is_true = (own, (xi, g));
+    refutes = λ w is d. let at = is.1 in (free w is.0 d).1 (exponent_digit (raw w) x _ at.0 g);
+  }
+  digit m x mi xi false false f g none = none f g
 
-      text : (t s : Bool) → allowed_ascii b.value ≡ t → signs b.value ≡ s
-          → IfSome (if not t then Some (causes.NotText b) else if s then Some (causes.IsSign b)
-          else digit_cause (raw word) b) (Explains word e p D)
-      text false s t_is s_is = (((own, tt), t_is), λ w all d. true≢false (sym (free w all.0 d).0 ∙ t_is))
-      text true true t_is s_is = (((own, tt), s_is), λ w all d. (free w all.0 d).2 s_is)
-      text true false t_is s_is = digit _ _ refl refl _ _ refl refl
-
--- A byte without a cause is punctuation.
-byte_free : (r : Record) (b : NamedByte) → byte_cause r b ≡ None → IsPunctuation r b.value
-unfolding IsPunctuation
-byte_free r b = text _ _ (allowed_ascii b.value) (signs b.value) _ _ refl refl refl refl where
-  text : (m x : ℕ) (t s f g : Bool) → allowed_ascii b.value ≡ t → signs b.value ≡ s → digits_of m b.value ≡ f
-      → digits_of x b.value ≡ g
-      → (if not t then Some (causes.NotText b) else if s then Some (causes.IsSign b)
-      else option_map (causes.IsDigit b) (radixes_where m x f g)) ≡ None
-      → IsTrue (allowed_ascii b.value) × (IsTrue (digits_of m b.value || digits_of (effective x m) b.value) → ⊥)
-      × (IsTrue (signs b.value) → ⊥)
-  text m x false s f g t_is s_is f_is g_is none = cc
-  text m x true true f g t_is s_is f_is g_is none = cc
-  text m x true false true true t_is s_is f_is g_is none = cc
-  text m x true false true false t_is s_is f_is g_is none = cc
-  text m x true false false true t_is s_is f_is g_is none = cc
-  text m x true false false false t_is s_is f_is g_is none =
-      (t_is, no_digits m x _ f_is g_is, λ is. true≢false (sym is ∙ s_is))
+  text : (t s : Bool) → allowed_ascii b.value ≡ t → signs b.value ≡ s
+      → MatchOption (if not t then Some (causes.NotText b) else if s then Some (causes.IsSign b)
+      else digit_cause (raw word) b) N (Explains word e p D)
+  text false s t_is s_is = record { is_true = (own, t_is); refutes = λ w is d. true≢false (sym (free w is.0 d).0 ∙ t_is) }
+  text true true t_is s_is = record { is_true = (own, s_is); refutes = λ w is d. (free w is.0 d).2 s_is }
+  text true false t_is s_is =
+      digit _ _ refl refl _ _ refl refl (λ f g. enough (t_is, no_digits _ _ _ f g, λ is. true≢false (sym is ∙ s_is)))
 
 -- If a byte that is not absent is absent or punctuation, then it is punctuation.
 present : (r : Record) (n k : ℕ) → n ≢ 0 → k ≡ n → IsAbsentOrPunctuation r k → IsPunctuation r n
@@ -227,85 +252,47 @@ present r n k some same (inr free) = subst (IsPunctuation r) same free
 
 -- CLASHES
 
-is_letter : (a b : ℕ) → b ≢ a → b ≡ other_case a → IsTrue (letters a)
-is_letter a b differ other = grind (arith, nat_tests)
-
--- If two roles share a byte, then their bytes are equal, or they are the two cases of a letter and not both are
--- case-sensitive.
-abbrev Clash : Bool → ℕ → Bool → ℕ → Type 0
-Clash ac a bc b = (a ≢ 0) × ((b ≡ a) ⊎ ((b ≢ a) × (b ≡ other_case a) × (IsTrue (ac && bc) → ⊥)))
-
-clash_facts : (ac : Bool) (a : ℕ) (bc : Bool) (b : ℕ) → (Disjoint (cased ac a) (cased bc b) → ⊥) → Clash ac a bc b
+-- If two roles share a byte, then their bytes are present, and equal or the two cases of a letter.
+clash_facts : (ac : Bool) (a : ℕ) (bc : Bool) (b : ℕ) → (Disjoint (cased ac a) (cased bc b) → ⊥)
+    → (a ≢ 0) × ((b ≡ a) ⊎ (b ≡ other_case a))
 clash_facts ac a bc b clash = (
   λ none. clash (differ_apart ac a bc b (λ some. absurd (some none))),
   elim (cases_eq b a) [
     | inl same ↦ inl same
     | inr differ ↦ elim (cases_eq b (other_case a)) [
-      | inl other ↦ inr (
-        differ,
-        other,
-        λ both. clash ((cases_apart a ac b bc (λ same. differ (sym same)) (is_letter a b differ other) other).0 both),
-      )
+      | inl other ↦ inr other
       | inr not_other ↦ absurd (clash (differ_apart ac a bc b (λ some. (λ same. differ (sym same), not_other))))
     ]
   ],
 )
 
--- The two cases of a letter clash unless both are case-sensitive.
-clash_cases : (ac : Bool) (a : ℕ) (bc : Bool) (b : ℕ) → b ≢ a → b ≡ other_case a → (IsTrue (ac && bc) → ⊥)
-    → Disjoint (cased ac a) (cased bc b) → ⊥
-clash_cases ac a bc b differ other lacking apart =
-    lacking ((cases_apart a ac b bc (λ same. differ (sym same)) (is_letter a b differ other) other).1 apart)
-
--- If one of two bytes is not case-sensitive, then this is also true elsewhere if the same flags are not set there.
-still_lacking : (ac bc dc ec : Bool) → (IsTrue (ac && bc) → ⊥) → (ac ≡ false → dc ≡ false)
-    → (bc ≡ false → ec ≡ false) → IsTrue (dc && ec) → ⊥
-still_lacking true true dc ec lacking a b both = lacking refl
-still_lacking true false dc ec lacking a b both = true≢false (sym (and_parts dc ec both).1 ∙ b refl)
-still_lacking false bc dc ec lacking a b both = true≢false (sym (and_parts dc ec both).0 ∙ a refl)
-
--- The test of one flag.
-one : (set : Bool) → (set || false) ≡ set
-one true = refl
-one false = refl
-
--- The claim that a case flag is not set is true of the word itself. If it is true of another word, and the byte is not
--- case-sensitive in the word, then the byte is not case-sensitive in the other word.
-unset_own : (w e p : ℕ) (b : Byte) → Has w e p (unset (unset_flag (raw w) b))
+-- The flag of a setter is set if and only if the setter's test says so.
+set_is : (w : ℕ) (f : Flag) → any_flag w (flags_of (setter_of f)) ≡ (raw w).flag f
 unfolding any_flag
-unset_own w e p b = own b where
-  none : bit_and w 0 ≡ 0
-  none = and_comm w 0 ∙ and_zero_l w
+set_is w f = ap (any_flag w) (setter_alone f) ∙ one _ where
+  one : (set : Bool) → (set || false) ≡ set
+  one true = refl
+  one false = refl
 
-  test : (s : FlagSetter) (set : Bool) → any_flag w (flags_of s) ≡ set → Has w e p (unset (if set then None else Some s))
-  test s true is = none
-  test s false is = is
+-- The case flag that a reason of `v` names is not set in `w` if and only if a byte that is not case-sensitive in `v` is
+-- not case-sensitive in `w` either.
+unset_is : (v w : ℕ) (b : Byte) → IsUnset w (unset_flag (raw v) b) ↔ (is_cased (raw v) b ≡ false → is_cased (raw w) b ≡ false)
+unset_is v w b = is (case_flag b) where
+  own : (f : Flag) (set : Bool) → IsUnset w (if set then None else Some (setter_of f)) ↔ (set ≡ false → (raw w).flag f ≡ false)
+  own f true = (λ h off. absurd (true≢false off), λ h. tt)
+  own f false = (λ h off. sym (set_is w f) ∙ h, λ h. set_is w f ∙ h refl)
 
-  own : (c : Byte) → Has w e p (unset (unset_flag (raw w) c))
-  own bytes.BasePrefix = test setters.CaseSensitiveBasePrefix _ (one _)
-  own bytes.BaseSuffix = test setters.CaseSensitiveBaseSuffix _ (one _)
-  own bytes.ExponentCharacter = test setters.CaseSensitiveExponent _ (one _)
-  own _ = none
+  is : (flag : Option Flag) → IsUnset w (if (option_map_or (raw v).flag flag true) then None else option_map setter_of flag)
+      ↔ (option_map_or (raw v).flag flag true ≡ false → option_map_or (raw w).flag flag true ≡ false)
+  is None = (λ h off. off, λ h. tt)
+  is (Some f) = own f _
 
-unset_same : (v w e p : ℕ) (b : Byte) → Has w e p (unset (unset_flag (raw v) b)) → is_cased (raw v) b ≡ false
-    → is_cased (raw w) b ≡ false
-unfolding any_flag
-unset_same v w e p b = same b where
-  off : (s : FlagSetter) (set : Bool) → Has w e p (unset (if set then None else Some s)) → set ≡ false
-      → any_flag w (flags_of s) ≡ false
-  off s true h is = absurd (true≢false is)
-  off s false h is = h
+-- `Apart r e p pairs` holds if the bytes of no pair clash, and `clashes r e p pairs` lists the causes of those that do.
+abbrev Apart : Record → ℕ → ℕ → List (Byte × Byte) → Type 0
+Apart r e p pairs = AllByRecursion (λ pair. Disjoint (role r e p pair.0) (role r e p pair.1)) pairs
 
-  same : (c : Byte) → Has w e p (unset (unset_flag (raw v) c)) → is_cased (raw v) c ≡ false → is_cased (raw w) c ≡ false
-  same bytes.BasePrefix h is = sym (one _) ∙ off setters.CaseSensitiveBasePrefix _ h is
-  same bytes.BaseSuffix h is = sym (one _) ∙ off setters.CaseSensitiveBaseSuffix _ h is
-  same bytes.ExponentCharacter h is = sym (one _) ∙ off setters.CaseSensitiveExponent _ h is
-  same _ h is = is
-
-disjoint : (r : Record) (e p : ℕ) (pair : Byte × Byte) → clash r e p pair ≡ None
-    → Disjoint (role r e p pair.0) (role r e p pair.1)
-unfolding Disjoint
-disjoint r e p pair none = not-false _ (no_true _ _ none)
+abbrev clashes : Record → ℕ → ℕ → List (Byte × Byte) → List (Option Cause)
+clashes r e p pairs = map (λ pair. clash r e p pair.0 pair.1) pairs
 
 module _ (word e p : ℕ) (e_below : e < 256) (p_below : p < 256) (D : ℕ → Type 0) where
   below : (w : ℕ) (b : Byte) → value_of (raw w) e p b < 256
@@ -313,95 +300,107 @@ module _ (word e p : ℕ) (e_below : e < 256) (p_below : p < 256) (D : ℕ → T
   below w bytes.DecimalPoint = p_below
   below w _ = mod-lt _ (pow_pos 8)
 
-  -- The cause of two bytes that clash explains why `D`, which demands that they do not, fails.
-  clash_explained : (a b : Byte) → ((w : ℕ) → D w → Disjoint (role (raw w) e p a) (role (raw w) e p b))
-      → IfSome (clash (raw word) e p (a, b)) (Explains word e p D)
+  -- The cause of two bytes that clash explains why `D` fails, which demands that they do not.
+  clash_settled : (a b : Byte) → ((w : ℕ) → D w → Disjoint (role (raw w) e p a) (role (raw w) e p b))
+      → MatchOption (clash (raw word) e p a b) (Disjoint (role (raw word) e p a) (role (raw word) e p b)) (Explains word e p D)
   unfolding Disjoint
-  clash_explained a b apart =
-      if_true (Explains word e p D) _ _ (λ h.
-      each _ refl (clash_facts _ _ _ _ (λ d. true≢false (sym h ∙ not_from_true _ d)))) where
-        each : (t : Bool) → (value_of (raw word) e p b == value_of (raw word) e p a) ≡ t
-            → Clash (is_cased (raw word) a) (value_of (raw word) e p a) (is_cased (raw word) b) (value_of (raw word) e p b)
+  clash_settled a b apart =
+      settled_if (Explains word e p D) _ _ _
+      (λ h. let clash = λ (d : Disjoint _ _). true≢false (sym h ∙ not_from_true _ d) in each _ refl clash (clash_facts _ _ _ _ clash))
+      (λ h. not-false _ h) where
+        first : ℕ
+        first = value_of (raw word) e p a
+
+        second : ℕ
+        second = value_of (raw word) e p b
+
+        each : (t : Bool) → (second == first) ≡ t
+            → (Disjoint (role (raw word) e p a) (role (raw word) e p b) → ⊥)
+            → (first ≢ 0) × ((second ≡ first) ⊎ (second ≡ other_case first))
             → Explains word e p D (if t then causes.Same (named (raw word) e p a) (named (raw word) e p b)
             else causes.DifferInCase (named (raw word) e p a) (unset_flag (raw word) a) (named (raw word) e p b)
             (unset_flag (raw word) b))
-        each true test facts =
-            let same = eqb-true _ _ test in (
-              ((refl, (refl, tt)), (facts.0, same)),
-              λ w all d.
-                  let rest = all.1 in
+        each true test clash facts =
+            let same = eqb-true _ _ test in record {
+              is_true = (refl, refl, facts.0, same);
+              refutes = λ w is d.
                   same_clash (is_cased (raw w) a) (value_of (raw w) e p a) (is_cased (raw w) b) (below w a)
-                  (λ none. facts.0 (sym all.0 ∙ none))
-                  (subst (λ n. Disjoint (role (raw w) e p a) (cased (is_cased (raw w) b) n)) (rest.0 ∙ same ∙ sym all.0)
-                  (apart w d)),
-            )
-        each false test (some, inl same) = absurd (true≢false (sym (eq-eqb _ _ same) ∙ test))
-        each false test (some, inr (differ, other, lacking)) = (
-          ((refl, (refl, (unset_own word e p a, (unset_own word e p b, tt)))), (differ, other)),
-          λ w all d.
-              let rest = all.1 in
-              let flags = rest.1 in
-              let last = flags.1 in
-              clash_cases (is_cased (raw w) a) (value_of (raw w) e p a) (is_cased (raw w) b) (value_of (raw w) e p b)
-              (λ same. differ (sym rest.0 ∙ same ∙ all.0)) (rest.0 ∙ other ∙ ap other_case (sym all.0))
-              (still_lacking _ _ _ _ lacking (unset_same word w e p a flags.0) (unset_same word w e p b last.0))
-              (apart w d),
-        )
+                  (λ none. facts.0 (sym is.0 ∙ none))
+                  (subst (λ n. Disjoint (role (raw w) e p a) (cased (is_cased (raw w) b) n)) (is.1 ∙ same ∙ sym is.0)
+                  (apart w d));
+            }
+        each false test clash (some, inl same) = absurd (true≢false (sym (eq-eqb _ _ same) ∙ test))
+        each false test clash (some, inr other) = record {
+          is_true = (
+            refl,
+            refl,
+            λ same. true≢false (sym (eq-eqb _ _ same) ∙ test),
+            other,
+            (unset_is word word a).1 (λ h. h),
+            (unset_is word word b).1 (λ h. h),
+          );
+          refutes = λ w is d.
+              still_clash _ first _ second _ _ ((unset_is word w a).0 is.4) ((unset_is word w b).0 is.5) clash
+              (subst (λ n. Disjoint (cased (is_cased (raw w) a) n) (cased (is_cased (raw w) b) second)) is.0
+              (subst (λ n. Disjoint (role (raw w) e p a) (cased (is_cased (raw w) b) n)) is.1 (apart w d)));
+        }
 
--- `Apart r e p pairs` holds if the bytes of no pair clash.
-abbrev Apart : Record → ℕ → ℕ → List (Byte × Byte) → Type 0
-Apart r e p pairs = AllByRecursion (λ pair. Disjoint (role r e p pair.0) (role r e p pair.1)) pairs
+  clashes_settled : (pairs : List (Byte × Byte)) → ((w : ℕ) → D w → Apart (raw w) e p pairs)
+      → Settled (Explains word e p D) (Apart (raw word) e p pairs) (clashes (raw word) e p pairs)
+  clashes_settled [] apart = (tt, λ none. tt)
+  clashes_settled ((a, b) ∷ pairs) apart =
+      let one = alone _ _ _ (clash_settled a b (λ w d. let all = apart w d in all.0)) in
+      let rest = clashes_settled pairs (λ w d. let all = apart w d in all.1) in
+      let own = one.0 in ((own.0, rest.0), λ none. (one.1 (none.0, tt), rest.1 none.1))
 
-clashes_explained : (word e p : ℕ) → e < 256 → p < 256 → (D : ℕ → Type 0) (pairs : List (Byte × Byte))
-    → ((w : ℕ) → D w → Apart (raw w) e p pairs) → EachCause (Explains word e p D) (map (clash (raw word) e p) pairs)
-clashes_explained word e p e_below p_below D [] apart = tt
-clashes_explained word e p e_below p_below D ((a, b) ∷ pairs) apart = (
-  clash_explained word e p e_below p_below D a b (λ w d. let all = apart w d in all.0),
-  clashes_explained word e p e_below p_below D pairs (λ w d. let all = apart w d in all.1),
-)
+-- RULES
 
-no_clashes : (r : Record) (e p : ℕ) (pairs : List (Byte × Byte)) → NoCause (map (clash r e p) pairs) → Apart r e p pairs
-no_clashes r e p [] none = tt
-no_clashes r e p (pair ∷ pairs) none = (disjoint r e p pair none.0, no_clashes r e p pairs none.1)
+-- `byte_of b` is the byte `b` of a word.
+abbrev byte_of : layout.Byte → Byte
+byte_of layout.digit_separator = bytes.DigitSeparator
+byte_of layout.base_prefix = bytes.BasePrefix
+byte_of layout.base_suffix = bytes.BaseSuffix
+byte_of layout.mantissa_radix = bytes.MantissaRadix
+byte_of layout.exponent_base = bytes.ExponentBase
+byte_of layout.exponent_radix = bytes.ExponentRadix
 
--- FLAGS AND RESERVED BITS
+value_is : (w : ℕ) (b : layout.Byte) → value_of (raw w) 0 0 (byte_of b) ≡ (raw w).byte b
+value_is w layout.digit_separator = refl
+value_is w _ = refl
 
--- The flag of a setter is set if and only if the setter's test says so.
-set_is : (w : ℕ) (f : Flag) → any_flag w (flags_of (setter_of f)) ≡ (raw w).flag f
-unfolding any_flag
-set_is w f = ap (any_flag w) (setter_alone f) ∙ one _
+abbrev format_pairs : List (Byte × Byte)
+format_pairs =
+    (bytes.DigitSeparator, bytes.BasePrefix) ∷ (bytes.DigitSeparator, bytes.BaseSuffix)
+    ∷ (bytes.BasePrefix, bytes.BaseSuffix) ∷ []
 
-lacks_parts : (c i l t : Bool) → (c && not (i || l || t)) ≡ true → (c ≡ true) × (i ≡ false) × (l ≡ false) × (t ≡ false)
-lacks_parts true false false false h = (refl, refl, refl, refl)
-lacks_parts true true l t h = cc
-lacks_parts true false true t h = cc
-lacks_parts true false false true h = cc
-lacks_parts false i l t h = cc
+-- `causes_of shape word` lists the causes for which `word` is not as `shape` demands.
+abbrev causes_of : Shape → ℕ → List (Option Cause)
+causes_of (radix_in_range layout.mantissa_radix) word = radix_cause (named (raw word) 0 0 bytes.MantissaRadix) ∷ []
+causes_of (radix_in_range b) word =
+    let byte = named (raw word) 0 0 (byte_of b) in if_present byte (radix_cause byte) ∷ []
+causes_of (absent_or_punctuation b) word =
+    let byte = named (raw word) 0 0 (byte_of b) in if_present byte (byte_cause (raw word) byte) ∷ []
+causes_of roles_differ word = clashes (raw word) 0 0 format_pairs
+causes_of (not_both a b) word =
+    let first = setter_of a in
+    let second = setter_of b in
+    then_some (any_flag word (flags_of first) && any_flag word (flags_of second)) (causes.BothSet first second) ∷ []
+causes_of (position_allowed part) word =
+    then_some (lacks_position (raw word) part) (causes.NeedsPosition part) ∷ []
+causes_of reserved_zero word = reserved_cause word ∷ []
 
--- If a part lacks a position in a word, then so it does in each word with the same digit separator flags of the part.
-position_explained : (word : ℕ) (part : Part) → lacks_position (raw word) part ≡ true
-    → AllByRecursion (Has word 0 0) (claims_of (causes.NeedsPosition part))
-    × ((w : ℕ) → AllByRecursion (Has w 0 0) (claims_of (causes.NeedsPosition part)) → IsFalse (lacks_position (raw w) part) → ⊥)
-position_explained word part lacks =
-    let own = separators_in part in
-    let parts = lacks_parts _ _ _ _ lacks in (
-      (
-        set_is word own.internal ∙ parts.1,
-        (
-          set_is word own.leading ∙ parts.2,
-          (set_is word own.trailing ∙ parts.3, (set_is word own.consecutive ∙ parts.0, tt)),
-        ),
-      ),
-      λ w all d.
-          let second = all.1 in
-          let third = second.1 in
-          let fourth = third.1 in
-          let il = sym (set_is w own.internal) ∙ all.0 in
-          let ll = sym (set_is w own.leading) ∙ second.0 in
-          let tl = sym (set_is w own.trailing) ∙ third.0 in
-          let cl = sym (set_is w own.consecutive) ∙ fourth.0 in
-          true≢false (sym (λ k. cl k && not (il k || ll k || tl k)) ∙ d),
-    )
+-- `Own shape w` holds if the word `w` is as `shape` demands, or if the byte that `shape` names is absent.
+abbrev Own : Shape → ℕ → Type 0
+Own (radix_in_range layout.mantissa_radix) w = IsRadix ((raw w).byte layout.mantissa_radix)
+Own (radix_in_range b) w = ((raw w).byte b ≡ 0) ⊎ IsRadix ((raw w).byte b)
+Own shape w = Meets shape w
+
+own_demand : (rule : Rule) (w : ℕ) → Holds rule w → Own (shape_of rule) w
+unfolding Holds
+own_demand rules.MantissaRadixInRange w h = same_radix _ _ refl h
+own_demand rules.ExponentBaseInRange w h = used_radix _ _ h
+own_demand rules.ExponentRadixInRange w h = used_radix _ _ h
+own_demand rule w h = h
 
 not_clean : (w bits : ℕ) → bits ≢ 0 → bit_and bits reserved_mask ≡ bits → bit_and w bits ≡ bits → IsClean w → ⊥
 not_clean w bits some inside has clean =
@@ -409,108 +408,85 @@ not_clean w bits some inside has clean =
     some (sym has ∙ ap (bit_and w) (sym inside ∙ and_comm bits reserved_mask)
     ∙ sym (and_assoc bits w reserved_mask) ∙ ap (λ n. bit_and n bits) none ∙ and_zero_l bits)
 
--- RULES
-
-value_is : (w e p : ℕ) (b : layout.Byte) → value_of (raw w) e p (byte_of b) ≡ (raw w).byte b
-value_is w e p layout.digit_separator = refl
-value_is w e p _ = refl
-
--- Each cause of a shape explains why a word is not as the shape demands.
-shape_explained : (shape : Shape) (word : ℕ) → EachCause (Explains word 0 0 (Meets shape)) (causes_of shape word)
-shape_explained (radix_in_range layout.mantissa_radix) word = (
-  if_true (Explains word 0 0 (Meets (radix_in_range layout.mantissa_radix))) _ _ (λ out.
-      (((refl, tt), not_radix _ out), λ w all d. not_radix _ out (same_radix _ _ all.0 d))),
-  tt,
-)
-shape_explained (radix_in_range b) word =
+-- Each cause of a shape explains why a word is not as the shape demands, and without a cause the word is.
+shape_settled : (shape : Shape) (word : ℕ) → Settled (Explains word 0 0 (Own shape)) (Own shape word) (causes_of shape word)
+shape_settled (radix_in_range layout.mantissa_radix) word =
+    let D = Own (radix_in_range layout.mantissa_radix) in
+    alone _ _ _ (settled_if (Explains word 0 0 D) (D word) _ _
+    (λ out. record {
+      is_true = (refl, not_radix _ out);
+      refutes = λ w is d. let fact = is.1 in fact (subst IsRadix is.0 d);
+    })
+    (is_radix _))
+shape_settled (radix_in_range b) word =
     let n = named (raw word) 0 0 (byte_of b) in
-    let P = Explains word 0 0 (Meets (radix_in_range b)) in (
-      if_there P n (radix_cause n) (λ some. if_true P _ _ (λ out. (
-        ((refl, tt), not_radix n.value out),
-        λ w all d. not_radix n.value out (own_radix n.value _ _ some all.0 d),
-      ))),
-      tt,
-    )
-shape_explained (absent_or_punctuation b) word =
+    let D = Own (radix_in_range b) in
+    alone _ _ _ (settled_there (Explains word 0 0 D) (D word) n _ inl (λ some. settled_if (Explains word 0 0 D) (D word) _ _
+    (λ out. record {
+      is_true = (refl, not_radix _ out);
+      refutes = λ w is d. let fact = is.1 in elim d [
+        | inl zero ↦ some (sym is.0 ∙ zero)
+        | inr radix ↦ fact (subst IsRadix is.0 radix)
+      ];
+    })
+    (λ in_range. inr (is_radix _ in_range))))
+shape_settled (absent_or_punctuation b) word =
     let n = named (raw word) 0 0 (byte_of b) in
-    let D = Meets (absent_or_punctuation b) in (
-      if_there (Explains word 0 0 D) n (byte_cause (raw word) n) (λ some.
-          byte_explained word 0 0 n D refl (λ w is d.
-          present (raw w) n.value _ some (sym (value_is w 0 0 b) ∙ is) d)),
-      tt,
-    )
-shape_explained roles_differ word =
-    clashes_explained word 0 0 (omega arith) (omega arith) (Meets roles_differ) format_pairs
-    (λ w d. (assumption d, (assumption d, (assumption d, tt))))
-shape_explained (not_both a b) word = (
-  if_true (Explains word 0 0 (Meets (not_both a b))) _ _ (λ h.
-      let parts = and_parts _ _ h in (
-        ((parts.0, (parts.1, tt)), tt),
-        λ w all d.
-            let rest = all.1 in
-            true≢false (sym (and_from _ _ (sym (set_is w a) ∙ all.0) (sym (set_is w b) ∙ rest.0)) ∙ d),
-      )),
-  tt,
-)
-shape_explained (position_allowed part) word = (
-  if_true (Explains word 0 0 (Meets (position_allowed part))) _ _ (λ h.
-      let both = position_explained word part h in ((both.0, tt), both.1)),
-  tt,
-)
-shape_explained reserved_zero word = (
-  if_true (Explains word 0 0 (Meets reserved_zero)) _ _ (λ set.
-      let some : bit_and word reserved_mask ≢ 0 = λ none. true≢false (sym set ∙ ap not (eq-eqb _ 0 none)) in
-      let inside = and_assoc reserved_mask word reserved_mask in
-      let own = sym (and_assoc reserved_mask word word) ∙ ap (λ n. bit_and n reserved_mask) (and_self word) in
-      (((own, tt), (some, inside)), λ w all d. not_clean w _ some inside all.0 d)),
-  tt,
-)
-
--- If a shape has no cause, then the word is as the shape demands, unless an absent byte follows a bad mantissa radix.
-abbrev Follows : Shape → ℕ → Type 0
-Follows (radix_in_range layout.mantissa_radix) word = ⊤
-Follows (radix_in_range b) word = (raw word).byte b ≡ 0 → IsRadix ((raw word).byte layout.mantissa_radix)
-Follows _ word = ⊤
-
-shape_met : (shape : Shape) (word : ℕ) → Follows shape word → NoCause (causes_of shape word) → Meets shape word
-shape_met (radix_in_range layout.mantissa_radix) word follows none =
-    let n = (raw word).byte layout.mantissa_radix in own_effective n (is_radix n (no_true _ _ none.0))
-shape_met (radix_in_range b) word follows none =
-    let n = named (raw word) 0 0 (byte_of b) in
-    effective_radix n.value _ follows (elim (not_there n (radix_cause n) none.0) [
-      | inl zero ↦ inl zero
-      | inr in_range ↦ inr (is_radix n.value (no_true _ _ in_range))
-    ])
-shape_met (absent_or_punctuation b) word follows none =
-    let n = named (raw word) 0 0 (byte_of b) in
-    elim (not_there n (byte_cause (raw word) n) none.0) [
-      | inl zero ↦ inl (sym (value_is word 0 0 b) ∙ zero)
-      | inr free ↦ inr (subst (IsPunctuation (raw word)) (value_is word 0 0 b) (byte_free (raw word) n free))
-    ]
-shape_met roles_differ word follows none =
-    let apart = no_clashes (raw word) 0 0 format_pairs none in
+    alone _ _ _ (settled_there (Explains word 0 0 (Own (absent_or_punctuation b))) (Own (absent_or_punctuation b) word) n _
+    (λ zero. inl (sym (value_is word b) ∙ zero)) (λ some.
+    byte_settled word 0 0 n (Own (absent_or_punctuation b)) _ refl
+    (λ w is d. present (raw w) n.value _ some (sym (value_is w b) ∙ is) d)
+    (λ free. inr (subst (IsPunctuation (raw word)) (value_is word b) free))))
+shape_settled roles_differ word =
+    let all = clashes_settled word 0 0 (omega arith) (omega arith) (Own roles_differ) format_pairs
+    (λ w d. (assumption d, (assumption d, (assumption d, tt)))) in
+    (all.0, λ none.
+    let apart = all.1 none in
     let rest = apart.1 in
     let last = rest.1 in
-    ((apart.0, (rest.0, tt)), ((last.0, tt), (tt, tt)))
-shape_met (not_both a b) word follows none =
-    sym (λ i. set_is word a i && set_is word b i) ∙ no_true _ _ none.0
-shape_met (position_allowed part) word follows none = no_true _ _ none.0
-shape_met reserved_zero word follows none = (reserved_bits word).0 (not-false _ (no_true _ _ none.0))
+    ((apart.0, (rest.0, tt)), ((last.0, tt), (tt, tt))))
+shape_settled (not_both a b) word =
+    let D = Own (not_both a b) in
+    alone _ _ _ (settled_if (Explains word 0 0 D) (D word) _ _
+    (λ h. record {
+      is_true = and_parts _ _ h;
+      refutes = λ w is d.
+          true≢false (sym (and_from _ _ (sym (set_is w a) ∙ is.0) (sym (set_is w b) ∙ is.1)) ∙ d);
+    })
+    (λ h. sym (λ i. set_is word a i && set_is word b i) ∙ h))
+shape_settled (position_allowed part) word =
+    let D = Own (position_allowed part) in
+    alone _ _ _ (settled_if (Explains word 0 0 D) (D word) _ _
+    (λ h. record { is_true = h; refutes = λ w is d. true≢false (sym is ∙ d) }) (λ h. h))
+shape_settled reserved_zero word =
+    let D = Own reserved_zero in
+    alone _ _ _ (settled_if (Explains word 0 0 D) (D word) _ _
+    (λ set.
+    let own = sym (and_assoc reserved_mask word word) ∙ ap (λ n. bit_and n reserved_mask) (and_self word) in record {
+      is_true = (λ none. true≢false (sym set ∙ ap not (eq-eqb _ 0 none)), and_assoc reserved_mask word reserved_mask, own);
+      refutes = λ w is d. not_clean w _ is.0 is.1 is.2 d;
+    })
+    (λ h. (reserved_bits word).0 (not-false _ h)))
 
 -- REASONS
 
 -- If `P` implies `Q`, and `P` holds for each reason, then so does `Q`.
-weaken : (P Q : Reason → Type 0) → ((r : Reason) → P r → Q r) → (list : List (Option Reason)) → EachReason P list
+pub weaken : (P Q : Reason → Type 0) → ((r : Reason) → P r → Q r) → (list : List (Option Reason)) → EachReason P list
     → EachReason Q list
 weaken P Q step [] all = tt
 weaken P Q step (None ∷ list) all = (tt, weaken P Q step list all.1)
 weaken P Q step (Some r ∷ list) all = (step r all.0, weaken P Q step list all.1)
 
--- If there is no reason, then each reason has every property.
+-- There is no reason if and only if each reason has every property.
 without : (P : Reason → Type 0) (list : List (Option Reason)) → NoReason list → EachReason P list
 without P [] none = tt
 without P (None ∷ list) none = (tt, without P list none.1)
 without P (Some r ∷ list) none = cc
+
+no_reason : (list : List (Option Reason)) → EachReason (λ r. ⊥) list → NoReason list
+no_reason [] all = tt
+no_reason (None ∷ list) all = (refl, no_reason list all.1)
+no_reason (Some r ∷ list) all = absurd all.0
 
 -- The reasons of causes.
 lift : (f : Cause → Reason) (P : Cause → Type 0) (Q : Reason → Type 0) → ((c : Cause) → P c → Q (f c))
@@ -525,28 +501,18 @@ no_causes f Q out [] all = tt
 no_causes f Q out (None ∷ list) all = (refl, no_causes f Q out list all.1)
 no_causes f Q out (Some c ∷ list) all = absurd (out c all.0)
 
--- If no cause explains why `D` fails for a word, then there is no reason.
-unexplained : (word e p : ℕ) (D : ℕ → Type 0) (f : Cause → Reason) → D word → (list : List (Option Cause))
-    → EachCause (Explains word e p D) list → NoReason (map (option_map f) list)
-unexplained word e p D f d [] all = tt
-unexplained word e p D f d (None ∷ list) all = (refl, unexplained word e p D f d list all.1)
-unexplained word e p D f d (Some c ∷ list) all = absurd (fails word e p D c all.0 d)
+-- `reason_slots word` lists the reasons why `word` breaks rules, in the order of the rules, each in its slot.
+abbrev pub slots : ℕ → Rule → List (Option Reason)
+slots word rule = map (option_map (reason_of (raw word) (Some rule))) (causes_of (shape_of rule) word)
 
--- A cause of a word is true of each word that agrees with it under the mask of the cause.
-elsewhere : (word e p other : ℕ) (D : ℕ → Type 0) (cause : Cause) → Explains word e p D cause
-    → bit_and word (mask_of_claims (claims_of cause)) ≡ bit_and other (mask_of_claims (claims_of cause))
-    → IsTrueOf other e p cause × (D other → ⊥)
-elsewhere word e p other D cause h same =
-    let is_true = h.0 in
-    let all = claims_agree word other e p (claims_of cause) same is_true.0 in
-    ((all, is_true.1), h.1 other all)
+abbrev pub reason_slots : ℕ → List (Option Reason)
+reason_slots word = flat_map (slots word) rules_in_order
 
--- `Reasoned word r` holds if `r` explains why `word` breaks the first rule of `r`, and `word` breaks all its rules.
+-- `Reasoned word r` holds if `r` has a rule and blames what it depends on.
 record Reasoned (word : ℕ) (r : Reason) : Type 0 where
   first : Rule
   is_first : r.rule ≡ Some first
-  explains : Explains word 0 0 (Holds first) r.cause
-  broken : (rule : Rule) → Breaks r rule → Holds rule word → ⊥
+  blames : (other : ℕ) → Blames word other r
 
 some_is : (a b : Rule) → Some a ≡ Some b → a ≡ b
 some_is a b same = ap (λ o. unwrap_or o a) same
@@ -555,46 +521,68 @@ then_some_is : (t : Bool) (a b : Rule) → then_some t a ≡ Some b → IsTrue t
 then_some_is true a b same = (refl, some_is a b same)
 then_some_is false a b same = cc
 
-followed : (n m : ℕ) → IsTrue (n == 0) → IsRadix (effective n m) → IsRadix m
-followed n m zero radix = subst (λ k. IsRadix (effective k m)) (eqb-true n 0 zero) radix
-
--- If a word breaks a rule, then it also breaks the rules that follow.
-followers_broken : (word : ℕ) (rule other : Rule) → (Holds rule word → ⊥)
-    → let f = followers (raw word) (Some rule) in ((f.0 ≡ Some other) ⊎ (f.1 ≡ Some other)) → Holds other word → ⊥
+-- If a word agrees with another under the mask of a mantissa radix that is out of range, and satisfies the rule of a
+-- byte that is absent in the other, then its mantissa radix is in range.
+followed : (word other : ℕ) → SameUnder (mask_of_cause (raw word) (causes.OutOfRange (named (raw word) 0 0 bytes.MantissaRadix))) word other
+    → (q : Rule) → let f = followers (raw word) (Some rules.MantissaRadixInRange) in ((f.0 ≡ Some q) ⊎ (f.1 ≡ Some q)) → Holds q other
+    → IsRadix ((raw other).byte layout.mantissa_radix)
 unfolding Holds
-followers_broken word rules.MantissaRadixInRange other broken (inl same) holds =
-    let is = then_some_is _ _ _ same in
-    let own : Holds rules.ExponentBaseInRange word = subst (λ q. Holds q word) (sym is.1) holds in
-    broken (own_effective _ (followed _ _ is.0 own))
-followers_broken word rules.MantissaRadixInRange other broken (inr same) holds =
-    let is = then_some_is _ _ _ same in
-    let own : Holds rules.ExponentRadixInRange word = subst (λ q. Holds q word) (sym is.1) holds in
-    broken (own_effective _ (followed _ _ is.0 own))
-followers_broken word _ other broken (inl same) holds = cc
-followers_broken word _ other broken (inr same) holds = cc
+followed word other same q follows holds =
+    let base = absent_mask (raw word) bytes.ExponentBase in
+    let radix = absent_mask (raw word) bytes.ExponentRadix in
+    let both = halves word other (mask_of_byte bytes.MantissaRadix) (bit_or base radix) same in
+    let absent = halves word other base radix both.1 in elim follows [
+      | inl is ↦
+          let f = then_some_is _ _ _ is in
+          let own : Holds rules.ExponentBaseInRange other = subst (λ q. Holds q other) (sym f.1) holds in
+          follow _ _ (stays_absent bytes.ExponentBase f.0 absent.0) own
+      | inr is ↦
+          let f = then_some_is _ _ _ is in
+          let own : Holds rules.ExponentRadixInRange other = subst (λ q. Holds q other) (sym f.1) holds in
+          follow _ _ (stays_absent bytes.ExponentRadix f.0 absent.1) own
+    ] where
+      stays_absent : (b : Byte) → IsTrue (value_of (raw word) 0 0 b == 0) → SameUnder (absent_mask (raw word) b) word other
+          → value_of (raw other) 0 0 b ≡ 0
+      stays_absent b zero same =
+          sym (value_agrees word other 0 0 b (subst (λ t. SameUnder (if t then mask_of_byte b else 0) word other) zero same))
+          ∙ eqb-true _ 0 zero
 
--- Each cause explains why its rule is broken, and so does each reason.
-causes_explained : (word : ℕ) (rule : Rule) → EachCause (Explains word 0 0 (Holds rule)) (causes_of (shape_of rule) word)
-unfolding Holds
-causes_explained word rules.ReservedBitsAreZero = shape_explained reserved_zero word
-causes_explained word rule = shape_explained (shape_of rule) word
+      follow : (n m : ℕ) → n ≡ 0 → IsRadix (effective n m) → IsRadix m
+      follow n m zero radix = subst (λ k. IsRadix (effective k m)) zero radix
 
-reasoned : (word : ℕ) (rule : Rule) → EachReason (Reasoned word) (slots word rule)
-reasoned word rule =
-    lift (reason_of (raw word) (Some rule)) (Explains word 0 0 (Holds rule)) (Reasoned word) step (causes_of (shape_of rule) word)
-    (causes_explained word rule) where
-      step : (c : Cause) → Explains word 0 0 (Holds rule) c → Reasoned word (reason_of (raw word) (Some rule) c)
-      step c h =
-          let out = fails word 0 0 (Holds rule) c h in
-          record {
-            first = rule;
-            is_first = refl;
-            explains = h;
-            broken = λ other breaks holds. elim breaks [
-              | inl same ↦ out (subst (λ q. Holds q word) (sym (some_is rule other same)) holds)
-              | inr follows ↦ followers_broken word rule other out follows holds
-            ];
-          }
+-- A cause of a rule blames what it depends on, if the rules that follow hold only where the rule does.
+reasoned : (word : ℕ) (rule : Rule) (c : Cause) → Explains word 0 0 (Own (shape_of rule)) c
+    → ((other : ℕ) → SameUnder (mask_of_cause (raw word) c) word other → (q : Rule)
+    → let f = followers (raw word) (Some rule) in ((f.0 ≡ Some q) ⊎ (f.1 ≡ Some q)) → Holds q other → Own (shape_of rule) other)
+    → Reasoned word (reason_of (raw word) (Some rule) c)
+reasoned word rule c h follow = record {
+  first = rule;
+  is_first = refl;
+  blames = λ other same.
+      let there = stays word other 0 0 c same h.is_true in (
+        there,
+        λ q breaks holds. h.refutes other there (elim breaks [
+          | inl is ↦ own_demand rule other (subst (λ q. Holds q other) (sym (some_is rule q is)) holds)
+          | inr follows ↦ follow other same q follows holds
+        ]),
+      );
+}
+
+rule_reasoned : (word : ℕ) (rule : Rule) → EachReason (Reasoned word) (slots word rule)
+rule_reasoned word rules.MantissaRadixInRange =
+    let settled = shape_settled (radix_in_range layout.mantissa_radix) word in
+    let explained = settled.0 in
+    (one (not (between 2 36 ((raw word).byte layout.mantissa_radix))) (named (raw word) 0 0 bytes.MantissaRadix) refl explained.0, tt) where
+      one : (b : Bool) (n : NamedByte) → n ≡ named (raw word) 0 0 bytes.MantissaRadix
+          → IfSome (then_some b (causes.OutOfRange n)) (Explains word 0 0 (Own (radix_in_range layout.mantissa_radix)))
+          → IfSome (option_map (reason_of (raw word) (Some rules.MantissaRadixInRange)) (then_some b (causes.OutOfRange n))) (Reasoned word)
+      one true n is h = reasoned word rules.MantissaRadixInRange (causes.OutOfRange n) h (λ other same q follows holds.
+          followed word other (subst (λ n. SameUnder (mask_of_cause (raw word) (causes.OutOfRange n)) word other) is same) q follows holds)
+      one false n is h = tt
+rule_reasoned word rule =
+    lift (reason_of (raw word) (Some rule)) _ (Reasoned word)
+    (λ c h. reasoned word rule c h (λ other same q follows holds. elim follows [ inl is ↦ cc | inr is ↦ cc ]))
+    (causes_of (shape_of rule) word) (shape_settled (shape_of rule) word).0
 
 -- A property of all slots of a list of rules is a property of the slots of each rule.
 join : (P : Option Reason → Type 0) (xs ys : List (Option Reason)) → AllByRecursion P xs → AllByRecursion P ys
@@ -607,136 +595,119 @@ of_rules : (P : Option Reason → Type 0) (word : ℕ) → ((rule : Rule) → Al
 of_rules P word each [] = tt
 of_rules P word each (rule ∷ list) = join P (slots word rule) _ (each rule) (of_rules P word each list)
 
--- If a word satisfies each rule of a list, then their slots are `None`.
-pub kept : (word : ℕ) (list : List Rule) → AllByRecursion (λ rule. Holds rule word) list
-    → NoReason (flat_map (slots word) list)
-kept word [] all = tt
-kept word (rule ∷ list) all =
-    join (λ o. o ≡ None) (slots word rule) _
-    (unexplained word 0 0 (Holds rule) (reason_of (raw word) (Some rule)) all.0 (causes_of (shape_of rule) word)
-    (causes_explained word rule)) (kept word list all.1)
-
 all_reasoned : (word : ℕ) → EachReason (Reasoned word) (reason_slots word)
-all_reasoned word = of_rules (λ o. IfSome o (Reasoned word)) word (reasoned word) rules_in_order
+all_reasoned word = of_rules (λ o. IfSome o (Reasoned word)) word (rule_reasoned word) rules_in_order
 
--- Each reason of a word is true of each word that has the same bits under its mask, and breaks its rule there.
+-- Each reason of a word is true of each word that has the same bits under its mask, and breaks its rules there.
 pub blame : (word other : ℕ) → EachReason (Blames word other) (reason_slots word)
-blame word other =
-    weaken (Reasoned word) (Blames word other) step (reason_slots word) (all_reasoned word) where
-      step : (r : Reason) → Reasoned word r → Blames word other r
-      step r h same =
-          let there = elsewhere word 0 0 other (Holds h.first) r.cause h.explains same in
-          (there.0, subst (λ o. IfSome o (λ own. Holds own other → ⊥)) (sym h.is_first) there.1)
+blame word other = weaken (Reasoned word) (Blames word other) (λ r h. h.blames other) (reason_slots word) (all_reasoned word)
 
 -- A word satisfies a rule if and only if it does not break it because of one of its reasons.
 pub by_rules : (word : ℕ) (rule : Rule) → Holds rule word ↔ EachReason (λ r. Breaks r rule → ⊥) (reason_slots word)
 unfolding Holds
 by_rules word rule = (
   λ holds.
-      weaken (Reasoned word) (λ r. Breaks r rule → ⊥) (λ r h breaks. h.broken rule breaks holds) (reason_slots word)
-      (all_reasoned word),
-  λ fine. let own = of rule fine in met rule (own rule) (own rules.MantissaRadixInRange),
+      weaken (Blames word word) (λ r. Breaks r rule → ⊥) (λ r h breaks. let all = h refl in all.1 rule breaks holds)
+      (reason_slots word) (blame word word),
+  met rule,
 ) where
-  of : (q : Rule) → EachReason (λ r. Breaks r q → ⊥) (reason_slots word) → (a : Rule)
-      → EachReason (λ r. Breaks r q → ⊥) (slots word a)
-  of q fine rules.PunctuationDiffers = (assumption fine, (assumption fine, (assumption fine, tt)))
-  of q fine _ = (assumption fine, tt)
+  own_slots : (P : Reason → Type 0) → EachReason P (reason_slots word) → (rule : Rule) → EachReason P (slots word rule)
+  own_slots P all rules.PunctuationDiffers = (assumption all, (assumption all, (assumption all, tt)))
+  own_slots P all _ = (assumption all, tt)
+
+  -- If no reason breaks `q`, which the reasons of `rule` would break, then the own demand of `rule` holds.
+  own : (rule q : Rule) → ((c : Cause) → Breaks (reason_of (raw word) (Some rule) c) q)
+      → EachReason (λ r. Breaks r q → ⊥) (reason_slots word) → Own (shape_of rule) word
+  own rule q breaks fine =
+      (shape_settled (shape_of rule) word).1 (no_causes (reason_of (raw word) (Some rule)) (λ r. Breaks r q → ⊥)
+      (λ c h. h (breaks c)) (causes_of (shape_of rule) word) (own_slots _ fine rule))
 
   zero_is : {q : Rule} {n : ℕ} → n ≡ 0 → then_some (n == 0) q ≡ Some q
   zero_is {q} zero = ap (λ t. then_some t q) (eq-eqb _ 0 zero)
 
-  mantissa : (q : Rule) → EachReason (λ r. Breaks r q → ⊥) (slots word rules.MantissaRadixInRange)
-      → ((c : Cause) → Breaks (reason_of (raw word) (Some rules.MantissaRadixInRange) c) q)
-      → IsRadix ((raw word).byte layout.mantissa_radix)
-  mantissa q fine breaks =
-      let none = no_causes (reason_of (raw word) (Some rules.MantissaRadixInRange)) (λ r. Breaks r q → ⊥) (λ c h.
-      h (breaks c)) (causes_of (radix_in_range layout.mantissa_radix) word) fine in
-      is_radix _ (no_true _ _ none.0)
-
-  met : (q : Rule) → EachReason (λ r. Breaks r q → ⊥) (slots word q)
-      → EachReason (λ r. Breaks r q → ⊥) (slots word rules.MantissaRadixInRange) → Holds q word
-  met q fine first =
-      let none : NoCause (causes_of (shape_of q) word) =
-      no_causes (reason_of (raw word) (Some q)) (λ r. Breaks r q → ⊥) (λ c h. h (inl refl)) _ fine in
-      holds q first none where
-        holds : (q : Rule) → EachReason (λ r. Breaks r q → ⊥) (slots word rules.MantissaRadixInRange)
-            → NoCause (causes_of (shape_of q) word) → Holds q word
-        holds rules.ExponentBaseInRange first none =
-            shape_met (radix_in_range layout.exponent_base) word
-            (λ zero. mantissa rules.ExponentBaseInRange first (λ c. inr (inl (zero_is zero)))) none
-        holds rules.ExponentRadixInRange first none =
-            shape_met (radix_in_range layout.exponent_radix) word
-            (λ zero. mantissa rules.ExponentRadixInRange first (λ c. inr (inr (zero_is zero)))) none
-        holds q first none = shape_met (shape_of q) word tt none
+  met : (q : Rule) → EachReason (λ r. Breaks r q → ⊥) (reason_slots word) → Holds q word
+  met rules.MantissaRadixInRange fine = own_effective _ (own rules.MantissaRadixInRange _ (λ c. inl refl) fine)
+  met rules.ExponentBaseInRange fine =
+      effective_radix _ _ (λ zero. own rules.MantissaRadixInRange rules.ExponentBaseInRange (λ c. inr (inl (zero_is zero))) fine)
+      (own rules.ExponentBaseInRange _ (λ c. inl refl) fine)
+  met rules.ExponentRadixInRange fine =
+      effective_radix _ _ (λ zero. own rules.MantissaRadixInRange rules.ExponentRadixInRange (λ c. inr (inr (zero_is zero))) fine)
+      (own rules.ExponentRadixInRange _ (λ c. inl refl) fine)
+  met q fine = own q q (λ c. inl refl) fine
 
 -- A word is lawful if and only if it has no reason.
 pub lawful_without_reason : (word : ℕ) → (Lawful word ↔ ((rule : Rule) → Holds rule word))
     → Lawful word ↔ NoReason (reason_slots word)
 lawful_without_reason word all = (
-  λ lawful. let h = all.0 lawful in kept word rules_in_order (grind arith),
+  λ lawful.
+      no_reason (reason_slots word) (weaken (Reasoned word) (λ r. ⊥) (λ r h.
+      let here = h.blames word refl in here.1 h.first (inl h.is_first) (all.0 lawful h.first)) (reason_slots word) (all_reasoned word)),
   λ none. all.1 (λ rule. (by_rules word rule).1 (without (λ r. Breaks r rule → ⊥) (reason_slots word) none)),
 )
 
 -- OPTIONS
 
+-- `options_causes word e p` lists the causes for which these options do not fit `word`, and `options_slots` the reasons.
+abbrev options_pairs : List (Byte × Byte)
+options_pairs =
+    (bytes.ExponentCharacter, bytes.DecimalPoint) ∷ (bytes.ExponentCharacter, bytes.DigitSeparator)
+    ∷ (bytes.ExponentCharacter, bytes.BasePrefix) ∷ (bytes.ExponentCharacter, bytes.BaseSuffix)
+    ∷ (bytes.DecimalPoint, bytes.DigitSeparator) ∷ (bytes.DecimalPoint, bytes.BasePrefix)
+    ∷ (bytes.DecimalPoint, bytes.BaseSuffix) ∷ []
+
+abbrev options_causes : ℕ → ℕ → ℕ → List (Option Cause)
+options_causes word e p =
+    byte_cause (raw word) (named (raw word) e p bytes.ExponentCharacter)
+    ∷ byte_cause (raw word) (named (raw word) e p bytes.DecimalPoint) ∷ clashes (raw word) e p options_pairs
+
+abbrev pub options_slots : ℕ → ℕ → ℕ → List (Option Reason)
+options_slots word e p = map (option_map (reason_of (raw word) None)) (options_causes word e p)
+
 module _ (word e p : ℕ) (e_below : e < 256) (p_below : p < 256) where
   Fit : ℕ → Type 0
   Fit w = OptionsFit w e p
 
-  explained : EachCause (Explains word e p Fit) (options_causes word e p)
+  options_settled : Settled (Explains word e p Fit) (OptionsFit word e p) (options_causes word e p)
   unfolding Fit
-  explained = (
-    byte_explained word e p (named (raw word) e p bytes.ExponentCharacter) Fit refl (λ w is fit. fit.exponent_is_punctuation),
-    (
-      byte_explained word e p (named (raw word) e p bytes.DecimalPoint) Fit refl (λ w is fit. fit.point_is_punctuation),
-      clashes_explained word e p e_below p_below Fit options_pairs (λ w fit.
-          let x = fit.exponent_is_new in
-          let y = fit.point_is_new in
-          (fit.apart, (x.0, (assumption x, (assumption x, (y.0, (assumption y, (assumption y, tt)))))))),
-    ),
-  )
+  options_settled =
+      let x = alone _ _ _ (byte_settled word e p (named (raw word) e p bytes.ExponentCharacter) Fit
+      (IsPunctuation (raw word) e) refl (λ w is fit. fit.exponent_is_punctuation) (λ h. h)) in
+      let y = alone _ _ _ (byte_settled word e p (named (raw word) e p bytes.DecimalPoint) Fit
+      (IsPunctuation (raw word) p) refl (λ w is fit. fit.point_is_punctuation) (λ h. h)) in
+      let z = clashes_settled word e p e_below p_below Fit options_pairs (λ w fit.
+      let a = fit.exponent_is_new in
+      let b = fit.point_is_new in
+      (fit.apart, (a.0, (assumption a, (assumption a, (b.0, (assumption b, (assumption b, tt)))))))) in
+      let x_own = x.0 in
+      let y_own = y.0 in (
+        (x_own.0, (y_own.0, z.0)),
+        λ none.
+            let rest = none.1 in
+            let apart = z.1 rest.1 in record {
+              exponent_is_punctuation = x.1 (none.0, tt);
+              point_is_punctuation = y.1 (rest.0, tt);
+              apart = apart.0;
+              exponent_is_new = (assumption apart, (assumption apart, (assumption apart, tt)));
+              point_is_new = (assumption apart, (assumption apart, (assumption apart, tt)));
+            },
+      )
 
   -- Each reason of options is true of each word that has the same bits under its mask, which does not accept them.
   pub options_blame : (other : ℕ) → EachReason (BlamesForOptions word e p other) (options_slots word e p)
   unfolding Fit
   options_blame other =
       lift (reason_of (raw word) None) (Explains word e p Fit) (BlamesForOptions word e p other)
-      (λ c h. elsewhere word e p other Fit c h) (options_causes word e p) explained
+      (λ c h same. let there = stays word other e p c same h.is_true in (there, h.refutes other there))
+      (options_causes word e p) options_settled.0
 
   -- A word accepts options if and only if they have no reason.
   pub options_fit : OptionsFit word e p ↔ NoReason (options_slots word e p)
   unfolding Fit
   options_fit = (
-    λ fit. unexplained word e p Fit (reason_of (raw word) None) fit (options_causes word e p) explained,
+    λ fit.
+        no_reason (options_slots word e p) (lift (reason_of (raw word) None) (Explains word e p Fit) (λ r. ⊥)
+        (λ c h. h.refutes word h.is_true fit) (options_causes word e p) options_settled.0),
     λ none.
-        fits (no_causes (reason_of (raw word) None) (λ r. ⊥) (λ c h. h) (options_causes word e p)
+        options_settled.1 (no_causes (reason_of (raw word) None) (λ r. ⊥) (λ c h. h) (options_causes word e p)
         (without (λ r. ⊥) (options_slots word e p) none)),
-  ) where
-    fits : NoCause (options_causes word e p) → OptionsFit word e p
-    fits (exponent, (point, clashes)) =
-        let apart = no_clashes (raw word) e p options_pairs clashes in record {
-          exponent_is_punctuation = byte_free (raw word) (named (raw word) e p bytes.ExponentCharacter) exponent;
-          point_is_punctuation = byte_free (raw word) (named (raw word) e p bytes.DecimalPoint) point;
-          apart = apart.0;
-          exponent_is_new = (assumption apart, (assumption apart, (assumption apart, tt)));
-          point_is_new = (assumption apart, (assumption apart, (assumption apart, tt)));
-        }
-
--- THE NUMBERS OF RULES
-
--- The number of a variant of `Rule` is its index in the order of the rules, so rules with equal numbers are equal.
-rule_at : ℕ → Rule
-rule_at number = slice_index_or rules_in_order number rules.ReservedBitsAreZero
-
-rule_of_number : (rule : Rule) → rule_at (tag_of the_type rule) ≡ rule
-unfolding rule_at
-rule_of_number rules.MantissaRadixInRange = refl
-rule_of_number _ = refl
-
--- A rule that is there is `rule` if and only if their numbers are equal.
-pub is_rule : (own : Option Rule) (a rule : Rule) → own ≡ Some a
-    → IsTrue (tag_of the_type a == tag_of the_type rule) ↔ (own ≡ Some rule)
-is_rule own a rule is = (
-  λ same. is ∙ ap Some (sym (rule_of_number a) ∙ ap rule_at (eqb-true _ _ same) ∙ rule_of_number rule),
-  λ same. eq-eqb _ _ (ap (tag_of the_type) (some_is a rule (sym is ∙ same))),
-)
+  )

@@ -3,6 +3,7 @@ pub mod ByteRoles
 pub mod EditMasks
 pub mod Numeral
 pub mod FieldEdits
+pub mod Settings
 pub mod Reasons
 pub mod Notes
 pub mod WordText

@@ -19,6 +19,5 @@ pub use Rattle.lexical_flags.specs.Rules
 pub use Rattle.lexical_flags.specs.Additions.Masks
 pub use Rattle.lexical_flags.specs.Additions.RuleFields
 pub use Rattle.lexical_flags.specs.Options
-pub use Rattle.lexical_builder.specs.BuilderBits
 pub use Rattle.lexical_builder.specs.OptionByte
 pub use Rattle.lexical_builder.specs.Writes

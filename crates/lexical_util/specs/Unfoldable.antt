@@ -6,7 +6,7 @@ use Rattle.lexical_util.specs.Groups.{any_flag, bits_of}
 unfoldable pub use Rattle.lexical_base.specs.Digits.{byte_value}
 unfoldable pub use Rattle.lexical_flags.specs.Record.{word_of}
 unfoldable pub use Rattle.lexical_flags.specs.Common.{common}
-unfoldable pub use Rattle.lexical_flags.specs.Roles.{Disjoint, cased}
+unfoldable pub use Rattle.lexical_flags.specs.Roles.{Disjoint, are_disjoint, cased}
 unfoldable pub use Rattle.lexical_flags.specs.Rules.{IsPunctuation, Holds, IsErrorOf, Lawful}
 unfoldable pub use Rattle.lexical_builder.specs.Writes.{after}
 

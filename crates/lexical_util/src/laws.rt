@@ -17,7 +17,7 @@ ghost use Rattle.lexical_util.specs.declared.feature_format.roles.Role.{Role};
 pub mod examples;
 
 pub use lexical_base::laws as base;
-pub use lexical_builder::laws::write_facts;
+pub use lexical_builder::laws::{builder_facts, change_facts, write_facts};
 pub use lexical_flags::laws as flags;
 
 /// States when two words have the same normal form, and when a normal form is lawful.

@@ -14,6 +14,6 @@ pub mod reasons;
 pub mod source;
 pub mod word_text;
 
-pub use lexical_base::{ascii, digit, error};
+pub use lexical_base::{ascii, digit, error, short_text};
 pub use lexical_builder::format_builder;
 pub use lexical_flags::format_flags;

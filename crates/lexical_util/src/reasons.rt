@@ -1,7 +1,7 @@
 //! The reasons why a format word breaks rules or does not accept options, and notes on fields that have no effect on any
 //! number.
 
-ghost use Rattle.std.specs.Prelude.{◌≡◌, ◌↔◌, ◌&&◌, ℕ, None, Some, map};
+ghost use Rattle.std.specs.Prelude.{◌≡◌, ◌↔◌, ◌&&◌, ℕ, None, map, option_map};
 ghost use Rattle.std.specs.Bool.{then_some};
 ghost use Rattle.lexical_flags.specs.Options.{OptionsFit};
 ghost use Rattle.lexical_flags.specs.Record.{raw};
@@ -9,10 +9,10 @@ ghost use Rattle.lexical_flags.specs.Rules.{Holds, Lawful, lacks_position};
 ghost use Rattle.lexical_flags.specs.declared.format_flags.rule.Rule.{Rule};
 ghost use Rattle.lexical_util.specs.Groups.{any_flag};
 ghost use Rattle.lexical_util.specs.Edits.{flags_of};
+ghost use Rattle.lexical_util.specs.Additions.FieldEdits.{setter_of};
 ghost use Rattle.lexical_util.specs.Additions.Reasons.{EachReason, NoReason, Breaks, Blames, BlamesForOptions};
-ghost use Rattle.lexical_util.specs.Additions.Reasons.{reason_slots, options_slots, slot};
-ghost use Rattle.lexical_util.specs.Additions.Reasons.{named, is_cased, case_flag, unset_flag, if_present};
-ghost use Rattle.lexical_util.specs.Additions.Reasons.{radix_cause, digit_cause, byte_cause, clash, clash_cause, reserved_cause};
+ghost use Rattle.lexical_util.specs.Private.{named, case_flag, is_cased, unset_flag, if_present, radix_cause, digit_cause};
+ghost use Rattle.lexical_util.specs.Private.{byte_cause, clash, clash_cause, reserved_cause, followers, reason_of};
 ghost use Rattle.lexical_util.specs.declared.reasons.Cause.TheVariants as causes;
 
 use crate::edits::FlagSetter;
@@ -40,7 +40,6 @@ pub const MAX_OPTIONS_REASONS: usize = 9;
 
 /// A byte of a format word, or a character that options choose.
 #[derive(Debug, Clone, Copy, PartialEq, Eq, Hash)]
-#[non_exhaustive]
 pub enum Byte {
     /// The digit separator.
     DigitSeparator,
@@ -88,7 +87,6 @@ pub struct NamedByte {
 
 /// The cause of a [`Reason`]: the fields that are to blame, with their values.
 #[derive(Debug, Clone, Copy, PartialEq, Eq, Hash)]
-#[non_exhaustive]
 pub enum Cause {
     /// The mantissa radix, or an exponent base or exponent radix that is present, is not between 2 and 36.
     OutOfRange(NamedByte),
@@ -129,6 +127,8 @@ pub struct Reason {
     // The rules of absent exponent bytes that the word breaks too.
     followers: (Option<Rule>, Option<Rule>),
     cause: Cause,
+    // The bits that the reason blames.
+    mask: u128,
 }
 
 // A format word, with an exponent character and a decimal point that options choose.
@@ -149,15 +149,14 @@ struct Characters {
 /// that a reason blames.
 #[must_use]
 pub const fn reasons(format: u128) -> [Option<Reason>; MAX_REASONS]
-    ensures each { result ≡ reason_slots format }
-    ensures lawful { Lawful format ↔ NoReason (reason_slots format) }
+    ensures lawful { Lawful format ↔ NoReason result }
 
     // The word breaks a rule if and only if it breaks the rule because of one of the reasons.
-    ensures rules { (rule : Rule) → Holds rule format ↔ EachReason (λ r. Breaks r rule → ⊥) (reason_slots format) }
+    ensures rules { (rule : Rule) → Holds rule format ↔ EachReason (λ r. Breaks r rule → ⊥) result }
 
-    // Every word that has the same bits as this word under the mask of a reason also has the reason, and breaks the
-    // first rule of the reason.
-    ensures blame { (other : ℕ) → EachReason (Blames format other) (reason_slots format) }
+    // Every word that has the same bits as this word under the mask of a reason also has the reason, and breaks every
+    // rule of the reason.
+    ensures blame { (other : ℕ) → EachReason (Blames format other) result }
 {
     rule_facts();
     let word = Characters {
@@ -165,38 +164,31 @@ pub const fn reasons(format: u128) -> [Option<Reason>; MAX_REASONS]
         exponent: 0,
         point: 0,
     };
-    // If the word satisfies all rules of a group, its slots stay `None`. The others are filled in place, since copying
-    // all slots would take longer than the tests.
-    let mut slots = [None; MAX_REASONS];
-    macro_rules! fill {
-        ($($($index:literal $Rule:ident $cause:ident($($argument:expr),*)),*;)*) => {
-            $(if !($(Rule::$Rule.is_kept(format))&*) {
-                $(slots[$index] = slot(format, Some(Rule::$Rule), word.$cause($($argument),*));)*
-            })*
+    macro_rules! slots {
+        ($($Rule:ident $cause:ident($($argument:expr),*);)*) => {
+            [$(word.slot(Some(Rule::$Rule), word.$cause($($argument),*)),)*]
         };
     }
-    fill! {
-        0 MantissaRadixInRange radix_cause(Byte::MantissaRadix),
-        1 ExponentBaseInRange if_present(Byte::ExponentBase, word.radix_cause(Byte::ExponentBase)),
-        2 ExponentRadixInRange if_present(Byte::ExponentRadix, word.radix_cause(Byte::ExponentRadix));
-        3 DigitSeparatorIsPunctuation if_present(Byte::DigitSeparator, word.byte_cause(Byte::DigitSeparator)),
-        4 BasePrefixIsPunctuation if_present(Byte::BasePrefix, word.byte_cause(Byte::BasePrefix)),
-        5 BaseSuffixIsPunctuation if_present(Byte::BaseSuffix, word.byte_cause(Byte::BaseSuffix));
-        6 PunctuationDiffers clash(Byte::DigitSeparator, Byte::BasePrefix),
-        7 PunctuationDiffers clash(Byte::DigitSeparator, Byte::BaseSuffix),
-        8 PunctuationDiffers clash(Byte::BasePrefix, Byte::BaseSuffix);
-        9 ExponentFlagsAgree both_set(FlagSetter::NoExponentNotation, FlagSetter::RequiredExponentNotation),
-        10 MantissaSignFlagsAgree both_set(FlagSetter::NoPositiveMantissaSign, FlagSetter::RequiredMantissaSign),
-        11 ExponentSignFlagsAgree both_set(FlagSetter::NoPositiveExponentSign, FlagSetter::RequiredExponentSign),
-        12 SpecialCaseFlagsAgree both_set(FlagSetter::NoSpecial, FlagSetter::CaseSensitiveSpecial),
-        13 SpecialSeparatorFlagsAgree both_set(FlagSetter::NoSpecial, FlagSetter::SpecialDigitSeparator),
-        14 IntegerConsecutiveIsAllowed needs_position(Part::Integer),
-        15 FractionConsecutiveIsAllowed needs_position(Part::Fraction),
-        16 ExponentConsecutiveIsAllowed needs_position(Part::Exponent);
+    slots! {
+        MantissaRadixInRange radix_cause(Byte::MantissaRadix);
+        ExponentBaseInRange if_present(Byte::ExponentBase, word.radix_cause(Byte::ExponentBase));
+        ExponentRadixInRange if_present(Byte::ExponentRadix, word.radix_cause(Byte::ExponentRadix));
+        DigitSeparatorIsPunctuation if_present(Byte::DigitSeparator, word.byte_cause(Byte::DigitSeparator));
+        BasePrefixIsPunctuation if_present(Byte::BasePrefix, word.byte_cause(Byte::BasePrefix));
+        BaseSuffixIsPunctuation if_present(Byte::BaseSuffix, word.byte_cause(Byte::BaseSuffix));
+        PunctuationDiffers clash(Byte::DigitSeparator, Byte::BasePrefix);
+        PunctuationDiffers clash(Byte::DigitSeparator, Byte::BaseSuffix);
+        PunctuationDiffers clash(Byte::BasePrefix, Byte::BaseSuffix);
+        ExponentFlagsAgree both_set(FlagSetter::NoExponentNotation, FlagSetter::RequiredExponentNotation);
+        MantissaSignFlagsAgree both_set(FlagSetter::NoPositiveMantissaSign, FlagSetter::RequiredMantissaSign);
+        ExponentSignFlagsAgree both_set(FlagSetter::NoPositiveExponentSign, FlagSetter::RequiredExponentSign);
+        SpecialCaseFlagsAgree both_set(FlagSetter::NoSpecial, FlagSetter::CaseSensitiveSpecial);
+        SpecialSeparatorFlagsAgree both_set(FlagSetter::NoSpecial, FlagSetter::SpecialDigitSeparator);
+        IntegerConsecutiveIsAllowed needs_position(Part::Integer);
+        FractionConsecutiveIsAllowed needs_position(Part::Fraction);
+        ExponentConsecutiveIsAllowed needs_position(Part::Exponent);
+        ReservedBitsAreZero reserved_bits();
     }
-    let reserved = word.reserved_bits();
-    slots[17] = slot(format, Some(Rule::ReservedBitsAreZero), reserved);
-    slots
 }
 
 /// Returns the reasons why numbers in `format` cannot have the exponent character `exponent` and the decimal point
@@ -210,64 +202,73 @@ pub const fn options_reasons(
     exponent: u8,
     decimal_point: u8,
 ) -> [Option<Reason>; MAX_OPTIONS_REASONS]
-    ensures each { result ≡ options_slots format exponent decimal_point }
-    ensures accepted { OptionsFit format exponent decimal_point ↔ NoReason (options_slots format exponent decimal_point) }
+    ensures accepted { OptionsFit format exponent decimal_point ↔ NoReason result }
 
     // Every word that has the same bits as this word under the mask of a reason also has the reason, and does not
     // accept the two characters.
-    ensures blame { (other : ℕ) → EachReason (BlamesForOptions format exponent decimal_point other)
-        (options_slots format exponent decimal_point) }
+    ensures blame { (other : ℕ) → EachReason (BlamesForOptions format exponent decimal_point other) result }
 {
     let options = Characters {
         format,
         exponent,
         point: decimal_point,
     };
-    let mut slots = [None; MAX_OPTIONS_REASONS];
-    macro_rules! fill {
-        ($($index:literal $cause:ident($($argument:expr),*);)*) => {
-            $(slots[$index] = slot(format, None, options.$cause($($argument),*));)*
+    macro_rules! slots {
+        ($($cause:ident($($argument:expr),*);)*) => {
+            [$(options.slot(None, options.$cause($($argument),*)),)*]
         };
     }
-    fill! {
-        0 byte_cause(Byte::ExponentCharacter);
-        1 byte_cause(Byte::DecimalPoint);
-        2 clash(Byte::ExponentCharacter, Byte::DecimalPoint);
-        3 clash(Byte::ExponentCharacter, Byte::DigitSeparator);
-        4 clash(Byte::ExponentCharacter, Byte::BasePrefix);
-        5 clash(Byte::ExponentCharacter, Byte::BaseSuffix);
-        6 clash(Byte::DecimalPoint, Byte::DigitSeparator);
-        7 clash(Byte::DecimalPoint, Byte::BasePrefix);
-        8 clash(Byte::DecimalPoint, Byte::BaseSuffix);
-    }
-    slots
-}
-
-// Returns the reason for a cause, if there is one: why a word breaks `rule`, or why options do not fit if it is `None`.
-#[inline(always)]
-const fn slot(format: u128, rule: Option<Rule>, cause: Option<Cause>) -> Option<Reason>
-    ensures { result ≡ slot (raw format) rule cause }
-{
-    match cause {
-        Some(cause) => {
-            let followers = match rule {
-                Some(Rule::MantissaRadixInRange) => (
-                    some_if(raw_exponent_base(format) == 0, Rule::ExponentBaseInRange),
-                    some_if(raw_exponent_radix(format) == 0, Rule::ExponentRadixInRange),
-                ),
-                _ => (None, None),
-            };
-            Some(Reason {
-                rule,
-                followers,
-                cause,
-            })
-        }
-        None => None,
+    slots! {
+        byte_cause(Byte::ExponentCharacter);
+        byte_cause(Byte::DecimalPoint);
+        clash(Byte::ExponentCharacter, Byte::DecimalPoint);
+        clash(Byte::ExponentCharacter, Byte::DigitSeparator);
+        clash(Byte::ExponentCharacter, Byte::BasePrefix);
+        clash(Byte::ExponentCharacter, Byte::BaseSuffix);
+        clash(Byte::DecimalPoint, Byte::DigitSeparator);
+        clash(Byte::DecimalPoint, Byte::BasePrefix);
+        clash(Byte::DecimalPoint, Byte::BaseSuffix);
     }
 }
 
 impl Characters {
+    // Returns the reason for a cause, if there is one: why a word breaks `rule`, or why options do not fit if it is
+    // `None`.
+    #[inline(always)]
+    const fn slot(&self, rule: Option<Rule>, cause: Option<Cause>) -> Option<Reason>
+        ensures { result ≡ option_map (reason_of (raw self.now.format) rule) cause }
+    {
+        match cause {
+            Some(cause) => Some(Reason {
+                rule,
+                followers: self.followers(rule),
+                cause,
+                mask: self.mask(&cause),
+            }),
+            None => None,
+        }
+    }
+
+    // Returns the rules that a word also breaks if it breaks `rule`: those of absent exponent bytes.
+    #[inline(always)]
+    const fn followers(&self, rule: Option<Rule>) -> (Option<Rule>, Option<Rule>)
+        ensures { result ≡ followers (raw self.now.format) rule }
+    {
+        match rule {
+            Some(Rule::MantissaRadixInRange) => (
+                some_if(
+                    raw_exponent_base(self.format) == 0,
+                    Rule::ExponentBaseInRange,
+                ),
+                some_if(
+                    raw_exponent_radix(self.format) == 0,
+                    Rule::ExponentRadixInRange,
+                ),
+            ),
+            _ => (None, None),
+        }
+    }
+
     // Returns a byte with its value.
     #[inline(always)]
     const fn named(&self, name: Byte) -> NamedByte
@@ -352,7 +353,7 @@ impl Characters {
     #[inline(always)]
     #[tactic(auto, unfolding(lexical_flags::specs::Roles::Disjoint))]
     const fn clash(&self, first: Byte, second: Byte) -> Option<Cause>
-        ensures { result ≡ clash (raw self.now.format) self.now.exponent self.now.point (first, second) }
+        ensures { result ≡ clash (raw self.now.format) self.now.exponent self.now.point first second }
     {
         let (a, b) = (self.named(first), self.named(second));
         if roles_disjoint(
@@ -418,7 +419,7 @@ impl Characters {
 
 // Returns the flag that makes a byte case-sensitive, if there is one.
 const fn case_flag(byte: Byte) -> Option<FlagSetter>
-    ensures { result ≡ case_flag byte }
+    ensures { result ≡ option_map setter_of (case_flag byte) }
 {
     match byte {
         Byte::BasePrefix => Some(FlagSetter::CaseSensitiveBasePrefix),

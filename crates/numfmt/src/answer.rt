@@ -4,11 +4,12 @@ ghost use Rattle.std.specs.Prelude.{◌≤◌};
 
 use crate::word::word_text;
 use lexical_util::edits::{field_edits_of, is_built};
-use lexical_util::error::{EMPTY_PIECE, Error, Piece, ShortText};
+use lexical_util::error::Error;
 use lexical_util::format::format_is_valid;
 use lexical_util::format_flags as flags;
 use lexical_util::format_flags::Rule;
 use lexical_util::reasons::{Reason, notes_beside_reasons, reasons};
+use lexical_util::short_text::ShortText;
 use lexical_util::source::BuilderExpression;
 use std::io;
 use std::io::Write;
@@ -133,11 +134,11 @@ fn print_source<W: Write>(word: u128, out: &mut W) -> io::Result<()> {
     }
     let separator = flags::digit_separator(word);
     if separator != 0 && !flags::is_separator_allowed(word) {
-        let name = Piece::QuotedByte("digit separator", separator);
-        let name = ShortText(EMPTY_PIECE, EMPTY_PIECE, EMPTY_PIECE, EMPTY_PIECE, name);
+        let name = ShortText::of("the digit separator ").quoted(separator);
         writeln!(
             out,
-            "// This code makes another word, without {name}: no flag allows one"
+            "// This code makes another word, without {}: no flag allows one",
+            name.as_str()
         )?;
     }
     writeln!(out, "{}", BuilderExpression(word))

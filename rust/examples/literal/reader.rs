@@ -121,8 +121,8 @@ impl Reader<'_> {
 
     fn is_digit(&self, part: Part) -> bool {
         self.next().is_some_and(|byte| match part {
-            Part::Integer | Part::Fraction => self.format.mantissa_digit(byte).is_some(),
             Part::Exponent => self.format.exponent_digit(byte).is_some(),
+            _ => self.format.mantissa_digit(byte).is_some(),
         })
     }
 

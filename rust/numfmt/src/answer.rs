@@ -4,10 +4,11 @@
 
 use crate::word::word_text;
 use peltzivar::edits::{field_edits_of, is_built};
-use peltzivar::error::{Error, Piece, ShortText, EMPTY_PIECE};
+use peltzivar::error::Error;
 use peltzivar::format_flags as flags;
 use peltzivar::format_flags::Rule;
 use peltzivar::reasons::{notes_beside_reasons, reasons, Reason};
+use peltzivar::short_text::ShortText;
 use peltzivar::source::BuilderExpression;
 use peltzivar::word::format_is_valid;
 use std::io;
@@ -131,11 +132,11 @@ fn print_source<W: Write>(word: u128, out: &mut W) -> io::Result<()> {
     }
     let separator = flags::digit_separator(word);
     if separator != 0 && !flags::is_separator_allowed(word) {
-        let name = Piece::QuotedByte("digit separator", separator);
-        let name = ShortText(EMPTY_PIECE, EMPTY_PIECE, EMPTY_PIECE, EMPTY_PIECE, name);
+        let name = ShortText::of("the digit separator ").quoted(separator);
         writeln!(
             out,
-            "// This code makes another word, without {name}: no flag allows one"
+            "// This code makes another word, without {}: no flag allows one",
+            name.as_str()
         )?;
     }
     writeln!(out, "{}", BuilderExpression(word))

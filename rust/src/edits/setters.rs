@@ -155,6 +155,7 @@ pub enum FlagSetter {
 /// A setter of [`NumberFormatBuilder`][crate::format_builder::NumberFormatBuilder]. An [`Edit`] is a setter
 /// with its argument.
 #[derive(Debug, Clone, Copy, PartialEq, Eq, Hash, PartialOrd, Ord)]
+#[non_exhaustive]
 pub enum Setter {
     /// A setter that takes a `bool`.
     Flag(FlagSetter),
@@ -176,6 +177,7 @@ pub enum Setter {
 
 /// The kind of argument that a setter takes.
 #[derive(Debug, Clone, Copy, PartialEq, Eq, Hash)]
+#[non_exhaustive]
 pub enum ArgumentKind {
     /// The setter takes a `bool`.
     Flag,
@@ -188,6 +190,7 @@ pub enum ArgumentKind {
 /// A call to a setter of [`NumberFormatBuilder`][crate::format_builder::NumberFormatBuilder], stored as a
 /// value. An edit holds the setter and its argument.
 #[derive(Debug, Clone, Copy, PartialEq, Eq, Hash, PartialOrd, Ord)]
+#[non_exhaustive]
 pub enum Edit {
     /// Sets a flag, or every flag of a group, to the given value.
     Flag(FlagSetter, bool),
@@ -216,15 +219,16 @@ macro_rules! variants {
     };
 }
 
-const FLAGS: usize = u128::count_ones(FLAG_MASK) as usize;
+/// The number of flags in a format word.
+pub const FLAG_COUNT: usize = u128::count_ones(FLAG_MASK) as usize;
 
-/// The number of fields in a format word: 31 flags and six bytes.
-pub const FIELD_COUNT: usize = FLAGS + 6;
+/// The number of fields in a format word: all flags and six bytes.
+pub const FIELD_COUNT: usize = FLAG_COUNT + 6;
 
 /// All setters that take a `bool`, in the order of the variants of [`FlagSetter`]: first the flag setters, then the
 /// nine group setters.
 #[doc(hidden)]
-pub const SETTERS: [FlagSetter; FLAGS + 9] = with_setters!(variants());
+pub const SETTERS: [FlagSetter; FLAG_COUNT + 9] = with_setters!(variants());
 
 // Makes an array of all setters: the flag setters, the group setters, then the byte setters.
 macro_rules! all_setters {
@@ -286,28 +290,33 @@ impl FlagSetter {
     }
 }
 
+// Returns a setter with the given name, or `None` if there is none.
+fn named(name: &str) -> Option<Setter> {
+    macro_rules! setters {
+        (($name:ident)
+            { $($Flag:ident $flag:ident $FLAG:ident;)* } { $($Group:ident $group:ident $GROUP:ident;)* }) => {
+            match $name {
+                $(stringify!($flag) => Some(Setter::Flag(FlagSetter::$Flag)),)*
+                $(stringify!($group) => Some(Setter::Flag(FlagSetter::$Group)),)*
+                "digit_separator" => Some(Setter::DigitSeparator),
+                "base_prefix" => Some(Setter::BasePrefix),
+                "base_suffix" => Some(Setter::BaseSuffix),
+                "mantissa_radix" => Some(Setter::MantissaRadix),
+                "radix" => Some(Setter::Radix),
+                "exponent_base" => Some(Setter::ExponentBase),
+                "exponent_radix" => Some(Setter::ExponentRadix),
+                _ => None,
+            }
+        };
+    }
+    with_setters!(setters(name))
+}
+
 impl Setter {
     /// Returns the setter with the given name, or `None` if there is no such setter.
     #[must_use]
     pub fn from_name(name: &str) -> Option<Setter> {
-        macro_rules! setters {
-            (($name:ident)
-                { $($Flag:ident $flag:ident $FLAG:ident;)* } { $($Group:ident $group:ident $GROUP:ident;)* }) => {
-                match $name {
-                    $(stringify!($flag) => Some(Setter::Flag(FlagSetter::$Flag)),)*
-                    $(stringify!($group) => Some(Setter::Flag(FlagSetter::$Group)),)*
-                    "digit_separator" => Some(Setter::DigitSeparator),
-                    "base_prefix" => Some(Setter::BasePrefix),
-                    "base_suffix" => Some(Setter::BaseSuffix),
-                    "mantissa_radix" => Some(Setter::MantissaRadix),
-                    "radix" => Some(Setter::Radix),
-                    "exponent_base" => Some(Setter::ExponentBase),
-                    "exponent_radix" => Some(Setter::ExponentRadix),
-                    _ => None,
-                }
-            };
-        }
-        with_setters!(setters(name))
+        named(name)
     }
 
     /// Returns the name of the setter.

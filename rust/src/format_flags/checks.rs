@@ -11,20 +11,32 @@ use crate::format_flags::*;
 
 // BYTES
 
-// The entry at the index of a byte is the number of radixes in which the byte is absent or punctuation. These are the
-// radixes below the entry. A digit character is punctuation in the radixes up to its value. The entry of 0, and of
-// other allowed ASCII except the signs, is 256: all radixes. The entry of a sign, and of every other byte, is 0.
+// The limit of a byte that is punctuation, or absent, in all radixes.
+const ALL: u16 = 256;
+
+// The limit of a byte that is punctuation in no radix: a sign, or a byte that is not allowed ASCII.
+const NO: u16 = 0;
+
+// The limit of each byte, at the index that equals the byte. The byte is absent or punctuation in the radixes below its
+// limit, and in no other. A digit character is a digit in the radixes above its value, so its limit is its value plus 1.
+#[rustfmt::skip]
 const LIMITS: [u16; 256] = [
-    256, 0, 0, 0, 0, 0, 0, 0, 0, 256, 256, 256, 256, 256, 0, 0, 0, 0, 0, 0, 0, 0, 0, 0, 0, 0, 0, 0,
-    0, 0, 0, 0, 256, 256, 256, 256, 256, 256, 256, 256, 256, 256, 256, 0, 256, 0, 256, 256, 1, 2,
-    3, 4, 5, 6, 7, 8, 9, 10, 256, 256, 256, 256, 256, 256, 256, 11, 12, 13, 14, 15, 16, 17, 18, 19,
-    20, 21, 22, 23, 24, 25, 26, 27, 28, 29, 30, 31, 32, 33, 34, 35, 36, 256, 256, 256, 256, 256,
-    256, 11, 12, 13, 14, 15, 16, 17, 18, 19, 20, 21, 22, 23, 24, 25, 26, 27, 28, 29, 30, 31, 32,
-    33, 34, 35, 36, 256, 256, 256, 256, 0, 0, 0, 0, 0, 0, 0, 0, 0, 0, 0, 0, 0, 0, 0, 0, 0, 0, 0, 0,
-    0, 0, 0, 0, 0, 0, 0, 0, 0, 0, 0, 0, 0, 0, 0, 0, 0, 0, 0, 0, 0, 0, 0, 0, 0, 0, 0, 0, 0, 0, 0, 0,
-    0, 0, 0, 0, 0, 0, 0, 0, 0, 0, 0, 0, 0, 0, 0, 0, 0, 0, 0, 0, 0, 0, 0, 0, 0, 0, 0, 0, 0, 0, 0, 0,
-    0, 0, 0, 0, 0, 0, 0, 0, 0, 0, 0, 0, 0, 0, 0, 0, 0, 0, 0, 0, 0, 0, 0, 0, 0, 0, 0, 0, 0, 0, 0, 0,
-    0, 0, 0, 0, 0, 0, 0, 0, 0, 0, 0, 0, 0,
+    ALL, NO, NO, NO, NO, NO, NO, NO, NO, ALL, ALL, ALL, ALL, ALL, NO, NO, // 0x00
+    NO, NO, NO, NO, NO, NO, NO, NO, NO, NO, NO, NO, NO, NO, NO, NO, // 0x10
+    ALL, ALL, ALL, ALL, ALL, ALL, ALL, ALL, ALL, ALL, ALL, NO, ALL, NO, ALL, ALL, // 0x20
+    1, 2, 3, 4, 5, 6, 7, 8, 9, 10, ALL, ALL, ALL, ALL, ALL, ALL, // 0x30
+    ALL, 11, 12, 13, 14, 15, 16, 17, 18, 19, 20, 21, 22, 23, 24, 25, // 0x40
+    26, 27, 28, 29, 30, 31, 32, 33, 34, 35, 36, ALL, ALL, ALL, ALL, ALL, // 0x50
+    ALL, 11, 12, 13, 14, 15, 16, 17, 18, 19, 20, 21, 22, 23, 24, 25, // 0x60
+    26, 27, 28, 29, 30, 31, 32, 33, 34, 35, 36, ALL, ALL, ALL, ALL, NO, // 0x70
+    NO, NO, NO, NO, NO, NO, NO, NO, NO, NO, NO, NO, NO, NO, NO, NO, // 0x80
+    NO, NO, NO, NO, NO, NO, NO, NO, NO, NO, NO, NO, NO, NO, NO, NO, // 0x90
+    NO, NO, NO, NO, NO, NO, NO, NO, NO, NO, NO, NO, NO, NO, NO, NO, // 0xA0
+    NO, NO, NO, NO, NO, NO, NO, NO, NO, NO, NO, NO, NO, NO, NO, NO, // 0xB0
+    NO, NO, NO, NO, NO, NO, NO, NO, NO, NO, NO, NO, NO, NO, NO, NO, // 0xC0
+    NO, NO, NO, NO, NO, NO, NO, NO, NO, NO, NO, NO, NO, NO, NO, NO, // 0xD0
+    NO, NO, NO, NO, NO, NO, NO, NO, NO, NO, NO, NO, NO, NO, NO, NO, // 0xE0
+    NO, NO, NO, NO, NO, NO, NO, NO, NO, NO, NO, NO, NO, NO, NO, NO, // 0xF0
 ];
 
 // Returns the larger of two radixes. A `const fn` cannot call `max`, which is a trait method.
@@ -117,13 +129,6 @@ pub const fn is_valid_radix(radix: u32) -> bool {
     radix >= 2 && radix <= 36
 }
 
-// Returns whether an exponent byte, or the mantissa radix if the byte is 0, is between 2 and 36. Both are read before
-// one of them is chosen, so that the compiler needs no branch.
-#[inline]
-const fn is_valid_own_radix(own: u8, mantissa_radix: u32) -> bool {
-    is_valid_radix(if own == 0 { mantissa_radix } else { own as u32 })
-}
-
 // Returns whether the mantissa radix is between 2 and 36.
 #[inline]
 pub(crate) const fn is_valid_mantissa_radix(format: u128) -> bool {
@@ -133,13 +138,13 @@ pub(crate) const fn is_valid_mantissa_radix(format: u128) -> bool {
 // Returns whether the exponent base, or the mantissa radix if the exponent base is 0, is between 2 and 36.
 #[inline]
 pub(crate) const fn is_valid_exponent_base(format: u128) -> bool {
-    is_valid_own_radix(raw_exponent_base(format), mantissa_radix(format))
+    is_valid_radix(exponent_base(format))
 }
 
 // Returns whether the exponent radix, or the mantissa radix if the exponent radix is 0, is between 2 and 36.
 #[inline]
 pub(crate) const fn is_valid_exponent_radix(format: u128) -> bool {
-    is_valid_own_radix(raw_exponent_radix(format), mantissa_radix(format))
+    is_valid_radix(exponent_radix(format))
 }
 
 // PUNCTUATION
@@ -287,18 +292,17 @@ const fn first_broken_punctuation(format: u128) -> Error {
     }
 }
 
-// Returns whether no flag rule is broken. All flag rules are tested at once: `excluded` has the flags that may not be
-// set, since the flag 1, 8 or 34 bits above them is set, and `positions` has the lowest bit of each part in which a
-// separator is allowed between, before or after digits. The flag that allows consecutive separators is 9 bits above.
+// Returns whether no flag rule is broken. All flag rules are tested without a branch.
 #[inline]
 const fn flags_agree(format: u128) -> bool {
-    let excluded = format >> 1
-        & (NO_POSITIVE_MANTISSA_SIGN | NO_POSITIVE_EXPONENT_SIGN | NO_SPECIAL)
-        | format >> 8 & NO_EXPONENT_NOTATION
-        | format >> 34 & NO_SPECIAL;
-    let positions = format | format >> 3 | format >> 6;
-    let lonely = format >> 9 & INTERNAL_DIGIT_SEPARATOR & !positions;
-    format & excluded | lonely == 0
+    is_valid_exponent_flags(format)
+        & is_valid_mantissa_sign_flags(format)
+        & is_valid_exponent_sign_flags(format)
+        & is_valid_special_case_flags(format)
+        & is_valid_special_separator_flags(format)
+        & is_valid_integer_consecutive_flags(format)
+        & is_valid_fraction_consecutive_flags(format)
+        & is_valid_exponent_consecutive_flags(format)
 }
 
 // Returns the error of the first broken flag rule, or `Success`.

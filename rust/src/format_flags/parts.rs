@@ -4,6 +4,7 @@
 
 /// A part of a number that has digit separator flags of its own.
 #[derive(Debug, Clone, Copy, PartialEq, Eq, Hash)]
+#[non_exhaustive]
 pub enum Part {
     /// The digits before the decimal point.
     Integer,

@@ -5,7 +5,7 @@
 use crate::edits::{mask_of, FlagSetter};
 use crate::format_flags as flags;
 use crate::format_flags::{Part, Rule};
-use crate::reasons::{Byte, Cause, Radixes, Reason};
+use crate::reasons::{Byte, Cause, Characters, Radixes, Reason};
 
 impl Byte {
     /// Returns the mask of the byte in a format word. The mask of a character that options choose is 0.
@@ -49,27 +49,31 @@ impl Reason {
             || is_rule(self.followers.1, rule)
     }
 
-    /// Returns the mask of the bits that the reason blames: the bits on which it depends. The reason applies to every
-    /// format word that has the same values in these bits, for the same options.
+    /// Returns the mask of the bits that the reason blames. Every format word that has the same values in these bits
+    /// has the reason too, for the same options, and breaks every rule of the reason.
     ///
     /// The mask has the bits of every byte and every flag in the cause. For [`Cause::NeedsPosition`], it has the bits
-    /// of all flags that allow digit separators in the same part of the number. In a word that was built from settings,
-    /// a setting is to blame if its [`Edit::mask`][crate::edits::Edit::mask] and this mask share a bit that no later
-    /// setting overrides.
+    /// of all flags that allow digit separators in the same part of the number. If the mantissa radix is out of range,
+    /// the mask also has the bits of each absent exponent byte. If a byte is a digit in the mantissa radix, it also has
+    /// the bits of an absent exponent radix. In a word that was built from settings, a setting is to blame if its
+    /// [`Edit::mask`][crate::edits::Edit::mask] and this mask share a bit that no later setting overrides.
     #[must_use]
     pub const fn mask(&self) -> u128 {
-        self.cause.mask()
+        self.mask
     }
 }
 
-impl Cause {
-    // Returns the mask of the bits on which the cause depends.
-    const fn mask(&self) -> u128 {
-        match self {
-            Cause::OutOfRange(byte) | Cause::NotText(byte) | Cause::IsSign(byte) => {
-                byte.name.mask()
+impl Characters {
+    // Returns the mask of the fields that a cause names, and of the absent exponent bytes that are to blame with the
+    // mantissa radix. An edit of this radix alone does not end the cause, since it first stores the old radix in them.
+    #[inline(always)]
+    pub(crate) const fn mask(&self, cause: &Cause) -> u128 {
+        match cause {
+            Cause::OutOfRange(byte) => byte.name.mask() | self.followers_mask(byte.name),
+            Cause::NotText(byte) | Cause::IsSign(byte) => byte.name.mask(),
+            Cause::IsDigit(byte, Radixes::Mantissa(_)) => {
+                byte.name.mask() | flags::MANTISSA_RADIX | self.absent_mask(Byte::ExponentRadix)
             }
-            Cause::IsDigit(byte, Radixes::Mantissa(_)) => byte.name.mask() | flags::MANTISSA_RADIX,
             Cause::IsDigit(byte, Radixes::Exponent(_)) => byte.name.mask() | flags::EXPONENT_RADIX,
             Cause::IsDigit(byte, Radixes::Both { .. }) => {
                 byte.name.mask() | flags::MANTISSA_RADIX | flags::EXPONENT_RADIX
@@ -83,30 +87,42 @@ impl Cause {
             } => {
                 first.name.mask()
                     | second.name.mask()
-                    | unset_mask(*first_flag)
-                    | unset_mask(*second_flag)
+                    | flag_mask(*first_flag)
+                    | flag_mask(*second_flag)
             }
             Cause::BothSet(first, second) => mask_of(*first) as u128 | mask_of(*second) as u128,
-            Cause::NeedsPosition(part) => position_mask(*part),
+            Cause::NeedsPosition(Part::Integer) => flags::INTEGER_DIGIT_SEPARATOR_FLAG_MASK,
+            Cause::NeedsPosition(Part::Fraction) => flags::FRACTION_DIGIT_SEPARATOR_FLAG_MASK,
+            Cause::NeedsPosition(Part::Exponent) => flags::EXPONENT_DIGIT_SEPARATOR_FLAG_MASK,
             Cause::ReservedBits(bits) => *bits,
+        }
+    }
+
+    // Returns the mask of the absent exponent bytes if `name` is the mantissa radix, and 0 otherwise.
+    const fn followers_mask(&self, name: Byte) -> u128 {
+        match name {
+            Byte::MantissaRadix => {
+                self.absent_mask(Byte::ExponentBase) | self.absent_mask(Byte::ExponentRadix)
+            }
+            _ => 0,
+        }
+    }
+
+    // Returns the mask of a byte if it is absent, and 0 otherwise.
+    const fn absent_mask(&self, name: Byte) -> u128 {
+        if self.named(name).value == 0 {
+            name.mask()
+        } else {
+            0
         }
     }
 }
 
 // Returns the mask of a flag, or 0 if there is none.
-const fn unset_mask(flag: Option<FlagSetter>) -> u128 {
+const fn flag_mask(flag: Option<FlagSetter>) -> u128 {
     match flag {
         Some(flag) => mask_of(flag) as u128,
         None => 0,
-    }
-}
-
-// Returns the mask of the flags that allow digit separators in a part of the number.
-const fn position_mask(part: Part) -> u128 {
-    match part {
-        Part::Integer => flags::INTEGER_DIGIT_SEPARATOR_FLAG_MASK,
-        Part::Fraction => flags::FRACTION_DIGIT_SEPARATOR_FLAG_MASK,
-        Part::Exponent => flags::EXPONENT_DIGIT_SEPARATOR_FLAG_MASK,
     }
 }
 

@@ -29,7 +29,8 @@ pub enum Note {
 }
 
 impl Note {
-    /// Returns the mask of the bits of a format word that the note describes.
+    /// Returns the mask of the bits of the fields that the note names. On a format word that has the same values in
+    /// these bits, the note is as true. A note is left out if this mask and the mask of a reason share a bit.
     #[must_use]
     pub const fn mask(&self) -> u128 {
         match self {
@@ -44,7 +45,8 @@ impl Note {
 
 /// Returns the notes on a format word, each in its own slot. A slot without a note is `None`.
 ///
-/// A note is not an error, so a lawful word may have notes. A field that a reason [blames][Reason] has no note.
+/// A note is not an error, so a lawful word may have notes. A note is left out if a reason [blames][Reason] one of the
+/// fields that it names.
 #[must_use]
 pub const fn notes(format: u128) -> [Option<Note>; MAX_NOTES] {
     notes_beside_reasons(format, &reasons(format))

@@ -3,24 +3,26 @@
 //! Prints reasons and notes as sentences.
 
 use crate::edits::FlagSetter;
-use crate::error::{Piece, ShortText, EMPTY_PIECE};
 use crate::format_flags::Part;
 use crate::reasons::{Byte, Cause, NamedByte, Note, Radixes, Reason};
+use crate::short_text::ShortText;
 use core::fmt;
 
 impl Reason {
     /// Returns the reason as a sentence without a full stop, such as `the base prefix 'b' is a digit in radix 16`.
-    #[must_use]
-    #[doc(hidden)]
-    pub const fn text(&self) -> ShortText {
+    pub(crate) const fn text(&self) -> ShortText {
         match &self.cause {
-            Cause::OutOfRange(byte) => followed(byte.numbered(), " is not between 2 and 36"),
-            Cause::NotText(byte) => followed(byte.quoted(), " is not an allowed ASCII character"),
-            Cause::IsSign(byte) => followed(byte.quoted(), " is a sign (+ or -)"),
-            Cause::IsDigit(byte, radixes) => digit_text(byte.quoted(), *radixes),
-            Cause::Same(first, second) => {
-                joined(first.quoted(), second.quoted(), " are the same", "")
+            Cause::OutOfRange(byte) => ShortText::of("the ")
+                .and(byte.name.label())
+                .and(" ")
+                .decimal(byte.value as usize)
+                .and(" is not between 2 and 36"),
+            Cause::NotText(byte) => {
+                quoted(ShortText::of(""), byte).and(" is not an allowed ASCII character")
             }
+            Cause::IsSign(byte) => quoted(ShortText::of(""), byte).and(" is a sign (+ or -)"),
+            Cause::IsDigit(byte, radixes) => digit_text(byte, *radixes),
+            Cause::Same(first, second) => both(first, second).and(" are the same"),
             Cause::DifferInCase {
                 first,
                 first_flag,
@@ -28,65 +30,50 @@ impl Reason {
                 second_flag,
             } => {
                 let (end, flag) = case_text(*first_flag, *second_flag);
-                joined(first.quoted(), second.quoted(), end, flag)
+                both(first, second).and(end).and(flag)
             }
-            Cause::BothSet(first, second) => joined(
-                words(first.name()),
-                words(second.name()),
-                " cannot both be set",
-                "",
-            ),
-            Cause::NeedsPosition(part) => followed(
-                words(consecutive_flag(*part).name()),
+            Cause::BothSet(first, second) => ShortText::of(first.name())
+                .and(" and ")
+                .and(second.name())
+                .and(" cannot both be set"),
+            Cause::NeedsPosition(part) => ShortText::of(consecutive_flag(*part).name()).and(
                 " requires an internal, leading or trailing flag for the same part of the number",
             ),
-            Cause::ReservedBits(bits) => ShortText(
-                EMPTY_PIECE,
-                EMPTY_PIECE,
-                words("reserved bits are set: "),
-                Piece::Hexadecimal(*bits),
-                words(", which any edit clears"),
-            ),
+            Cause::ReservedBits(bits) => ShortText::of("reserved bits are set: ")
+                .hexadecimal(*bits)
+                .and(", which any edit clears"),
         }
     }
 }
 
 impl Note {
-    /// Returns the note as a sentence without a full stop, such as `no flag allows the digit separator '_'`.
-    #[must_use]
-    #[doc(hidden)]
-    pub const fn text(&self) -> ShortText {
+    // Returns the note as a sentence without a full stop, such as `no flag allows the digit separator '_'`.
+    const fn text(&self) -> ShortText {
         match self {
-            Note::SeparatorWithoutFlag(byte) => between("", "no flag allows ", byte.quoted(), ""),
-            Note::FlagsWithoutSeparator => followed(
-                EMPTY_PIECE,
-                "digit separator flags are set, but there is no digit separator",
-            ),
-            Note::CaseFlagWithoutByte(flag, byte) => between(
-                flag.name(),
-                " is set, but there is no ",
-                words(byte.label()),
-                "",
-            ),
-            Note::CaseFlagOfNonLetter(flag, byte) => between(
-                flag.name(),
-                " is set, but ",
-                byte.quoted(),
-                " is not a letter",
-            ),
+            Note::SeparatorWithoutFlag(byte) => quoted(ShortText::of("no flag allows "), byte),
+            Note::FlagsWithoutSeparator => {
+                ShortText::of("digit separator flags are set, but there is no digit separator")
+            }
+            Note::CaseFlagWithoutByte(flag, byte) => ShortText::of(flag.name())
+                .and(" is set, but there is no ")
+                .and(byte.label()),
+            Note::CaseFlagOfNonLetter(flag, byte) => {
+                let start = ShortText::of(flag.name()).and(" is set, but ");
+                quoted(start, byte).and(" is not a letter")
+            }
         }
     }
 }
 
 impl fmt::Display for Reason {
     fn fmt(&self, f: &mut fmt::Formatter<'_>) -> fmt::Result {
-        fmt::Display::fmt(&self.text(), f)
+        f.write_str(self.text().as_str())
     }
 }
 
 impl fmt::Display for Note {
     fn fmt(&self, f: &mut fmt::Formatter<'_>) -> fmt::Result {
-        fmt::Display::fmt(&self.text(), f)
+        f.write_str(self.text().as_str())
     }
 }
 
@@ -106,72 +93,31 @@ impl Byte {
     }
 }
 
-impl NamedByte {
-    // Returns the name of the byte, and its value in decimal.
-    const fn numbered(&self) -> Piece {
-        Piece::NumberedByte(self.name.label(), self.value)
-    }
-
-    // Returns the name of the byte, and its value in quotes.
-    const fn quoted(&self) -> Piece {
-        Piece::QuotedByte(self.name.label(), self.value)
-    }
+// Appends the name of a byte, and its value in quotes.
+const fn quoted(text: ShortText, byte: &NamedByte) -> ShortText {
+    text.and("the ")
+        .and(byte.name.label())
+        .and(" ")
+        .quoted(byte.value)
 }
 
-// Returns a text that has a piece and the words that follow it.
-const fn followed(piece: Piece, end: &'static str) -> ShortText {
-    ShortText(
-        EMPTY_PIECE,
-        EMPTY_PIECE,
-        EMPTY_PIECE,
-        piece,
-        Piece::Words(end),
-    )
-}
-
-// Returns a text that has two pieces joined by `and`, and the words that follow them.
-const fn joined(first: Piece, second: Piece, end: &'static str, last: &'static str) -> ShortText {
-    ShortText(
-        first,
-        Piece::Words(" and "),
-        second,
-        Piece::Words(end),
-        Piece::Words(last),
-    )
-}
-
-// Returns a text that has a piece between words.
-const fn between(
-    name: &'static str,
-    start: &'static str,
-    piece: Piece,
-    end: &'static str,
-) -> ShortText {
-    ShortText(EMPTY_PIECE, words(name), words(start), piece, words(end))
-}
-
-// Returns a piece of words.
-const fn words(words: &'static str) -> Piece {
-    Piece::Words(words)
+// Returns a text that begins with two bytes joined by `and`.
+const fn both(first: &NamedByte, second: &NamedByte) -> ShortText {
+    quoted(quoted(ShortText::of(""), first).and(" and "), second)
 }
 
 // Returns the sentence for a byte that is a digit in these radixes.
-const fn digit_text(byte: Piece, radixes: Radixes) -> ShortText {
+const fn digit_text(byte: &NamedByte, radixes: Radixes) -> ShortText {
+    let text = quoted(ShortText::of(""), byte).and(" is a digit in ");
     match radixes {
-        Radixes::Mantissa(radix) | Radixes::Exponent(radix) => ShortText(
-            EMPTY_PIECE,
-            EMPTY_PIECE,
-            byte,
-            Piece::Words(" is a digit in radix "),
-            Piece::Number(radix as usize),
-        ),
-        Radixes::Both { mantissa, exponent } => ShortText(
-            byte,
-            words(" is a digit in "),
-            Piece::NumberedByte("mantissa radix", mantissa),
-            words(" and "),
-            Piece::NumberedByte("exponent radix", exponent),
-        ),
+        Radixes::Mantissa(radix) | Radixes::Exponent(radix) => {
+            text.and("radix ").decimal(radix as usize)
+        }
+        Radixes::Both { mantissa, exponent } => text
+            .and("the mantissa radix ")
+            .decimal(mantissa as usize)
+            .and(" and the exponent radix ")
+            .decimal(exponent as usize),
     }
 }
 

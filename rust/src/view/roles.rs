@@ -9,6 +9,7 @@ use crate::format_flags::Part;
 
 /// The role of a byte in a number.
 #[derive(Debug, Clone, Copy, PartialEq, Eq, Hash)]
+#[non_exhaustive]
 pub enum Role {
     /// A digit of the mantissa or of the exponent.
     Digit,
@@ -28,6 +29,7 @@ pub enum Role {
 
 /// Where digit separators are allowed in a part of a number.
 #[derive(Debug, Clone, Copy, PartialEq, Eq, Hash)]
+#[non_exhaustive]
 pub struct Separators {
     /// Whether a digit separator is allowed between digits.
     pub internal: bool,

@@ -42,26 +42,44 @@ fn a_word_and_its_fields_are_printed() {
 /// Returns the builder that makes the calls of an expression, or `None` if it is not one.
 fn builder_of(code: &str) -> Option<NumberFormatBuilder> {
     let calls = code.strip_prefix("NumberFormatBuilder::new()")?;
-    let calls = calls.strip_suffix(".build_unchecked()")?;
+    let calls = calls.strip_suffix(".build_unchecked()").or(calls.strip_suffix(".build_or_panic()"))?;
     let edit = |call: &str| {
         let (name, value) = call.strip_suffix(')')?.split_once('(')?;
         let value = match value.strip_prefix("NonZeroU8::new(") {
-            Some(number) => number.strip_suffix(')')?,
+            Some(byte) => byte.strip_suffix(')')?.trim_start_matches('b'),
+            None if value == "None" => "none",
             None => value,
         };
-        Edit::from_setting(name, &value.to_lowercase()).ok()
+        Edit::from_setting(name, value).ok()
     };
     calls.split('.').skip(1).map(edit).collect()
 }
 
-/// The expressions of the new builder, and of words in which a bit is flipped, or all bits but one.
+/// The word that code builds, and the code without spaces.
+macro_rules! built {
+    ($code:expr) => {
+        ($code, stringify!($code).replace([' ', '\n'], ""))
+    };
+}
+
+/// Expressions that are compiled here, and those of words in which a bit is flipped, or all bits but one.
 #[test]
 fn an_expression_is_read_back() {
-    let code = "NumberFormatBuilder::new().no_special(true).mantissa_radix(16).build_unchecked()";
-    let expression = BuilderExpression(0x00001000_00000000_00000000_0000040C);
-    assert_eq!(format!("{expression:->200.3}"), code);
+    for (word, code) in [
+        built!(NumberFormatBuilder::new()
+            .integer_internal_digit_separator(true)
+            .digit_separator(NonZeroU8::new(b'_'))
+            .base_prefix(NonZeroU8::new(39))
+            .base_suffix(NonZeroU8::new(32))
+            .exponent_base(NonZeroU8::new(36))
+            .build_or_panic()),
+        built!(NumberFormatBuilder::new().no_special(true).mantissa_radix(0).build_unchecked()),
+    ] {
+        assert_eq!(format!("{:->400.3}", BuilderExpression(word)), code);
+    }
     for word in (0..128).map(|bit| 0xC ^ 1 << bit).flat_map(|word| [word, !word]) {
         let code = BuilderExpression(word).to_string();
-        assert_eq!(builder_of(&code), Some(NumberFormatBuilder::from_word(word)), "{code}");
+        let word = NumberFormatBuilder::from_word(word).build_unchecked();
+        assert_eq!(builder_of(&code).map(|builder| builder.build_unchecked()), Some(word), "{code}");
     }
 }

@@ -16,7 +16,6 @@ use lexical_base::error::Error;
 /// [digits][is_digit_of_either_radix] of the format. `Rule` does not implement `Display`. To explain why a word breaks a
 /// rule, print a [`Reason`][lexical_util::reasons::Reason].
 #[derive(Debug, Clone, Copy, PartialEq, Eq, Hash, PartialOrd, Ord)]
-#[non_exhaustive]
 pub enum Rule {
     /// The mantissa radix is between 2 and 36.
     MantissaRadixInRange,

@@ -1,12 +1,13 @@
 //! Setters and their calls as values.
 
-ghost use Rattle.std.specs.Prelude.{◌≡◌, Bool};
+ghost use Rattle.std.specs.Prelude.{◌≡◌, ◌↔◌, Bool, IfSome, IsSome, min, if◌then◌else◌};
 ghost use Rattle.lexical_flags.specs.Record.{raw};
-ghost use Rattle.lexical_builder.specs.BuilderBits.{flags_with};
-ghost use Rattle.lexical_util.specs.Edits.{flags_of};
+ghost use Rattle.lexical_builder.specs.Writes.{flags_with};
+ghost use Rattle.lexical_util.specs.Edits.{flags_of, writes_of};
 ghost use Rattle.lexical_util.specs.Groups.{any_flag};
 ghost use Rattle.lexical_util.specs.Additions.EditMasks.{argument_byte, mask_of_setter, mask_of_edit};
 ghost use Rattle.lexical_util.specs.Additions.FieldEdits.{field_edits};
+ghost use Rattle.lexical_util.specs.Additions.Settings.{name_of, setter_of, kind_of, takes_flag};
 ghost use Rattle.lexical_util.specs.declared.edits.setters.Edit.TheVariants as edits;
 
 use crate::feature_format::NumberFormat;
@@ -73,7 +74,6 @@ macro_rules! with_setters {
 /// sets one flag, or all flags of one of the nine flag groups. A variant has the name of its setter,
 /// whose documentation has an example.
 #[derive(Debug, Clone, Copy, PartialEq, Eq, Hash, PartialOrd, Ord)]
-#[non_exhaustive]
 pub enum FlagSetter {
     /// Sets whether the format requires digits before the decimal point.
     RequiredIntegerDigits,
@@ -221,15 +221,16 @@ macro_rules! variants {
     };
 }
 
-const FLAGS: usize = u128::count_ones(FLAG_MASK) as usize;
+/// The number of flags in a format word.
+pub const FLAG_COUNT: usize = u128::count_ones(FLAG_MASK) as usize;
 
-/// The number of fields in a format word: 31 flags and six bytes.
-pub const FIELD_COUNT: usize = FLAGS + 6;
+/// The number of fields in a format word: all flags and six bytes.
+pub const FIELD_COUNT: usize = FLAG_COUNT + 6;
 
 /// All setters that take a `bool`, in the order of the variants of [`FlagSetter`]: first the flag setters, then the
 /// nine group setters.
 #[doc(hidden)]
-pub const SETTERS: [FlagSetter; FLAGS + 9] = with_setters!(variants());
+pub const SETTERS: [FlagSetter; FLAG_COUNT + 9] = with_setters!(variants());
 
 // Makes an array of all setters: the flag setters, the group setters, then the byte setters.
 macro_rules! all_setters {
@@ -274,7 +275,10 @@ pub(crate) const fn mask_of(setter: FlagSetter) -> u64
 impl FlagSetter {
     /// Returns the name of the setter, which is the name of the variant in snake case.
     #[must_use]
-    pub const fn name(self) -> &'static str {
+    #[tactic(auto, unfolding(crate::specs::Additions::Settings::name_of))]
+    pub const fn name(self) -> &'static str
+        ensures { result.now ≡ name_of (Setter.Flag self) }
+    {
         macro_rules! names {
             (($setter:ident)
                 { $($Flag:ident $flag:ident $FLAG:ident;)* } { $($Group:ident $group:ident $GROUP:ident;)* }) => {
@@ -297,33 +301,47 @@ impl FlagSetter {
     }
 }
 
+// Returns a setter with the given name, or `None` if there is none.
+#[tactic(auto, unfolding(crate::specs::Additions::Settings::name_of))]
+fn named(name: &str) -> Option<Setter>
+    ensures name { IfSome result (λ setter. name_of setter ≡ name.now) }
+    ensures found { (setter : Setter) → name_of setter ≡ name.now → IsSome result }
+{
+    macro_rules! setters {
+        (($name:ident)
+            { $($Flag:ident $flag:ident $FLAG:ident;)* } { $($Group:ident $group:ident $GROUP:ident;)* }) => {
+            match $name {
+                $(stringify!($flag) => Some(Setter::Flag(FlagSetter::$Flag)),)*
+                $(stringify!($group) => Some(Setter::Flag(FlagSetter::$Group)),)*
+                "digit_separator" => Some(Setter::DigitSeparator),
+                "base_prefix" => Some(Setter::BasePrefix),
+                "base_suffix" => Some(Setter::BaseSuffix),
+                "mantissa_radix" => Some(Setter::MantissaRadix),
+                "radix" => Some(Setter::Radix),
+                "exponent_base" => Some(Setter::ExponentBase),
+                "exponent_radix" => Some(Setter::ExponentRadix),
+                _ => None,
+            }
+        };
+    }
+    with_setters!(setters(name))
+}
+
 impl Setter {
     /// Returns the setter with the given name, or `None` if there is no such setter.
     #[must_use]
-    pub fn from_name(name: &str) -> Option<Setter> {
-        macro_rules! setters {
-            (($name:ident)
-                { $($Flag:ident $flag:ident $FLAG:ident;)* } { $($Group:ident $group:ident $GROUP:ident;)* }) => {
-                match $name {
-                    $(stringify!($flag) => Some(Setter::Flag(FlagSetter::$Flag)),)*
-                    $(stringify!($group) => Some(Setter::Flag(FlagSetter::$Group)),)*
-                    "digit_separator" => Some(Setter::DigitSeparator),
-                    "base_prefix" => Some(Setter::BasePrefix),
-                    "base_suffix" => Some(Setter::BaseSuffix),
-                    "mantissa_radix" => Some(Setter::MantissaRadix),
-                    "radix" => Some(Setter::Radix),
-                    "exponent_base" => Some(Setter::ExponentBase),
-                    "exponent_radix" => Some(Setter::ExponentRadix),
-                    _ => None,
-                }
-            };
-        }
-        with_setters!(setters(name))
+    pub fn from_name(name: &str) -> Option<Setter>
+        ensures { (setter : Setter) → (result ≡ Some setter) ↔ (name_of setter ≡ name.now) }
+    {
+        named(name)
     }
 
     /// Returns the name of the setter.
     #[must_use]
-    pub const fn name(self) -> &'static str {
+    #[tactic(auto, unfolding(crate::specs::Additions::Settings::name_of))]
+    pub const fn name(self) -> &'static str
+        ensures { result.now ≡ name_of self }
+    {
         match self {
             Setter::Flag(setter) => setter.name(),
             Setter::DigitSeparator => "digit_separator",
@@ -338,7 +356,9 @@ impl Setter {
 
     /// Returns the kind of argument that the setter takes.
     #[must_use]
-    pub const fn kind(self) -> ArgumentKind {
+    pub const fn kind(self) -> ArgumentKind
+        ensures { result ≡ kind_of self }
+    {
         match self {
             Setter::Flag(_) => ArgumentKind::Flag,
             Setter::MantissaRadix | Setter::Radix => ArgumentKind::Byte,
@@ -352,14 +372,23 @@ impl Setter {
 
     /// Returns the mask of the bits that the setter writes in a format word.
     #[must_use]
-    pub const fn mask(self) -> u128 {
+    pub const fn mask(self) -> u128
+        ensures { (edit : Edit) → setter_of edit ≡ self → mask_of_edit edit ≡ result }
+    {
         self.with_byte(0).mask()
     }
 
     /// Returns the edit that calls the setter with the argument that `byte` represents. For a flag, any byte except 0
     /// means `true`. For a byte that may be absent, 0 means absent.
     #[must_use]
-    pub const fn with_byte(self, byte: u8) -> Edit {
+    pub const fn with_byte(self, byte: u8) -> Edit
+        ensures setter { setter_of result ≡ self }
+        ensures argument { argument_byte result ≡ (if takes_flag self then min byte 1 else byte) }
+
+        // Edits that call the same setter with the same argument make the same writes.
+        ensures writes { (edit : Edit) → setter_of edit ≡ self → argument_byte edit ≡ argument_byte result
+            → writes_of edit ≡ writes_of result }
+    {
         match self {
             Setter::Flag(setter) => Edit::Flag(setter, byte != 0),
             Setter::DigitSeparator => Edit::DigitSeparator(NonZeroU8::new(byte)),
@@ -376,7 +405,9 @@ impl Setter {
 impl Edit {
     /// Returns the setter that the edit calls.
     #[must_use]
-    pub const fn setter(self) -> Setter {
+    pub const fn setter(self) -> Setter
+        ensures { result ≡ setter_of self }
+    {
         match self {
             Edit::Flag(setter, _) => Setter::Flag(setter),
             Edit::DigitSeparator(_) => Setter::DigitSeparator,
@@ -391,7 +422,9 @@ impl Edit {
 
     /// Returns the name of the setter that the edit calls.
     #[must_use]
-    pub const fn name(self) -> &'static str {
+    pub const fn name(self) -> &'static str
+        ensures { result.now ≡ name_of (setter_of self) }
+    {
         self.setter().name()
     }
 

@@ -1,6 +1,15 @@
 //! Settings, which are edits written as text: `NAME=VALUE`.
 
-ghost use Rattle.std.specs.Prelude.{◌≤◌};
+ghost use Rattle.std.specs.Prelude.{◌≡◌, ◌≢◌, ◌≤◌, ◌<◌, IsTrue, length, MatchOption, MatchResult};
+ghost use Rattle.std.specs.Bool.{IsFalse};
+ghost use Rattle.std.specs.List.{position_or_len, before_first, after_first};
+ghost use Rattle.std.specs.Option.{SomeIff};
+ghost use Rattle.lexical_base.specs.Digits.{numeral};
+ghost use Rattle.lexical_util.specs.Additions.EditMasks.{argument_byte};
+ghost use Rattle.lexical_util.specs.Additions.Numeral.{is_numeral};
+ghost use Rattle.lexical_util.specs.Additions.Settings.{name_of, setter_of, takes_flag, byte_of_digits, byte_of_text, is_equals};
+ghost use Rattle.lexical_util.specs.Additions.Settings.{no_equals, unknown_name, bad_value, IsNoName, IsParsed, IsSetting};
+ghost use Rattle.lexical_util.specs.declared.edits.setters.FlagSetter.{FlagSetter};
 
 use crate::edits::{ArgumentKind, Edit, Setter};
 use crate::numeral::read_numeral;
@@ -23,7 +32,6 @@ pub(crate) enum Fault {
 
 /// What is wrong with a string that is not a setting.
 #[derive(Debug, Clone, Copy, PartialEq, Eq, Hash)]
-#[non_exhaustive]
 pub enum SettingErrorKind {
     /// The string has no `=`.
     NoEquals,
@@ -36,7 +44,11 @@ pub enum SettingErrorKind {
 impl SettingError {
     /// Returns what is wrong.
     #[must_use]
-    pub const fn kind(&self) -> SettingErrorKind {
+    pub const fn kind(&self) -> SettingErrorKind
+        ensures no_equals { self.now ≡ no_equals → result ≡ SettingErrorKind.NoEquals }
+        ensures unknown_name { self.now ≡ unknown_name → result ≡ SettingErrorKind.UnknownName }
+        ensures bad_value { (setter : Setter) → self.now ≡ bad_value setter → result ≡ SettingErrorKind.BadValue }
+    {
         match self.0 {
             Fault::NoEquals => SettingErrorKind::NoEquals,
             Fault::UnknownName => SettingErrorKind::UnknownName,
@@ -46,7 +58,10 @@ impl SettingError {
 
     /// Returns the name of the setter that does not take the value. Returns `None` for any other kind of error.
     #[must_use]
-    pub const fn name(&self) -> Option<&'static str> {
+    pub const fn name(&self) -> Option<&'static str>
+        ensures { MatchOption result ((setter : Setter) → self.now ≢ bad_value setter)
+            (λ name. (setter : Setter) → self.now ≡ bad_value setter → name.now ≡ name_of setter) }
+    {
         match self.0 {
             Fault::NoEquals | Fault::UnknownName => None,
             Fault::BadValue(setter) => Some(setter.name()),
@@ -94,7 +109,9 @@ impl Setter {
     /// # Errors
     ///
     /// Returns a [`SettingError`] if the setter does not take the value.
-    pub fn parse(self, value: &str) -> Result<Edit, SettingError> {
+    pub fn parse(self, value: &str) -> Result<Edit, SettingError>
+        ensures { IsParsed self value.now result }
+    {
         let byte = match (self.kind(), value) {
             (ArgumentKind::Flag, "true") => Some(1),
             (ArgumentKind::Flag, "false") | (ArgumentKind::OptionalByte, "none") => Some(0),
@@ -108,13 +125,19 @@ impl Setter {
     }
 
     // Returns the error for a value that the setter does not take.
-    const fn refusal(self) -> SettingError {
+    const fn refusal(self) -> SettingError
+        ensures { result ≡ bad_value self }
+    {
         SettingError(Fault::BadValue(self))
     }
 }
 
 // Returns the setter with a name.
-fn setter_named(name: &str) -> Result<Setter, SettingError> {
+fn setter_named(name: &str) -> Result<Setter, SettingError>
+    ensures { MatchResult result
+        (λ own. (name_of own ≡ name.now) × ((setter : Setter) → name_of setter ≡ name.now → setter ≡ own))
+        (λ error. (error ≡ unknown_name) × IsNoName name.now) }
+{
     match Setter::from_name(name) {
         Some(setter) => Ok(setter),
         None => Err(SettingError(Fault::UnknownName)),
@@ -127,7 +150,13 @@ impl Edit {
     /// # Errors
     ///
     /// Returns a [`SettingError`] if no setter has the name, or if the setter takes a byte.
-    pub fn flag(name: &str, flag: bool) -> Result<Edit, SettingError> {
+    pub fn flag(name: &str, flag: bool) -> Result<Edit, SettingError>
+        ensures flag { (setter : FlagSetter) → name_of (Setter.Flag setter) ≡ name.now
+            → result ≡ Ok (Edit.Flag setter flag) }
+        ensures byte { (setter : Setter) → name_of setter ≡ name.now → IsFalse (takes_flag setter)
+            → result ≡ Err (bad_value setter) }
+        ensures unknown { IsNoName name.now → result ≡ Err unknown_name }
+    {
         match setter_named(name)? {
             Setter::Flag(setter) => Ok(Edit::Flag(setter, flag)),
             setter => Err(setter.refusal()),
@@ -139,7 +168,13 @@ impl Edit {
     /// # Errors
     ///
     /// Returns a [`SettingError`] if no setter has the name, or if the setter takes a flag.
-    pub fn byte(name: &str, byte: u8) -> Result<Edit, SettingError> {
+    pub fn byte(name: &str, byte: u8) -> Result<Edit, SettingError>
+        ensures byte { (setter : Setter) → name_of setter ≡ name.now → IsFalse (takes_flag setter)
+            → MatchResult result (λ edit. (setter_of edit ≡ setter) × (argument_byte edit ≡ byte)) (λ error. ⊥) }
+        ensures flag { (setter : FlagSetter) → name_of (Setter.Flag setter) ≡ name.now
+            → result ≡ Err (bad_value (Setter.Flag setter)) }
+        ensures unknown { IsNoName name.now → result ≡ Err unknown_name }
+    {
         match setter_named(name)? {
             setter @ Setter::Flag(_) => Err(setter.refusal()),
             setter => Ok(setter.with_byte(byte)),
@@ -151,7 +186,9 @@ impl Edit {
     /// # Errors
     ///
     /// Returns a [`SettingError`] if no setter has the name, or if the setter does not take the value.
-    pub fn from_setting(name: &str, value: &str) -> Result<Edit, SettingError> {
+    pub fn from_setting(name: &str, value: &str) -> Result<Edit, SettingError>
+        ensures { IsSetting name.now value.now result }
+    {
         setter_named(name)?.parse(value)
     }
 
@@ -164,7 +201,11 @@ impl Edit {
     /// Returns a [`SettingError`] if `text` has no `=`, if no setter has the name, or if the setter does not take the
     /// value.
     #[doc(hidden)]
-    pub fn from_text(text: &str) -> Result<Edit, SettingError> {
+    pub fn from_text(text: &str) -> Result<Edit, SettingError>
+        ensures setting { position_or_len is_equals text.now < length text.now
+            → IsSetting (before_first is_equals text.now) (after_first is_equals text.now) result }
+        ensures no_equals { position_or_len is_equals text.now ≡ length text.now → result ≡ Err no_equals }
+    {
         match text.split_once('=') {
             Some((name, value)) => Edit::from_setting(name, value),
             None => Err(SettingError(Fault::NoEquals)),
@@ -186,7 +227,9 @@ impl fmt::Display for Edit {
 }
 
 // Parses a byte: a character in single quotes, `0x` followed by hexadecimal digits, or decimal digits.
-fn byte_from_text(text: &str) -> Option<u8> {
+fn byte_from_text(text: &str) -> Option<u8>
+    ensures { result ≡ byte_of_text text.now }
+{
     match text.as_bytes() {
         [b'\'', byte, b'\''] => Some(*byte),
         [b'0', b'x', digits @ ..] => byte_from_digits(digits, 16, 2),
@@ -197,7 +240,9 @@ fn byte_from_text(text: &str) -> Option<u8> {
 /// Parses one to three decimal digits as a number of at most 255. Returns `None` for any other string.
 #[must_use]
 #[doc(hidden)]
-pub fn byte_from_decimal(text: &str) -> Option<u8> {
+pub fn byte_from_decimal(text: &str) -> Option<u8>
+    ensures { SomeIff result (IsTrue (is_numeral 10 3 text.now) × (numeral 10 text.now < 256)) (numeral 10 text.now) }
+{
     byte_from_digits(text.as_bytes(), 10, 3)
 }
 
@@ -205,6 +250,7 @@ pub fn byte_from_decimal(text: &str) -> Option<u8> {
 fn byte_from_digits(digits: &[u8], radix: u32, most: usize) -> Option<u8>
     requires radix { radix ≤ 16 }
     requires most { most ≤ 32 }
+    ensures { result ≡ byte_of_digits radix most digits.now }
 {
     u8::try_from(read_numeral(digits, radix, most)?).ok()
 }

@@ -6,8 +6,9 @@ ghost use Rattle.lexical_flags.specs.Layout as layout;
 ghost use Rattle.lexical_flags.specs.Record.{raw};
 ghost use Rattle.lexical_builder.specs.Writes.{write_flag, write_byte, SameWrites};
 ghost use Rattle.lexical_util.specs.Additions.ByteRoles.{IsOnlyRole};
-ghost use Rattle.lexical_util.specs.Additions.Notes.{set_flags, ReplacesFields, SameRules, SameOtherRules};
-ghost use Rattle.lexical_util.specs.Additions.Reasons.{Blames, BlamesForOptions, reason_of};
+ghost use Rattle.lexical_util.specs.Additions.Notes.{Clears, SameRules};
+ghost use Rattle.lexical_util.specs.Additions.Reasons.{Blames, BlamesForOptions};
+ghost use Rattle.lexical_flags.specs.Additions.Masks.{byte_mask};
 ghost use Rattle.lexical_util.specs.Listing.{IsEditOf};
 ghost use Rattle.lexical_util.specs.declared.edits.setters.Edit.TheVariants as edits;
 ghost use Rattle.lexical_util.specs.declared.edits.setters.FlagSetter.TheVariants as setters;
@@ -39,30 +40,33 @@ pub fn edit_examples()
         (edits.Flag setters.RequiredDigits true) → ⊥ }
 {}
 
-/// Gives examples for `notes`: a word that only clears a case-sensitivity flag, a word that also sets another flag,
-/// words that satisfy the same rules, and words that satisfy different rules.
+/// Gives examples for `notes`: a word in which a case-sensitivity flag is cleared, one in which it is not, words that
+/// satisfy the same rules, and words that satisfy different rules.
 #[tactic(auto, unfolding(crate::specs::Unfoldable::on_literals))]
 pub fn note_examples()
-    ensures cleared { ReplacesFields
-        (set_flags (raw 0x0A0A0A00_00000000_00000000_0001000C) (layout.case_sensitive_base_prefix ∷ []) false)
-        0x0A0A0A00_00000000_00000000_0001000C 0x0A0A0A00_00000000_00000000_0000000C }
-    ensures another_flag { ReplacesFields
-        (set_flags (raw 0x0A0A0A00_00000000_00000000_0001000C) (layout.case_sensitive_base_prefix ∷ []) false)
-        0x0A0A0A00_00000000_00000000_0001000C 0x0A0A0A00_00000000_00000000_0000000D → ⊥ }
+    ensures cleared { Clears 0x10000 0x0A0A0A00_00000000_00000000_0001000C 0x0A0A0A00_00000000_00000000_0000000C }
+    ensures not_cleared { Clears 0x10000 0x0A0A0A00_00000000_00000000_0001000C 0x0A0A0A00_00000000_00000000_0001000C → ⊥ }
     ensures same { SameRules 12 12 }
     ensures other_rules { SameRules 0x0A0A0A00_00000000_00000000_0000000C 0x0A0A0A00_00000000_00000000_0000003C → ⊥ }
-    ensures same_other { SameOtherRules 12 12 }
-    ensures other_radix { SameOtherRules 0x00000A00_00000000_00000000_0000000C 12 → ⊥ }
 {}
 
 /// Gives examples for `reasons`: a reason that a word has and one that it does not have.
 #[tactic(auto, unfolding(crate::specs::Unfoldable::on_literals))]
 pub fn reason_examples()
-    ensures blames { Blames 0 0 (reason_of (raw 0) (Some rules.MantissaRadixInRange) (causes.OutOfRange (record { name = bytes.MantissaRadix; value = 0 }))) }
-    ensures another_radix { Blames 0 0
-        (reason_of (raw 0) (Some rules.MantissaRadixInRange) (causes.OutOfRange (record { name = bytes.MantissaRadix; value = 37 }))) → ⊥ }
-    ensures option { BlamesForOptions 0 43 46 0 (reason_of (raw 0) None (causes.IsSign (record { name = bytes.ExponentCharacter; value = 43 }))) }
-    ensures another_option { BlamesForOptions 0 43 46 0 (reason_of (raw 0) None (causes.IsSign (record { name = bytes.ExponentCharacter; value = 45 }))) → ⊥ }
+    ensures blames { Blames 0 0 (record {
+        rule = Some rules.MantissaRadixInRange; followers = (None, None);
+        cause = causes.OutOfRange (record { name = bytes.MantissaRadix; value = 0 });
+        mask = byte_mask layout.mantissa_radix }) }
+    ensures another_radix { Blames 0 0 (record {
+        rule = Some rules.MantissaRadixInRange; followers = (None, None);
+        cause = causes.OutOfRange (record { name = bytes.MantissaRadix; value = 37 });
+        mask = byte_mask layout.mantissa_radix }) → ⊥ }
+    ensures option { BlamesForOptions 0 43 46 0 (record {
+        rule = None; followers = (None, None); mask = 0;
+        cause = causes.IsSign (record { name = bytes.ExponentCharacter; value = 43 }) }) }
+    ensures another_option { BlamesForOptions 0 43 46 0 (record {
+        rule = None; followers = (None, None); mask = 0;
+        cause = causes.IsSign (record { name = bytes.ExponentCharacter; value = 45 }) }) → ⊥ }
 {}
 
 /// States that `+` is a sign, and not a digit, in decimal numbers with the exponent character `e` and the decimal point

@@ -1,13 +1,12 @@
 //! The rules that a word breaks because of a reason, and the bits that the reason blames.
 
 ghost use Rattle.std.specs.Prelude.{◌≡◌, ◌↔◌, IsTrue, Some};
-ghost use Rattle.lexical_flags.specs.declared.format_flags.parts.Part.{Part};
-ghost use Rattle.lexical_util.specs.Additions.Reasons.{Breaks, mask_of_reason, mask_of_claim, mask_of_claims};
-ghost use Rattle.lexical_util.specs.Additions.Reasons.{mask_of_byte, unset, claims_of};
-ghost use Rattle.lexical_util.specs.declared.reasons.Cause.TheVariants as causes;
+ghost use Rattle.lexical_flags.specs.Record.{raw};
+ghost use Rattle.lexical_util.specs.Additions.Reasons.{Breaks, mask_of_byte};
+ghost use Rattle.lexical_util.specs.Private.{mask_of_cause, followers_mask, absent_mask, flag_mask};
 
 use crate::edits::{FlagSetter, mask_of};
-use crate::reasons::{Byte, Cause, Radixes, Reason};
+use crate::reasons::{Byte, Cause, Characters, Radixes, Reason};
 use lexical_flags::format_flags as flags;
 use lexical_flags::format_flags::{Part, Rule};
 
@@ -61,31 +60,35 @@ impl Reason {
             || is_rule(self.followers.1, rule)
     }
 
-    /// Returns the mask of the bits that the reason blames: the bits on which it depends. The reason applies to every
-    /// format word that has the same values in these bits, for the same options.
+    /// Returns the mask of the bits that the reason blames. Every format word that has the same values in these bits
+    /// has the reason too, for the same options, and breaks every rule of the reason.
     ///
     /// The mask has the bits of every byte and every flag in the cause. For [`Cause::NeedsPosition`], it has the bits
-    /// of all flags that allow digit separators in the same part of the number. In a word that was built from settings,
-    /// a setting is to blame if its [`Edit::mask`][crate::edits::Edit::mask] and this mask share a bit that no later
-    /// setting overrides.
+    /// of all flags that allow digit separators in the same part of the number. If the mantissa radix is out of range,
+    /// the mask also has the bits of each absent exponent byte. If a byte is a digit in the mantissa radix, it also has
+    /// the bits of an absent exponent radix. In a word that was built from settings, a setting is to blame if its
+    /// [`Edit::mask`][crate::edits::Edit::mask] and this mask share a bit that no later setting overrides.
     #[must_use]
     pub const fn mask(&self) -> u128
-        ensures { result ≡ mask_of_reason self.now }
+        ensures { result ≡ self.now.mask }
     {
-        self.cause.mask()
+        self.mask
     }
 }
 
-impl Cause {
-    // Returns the mask of the bits on which the cause depends.
-    const fn mask(&self) -> u128
-        ensures { result ≡ mask_of_claims (claims_of self.now) }
+impl Characters {
+    // Returns the mask of the fields that a cause names, and of the absent exponent bytes that are to blame with the
+    // mantissa radix. An edit of this radix alone does not end the cause, since it first stores the old radix in them.
+    #[inline(always)]
+    pub(crate) const fn mask(&self, cause: &Cause) -> u128
+        ensures { result ≡ mask_of_cause (raw self.now.format) cause.now }
     {
-        match self {
-            Cause::OutOfRange(byte) | Cause::NotText(byte) | Cause::IsSign(byte) => byte
-                .name
-                .mask(),
-            Cause::IsDigit(byte, Radixes::Mantissa(_)) => byte.name.mask() | flags::MANTISSA_RADIX,
+        match cause {
+            Cause::OutOfRange(byte) => byte.name.mask() | self.followers_mask(byte.name),
+            Cause::NotText(byte) | Cause::IsSign(byte) => byte.name.mask(),
+            Cause::IsDigit(byte, Radixes::Mantissa(_)) => {
+                byte.name.mask() | flags::MANTISSA_RADIX | self.absent_mask(Byte::ExponentRadix)
+            }
             Cause::IsDigit(byte, Radixes::Exponent(_)) => byte.name.mask() | flags::EXPONENT_RADIX,
             Cause::IsDigit(byte, Radixes::Both { .. }) => {
                 byte.name.mask() | flags::MANTISSA_RADIX | flags::EXPONENT_RADIX
@@ -99,34 +102,48 @@ impl Cause {
             } => {
                 first.name.mask()
                     | second.name.mask()
-                    | unset_mask(*first_flag)
-                    | unset_mask(*second_flag)
+                    | flag_mask(*first_flag)
+                    | flag_mask(*second_flag)
             }
             Cause::BothSet(first, second) => mask_of(*first) as u128 | mask_of(*second) as u128,
-            Cause::NeedsPosition(part) => position_mask(*part),
+            Cause::NeedsPosition(Part::Integer) => flags::INTEGER_DIGIT_SEPARATOR_FLAG_MASK,
+            Cause::NeedsPosition(Part::Fraction) => flags::FRACTION_DIGIT_SEPARATOR_FLAG_MASK,
+            Cause::NeedsPosition(Part::Exponent) => flags::EXPONENT_DIGIT_SEPARATOR_FLAG_MASK,
             Cause::ReservedBits(bits) => *bits,
+        }
+    }
+
+    // Returns the mask of the absent exponent bytes if `name` is the mantissa radix, and 0 otherwise.
+    const fn followers_mask(&self, name: Byte) -> u128
+        ensures { result ≡ followers_mask (raw self.now.format) name }
+    {
+        match name {
+            Byte::MantissaRadix => {
+                self.absent_mask(Byte::ExponentBase) | self.absent_mask(Byte::ExponentRadix)
+            }
+            _ => 0,
+        }
+    }
+
+    // Returns the mask of a byte if it is absent, and 0 otherwise.
+    const fn absent_mask(&self, name: Byte) -> u128
+        ensures { result ≡ absent_mask (raw self.now.format) name }
+    {
+        if self.named(name).value == 0 {
+            name.mask()
+        } else {
+            0
         }
     }
 }
 
 // Returns the mask of a flag, or 0 if there is none.
-const fn unset_mask(flag: Option<FlagSetter>) -> u128
-    ensures { result ≡ mask_of_claim (unset flag) }
+const fn flag_mask(flag: Option<FlagSetter>) -> u128
+    ensures { result ≡ flag_mask flag }
 {
     match flag {
         Some(flag) => mask_of(flag) as u128,
         None => 0,
-    }
-}
-
-// Returns the mask of the flags that allow digit separators in a part of the number.
-const fn position_mask(part: Part) -> u128
-    ensures { result ≡ mask_of_claims (claims_of (causes.NeedsPosition part)) }
-{
-    match part {
-        Part::Integer => flags::INTEGER_DIGIT_SEPARATOR_FLAG_MASK,
-        Part::Fraction => flags::FRACTION_DIGIT_SEPARATOR_FLAG_MASK,
-        Part::Exponent => flags::EXPONENT_DIGIT_SEPARATOR_FLAG_MASK,
     }
 }
 

@@ -1,16 +1,14 @@
 //! Notes on fields that are set but have no effect on any number.
 
-ghost use Rattle.std.specs.Prelude.{◌≡◌, ◌==◌, if◌then◌else◌, ℕ, false, [], ◌∷◌};
+ghost use Rattle.std.specs.Prelude.{◌≡◌, ◌==◌, ℕ, [], ◌∷◌, Option, List, bit_and};
 ghost use Rattle.lexical_flags.specs.Layout as layout;
-ghost use Rattle.lexical_flags.specs.Layout.{digit_separator_flags};
-ghost use Rattle.lexical_flags.specs.Record.{pack, raw, separator_allowed, set_byte};
+ghost use Rattle.lexical_flags.specs.Record.{pack, raw, set_byte};
 ghost use Rattle.lexical_flags.specs.Roles.{other_case};
-ghost use Rattle.lexical_util.specs.Additions.Reasons.{reason_slots};
-ghost use Rattle.lexical_util.specs.Additions.Notes.{mask_of_note, blamed, notes_beside, separator_note, case_note};
-ghost use Rattle.lexical_util.specs.Additions.Notes.{unless_blamed};
-ghost use Rattle.lexical_util.specs.Additions.Notes.{without_separator, set_flags, ReplacesFields, SameRules};
-ghost use Rattle.lexical_util.specs.Additions.Notes.{SameOtherRules};
-ghost use Rattle.lexical_util.specs.NormalForm.{normal_form_of};
+ghost use Rattle.lexical_util.specs.Additions.Notes.{mask_of_note, IsIdle, AreNotes, AreReasons, ChangeNothing};
+ghost use Rattle.lexical_util.specs.Private.{separator_note, case_note, unless_blamed, blamed};
+ghost use Rattle.lexical_util.specs.declared.edits.setters.FlagSetter.TheVariants as setters;
+ghost use Rattle.lexical_util.specs.declared.reasons.Byte.TheVariants as bytes;
+ghost use Rattle.lexical_util.specs.declared.reasons.Reason.{Reason};
 
 use crate::edits::{FlagSetter, mask_of};
 use crate::reasons::{Byte, Characters, NamedByte, Reason, reasons, some_if};
@@ -25,7 +23,6 @@ pub const MAX_NOTES: usize = 3;
 /// Only the fields that the variants name can have a note. For example, an exponent flag has no note, even if the
 /// format forbids exponents.
 #[derive(Debug, Clone, Copy, PartialEq, Eq, Hash)]
-#[non_exhaustive]
 pub enum Note {
     /// The digit separator is set, but no flag allows one. Packing the fields of a builder drops the separator, and the
     /// normal form has none. Options still cannot use the same byte.
@@ -39,10 +36,13 @@ pub enum Note {
 }
 
 impl Note {
-    /// Returns the mask of the bits of a format word that the note describes.
+    /// Returns the mask of the bits of the fields that the note names. On a format word that has the same values in
+    /// these bits, the note is as true. A note is left out if this mask and the mask of a reason share a bit.
     #[must_use]
     pub const fn mask(&self) -> u128
-        ensures { result ≡ mask_of_note self.now }
+        ensures fields { result ≡ mask_of_note self.now }
+        ensures depends { (word other : ℕ) → bit_and word result ≡ bit_and other result
+            → IsIdle (raw word) self.now → IsIdle (raw other) self.now }
     {
         match self {
             Note::SeparatorWithoutFlag(_) | Note::FlagsWithoutSeparator => {
@@ -56,31 +56,15 @@ impl Note {
 
 /// Returns the notes on a format word, each in its own slot. A slot without a note is `None`.
 ///
-/// A note is not an error, so a lawful word may have notes. A field that a reason [blames][Reason] has no note.
+/// A note is not an error, so a lawful word may have notes. A note is left out if a reason [blames][Reason] one of the
+/// fields that it names.
 #[must_use]
 pub const fn notes(format: u128) -> [Option<Note>; MAX_NOTES]
-    ensures each { result ≡ notes_beside (blamed (reason_slots format)) (raw format) }
+    // No reason of the word blames a field of these notes, and these are all such notes.
+    ensures found { (slots : List (Option Reason)) × (AreReasons format slots × AreNotes (raw format) slots result) }
 
-    // If no flag allows a digit separator, then the word without its separator has the same normal form.
-    ensures separator { separator_allowed (raw format) ≡ false → (other : ℕ)
-        → raw other ≡ without_separator (raw format)
-        → normal_form_of other ≡ normal_form_of format }
-
-    // If the digit separator is absent, then clearing its flags changes neither the options nor the rules that read
-    // none of these flags.
-    ensures separator_flags { (raw format).byte layout.digit_separator ≡ 0 → (other : ℕ)
-        → ReplacesFields (set_flags (raw format) digit_separator_flags false) format other
-        → SameOtherRules format other }
-
-    // If a byte is absent or not a letter, then clearing its case flag does not change any rule, option or role.
-    ensures prefix_case { other_case ((raw format).byte layout.base_prefix) ≡ (raw format).byte layout.base_prefix
-        → (other : ℕ)
-        → ReplacesFields (set_flags (raw format) (layout.case_sensitive_base_prefix ∷ []) false) format other
-        → SameRules format other }
-    ensures suffix_case { other_case ((raw format).byte layout.base_suffix) ≡ (raw format).byte layout.base_suffix
-        → (other : ℕ)
-        → ReplacesFields (set_flags (raw format) (layout.case_sensitive_base_suffix ∷ []) false) format other
-        → SameRules format other }
+    // What a note names can be cleared without changing a rule, a role or an option.
+    ensures idle { ChangeNothing format result }
 {
     notes_beside_reasons(format, &reasons(format))
 }
@@ -91,7 +75,8 @@ pub const fn notes_beside_reasons(
     format: u128,
     reasons: &[Option<Reason>],
 ) -> [Option<Note>; MAX_NOTES]
-    ensures { result ≡ notes_beside (blamed reasons.now) (raw format) }
+    ensures found { AreNotes (raw format) reasons.now result }
+    ensures idle { AreReasons format reasons.now → ChangeNothing format result }
 {
     notes_beside(blamed(reasons), format, flags::digit_separator(format))
 }
@@ -101,7 +86,9 @@ pub const fn notes_beside_reasons(
 /// A digit separator that no flag allows has a note, although the builder does not pack it.
 #[must_use]
 pub const fn notes_of_fields(builder: &NumberFormatBuilder) -> [Option<Note>; MAX_NOTES]
-    ensures { result ≡ notes_beside (blamed (reason_slots (pack builder.now))) builder.now }
+    ensures found { (slots : List (Option Reason))
+        × (AreReasons (pack builder.now) slots × AreNotes builder.now slots result) }
+    ensures idle { ChangeNothing (pack builder.now) result }
 {
     let separator = match builder.get_digit_separator() {
         Some(byte) => byte.get(),
@@ -113,7 +100,10 @@ pub const fn notes_of_fields(builder: &NumberFormatBuilder) -> [Option<Note>; MA
 
 // Returns the notes on a word in which the digit separator is replaced by `separator`, except those on `blamed` bits.
 const fn notes_beside(blamed: u128, format: u128, separator: u8) -> [Option<Note>; MAX_NOTES]
-    ensures { result ≡ notes_beside blamed (set_byte (raw format) layout.digit_separator separator) }
+    ensures { let r = set_byte (raw format) layout.digit_separator separator in
+        result ≡ unless_blamed blamed (separator_note r)
+        ∷ unless_blamed blamed (case_note r setters.CaseSensitiveBasePrefix bytes.BasePrefix)
+        ∷ unless_blamed blamed (case_note r setters.CaseSensitiveBaseSuffix bytes.BaseSuffix) ∷ [] }
 {
     let prefix = case_note(
         format,

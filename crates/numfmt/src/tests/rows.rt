@@ -10,16 +10,7 @@ exponent_base 10
 exponent_radix 10
 ";
 
-const LARGEST_FIELDS: &str = "flags 0x000000000000000000001FFF0003FFFF
-digit_separator 255
-base_prefix 255
-base_suffix 255
-mantissa_radix 255
-exponent_base 255
-exponent_radix 255
-";
-
-const ONE_TO_SIX: &str = "flags 0x0000000000000000000000000000000C
+const ONE_TO_SIX: &str = "flags 0x0000000000000000000010000000000C
 digit_separator 1
 base_prefix 2
 base_suffix 3
@@ -37,13 +28,24 @@ const EACH_BYTE_SET: &str = "NumberFormatBuilder::new().required_integer_digits(
 const BOTH_LOST: &str =
     "// This code makes another word, without the reserved bits 0xFFFF000000000000000000
 // This code makes another word, without the digit separator 10: no flag allows one
-NumberFormatBuilder::new().digit_separator(NonZeroU8::new(10)).build_unchecked()
+NumberFormatBuilder::new().build_unchecked()
+";
+
+const LAWFUL_AND_LOST: &str =
+    "// This code makes another word, without the digit separator '_': no flag allows one
+NumberFormatBuilder::new().build_or_panic()
+";
+
+const LITERALS: &str = "NumberFormatBuilder::new().integer_internal_digit_separator(true)\
+.digit_separator(NonZeroU8::new(b'!')).base_prefix(NonZeroU8::new(b'~')).base_suffix(NonZeroU8::new(92))\
+.mantissa_radix(34).exponent_base(NonZeroU8::new(35)).exponent_radix(NonZeroU8::new(36)).build_or_panic()
 ";
 
 const TWO_REASONS: &str = "the digit separator '5' is a digit in radix 10
     error: lexical number format error: 'invalid digit separator: must be ASCII and not a digit or a `+/-` sign'
     field: digit_separator=53
     field: mantissa_radix=10
+    field: exponent_radix=none
 no_exponent_notation and required_exponent_notation cannot both be set
     error: lexical number format error: 'exponent flags set while disabling exponent notation'
     field: no_exponent_notation=true
@@ -55,6 +57,8 @@ const THREE_RULES: &str = "the mantissa radix 0 is not between 2 and 36
     error: lexical number format error: 'invalid exponent base'
     error: lexical number format error: 'invalid radix for exponent digits'
     field: mantissa_radix=0
+    field: exponent_base=none
+    field: exponent_radix=none
 ";
 
 const RESERVED_BIT_EXPLAINED: &str = "reserved bits are set: 0x80000000, which any edit clears
@@ -67,13 +71,11 @@ note: case_sensitive_base_suffix is set, but there is no base suffix
 
 /// Lists of arguments, the text that they print, and the exit status.
 #[rattlefmt::skip]
-pub const ANSWERS: [(&[&str], &str, u8); 33] = [
+pub const ANSWERS: [(&[&str], &str, u8); 31] = [
     (&[], STANDARD_FIELDS, 0),
     (&["show", "0x00000A0000000000000000000000000C"], STANDARD_FIELDS, 0),
     (&["show", "0xa0000000000000000000000000c"], STANDARD_FIELDS, 0),
-    (&["show", "0xFFFFFFFFFFFFFFFFFFFFFFFFFFFFFFFF"], LARGEST_FIELDS, 0),
-    (&["show", "0xffffffffffffffffffffffffffffffff"], LARGEST_FIELDS, 0),
-    (&["show", "0x0605040302000001000000000000000C"], ONE_TO_SIX, 0),
+    (&["show", "0x0605040302ABCD0100001000fed0000c"], ONE_TO_SIX, 0),
     (&["edit", "0xc", "radix=16", "digit_separator=95", "integer_digit_separator_flags=true"], "0x000010000000005F000002490000000C\n", 0),
     (&["edit", "0x00000A0000000000000000000000000C"], "0x0A0A0A0000000000000000000000000C\n", 0),
     (&["edit", "0x00000A0000000000000000000000000C", "radix=007"], "0x0A0A070000000000000000000000000C\n", 0),
@@ -86,16 +88,16 @@ pub const ANSWERS: [(&[&str], &str, u8); 33] = [
     (&["options", "0x1010100000000000000000000000000C", "101", "46"], "refused\n", 1),
     (&["options", "0x1010100000000000000000000000000C", "94", "46"], "accepted\n", 0),
     (&["options", "0x1010100000000000000000000000000C", "094", "046"], "accepted\n", 0),
-    (&["options", "0x0A0A0A0000000000000000000000000C", "101", "101"], "refused\n", 1),
-    (&["options", "0x0A0A0A0000000000000000000000000C", "0", "46"], "refused\n", 1),
     (&["options", "0x00000A0045000000000000000001000C", "101", "46"], "refused\n", 1),
     (&["options", "0x00000A0045000000000000000001000C", "46", "101"], "accepted\n", 0),
     (&["migrate", "0x00000A0000000000000000008000000C"], "0x0A0A0A0000000000000000000000000C\n", 0),
     (&["migrate", "0x0"], "lexical number format error: 'invalid radix for mantissa digits'\n", 1),
     (&["migrate", "0x00000A0000000035000000000000404C"], "lexical number format error: 'exponent flags set while disabling exponent notation'\n", 1),
-    (&["source", "0x00000A0000000000000000000000000C"], "NumberFormatBuilder::new().build_unchecked()\n", 0),
+    (&["source", "0x00000A0000000000000000000000000C"], "NumberFormatBuilder::new().build_or_panic()\n", 0),
     (&["source", "0x0605040302000001000010000000000D"], EACH_BYTE_SET, 0),
     (&["source", "0x00000A0000FFFF0A000000000000000C"], BOTH_LOST, 1),
+    (&["source", "0x00000A000000005F000000000000000C"], LAWFUL_AND_LOST, 1),
+    (&["source", "0x2423225C7E000021000000010000000C"], LITERALS, 0),
     (&["explain", "0x00000A0000000000000000000000000C"], "", 0),
     (&["explain", "0x00000A0000000035000000000000404C"], TWO_REASONS, 1),
     (&["explain", "0xC"], THREE_RULES, 1),
@@ -105,7 +107,7 @@ pub const ANSWERS: [(&[&str], &str, u8); 33] = [
 
 /// Lists of arguments that are refused, the text that states why, and the exit status.
 #[rattlefmt::skip]
-pub const REFUSALS: [(&[&str], &str, u8); 52] = [
+pub const REFUSALS: [(&[&str], &str, u8); 44] = [
     (&[""], "numfmt: unknown command\n", 2),
     (&["shows", "0x"], "numfmt: unknown command\n", 2),
     (&["show 0xC"], "numfmt: unknown command\n", 2),
@@ -138,17 +140,9 @@ pub const REFUSALS: [(&[&str], &str, u8); 52] = [
     (&["source", ""], "numfmt: bad word\n", 2),
     (&["explain", "C"], "numfmt: bad word\n", 2),
     (&["edit", "0xC", "radix=256"], "numfmt: bad edit\n", 2),
-    (&["edit", "0xC", "radix"], "numfmt: bad edit\n", 2),
     (&["edit", "0xC", "radix=16", "radix"], "numfmt: bad edit\n", 2),
-    (&["edit", "0x00000A0000000000000000000000000C", "radix="], "numfmt: bad edit\n", 2),
-    (&["edit", "0x00000A0000000000000000000000000C", "radix=0010"], "numfmt: bad edit\n", 2),
-    (&["edit", "0x00000A0000000000000000000000000C", "radix=none"], "numfmt: bad edit\n", 2),
     (&["edit", "0x00000A0000000000000000000000000C", "base_prefix='x'"], "numfmt: bad edit\n", 2),
     (&["edit", "0x00000A0000000000000000000000000C", "base_prefix=0x78"], "numfmt: bad edit\n", 2),
-    (&["edit", "0x00000A0000000000000000000000000C", "=true"], "numfmt: bad edit\n", 2),
-    (&["edit", "0x00000A0000000000000000000000000C", "no_special=True"], "numfmt: bad edit\n", 2),
-    (&["edit", "0x00000A0000000000000000000000000C", "no_special=true="], "numfmt: bad edit\n", 2),
-    (&["edit", "0x00000A0000000000000000000000000C", "STANDARD=true"], "numfmt: bad edit\n", 2),
     (&["edit", "0xC", "radix=16\r"], "numfmt: bad edit\n", 2),
     (&["edit", "0xC", "radix = 16"], "numfmt: bad edit\n", 2),
     (&["edit", "0xC", "radix=16 radix=10"], "numfmt: bad edit\n", 2),

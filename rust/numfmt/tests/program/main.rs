@@ -7,6 +7,7 @@ mod rows;
 use rows::{ANSWERS, REFUSALS};
 use std::ffi::{OsStr, OsString};
 use std::fs::File;
+use std::io::Write;
 use std::os::unix::ffi::OsStrExt;
 use std::process::{Command, Stdio};
 
@@ -42,8 +43,10 @@ fn ends_with_status_3_if_an_argument_is_not_utf_8() {
 /// Returns the end of a pipe whose reader has ended.
 fn closed_pipe() -> Stdio {
     let mut reader = Command::new("true").stdin(Stdio::piped()).spawn().unwrap();
-    let pipe = reader.stdin.take().unwrap();
+    let mut pipe = reader.stdin.take().unwrap();
     reader.wait().unwrap();
+    // A program that another test starts has the reader too, for a moment.
+    while pipe.write(b"\n").is_ok() {}
     pipe.into()
 }
 

@@ -1,10 +1,16 @@
-use Rattle.std.proofs.Common.{◌≢◌, sym, subst}
+use Rattle.std.proofs.Common.{◌∙◌, ap, sym, subst}
+use Rattle.lexical_flags.specs.Layout as layout
+use Rattle.lexical_flags.specs.Record.{raw, effective}
 use Rattle.lexical_flags.specs.Rules.{IsRadix}
-use Rattle.lexical_flags.proofs.ByteParts.{exponent_radix_part}
+use Rattle.lexical_flags.proofs.CommonLemmas.{common_radix}
 use Rattle.lexical_flags.proofs.RuleLemmas.{Lawful-exponent_radix}
 use Rattle.lexical_flags.proofs.format_flags.exponent_radix.Goals as goal
 
-pub returns-else-radix-eq0-clause-lawful : goal.returns-else-radix-eq0-clause-lawful
-returns-else-radix-eq0-clause-lawful c lawful =
-    subst (λ own. own ≢ 0 → IsRadix own) (sym (exponent_radix_part c.args.format))
-    (Lawful-exponent_radix c.args.format lawful) c.if-radix-eq0.false
+pub returns-clause-value : goal.returns-clause-value
+returns-clause-value c =
+    c.radix_from_flags.ensures
+    ∙ ap (λ own. effective own ((raw c.args.format).byte layout.mantissa_radix)) (common_radix c.args.format)
+
+pub returns-clause-lawful : goal.returns-clause-lawful
+returns-clause-lawful c lawful =
+    subst IsRadix (sym (returns-clause-value c)) (Lawful-exponent_radix c.args.format lawful)

@@ -2,8 +2,8 @@ use Rattle.std.proofs.Common.{arith, ◌∙◌, ◌≡◌, ap, sym, ◌==◌, if
 use Rattle.lexical_flags.specs.Layout.{Flag, part, bit, flags}
 use Rattle.lexical_flags.specs.Record.{Record}
 use Rattle.lexical_flags.proofs.RecordLemmas.{record_same}
-use Rattle.lexical_builder.specs.BuilderBits.{builder_bit, builder_record, flags_with}
-use Rattle.lexical_builder.specs.Writes.{after, write_flags}
+use Rattle.lexical_builder.specs.BuilderBits.{builder_bit, builder_record}
+use Rattle.lexical_builder.specs.Writes.{after, flags_with, write_flags}
 use Rattle.lexical_builder.proofs.BuilderFlags.{builder_bit-lt, part-flags_in}
 use Rattle.lexical_builder.proofs.WriteLemmas.{after-mask, after-mask_byte}
 use Rattle.lexical_builder.proofs.format_builder.NumberFormatBuilder.with_flags.Goals as goal

@@ -1,5 +1,0 @@
-use Rattle.lexical_base.proofs.error.short_text.+put_hexadecimal.Given as goal
-
--- The kit proposed this measure from the argument of the recursive call.
-abbrev pub decreases-put_hexadecimal : goal.decreases-put_hexadecimal
-decreases-put_hexadecimal g l = l.n

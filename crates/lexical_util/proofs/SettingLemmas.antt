@@ -1,0 +1,31 @@
+-- Lemmas on the names of setters.
+use Rattle.std.proofs.Common.{ℕ, ◌≡◌, ◌∙◌, List, Option, Some, None, refl, sym, ap, subst}
+use Rattle.std.specs.List.{AllByRecursion, find}
+use Rattle.std.specs.Str.{bytes_eq}
+use Rattle.lexical_util.specs.declared.edits.setters.FlagSetter.TheVariants as flags
+use Rattle.lexical_util.specs.declared.edits.setters.Setter.{Setter}
+use Rattle.lexical_util.specs.declared.edits.setters.Setter.TheVariants as setters
+use Rattle.lexical_util.specs.declared.edits.setters.TheConstants.{ALL_SETTERS}
+use Rattle.lexical_util.specs.Additions.Settings.{name_of}
+
+-- `named text` is the first setter with the name `text`.
+named : List ℕ → Option Setter
+unfolding name_of
+named text = find (λ setter. bytes_eq (name_of setter) text) ALL_SETTERS
+
+-- Each setter is the first with its name.
+named_itself : (setter : Setter) → named (name_of setter) ≡ Some setter
+unfolding named name_of
+named_itself (setters.Flag flags.RequiredIntegerDigits) = refl
+named_itself (setters.Flag _) = refl
+named_itself _ = refl
+
+-- Setters with the same name are equal.
+pub same_name : (s t : Setter) → name_of s ≡ name_of t → s ≡ t
+same_name s t same = let equal : Some s ≡ Some t = sym (named_itself s) ∙ ap named same ∙ named_itself t in cc
+
+-- What holds of each setter in the list of all setters holds of every setter.
+pub every : (P : Setter → Type 0) → AllByRecursion P ALL_SETTERS → (setter : Setter) → P setter
+every P all (setters.Flag flags.RequiredIntegerDigits) = assumption all
+every P all (setters.Flag _) = assumption all
+every P all _ = assumption all

@@ -1,0 +1,142 @@
+-- The names of setters, and the settings that call them, for `Setter`, `Edit` and `SettingError`.
+use Rattle.std.specs.Prelude.{ℕ, ◌≡◌, ◌≢◌, ◌==◌, ◌&&◌, Bool, true, false, nat_lt, if◌then◌else◌, Option, Some, None}
+use Rattle.std.specs.Prelude.{Result, Ok, Err, List, [], ◌∷◌, codes, take, drop, slice_index, bytes_eq}
+use Rattle.std.specs.Bool.{then_some}
+use Rattle.lexical_base.specs.Ascii.{ByteSet}
+use Rattle.lexical_base.specs.Digits.{numeral}
+use Rattle.lexical_util.specs.Additions.EditMasks.{argument_byte}
+use Rattle.lexical_util.specs.Additions.Numeral.{is_numeral}
+use Rattle.lexical_util.specs.declared.edits.setters.ArgumentKind.{ArgumentKind}
+use Rattle.lexical_util.specs.declared.edits.setters.ArgumentKind.TheVariants as kinds
+use Rattle.lexical_util.specs.declared.edits.setters.Edit.{Edit}
+use Rattle.lexical_util.specs.declared.edits.setters.Edit.TheVariants as edits
+use Rattle.lexical_util.specs.declared.edits.setters.FlagSetter.TheVariants as flags
+use Rattle.lexical_util.specs.declared.edits.setters.Setter.{Setter}
+use Rattle.lexical_util.specs.declared.edits.setters.Setter.TheVariants as setters
+use Rattle.lexical_util.specs.declared.edits.settings.Fault.TheVariants as faults
+use Rattle.lexical_util.specs.declared.edits.settings.SettingError.{SettingError}
+
+-- `name_of setter` is the name of `setter`.
+unfoldable pub name_of : Setter → List ℕ
+name_of (setters.Flag flags.RequiredIntegerDigits) = codes "required_integer_digits"
+name_of (setters.Flag flags.RequiredFractionDigits) = codes "required_fraction_digits"
+name_of (setters.Flag flags.RequiredExponentDigits) = codes "required_exponent_digits"
+name_of (setters.Flag flags.RequiredMantissaDigits) = codes "required_mantissa_digits"
+name_of (setters.Flag flags.NoPositiveMantissaSign) = codes "no_positive_mantissa_sign"
+name_of (setters.Flag flags.RequiredMantissaSign) = codes "required_mantissa_sign"
+name_of (setters.Flag flags.NoExponentNotation) = codes "no_exponent_notation"
+name_of (setters.Flag flags.NoPositiveExponentSign) = codes "no_positive_exponent_sign"
+name_of (setters.Flag flags.RequiredExponentSign) = codes "required_exponent_sign"
+name_of (setters.Flag flags.NoExponentWithoutFraction) = codes "no_exponent_without_fraction"
+name_of (setters.Flag flags.NoSpecial) = codes "no_special"
+name_of (setters.Flag flags.CaseSensitiveSpecial) = codes "case_sensitive_special"
+name_of (setters.Flag flags.NoIntegerLeadingZeros) = codes "no_integer_leading_zeros"
+name_of (setters.Flag flags.NoFloatLeadingZeros) = codes "no_float_leading_zeros"
+name_of (setters.Flag flags.RequiredExponentNotation) = codes "required_exponent_notation"
+name_of (setters.Flag flags.CaseSensitiveExponent) = codes "case_sensitive_exponent"
+name_of (setters.Flag flags.CaseSensitiveBasePrefix) = codes "case_sensitive_base_prefix"
+name_of (setters.Flag flags.CaseSensitiveBaseSuffix) = codes "case_sensitive_base_suffix"
+name_of (setters.Flag flags.IntegerInternalDigitSeparator) = codes "integer_internal_digit_separator"
+name_of (setters.Flag flags.FractionInternalDigitSeparator) = codes "fraction_internal_digit_separator"
+name_of (setters.Flag flags.ExponentInternalDigitSeparator) = codes "exponent_internal_digit_separator"
+name_of (setters.Flag flags.IntegerLeadingDigitSeparator) = codes "integer_leading_digit_separator"
+name_of (setters.Flag flags.FractionLeadingDigitSeparator) = codes "fraction_leading_digit_separator"
+name_of (setters.Flag flags.ExponentLeadingDigitSeparator) = codes "exponent_leading_digit_separator"
+name_of (setters.Flag flags.IntegerTrailingDigitSeparator) = codes "integer_trailing_digit_separator"
+name_of (setters.Flag flags.FractionTrailingDigitSeparator) = codes "fraction_trailing_digit_separator"
+name_of (setters.Flag flags.ExponentTrailingDigitSeparator) = codes "exponent_trailing_digit_separator"
+name_of (setters.Flag flags.IntegerConsecutiveDigitSeparator) = codes "integer_consecutive_digit_separator"
+name_of (setters.Flag flags.FractionConsecutiveDigitSeparator) = codes "fraction_consecutive_digit_separator"
+name_of (setters.Flag flags.ExponentConsecutiveDigitSeparator) = codes "exponent_consecutive_digit_separator"
+name_of (setters.Flag flags.SpecialDigitSeparator) = codes "special_digit_separator"
+name_of (setters.Flag flags.RequiredDigits) = codes "required_digits"
+name_of (setters.Flag flags.InternalDigitSeparator) = codes "internal_digit_separator"
+name_of (setters.Flag flags.LeadingDigitSeparator) = codes "leading_digit_separator"
+name_of (setters.Flag flags.TrailingDigitSeparator) = codes "trailing_digit_separator"
+name_of (setters.Flag flags.ConsecutiveDigitSeparator) = codes "consecutive_digit_separator"
+name_of (setters.Flag flags.DigitSeparatorFlags) = codes "digit_separator_flags"
+name_of (setters.Flag flags.IntegerDigitSeparatorFlags) = codes "integer_digit_separator_flags"
+name_of (setters.Flag flags.FractionDigitSeparatorFlags) = codes "fraction_digit_separator_flags"
+name_of (setters.Flag flags.ExponentDigitSeparatorFlags) = codes "exponent_digit_separator_flags"
+name_of setters.DigitSeparator = codes "digit_separator"
+name_of setters.BasePrefix = codes "base_prefix"
+name_of setters.BaseSuffix = codes "base_suffix"
+name_of setters.MantissaRadix = codes "mantissa_radix"
+name_of setters.Radix = codes "radix"
+name_of setters.ExponentBase = codes "exponent_base"
+name_of setters.ExponentRadix = codes "exponent_radix"
+
+-- `setter_of edit` is the setter that `edit` calls.
+abbrev pub setter_of : Edit → Setter
+setter_of (edits.Flag setter flag) = setters.Flag setter
+setter_of (edits.DigitSeparator byte) = setters.DigitSeparator
+setter_of (edits.BasePrefix byte) = setters.BasePrefix
+setter_of (edits.BaseSuffix byte) = setters.BaseSuffix
+setter_of (edits.MantissaRadix radix) = setters.MantissaRadix
+setter_of (edits.Radix radix) = setters.Radix
+setter_of (edits.ExponentBase base) = setters.ExponentBase
+setter_of (edits.ExponentRadix radix) = setters.ExponentRadix
+
+-- `kind_of setter` is the kind of argument that `setter` takes.
+abbrev pub kind_of : Setter → ArgumentKind
+kind_of (setters.Flag setter) = kinds.Flag
+kind_of setters.MantissaRadix = kinds.Byte
+kind_of setters.Radix = kinds.Byte
+kind_of _ = kinds.OptionalByte
+
+-- `takes_flag setter` is true if `setter` takes a flag.
+abbrev pub takes_flag : Setter → Bool
+takes_flag (setters.Flag setter) = true
+takes_flag _ = false
+
+-- `byte_of_digits radix most digits` is the number that `digits` represent, if they are 1 to `most` digits of `radix` and
+-- the number is at most 255.
+abbrev pub byte_of_digits : ℕ → ℕ → List ℕ → Option ℕ
+byte_of_digits radix most digits =
+    then_some (is_numeral radix most digits && nat_lt (numeral radix digits) 256) (numeral radix digits)
+
+-- `byte_of_text text` is the byte that `text` represents: the character between two single quotes, one or two
+-- hexadecimal digits after `0x`, or one to three decimal digits.
+abbrev pub byte_of_text : List ℕ → Option ℕ
+byte_of_text text =
+    if bytes_eq text (39 ∷ slice_index text 1 ∷ 39 ∷ []) then Some (slice_index text 1)
+    else if bytes_eq (take 2 text) (codes "0x") then byte_of_digits 16 2 (drop 2 text) else byte_of_digits 10 3 text
+
+-- `byte_of_value kind value` is the argument of this kind, as a byte, that the text `value` represents.
+abbrev pub byte_of_value : ArgumentKind → List ℕ → Option ℕ
+byte_of_value kinds.Flag value =
+    if bytes_eq value (codes "true") then Some 1 else if bytes_eq value (codes "false") then Some 0 else None
+byte_of_value kinds.Byte value = byte_of_text value
+byte_of_value kinds.OptionalByte value = if bytes_eq value (codes "none") then Some 0 else byte_of_text value
+
+-- `is_equals` is the set that contains only the byte of the character `=`.
+abbrev pub is_equals : ByteSet
+is_equals byte = byte == 61
+
+-- `no_equals`, `unknown_name` and `bad_value setter` are the errors of a text without `=`, of a name that no setter has,
+-- and of a value that `setter` does not take.
+abbrev pub no_equals : SettingError
+no_equals = record { 0 = faults.NoEquals }
+
+abbrev pub unknown_name : SettingError
+unknown_name = record { 0 = faults.UnknownName }
+
+abbrev pub bad_value : Setter → SettingError
+bad_value setter = record { 0 = faults.BadValue setter }
+
+-- `IsParsed setter value result` holds if `result` is an edit that calls `setter` with the argument that `value`
+-- represents, or the error `bad_value setter` if it represents none.
+abbrev pub IsParsed : Setter → List ℕ → Result Edit SettingError → Type 0
+IsParsed setter value (Ok edit) =
+    (setter_of edit ≡ setter) × (byte_of_value (kind_of setter) value ≡ Some (argument_byte edit))
+IsParsed setter value (Err error) = (error ≡ bad_value setter) × (byte_of_value (kind_of setter) value ≡ None)
+
+-- `IsNoName name` holds if no setter has the name `name`.
+abbrev pub IsNoName : List ℕ → Type 0
+IsNoName name = (setter : Setter) → name_of setter ≢ name
+
+-- `IsSetting name value result` holds if `result` is what the setter with the name `name` makes of `value`, or the error
+-- `unknown_name` if no setter has the name.
+pub record IsSetting (name value : List ℕ) (result : Result Edit SettingError) : Type 0 where
+  pub unknown : IsNoName name → result ≡ Err unknown_name
+  pub known : (setter : Setter) → name_of setter ≡ name → IsParsed setter value result
