@@ -1,7 +1,7 @@
 //! Callers of `lexical_util`, one for each kind of user. Each is proved from the public contracts of the library.
 //!
 //! [`digits`] is the smallest, so read it first. [`formats`] defines formats as constants and proves them lawful.
-//! [`edit`] edits words, [`keep`] replaces stored words by their normal forms, and [`read`] reads whole numbers. The page
+//! [`edit`] edits words, [`keep`] replaces stored words by their normal forms, and [`magnitude`] reads integers. The page
 //! docs/CALLING.md explains these callers.
 #![tactic(auto)]
 
@@ -10,5 +10,5 @@ pub mod digits;
 pub mod edit;
 pub mod formats;
 pub mod keep;
-pub mod read;
+pub mod magnitude;
 pub mod roles;
