@@ -135,7 +135,7 @@ def unaided():
 
 def main(calls):
     if calls == ["--unaided"]:
-        sys.exit(print(*unaided(), sep="\n"))
+        return print(*unaided(), sep="\n")
     if unknown := set(calls) - set(CALLS):
         sys.exit(f"not a headline call: {', '.join(unknown)}; they are {', '.join(CALLS)}")
     texts = {call: text_of(call) for call in calls or CALLS}

@@ -193,7 +193,7 @@ class Walk(unittest.TestCase):
         self.assertEqual(self.value(), "0x0000100078000000000000000000000C")
         self.assertEqual(self.text("#verdict"), "Lawful, but an option does not fit")
         self.assertEqual(self.texts(".reason strong"), ["the exponent character 'e' is a digit in radix 16"])
-        self.assertEqual(self.texts(".reason .link"), ["exponent character", "mantissa_radix"])
+        self.assertEqual(self.texts(".reason .link"), ["exponent character", "mantissa_radix", "exponent_radix"])
         self.type("#exponent", "p")
         self.assertEqual((self.text("#verdict"), self.texts(".reason")), ("Lawful", []))
         self.type("#point", "p")

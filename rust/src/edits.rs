@@ -133,10 +133,18 @@ const KEPT_WITH_SEPARATOR: u64 = KEPT | (flags::DIGIT_SEPARATOR >> 64) as u64;
 // faster than a choice for the digit separator.
 const fn normal_upper(format: u128) -> u64 {
     let high = (format >> 64) as u64;
-    let radix = (high >> MANTISSA_SHIFT) % 256;
-    let exponent_base = flags::byte_or_radix((high >> BASE_SHIFT) % 256, radix);
-    let exponent_radix = flags::byte_or_radix(high >> RADIX_SHIFT, radix);
-    exponent_base << BASE_SHIFT | exponent_radix << RADIX_SHIFT | kept_bits(format)
+    exponent_base_bits(high) | exponent_radix_bits(high) | kept_bits(format)
+}
+
+// Returns the exponent base in the upper half of a format word, or the mantissa radix if the base is 0, at its bits.
+const fn exponent_base_bits(high: u64) -> u64 {
+    flags::byte_or_radix((high >> BASE_SHIFT) % 256, (high >> MANTISSA_SHIFT) % 256) << BASE_SHIFT
+}
+
+// Returns the exponent radix in the upper half of a format word, or the mantissa radix if the former is 0, at its bits.
+// The shift drops the bits above the mantissa radix.
+const fn exponent_radix_bits(high: u64) -> u64 {
+    flags::byte_or_radix(high >> RADIX_SHIFT, high >> MANTISSA_SHIFT) << RADIX_SHIFT
 }
 
 // Returns the other bytes at their bits in the upper half, without a digit separator that no flag allows.

@@ -1,8 +1,8 @@
 //! Iterators over rules, reasons, notes and edits, and conversions of edits into a builder.
 
-use crate::edits::{apply, edits_of, Edit, FlagSetter, Setter, ALL_SETTERS, SETTERS};
+use crate::edits::{apply, edits_of, Edit, FlagSetter, Setter, ALL_SETTERS, FLAG_COUNT, SETTERS};
 use crate::format_builder::NumberFormatBuilder;
-use crate::format_flags::{Rule, FLAG_MASK, RULES};
+use crate::format_flags::{Rule, RULES};
 use crate::reasons::{notes, notes_of_fields, options_reasons, reasons, Note, Reason};
 use crate::view::FormatView;
 
@@ -122,7 +122,7 @@ impl FlagSetter {
     pub const ALL: &'static [FlagSetter] = &SETTERS;
 
     /// The setters of single flags, in the order of the flags' bits.
-    pub const FLAGS: &'static [FlagSetter] = SETTERS.split_at(FLAG_MASK.count_ones() as usize).0;
+    pub const FLAGS: &'static [FlagSetter] = SETTERS.split_at(FLAG_COUNT).0;
 }
 
 impl Setter {

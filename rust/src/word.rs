@@ -8,7 +8,7 @@ use crate::error::Error;
 pub use crate::format_builder::{NonZeroU8, NumberFormatBuilder, OptionU8};
 #[doc(no_inline)]
 pub use crate::format_flags::{
-    base_prefix, base_suffix, check, digit_separator, exponent_base, exponent_radix,
+    base_prefix, base_suffix, byte_or_radix, check, digit_separator, exponent_base, exponent_radix,
     format_error_impl, is_clean, is_digit_of_either_radix, is_separator_allowed,
     is_valid_base_prefix, is_valid_base_suffix, is_valid_digit_separator, is_valid_exponent_flags,
     is_valid_options_punctuation, is_valid_punctuation, is_valid_radix, mantissa_radix,

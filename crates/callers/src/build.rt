@@ -33,7 +33,9 @@ pub fn grouped(radix: u8) -> u128
     builder_facts();
     change_facts();
     grouped_facts();
-    NumberFormatBuilder::from_word(GROUPED).mantissa_radix(radix).build_unchecked()
+    NumberFormatBuilder::from_word(GROUPED)
+        .mantissa_radix(radix)
+        .build_unchecked()
 }
 
 /// Returns `format`, which may be any word, without its digit separator.
@@ -45,5 +47,7 @@ pub fn plain(format: u128) -> u128
     ensures lawful { Lawful format → Lawful result }
 {
     change_facts();
-    NumberFormatBuilder::from_word(format).digit_separator(None).build_unchecked()
+    NumberFormatBuilder::from_word(format)
+        .digit_separator(None)
+        .build_unchecked()
 }

@@ -1,8 +1,8 @@
 //! Callers of `lexical_util`, one for each kind of user. Each is proved from the public contracts of the library.
 //!
 //! [`digits`] is the smallest, so read it first. [`formats`] defines formats as constants and proves them lawful.
-//! [`edit`] edits words, [`keep`] replaces stored words by their normal forms, and [`magnitude`] reads integers. The page
-//! docs/CALLING.md explains these callers.
+//! [`edit`] edits words, [`build`] builds them, [`keep`] replaces stored words by their normal forms, and [`magnitude`]
+//! reads integers. [`roles`] is about the roles of bytes. The page docs/CALLING.md explains these callers.
 #![tactic(auto)]
 
 pub mod build;

@@ -1,6 +1,6 @@
 -- Definitions for private functions and for the proofs of this crate. No public contract cites them.
 use Rattle.std.specs.Prelude.{ℕ, ◌+◌, ◌*◌, ◌^◌, ◌<◌, ◌==◌, find, unwrap_or, length}
-use Rattle.lexical_flags.specs.Layout.{part, Flag, Byte, bit, flags, bytes, base_flags, digit_separator_flags}
+use Rattle.lexical_flags.specs.Layout.{part, Byte, flags, bytes, base_flags, digit_separator_flags}
 use Rattle.lexical_flags.specs.Layout as layout
 use Rattle.lexical_builder.specs.BuilderBits.{byte_index}
 use Rattle.lexical_builder.specs.declared.format_builder.NumberFormatBuilder.TheInside.{Inside}
@@ -8,10 +8,6 @@ use Rattle.lexical_builder.specs.declared.format_builder.NumberFormatBuilder.The
 -- `flags_in word` is the number with the flags of `word` at the bits where a builder keeps them.
 abbrev pub flags_in : ℕ → ℕ
 flags_in word = part word 0 (length base_flags) + part word 32 (length digit_separator_flags) * 2 ^ length base_flags
-
--- `flag_with mask` is the flag whose bit is the only one in `mask`.
-abbrev pub flag_with : ℕ → Flag
-flag_with mask = unwrap_or (find (λ f. 2 ^ bit f == mask) flags) layout.no_special
 
 -- `byte_at index` is the byte that a builder keeps at `index`.
 abbrev pub byte_at : ℕ → Byte

@@ -3,12 +3,12 @@
 ghost use Rattle.std.specs.Prelude.{◌≡◌, ◌≢◌, ◌↔◌, ◌<◌, ◌%◌, ◌^◌, ◌==◌, ℕ, [], ◌∷◌, IfErr, IfOk, length, sum_by, if◌then◌else◌};
 ghost use Rattle.std.specs.Result.{OkIff};
 ghost use Rattle.lexical_flags.specs.Layout as layout;
-ghost use Rattle.lexical_flags.specs.Layout.{IsClean, bit, part};
+ghost use Rattle.lexical_flags.specs.Layout.{Flag, IsClean, bit, part};
 ghost use Rattle.lexical_flags.specs.Record.{Record, HasBytes, raw, fill, trim, pack, separator_allowed};
 ghost use Rattle.lexical_flags.specs.Rules.{IsErrorOf, IsRadix, Lawful};
 ghost use Rattle.lexical_builder.specs.OptionByte.{byte_of_option};
 ghost use Rattle.lexical_builder.specs.BuilderBits.{builder_bit, byte_index};
-ghost use Rattle.lexical_builder.specs.Private.{flags_in, byte_at, flag_with};
+ghost use Rattle.lexical_builder.specs.Private.{flags_in, byte_at};
 ghost use Rattle.lexical_builder.specs.Writes.{new_record, radix_record, after, flags_with, write_flags, write_byte};
 
 use lexical_base::error::Error;
@@ -326,8 +326,7 @@ impl NumberFormatBuilder {
 
     // Returns whether the flag with this mask is set.
     const fn has_flag(&self, mask: u128) -> bool
-        requires { 2 ^ bit (flag_with mask) ≡ mask }
-        ensures { result ≡ self.now.flag (flag_with mask) }
+        ensures { (f : Flag) → 2 ^ bit f ≡ mask → result ≡ self.now.flag f }
     {
         self.flags & builder_flags(mask) != 0
     }

@@ -39,11 +39,7 @@ fn part_number(part: Part) -> usize
     ensures value { result ≡ part_number part }
     ensures small { result < 3 }
 {
-    match part {
-        Part::Integer => 0,
-        Part::Fraction => 1,
-        Part::Exponent => 2,
-    }
+    part as usize
 }
 
 // Returns the number of a stage.
@@ -51,17 +47,7 @@ fn stage_number(stage: Stage) -> usize
     ensures value { result ≡ stage_number stage }
     ensures small { result < 9 }
 {
-    match stage {
-        Stage::Start => 0,
-        Stage::Empty => 1,
-        Stage::Bare => 2,
-        Stage::Zero => 3,
-        Stage::Led => 4,
-        Stage::Mark => 5,
-        Stage::Lone => 6,
-        Stage::Free => 7,
-        Stage::Digits => 8,
-    }
+    stage as usize
 }
 
 // Returns the number of a class.
@@ -69,20 +55,7 @@ fn class_number(class: Class) -> usize
     ensures value { result ≡ class_number class }
     ensures small { result < 12 }
 {
-    match class {
-        Class::Other => 0,
-        Class::Zero => 1,
-        Class::Digit => 2,
-        Class::MantissaDigit => 3,
-        Class::ExponentDigit => 4,
-        Class::Separator => 5,
-        Class::Prefix => 6,
-        Class::Suffix => 7,
-        Class::Point => 8,
-        Class::ExponentCharacter => 9,
-        Class::Plus => 10,
-        Class::Minus => 11,
-    }
+    class as usize
 }
 
 // Returns the place of a piece in a list of lengths.
@@ -91,17 +64,7 @@ pub(crate) fn piece_number(piece: Piece) -> usize
     ensures value { result ≡ piece_number piece }
     ensures small { result < 9 }
 {
-    match piece {
-        Piece::Sign => 0,
-        Piece::Prefix => 1,
-        Piece::Integer => 2,
-        Piece::Point => 3,
-        Piece::Fraction => 4,
-        Piece::ExponentCharacter => 5,
-        Piece::ExponentSign => 6,
-        Piece::Exponent => 7,
-        Piece::Suffix => 8,
-    }
+    piece as usize
 }
 
 // Returns the part with the number `number`.

@@ -4,7 +4,7 @@ ghost use Rattle.std.specs.Prelude.{◌≡◌, ◌≢◌, ℕ, IfErr, IfOk, ◌<
 ghost use Rattle.std.specs.Result.{OkIff};
 ghost use Rattle.lexical_base.specs.declared.error.Error.{Error};
 ghost use Rattle.lexical_flags.specs.Layout.{Flag, IsClean, bytes, part};
-ghost use Rattle.lexical_flags.specs.Record.{raw, fill, trim, byte_bits, separator_allowed, SeparatorAllowedOrAbsent};
+ghost use Rattle.lexical_flags.specs.Record.{raw, fill, trim, byte_bits, effective, separator_allowed, SeparatorAllowedOrAbsent};
 ghost use Rattle.lexical_flags.specs.Rules.{Lawful, IsErrorOf};
 ghost use Rattle.lexical_builder.specs.Writes.{Write, IsLegal, write_flags, after, SameWrites};
 ghost use Rattle.lexical_util.specs.Edits.{flags_of, writes_of, all_writes, edited};
@@ -198,10 +198,22 @@ const fn normal_upper(format: u128) -> u64
     ensures { result * 2 ^ 64 ≡ sum_by (byte_bits (trim (fill (raw format)))) bytes }
 {
     let high = (format >> 64) as u64;
-    let radix = (high >> MANTISSA_SHIFT) % 256;
-    let exponent_base = flags::byte_or_radix((high >> BASE_SHIFT) % 256, radix);
-    let exponent_radix = flags::byte_or_radix(high >> RADIX_SHIFT, radix);
-    exponent_base << BASE_SHIFT | exponent_radix << RADIX_SHIFT | kept_bits(format)
+    exponent_base_bits(high) | exponent_radix_bits(high) | kept_bits(format)
+}
+
+// Returns the exponent base in the upper half of a format word, or the mantissa radix if the base is 0, at its bits.
+const fn exponent_base_bits(high: u64) -> u64
+    ensures { result ≡ effective (part high 48 8) (part high 40 8) * 2 ^ 48 }
+{
+    flags::byte_or_radix((high >> BASE_SHIFT) % 256, (high >> MANTISSA_SHIFT) % 256) << BASE_SHIFT
+}
+
+// Returns the exponent radix in the upper half of a format word, or the mantissa radix if the former is 0, at its bits.
+// The shift drops the bits above the mantissa radix.
+const fn exponent_radix_bits(high: u64) -> u64
+    ensures { result ≡ effective (part high 56 8) (part high 40 8) * 2 ^ 56 }
+{
+    flags::byte_or_radix(high >> RADIX_SHIFT, high >> MANTISSA_SHIFT) << RADIX_SHIFT
 }
 
 // Returns the other bytes at their bits in the upper half, without a digit separator that no flag allows.

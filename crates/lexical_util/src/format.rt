@@ -29,12 +29,12 @@ pub use lexical_flags::format_flags::{
     RADIX_SHIFT, REQUIRED_DIGITS, REQUIRED_EXPONENT_DIGITS, REQUIRED_EXPONENT_NOTATION,
     REQUIRED_EXPONENT_SIGN, REQUIRED_FRACTION_DIGITS, REQUIRED_INTEGER_DIGITS,
     REQUIRED_MANTISSA_DIGITS, REQUIRED_MANTISSA_SIGN, RULES, Rule, SPECIAL_DIGIT_SEPARATOR,
-    TRAILING_DIGIT_SEPARATOR, base_prefix, base_suffix, check, digit_separator, exponent_base,
-    exponent_radix, format_error_impl, is_clean, is_digit_of_either_radix, is_separator_allowed,
-    is_valid_base_prefix, is_valid_base_suffix, is_valid_digit_separator, is_valid_exponent_flags,
-    is_valid_options_punctuation, is_valid_punctuation, is_valid_radix, mantissa_radix,
-    options_error, radix_error_impl, radix_from_flags, raw_exponent_base, raw_exponent_radix,
-    roles_disjoint,
+    TRAILING_DIGIT_SEPARATOR, base_prefix, base_suffix, byte_or_radix, check, digit_separator,
+    exponent_base, exponent_radix, format_error_impl, is_clean, is_digit_of_either_radix,
+    is_separator_allowed, is_valid_base_prefix, is_valid_base_suffix, is_valid_digit_separator,
+    is_valid_exponent_flags, is_valid_options_punctuation, is_valid_punctuation, is_valid_radix,
+    mantissa_radix, options_error, radix_error_impl, radix_from_flags, raw_exponent_base,
+    raw_exponent_radix, roles_disjoint,
 };
 
 /// The standard format, which is the format word of a new builder.
