@@ -40,7 +40,7 @@ stage_below stages.Lone = omega arith
 stage_below stages.Free = omega arith
 stage_below stages.Digits = omega arith
 
-class_below : (class : Class) → class_number class < 16
+class_below : (class : Class) → class_number class < 12
 class_below classes.Other = omega arith
 class_below classes.Zero = omega arith
 class_below classes.Digit = omega arith
@@ -140,17 +140,17 @@ moved_back m s plus zero (Some role) t is = go s.ended refl (takes m s plus role
   go false going false is = cc
 
 -- The place of a row and a class is in the tables.
-pub place_below : (n : ℕ) (class : Class) → n < 55 → n * 16 + class_number class < 880
+pub place_below : (n : ℕ) (class : Class) → n < 55 → n * 12 + class_number class < 660
 place_below n class small = omega (arith, class_below class)
 
-pub row_of_place : (n : ℕ) (class : Class) → (n * 16 + class_number class) / 16 ≡ n
+pub row_of_place : (n : ℕ) (class : Class) → (n * 12 + class_number class) / 12 ≡ n
 row_of_place n class = divided n (class_number class) (class_below class) where
-  divided : (n k : ℕ) → k < 16 → (n * 16 + k) / 16 ≡ n
+  divided : (n k : ℕ) → k < 12 → (n * 12 + k) / 12 ≡ n
   divided n k small = omega arith
 
-pub class_of_place : (n : ℕ) (class : Class) → class_at ((n * 16 + class_number class) % 16) ≡ class
+pub class_of_place : (n : ℕ) (class : Class) → class_at ((n * 12 + class_number class) % 12) ≡ class
 class_of_place n class = ap class_at (left n (class_number class) (class_below class)) ∙ class_back class where
-  left : (n k : ℕ) → k < 16 → (n * 16 + k) % 16 ≡ k
+  left : (n k : ℕ) → k < 12 → (n * 12 + k) % 12 ≡ k
   left n k small = omega arith
 
 -- One more byte of a piece.

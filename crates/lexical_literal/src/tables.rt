@@ -3,7 +3,7 @@
 ghost use Rattle.std.specs.Prelude.{◌≡◌, ◌<◌, ◌/◌, ◌%◌, ℕ, None, false, slice_index_or};
 ghost use Rattle.lexical_literal.specs.Notation.{Notation, notation_of};
 ghost use Rattle.lexical_literal.specs.Additions.Summary.{class_of, is_complete};
-ghost use Rattle.lexical_literal.specs.Additions.Tables.{HasTables, IsStep, part_number, stage_number, class_number, piece_number, part_at, stage_at, class_at, row, summary_at};
+ghost use Rattle.lexical_literal.specs.Additions.Tables.{HasTables, IsStep, class_number, piece_number, class_at, row, summary_at};
 
 use crate::steps::{self, Class, FINISHED, Piece, Stage, Summary};
 use crate::syntax::Grammar;
@@ -12,9 +12,39 @@ use lexical_util::format::Part;
 // The rows of a table are summaries, of which the last has ended. The columns are classes.
 const ROWS: usize = 55;
 
-const COLUMNS: usize = 16;
+const COLUMNS: usize = 12;
 
 const STEPS: usize = ROWS * COLUMNS;
+
+// All parts, stages and classes, each at its number.
+const PARTS: [Part; 3] = [Part::Integer, Part::Fraction, Part::Exponent];
+
+const STAGES: [Stage; 9] = [
+    Stage::Start,
+    Stage::Empty,
+    Stage::Bare,
+    Stage::Zero,
+    Stage::Led,
+    Stage::Mark,
+    Stage::Lone,
+    Stage::Free,
+    Stage::Digits,
+];
+
+const CLASSES: [Class; COLUMNS] = [
+    Class::Other,
+    Class::Zero,
+    Class::Digit,
+    Class::MantissaDigit,
+    Class::ExponentDigit,
+    Class::Separator,
+    Class::Prefix,
+    Class::Suffix,
+    Class::Point,
+    Class::ExponentCharacter,
+    Class::Plus,
+    Class::Minus,
+];
 
 // The row before any byte.
 pub(crate) const START: u8 = 0;
@@ -34,30 +64,6 @@ pub(crate) struct Tables {
     ends: [bool; ROWS],
 }
 
-// Returns the number of a part.
-fn part_number(part: Part) -> usize
-    ensures value { result ≡ part_number part }
-    ensures small { result < 3 }
-{
-    part as usize
-}
-
-// Returns the number of a stage.
-fn stage_number(stage: Stage) -> usize
-    ensures value { result ≡ stage_number stage }
-    ensures small { result < 9 }
-{
-    stage as usize
-}
-
-// Returns the number of a class.
-fn class_number(class: Class) -> usize
-    ensures value { result ≡ class_number class }
-    ensures small { result < 12 }
-{
-    class as usize
-}
-
 // Returns the place of a piece in a list of lengths.
 #[inline(always)]
 pub(crate) fn piece_number(piece: Piece) -> usize
@@ -67,52 +73,13 @@ pub(crate) fn piece_number(piece: Piece) -> usize
     piece as usize
 }
 
-// Returns the part with the number `number`.
-fn part_at(number: usize) -> Part
-    ensures { result ≡ part_at number }
+// Returns the column of a class.
+#[inline(always)]
+fn class_number(class: Class) -> usize
+    ensures value { result ≡ class_number class }
+    ensures small { result < 12 }
 {
-    match number {
-        0 => Part::Integer,
-        1 => Part::Fraction,
-        _ => Part::Exponent,
-    }
-}
-
-// Returns the stage with the number `number`.
-fn stage_at(number: usize) -> Stage
-    ensures { result ≡ stage_at number }
-{
-    match number {
-        0 => Stage::Start,
-        1 => Stage::Empty,
-        2 => Stage::Bare,
-        3 => Stage::Zero,
-        4 => Stage::Led,
-        5 => Stage::Mark,
-        6 => Stage::Lone,
-        7 => Stage::Free,
-        _ => Stage::Digits,
-    }
-}
-
-// Returns the class with the number `number`.
-fn class_at(number: usize) -> Class
-    ensures { result ≡ class_at number }
-{
-    match number {
-        0 => Class::Other,
-        1 => Class::Zero,
-        2 => Class::Digit,
-        3 => Class::MantissaDigit,
-        4 => Class::ExponentDigit,
-        5 => Class::Separator,
-        6 => Class::Prefix,
-        7 => Class::Suffix,
-        8 => Class::Point,
-        9 => Class::ExponentCharacter,
-        10 => Class::Plus,
-        _ => Class::Minus,
-    }
+    class as usize
 }
 
 // Returns the row of a summary.
@@ -123,13 +90,13 @@ fn row(read: Summary) -> u8
     if read.ended {
         54
     } else {
-        let gap = if read.gap { 1 } else { 0 };
-        (part_number(read.part) * 18 + stage_number(read.stage) * 2 + gap) as u8
+        (read.part as usize * 18 + read.stage as usize * 2 + read.gap as usize) as u8
     }
 }
 
 // Returns the summary of a row.
 fn summary_at(row: u8) -> Summary
+    requires { row < 55 }
     ensures { result ≡ summary_at row }
 {
     if row == 54 {
@@ -137,8 +104,8 @@ fn summary_at(row: u8) -> Summary
     }
     let row = row as usize;
     Summary {
-        part: part_at(row / 18),
-        stage: stage_at(row / 2 % 9),
+        part: PARTS[row / 18],
+        stage: STAGES[row / 2 % 9],
         gap: row % 2 == 1,
         ended: false,
     }
@@ -158,6 +125,7 @@ pub(crate) fn step_from(grammar: Grammar, from: u8, class: Class) -> Option<Step
 
 // Returns whether a row is that of a literal.
 pub(crate) fn is_complete(grammar: Grammar, row: u8) -> bool
+    requires { row < 55 }
     ensures { result ≡ is_complete (notation_of grammar) (summary_at row) }
 {
     steps::is_complete(grammar, summary_at(row))
@@ -176,12 +144,12 @@ fn classes_of(grammar: Grammar) -> [Class; 256]
 
 // Returns what each class makes of each row.
 fn steps_of(grammar: Grammar) -> [Option<Step>; STEPS]
-    ensures { (index : ℕ) → index < 880
-        → IsStep (notation_of grammar) (index / 16) (class_at (index % 16)) (slice_index_or result index None) }
+    ensures { (index : ℕ) → index < 660
+        → IsStep (notation_of grammar) (index / 12) (class_at (index % 12)) (slice_index_or result index None) }
 {
     let mut steps = [None; STEPS];
     for index in 0..STEPS {
-        steps[index] = step_from(grammar, (index / COLUMNS) as u8, class_at(index % COLUMNS));
+        steps[index] = step_from(grammar, (index / COLUMNS) as u8, CLASSES[index % COLUMNS]);
     }
     steps
 }

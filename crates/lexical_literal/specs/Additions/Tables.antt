@@ -11,6 +11,7 @@ use Rattle.lexical_literal.specs.declared.steps.Stage.TheVariants as stages
 use Rattle.lexical_literal.specs.declared.steps.Summary.{Summary}
 use Rattle.lexical_literal.specs.declared.steps.Piece.{Piece}
 use Rattle.lexical_literal.specs.declared.steps.Piece.TheVariants as pieces
+use Rattle.lexical_literal.specs.declared.tables.TheConstants.{PARTS, STAGES, CLASSES}
 use Rattle.lexical_literal.specs.declared.tables.Step.{Step}
 use Rattle.lexical_literal.specs.declared.tables.Tables.{Tables}
 
@@ -50,20 +51,13 @@ gap_number gap = if gap then 1 else 0
 
 -- `part_at n`, `stage_at n` and `class_at n` have the number `n`.
 abbrev pub part_at : ℕ → Part
-part_at n = if n == 0 then parts.Integer else (if n == 1 then parts.Fraction else parts.Exponent)
+part_at n = slice_index_or PARTS n parts.Integer
 
 abbrev pub stage_at : ℕ → Stage
-stage_at n =
-    if n == 0 then stages.Start else (if n == 1 then stages.Empty else (if n == 2 then stages.Bare
-    else (if n == 3 then stages.Zero else (if n == 4 then stages.Led else (if n == 5 then stages.Mark
-    else (if n == 6 then stages.Lone else (if n == 7 then stages.Free else stages.Digits)))))))
+stage_at n = slice_index_or STAGES n stages.Start
 
 abbrev pub class_at : ℕ → Class
-class_at n =
-    if n == 0 then classes.Other else (if n == 1 then classes.Zero else (if n == 2 then classes.Digit
-    else (if n == 3 then classes.MantissaDigit else (if n == 4 then classes.ExponentDigit else (if n == 5 then classes.Separator
-    else (if n == 6 then classes.Prefix else (if n == 7 then classes.Suffix else (if n == 8 then classes.Point
-    else (if n == 9 then classes.ExponentCharacter else (if n == 10 then classes.Plus else classes.Minus))))))))))
+class_at n = slice_index_or CLASSES n classes.Other
 
 -- `row s` is the row of `s` in the tables, and `summary_at n` the summary of the row `n`.
 abbrev pub row : Summary → ℕ
@@ -85,7 +79,7 @@ IsStep m n class (Some next) =
 -- `HasTables m t` holds if `t` has the classes and steps of `m`.
 pub record HasTables (m : Notation) (t : Tables) : Type 0 where
   pub classes : (byte : ℕ) → byte < 256 → slice_index_or t.classes byte classes.Other ≡ class_of m byte
-  pub steps : (n : ℕ) → n < 55 → (class : Class) → IsStep m n class (slice_index_or t.steps (n * 16 + class_number class) None)
+  pub steps : (n : ℕ) → n < 55 → (class : Class) → IsStep m n class (slice_index_or t.steps (n * 12 + class_number class) None)
   pub ends : (n : ℕ) → n < 55 → slice_index_or t.ends n false ≡ is_complete m (summary_at n)
 
 -- `piece_number piece` is the place of `piece` in a list of lengths.

@@ -1,4 +1,4 @@
-use Rattle.std.proofs.Common.{◌<◌, ◌/◌, ◌%◌, length, length-set, None, subst, ◌∙◌, arith}
+use Rattle.std.proofs.Common.{◌<◌, ◌/◌, ◌%◌, length, length-set, None, ◌∙◌, arith}
 use Rattle.lexical_literal.specs.Notation.{notation_of}
 use Rattle.lexical_literal.specs.Additions.Tables.{IsStep, class_at}
 use Rattle.lexical_literal.proofs.TableLemmas.{set_more}
@@ -11,6 +11,6 @@ loop-index-preserved c =
     let inside : c.loop-index.index < length c.loop-index.steps = omega (arith, now.size, c.loop-index-test.true) in
     record {
       size = length-set c.loop-index.steps c.loop-index.index c.step_from.result ∙ now.size;
-      filled = set_more (λ k o. IsStep m (k / 16) (class_at (k % 16)) o) c.loop-index.steps c.loop-index.index c.step_from.result None inside
-          (subst (λ k. IsStep m (c.loop-index.index / 16) k c.step_from.result) c.class_at.ensures c.step_from.ensures) now.filled;
+      filled = set_more (λ k o. IsStep m (k / 12) (class_at (k % 12)) o) c.loop-index.steps c.loop-index.index c.step_from.result None inside
+          c.step_from.ensures now.filled;
     }

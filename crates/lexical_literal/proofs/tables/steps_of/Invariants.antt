@@ -5,6 +5,6 @@ use Rattle.lexical_literal.proofs.tables.steps_of.Given as goal
 
 abbrev pub invariant-loop-index : goal.invariant-loop-index
 invariant-loop-index l = record {
-  size : length l.steps ≡ 880;
-  filled : (k : ℕ) → k < l.index → IsStep (notation_of l.grammar) (k / 16) (class_at (k % 16)) (get_or l.steps k None);
+  size : length l.steps ≡ 660;
+  filled : (k : ℕ) → k < l.index → IsStep (notation_of l.grammar) (k / 12) (class_at (k % 12)) (get_or l.steps k None);
 }

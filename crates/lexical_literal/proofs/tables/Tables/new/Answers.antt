@@ -10,8 +10,8 @@ returns c =
     record {
       classes = c.classes_of.ensures;
       steps = λ n small class.
-          let place = n * 16 + class_number class in
+          let place = n * 12 + class_number class in
           subst (λ n. IsStep m n class (get_or c.steps_of.result place None)) (row_of_place n class)
-          (subst (λ k. IsStep m (place / 16) k (get_or c.steps_of.result place None)) (class_of_place n class) (c.steps_of.ensures place (place_below n class small)));
+          (subst (λ k. IsStep m (place / 12) k (get_or c.steps_of.result place None)) (class_of_place n class) (c.steps_of.ensures place (place_below n class small)));
       ends = c.ends_of.ensures;
     }
