@@ -15,8 +15,8 @@ import re
 import sys
 
 CALLS = """edit_word normal_form format_error check build_strict is_built edits_of is_valid_options_punctuation
-options_error migrate same_format apply""".split()
-CRATES = ["lexical_base", "lexical_flags", "lexical_builder", "lexical_util"]
+options_error migrate same_format apply read read_prefix""".split()
+CRATES = ["lexical_base", "lexical_flags", "lexical_builder", "lexical_util", "lexical_literal"]
 TOP = pathlib.Path(__file__).resolve().parent.parent
 USE = re.compile(r"^ *(?:ghost )?(?:unfoldable )?(?:pub )?use Rattle\.([\w.]+?)(?: as (\w+)|\.\{(.*)\})?;?$", re.M)
 DEFINES = re.compile(r"(?:abbrev |unfoldable )?(?:pub )?(?:data |record )?(\S+)(?: \(.*?\))* :(?= |$)")

@@ -51,7 +51,7 @@ COPIED = {
     "lexical_tests/src/*.rt": "tests/known",
     "numfmt/src/tests/rows.rt": "numfmt/tests/program",
 }
-NOT_COPIED = {"lib.rt", "example.rt", "proved_callers.rt", "values.rt"}
+NOT_COPIED = {"lib.rt", "example.rt", "literals.rt", "proved_callers.rt", "values.rt"}
 
 # The forms of tests in Rattle, and in plain Rust.
 TEST_FORMS = [

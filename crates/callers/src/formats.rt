@@ -4,7 +4,8 @@
 //! is lawful. After a call to the law, you can pass the constant where a lawful format is required. Nothing is tested
 //! at run time.
 
-ghost use Rattle.std.specs.Prelude.{◌≡◌, ◌≢◌, ◌↔◌, [], ◌∷◌, IsTrue, bit_and, true, false};
+ghost use Rattle.std.specs.Prelude.{◌≡◌, ◌≢◌, ◌↔◌, ◌<◌, ◌^◌, [], ◌∷◌, IsTrue, None, bit_and, true, false};
+ghost use Rattle.std.specs.Option.{SomeIff};
 ghost use Rattle.lexical_util.specs.Layout as layout;
 ghost use Rattle.lexical_util.specs.Masks.{mask_of};
 ghost use Rattle.lexical_util.specs.Record.{raw};
@@ -12,10 +13,13 @@ ghost use Rattle.lexical_util.specs.Rules.{Lawful};
 ghost use Rattle.lexical_util.specs.Options.{OptionsFit};
 ghost use Rattle.lexical_util.specs.Writes.{write_byte, write_flag, write_flags};
 ghost use Rattle.lexical_util.specs.Edits.{edited};
-ghost use Rattle.callers.specs.Reading.{reading};
+ghost use Rattle.lexical_util.specs.NormalForm.{normal_form_of};
+ghost use Rattle.lexical_literal.specs.Literal.{Literal, Reads};
+ghost use Rattle.lexical_literal.specs.Notation.{notation_of};
+ghost use Rattle.callers.specs.Magnitude.{magnitude};
 
-use crate::read::read_digits;
-use lexical_util::error::Error;
+use crate::magnitude::magnitude;
+use lexical_literal::syntax::Syntax;
 use lexical_util::format_flags::DIGIT_SEPARATOR_FLAG_MASK;
 use lexical_util::laws::flags;
 
@@ -62,6 +66,7 @@ pub fn decimal_facts()
     ensures between_digits { (raw DECIMAL).flag layout.integer_internal_digit_separator ≡ true }
     ensures after_digits { (raw DECIMAL).flag layout.integer_trailing_digit_separator ≡ false }
     ensures lawful { Lawful DECIMAL }
+    ensures normal { normal_form_of DECIMAL ≡ DECIMAL }
     ensures options { OptionsFit DECIMAL EXPONENT POINT }
 {}
 
@@ -110,14 +115,15 @@ pub fn octal_facts()
     ensures options { OptionsFit OCTAL EXPONENT POINT }
 {}
 
-/// Reads `text` as a decimal number that fits in 64 bits. It may have `_` between digits, as in `1_000`.
-///
-/// # Errors
-///
-/// Returns an error if [`read_digits`] returns one.
-pub fn read_decimal(text: &[u8]) -> Result<u64, Error>
-    ensures { result ≡ reading (raw DECIMAL) text.now }
+/// Returns the number that the integer `text` represents in the format [`DECIMAL`], without its sign, or `None` if `text`
+/// is not such an integer, or if the number is 2^64 or more. It may have `_` between digits, as in `1_000`.
+pub fn read_decimal(text: &[u8]) -> Option<u64>
+    ensures { (l : Literal) → Reads (notation_of (record { word = DECIMAL; options = None })) l text.now
+        → SomeIff result (magnitude (raw DECIMAL) l.integer < 2 ^ 64) (magnitude (raw DECIMAL) l.integer) }
 {
     decimal_facts();
-    read_digits(DECIMAL, text)
+    match Syntax::integers(DECIMAL) {
+        Ok(syntax) => magnitude(&syntax, text),
+        Err(_) => None,
+    }
 }

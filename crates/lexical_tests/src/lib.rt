@@ -7,6 +7,7 @@ mod bytes;
 mod edits;
 mod errors;
 mod example;
+mod literals;
 mod proved_callers;
 mod roles;
 mod rules;

@@ -1,0 +1,244 @@
+-- The step of a class is that of each of its bytes.
+use Rattle.std.proofs.Common.{ℕ, ◌≡◌, Bool, true, false, ◌==◌, ◌||◌, if◌then◌else◌, inl, inr, IsTrue, Option, Some, None, refl, sym, ap, subst, ◌∙◌, arith}
+use Rattle.std.proofs.lemmas.Bool.{false≢true, false_from_ne_true, or_left, or_right, or_cases, eqb-true, cases_Bool}
+use Rattle.lexical_util.specs.Roles.{signs}
+use Rattle.lexical_util.specs.declared.feature_format.roles.Role.{Role}
+use Rattle.lexical_util.specs.declared.feature_format.roles.Role.TheVariants as roles
+use Rattle.lexical_util.specs.declared.format_flags.Part.{Part}
+use Rattle.lexical_util.specs.declared.format_flags.Part.TheVariants as parts
+use Rattle.lexical_literal.specs.Notation.{Notation, role_set, IsOnlyRole}
+use Rattle.lexical_literal.specs.Additions.Summary.{Cuts, role_in, move, step, count, class_of, in_part, class_step, is_plus, is_zero, role_of}
+use Rattle.lexical_literal.specs.declared.steps.Class.{Class}
+use Rattle.lexical_literal.specs.declared.steps.Class.TheVariants as classes
+use Rattle.lexical_literal.specs.declared.steps.Summary.{Summary}
+use Rattle.lexical_literal.proofs.ScanLemmas.{HasRoles, tests}
+
+-- The tests of `class_of`, in order.
+abbrev marks : Bool → Bool → Bool → Bool → Bool → Bool → Bool → Class
+marks separator point exponent suffix sign plus prefix =
+    if separator then classes.Separator
+    else (if point then classes.Point
+    else (if exponent then classes.ExponentCharacter
+    else (if suffix then classes.Suffix
+    else (if sign then (if plus then classes.Plus else classes.Minus)
+    else (if prefix then classes.Prefix else classes.Other)))))
+
+abbrev digits : Bool → Bool → Bool → Class → Class
+digits mantissa exponent zero other =
+    if mantissa then (if exponent then (if zero then classes.Zero else classes.Digit) else classes.MantissaDigit)
+    else (if exponent then classes.ExponentDigit else other)
+
+-- `pick part mantissa exponent` is the test of the digits of `part`.
+abbrev pick : Part → Bool → Bool → Bool
+pick parts.Exponent mantissa exponent = exponent
+pick _ mantissa exponent = mantissa
+
+mark_role : (part : Part) (s p e x g plus r : Bool) → in_part part (marks s p e x g plus r) ≡ tests false s p e x g r
+mark_role part true p e x g plus r = refl
+mark_role part false true e x g plus r = refl
+mark_role part false false true x g plus r = refl
+mark_role part false false false true g plus r = refl
+mark_role part false false false false true true r = refl
+mark_role part false false false false true false r = refl
+mark_role part false false false false false plus true = refl
+mark_role part false false false false false plus false = refl
+
+digit_role : (part : Part) (x y zero : Bool) (rest : Class) → (x || y) ≡ true
+    → in_part part (digits x y zero rest) ≡ (if pick part x y then Some roles.Digit else None)
+digit_role parts.Integer true true true rest some = refl
+digit_role parts.Integer true true false rest some = refl
+digit_role parts.Integer true false zero rest some = refl
+digit_role parts.Integer false true zero rest some = refl
+digit_role parts.Fraction true true true rest some = refl
+digit_role parts.Fraction true true false rest some = refl
+digit_role parts.Fraction true false zero rest some = refl
+digit_role parts.Fraction false true zero rest some = refl
+digit_role parts.Exponent true true true rest some = refl
+digit_role parts.Exponent true true false rest some = refl
+digit_role parts.Exponent true false zero rest some = refl
+digit_role parts.Exponent false true zero rest some = refl
+digit_role part false false zero rest some = absurd (false≢true some)
+
+mark_plus : (s p e x g r : Bool) → is_plus (marks s p e x g false r) ≡ false
+mark_plus true p e x g r = refl
+mark_plus false true e x g r = refl
+mark_plus false false true x g r = refl
+mark_plus false false false true g r = refl
+mark_plus false false false false true r = refl
+mark_plus false false false false false true = refl
+mark_plus false false false false false false = refl
+
+mark_zero : (s p e x g plus r : Bool) → is_zero (marks s p e x g plus r) ≡ false
+mark_zero true p e x g plus r = refl
+mark_zero false true e x g plus r = refl
+mark_zero false false true x g plus r = refl
+mark_zero false false false true g plus r = refl
+mark_zero false false false false true true r = refl
+mark_zero false false false false true false r = refl
+mark_zero false false false false false plus true = refl
+mark_zero false false false false false plus false = refl
+
+digit_plus : (x y zero : Bool) (rest : Class) → is_plus rest ≡ false → is_plus (digits x y zero rest) ≡ false
+digit_plus true true true rest none = refl
+digit_plus true true false rest none = refl
+digit_plus true false zero rest none = refl
+digit_plus false true zero rest none = refl
+digit_plus false false zero rest none = none
+
+digit_zero : (x y : Bool) (rest : Class) → is_zero rest ≡ false → is_zero (digits x y false rest) ≡ false
+digit_zero true true rest none = refl
+digit_zero true false rest none = refl
+digit_zero false true rest none = refl
+digit_zero false false rest none = none
+
+module _ (m : Notation) (h : HasRoles m) (b : ℕ) where
+  abbrev mantissa : Bool
+  mantissa = m.digit parts.Integer b
+
+  abbrev exponent : Bool
+  exponent = m.digit parts.Exponent b
+
+  abbrev others : Class
+  others = marks (m.separator b) (m.point b) (m.exponent_character b) (m.suffix b) (signs b) (b == 43) (m.prefix b)
+
+  picked : (part : Part) → m.digit part b ≡ pick part mantissa exponent
+  picked parts.Integer = refl
+  picked parts.Fraction = h.one_mantissa b
+  picked parts.Exponent = refl
+
+  is_digit : (mantissa || exponent) ≡ true → IsTrue (role_set m roles.Digit b)
+  is_digit some = elim (or_cases mantissa exponent some) [ inl x ↦ or_left _ _ (or_left _ _ x) | inr x ↦ or_right (mantissa || m.digit parts.Fraction b) _ x ]
+
+  -- A byte that plays one role plays no other.
+  none : (r a : Role) → IsTrue (role_set m r b) → (r ≡ a → ⊥) → role_set m a b ≡ false
+  none r a is differ = false_from_ne_true _ (λ other. differ (h.one r a b is other))
+
+  neither : (x y : Bool) → (x || y) ≡ false → (x ≡ false) × (y ≡ false)
+  neither false y is = (refl, is)
+  neither true y is = absurd (false≢true (sym is))
+
+  class_role : (part : Part) → in_part part (class_of m b) ≡ role_in m part b
+  class_role part = elim (cases_Bool (mantissa || exponent)) [
+    | inl some ↦
+        let digit = is_digit some in
+        digit_role part mantissa exponent (b == 48) others some
+        ∙ sym (λ j. tests (picked part j) (none roles.Digit roles.Separator digit (λ e. cc) j) (none roles.Digit roles.Point digit (λ e. cc) j)
+        (none roles.Digit roles.Exponent digit (λ e. cc) j) (none roles.Digit roles.Suffix digit (λ e. cc) j) (none roles.Digit roles.Sign digit (λ e. cc) j)
+        (none roles.Digit roles.Prefix digit (λ e. cc) j))
+    | inr other ↦
+        let each = neither mantissa exponent other in
+        (λ j. in_part part (digits (each.0 j) (each.1 j) (b == 48) others))
+        ∙ mark_role part (m.separator b) (m.point b) (m.exponent_character b) (m.suffix b) (signs b) (b == 43) (m.prefix b)
+        ∙ sym (λ j. tests ((picked part ∙ no_digit part each) j) (m.separator b) (m.point b) (m.exponent_character b) (m.suffix b) (signs b) (m.prefix b))
+  ] where
+    no_digit : (part : Part) → (mantissa ≡ false) × (exponent ≡ false) → pick part mantissa exponent ≡ false
+    no_digit parts.Integer each = each.0
+    no_digit parts.Fraction each = each.0
+    no_digit parts.Exponent each = each.1
+
+  class_plus : is_plus (class_of m b) ≡ (b == 43)
+  class_plus = elim (cases_Bool (b == 43)) [
+    | inl plus ↦
+        let sign : IsTrue (role_set m roles.Sign b) = or_left _ (b == 45) plus in
+        let digit = none roles.Sign roles.Digit sign (λ e. cc) in
+        let each = neither mantissa exponent (no_digits digit) in
+        (λ j. is_plus (digits (each.0 j) (each.1 j) (b == 48) (marks (none roles.Sign roles.Separator sign (λ e. cc) j) (none roles.Sign roles.Point sign (λ e. cc) j)
+        (none roles.Sign roles.Exponent sign (λ e. cc) j) (none roles.Sign roles.Suffix sign (λ e. cc) j) (sign j) (plus j) (m.prefix b)))) ∙ sym plus
+    | inr other ↦
+        (λ j. is_plus (digits mantissa exponent (b == 48)
+        (marks (m.separator b) (m.point b) (m.exponent_character b) (m.suffix b) (signs b) (other j) (m.prefix b))))
+        ∙ digit_plus mantissa exponent (b == 48) _ (mark_plus (m.separator b) (m.point b) (m.exponent_character b) (m.suffix b) (signs b) (m.prefix b)) ∙ sym other
+  ] where
+    no_digits : ((mantissa || m.digit parts.Fraction b) || exponent) ≡ false → (mantissa || exponent) ≡ false
+    no_digits digit = drop mantissa (m.digit parts.Fraction b) exponent digit where
+      drop : (x y z : Bool) → ((x || y) || z) ≡ false → (x || z) ≡ false
+      drop x y z is = grind arith
+
+  class_zero : is_zero (class_of m b) ≡ (b == 48)
+  class_zero = elim (cases_Bool (b == 48)) [
+    | inl zero ↦
+        let same = eqb-true b 48 zero in
+        (λ j. is_zero (digits ((ap (m.digit parts.Integer) same ∙ h.zero_is_digit parts.Integer) j) ((ap (m.digit parts.Exponent) same ∙ h.zero_is_digit parts.Exponent) j)
+        (zero j) others)) ∙ sym zero
+    | inr other ↦
+        (λ j. is_zero (digits mantissa exponent (other j) others)) ∙ digit_zero mantissa exponent others
+        (mark_zero (m.separator b) (m.point b) (m.exponent_character b) (m.suffix b) (signs b) (b == 43) (m.prefix b)) ∙ sym other
+  ]
+
+  -- What the step of its class says of a byte.
+  pub step_as : (s : Summary) (class : Class) (o : Option Summary) → class ≡ class_of m b → class_step m s class ≡ o → step m s b ≡ o
+  step_as s class o is moved = sym (λ j. move m s (class_plus j) (class_zero j) (class_role s.part j)) ∙ ap (class_step m s) (sym is) ∙ moved
+
+  pub count_as : (part : Part) (class : Class) (c : Cuts) → class ≡ class_of m b → count part (role_in m part b) c ≡ count part (in_part part class) c
+  count_as part class c is = ap (λ r. count part r c) (sym (class_role part)) ∙ ap (λ k. count part (in_part part k) c) (sym is)
+
+-- THE ONLY ROLE OF A BYTE
+
+-- `plays role x y s p e u g r` is the test of `role`.
+abbrev plays : Role → Bool → Bool → Bool → Bool → Bool → Bool → Bool → Bool → Bool
+plays roles.Digit x y s p e u g r = x || y
+plays roles.Sign x y s p e u g r = g
+plays roles.Separator x y s p e u g r = s
+plays roles.Prefix x y s p e u g r = r
+plays roles.Suffix x y s p e u g r = u
+plays roles.Exponent x y s p e u g r = e
+plays roles.Point x y s p e u g r = p
+
+played : (x y z s p e u g plus r : Bool) (role : Role) → role_of (digits x y z (marks s p e u g plus r)) ≡ Some role → plays role x y s p e u g r ≡ true
+played true true true s p e u g plus r role is = let same : roles.Digit ≡ role = cc in subst (λ a. plays a true true s p e u g r ≡ true) same refl
+played true true false s p e u g plus r role is = let same : roles.Digit ≡ role = cc in subst (λ a. plays a true true s p e u g r ≡ true) same refl
+played true false z s p e u g plus r role is = let same : roles.Digit ≡ role = cc in subst (λ a. plays a true false s p e u g r ≡ true) same refl
+played false true z s p e u g plus r role is = let same : roles.Digit ≡ role = cc in subst (λ a. plays a false true s p e u g r ≡ true) same refl
+played false false z true p e u g plus r role is = let same : roles.Separator ≡ role = cc in subst (λ a. plays a false false true p e u g r ≡ true) same refl
+played false false z false true e u g plus r role is = let same : roles.Point ≡ role = cc in subst (λ a. plays a false false false true e u g r ≡ true) same refl
+played false false z false false true u g plus r role is = let same : roles.Exponent ≡ role = cc in subst (λ a. plays a false false false false true u g r ≡ true) same refl
+played false false z false false false true g plus r role is = let same : roles.Suffix ≡ role = cc in subst (λ a. plays a false false false false false true g r ≡ true) same refl
+played false false z false false false false true true r role is = let same : roles.Sign ≡ role = cc in subst (λ a. plays a false false false false false false true r ≡ true) same refl
+played false false z false false false false true false r role is = let same : roles.Sign ≡ role = cc in subst (λ a. plays a false false false false false false true r ≡ true) same refl
+played false false z false false false false false plus true role is = let same : roles.Prefix ≡ role = cc in subst (λ a. plays a false false false false false false false true ≡ true) same refl
+played false false z false false false false false plus false role is = cc
+
+unplayed : (x y z s p e u g plus r : Bool) (role : Role) → role_of (digits x y z (marks s p e u g plus r)) ≡ None → plays role x y s p e u g r ≡ false
+unplayed false false z false false false false false plus false roles.Digit is = refl
+unplayed false false z false false false false false plus false _ is = refl
+unplayed true true true s p e u g plus r role is = cc
+unplayed true true false s p e u g plus r role is = cc
+unplayed true false z s p e u g plus r role is = cc
+unplayed false true z s p e u g plus r role is = cc
+unplayed false false z true p e u g plus r role is = cc
+unplayed false false z false true e u g plus r role is = cc
+unplayed false false z false false true u g plus r role is = cc
+unplayed false false z false false false true g plus r role is = cc
+unplayed false false z false false false false true true r role is = cc
+unplayed false false z false false false false true false r role is = cc
+unplayed false false z false false false false false plus true role is = cc
+
+module _ (m : Notation) (h : HasRoles m) (b : ℕ) where
+  abbrev test : Role → Bool
+  test role = plays role (m.digit parts.Integer b) (m.digit parts.Exponent b) (m.separator b) (m.point b) (m.exponent_character b) (m.suffix b) (signs b) (m.prefix b)
+
+  -- The tests are the sets of bytes.
+  merge : (x f y : Bool) → f ≡ x → ((x || f) || y) ≡ (x || y)
+  merge x f y same = grind arith
+
+  test_is : (role : Role) → role_set m role b ≡ test role
+  test_is roles.Digit = merge (m.digit parts.Integer b) (m.digit parts.Fraction b) (m.digit parts.Exponent b) (h.one_mantissa b)
+  test_is roles.Sign = refl
+  test_is roles.Separator = refl
+  test_is roles.Prefix = refl
+  test_is roles.Suffix = refl
+  test_is roles.Exponent = refl
+  test_is roles.Point = refl
+
+  from : (role : Role) → role_of (class_of m b) ≡ Some role → IsTrue (role_set m role b)
+  from role is = test_is role ∙ played (m.digit parts.Integer b) (m.digit parts.Exponent b) (b == 48) (m.separator b) (m.point b) (m.exponent_character b)
+      (m.suffix b) (signs b) (b == 43) (m.prefix b) role is
+
+  to : (role : Role) (o : Option Role) → role_of (class_of m b) ≡ o → IsTrue (role_set m role b) → o ≡ Some role
+  to role None is plays = absurd (false≢true (sym (unplayed (m.digit parts.Integer b) (m.digit parts.Exponent b) (b == 48) (m.separator b) (m.point b)
+      (m.exponent_character b) (m.suffix b) (signs b) (b == 43) (m.prefix b) role is) ∙ sym (test_is role) ∙ plays))
+  to role (Some found) is plays = ap Some (h.one found role b (from found is) plays)
+
+  -- The role of its class is the only one of a byte.
+  pub only_role : IsOnlyRole m b (role_of (class_of m b))
+  only_role role = (to role (role_of (class_of m b)) refl, from role)

@@ -1,0 +1,14 @@
+-- Lemmas.
+mod RunLemmas
+mod ScanLemmas
+mod ClassLemmas
+mod StepLemmas
+mod LiteralLemmas
+mod FrontLemmas
+mod LongestLemmas
+mod RoleLemmas
+mod SameLemmas
+mod PartLemmas
+mod WriterLemmas
+mod ExampleLemmas
+mod TableLemmas

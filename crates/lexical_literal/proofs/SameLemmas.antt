@@ -1,0 +1,46 @@
+-- A reader sees no difference between equivalent formats.
+use Rattle.std.proofs.Common.{ℕ, ◌≡◌, Bool, true, false, ◌&&◌, nat_lt, Option, Some, None, refl, sym, ap, ◌∙◌}
+use Rattle.std.specs.List.{list_any}
+use Rattle.lexical_util.specs.Digits.{byte_value}
+use Rattle.lexical_util.specs.Layout as layout
+use Rattle.lexical_util.specs.NormalForm.{SameFormat}
+use Rattle.lexical_util.specs.Record.{Record, raw, separator_allowed}
+use Rattle.lexical_util.specs.Roles.{cased, used_separator}
+use Rattle.lexical_util.specs.declared.format_flags.Part.{Part}
+use Rattle.lexical_util.specs.declared.format_flags.Part.TheVariants as parts
+use Rattle.lexical_literal.specs.declared.syntax.Options.{Options}
+use Rattle.lexical_literal.specs.Notation.{notation_of, radix_of, point_of, exponent_character_of, lacks_options}
+
+module _ (r s : Record) (same : SameFormat r s) where
+  same_radix : (part : Part) → radix_of r part ≡ radix_of s part
+  same_radix parts.Integer = same.mantissa_radix
+  same_radix parts.Fraction = same.mantissa_radix
+  same_radix parts.Exponent = same.exponent_radix
+
+  same_separator : (byte : ℕ) → used_separator r byte ≡ used_separator s byte
+  same_separator byte = go (separator_allowed r) refl where
+    allowed : separator_allowed r ≡ separator_allowed s
+    allowed j = list_any (λ f. same.flags f j) layout.digit_separator_flags
+
+    go : (t : Bool) → separator_allowed r ≡ t → used_separator r byte ≡ used_separator s byte
+    go true is = λ j. allowed j && cased true (same.digit_separator is j) byte
+    go false is = ap (λ t. t && cased true (r.byte layout.digit_separator) byte) is
+        ∙ sym (ap (λ t. t && cased true (s.byte layout.digit_separator) byte) (sym allowed ∙ is))
+
+  same_character : (options : Option Options) (byte : ℕ) → exponent_character_of r options byte ≡ exponent_character_of s options byte
+  same_character None byte = refl
+  same_character (Some o) byte = λ j. cased (same.flags layout.case_sensitive_exponent j) o.exponent byte
+
+-- Equivalent words have the same notation.
+pub same_notation : (a b : ℕ) (options : Option Options) → SameFormat (raw a) (raw b)
+    → notation_of (record { word = a; options = options }) ≡ notation_of (record { word = b; options = options })
+same_notation a b options same = λ j. record {
+  flag = λ f. same.flags f j;
+  digit = λ part byte. nat_lt (byte_value byte) (same_radix (raw a) (raw b) same part j);
+  separator = λ byte. same_separator (raw a) (raw b) same byte j;
+  prefix = λ byte. cased (same.flags layout.case_sensitive_base_prefix j) (same.base_prefix j) byte;
+  suffix = λ byte. cased (same.flags layout.case_sensitive_base_suffix j) (same.base_suffix j) byte;
+  point = point_of options;
+  exponent_character = λ byte. same_character (raw a) (raw b) same options byte j;
+  integers_only = lacks_options options;
+}

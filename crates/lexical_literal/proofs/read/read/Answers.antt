@@ -1,0 +1,16 @@
+-- The lengths that were counted are those of the parts.
+use Rattle.std.proofs.Common.{sym, subst}
+use Rattle.lexical_literal.specs.Literal.{Reads}
+use Rattle.lexical_literal.specs.Notation.{notation_of}
+use Rattle.lexical_literal.proofs.read.read.Goals as goal
+
+pub cut-requires : goal.cut-requires
+cut-requires c =
+    let found = c.scan-scanned.ensures.literal c.if-scanned.true in
+    (found.0, found.1.whole, (c.scan-scanned.ensures.counted found.0 found.1).1)
+
+pub returns-then-scanned-clause-found : goal.returns-then-scanned-clause-found
+returns-then-scanned-clause-found c =
+    let found = c.scan-scanned.ensures.literal c.if-scanned.true in
+    subst (λ l. Reads (notation_of c.args.grammar) l c.args.text.now)
+    (sym (c.cut.ensures found.0 found.1.whole (c.scan-scanned.ensures.counted found.0 found.1).1)) found.1

@@ -1,0 +1,16 @@
+use Rattle.std.proofs.Common.{ℕ, ◌≡◌, ◌<◌, ◌≤◌, Some, take, length, get_or}
+use Rattle.lexical_literal.specs.Notation.{notation_of}
+use Rattle.lexical_literal.specs.Additions.Summary.{scan, start, tally, no_cuts}
+use Rattle.lexical_literal.specs.Additions.Tables.{summary_at, cuts_of}
+use Rattle.lexical_literal.proofs.read.scan.Given as goal
+
+abbrev pub invariant-loop-index : goal.invariant-loop-index
+invariant-loop-index l =
+    let m = notation_of l.grammar in
+    record {
+      read : scan m (Some start) (take l.index l.text) ≡ Some (summary_at l.row);
+      is_row : l.row < 55;
+      counted : tally m (Some start) no_cuts (take l.index l.text) ≡ cuts_of l.counts;
+      size : length l.counts ≡ 9;
+      small : (k : ℕ) → get_or l.counts k 0 ≤ l.index;
+    }

@@ -1,0 +1,3 @@
+pub mod Summary
+pub mod Longest
+pub mod Tables

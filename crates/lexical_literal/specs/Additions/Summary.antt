@@ -1,0 +1,344 @@
+-- What has been read of a number, changed by one byte.
+use Rattle.std.specs.Prelude.{ℕ, Bool, true, false, not, ◌==◌, ◌&&◌, ◌||◌, if◌then◌else◌, ◌+◌, ◌≡◌, length, List, [], ◌∷◌, Option, Some, None}
+use Rattle.lexical_util.specs.Layout as layout
+use Rattle.lexical_util.specs.Layout.{separators_in}
+use Rattle.lexical_util.specs.Roles.{signs}
+use Rattle.lexical_util.specs.declared.feature_format.roles.Role.{Role}
+use Rattle.lexical_util.specs.declared.feature_format.roles.Role.TheVariants as roles
+use Rattle.lexical_util.specs.declared.format_flags.Part.{Part}
+use Rattle.lexical_util.specs.declared.format_flags.Part.TheVariants as parts
+use Rattle.lexical_literal.specs.Literal.{Literal}
+use Rattle.lexical_literal.specs.Notation.{Notation}
+use Rattle.lexical_literal.specs.Run.{is_place}
+use Rattle.lexical_literal.specs.declared.steps.Class.{Class}
+use Rattle.lexical_literal.specs.declared.steps.Class.TheVariants as classes
+use Rattle.lexical_literal.specs.declared.steps.Move.{Move}
+use Rattle.lexical_literal.specs.declared.steps.Piece.{Piece}
+use Rattle.lexical_literal.specs.declared.steps.Piece.TheVariants as pieces
+use Rattle.lexical_literal.specs.declared.steps.Stage.{Stage}
+use Rattle.lexical_literal.specs.declared.steps.Stage.TheVariants as stages
+use Rattle.lexical_literal.specs.declared.steps.Summary.{Summary}
+
+-- `role_in m part byte` is the role of `byte` after a front that ends in `part`.
+abbrev pub role_in : Notation → Part → ℕ → Option Role
+role_in m part byte =
+    if m.digit part byte then Some roles.Digit
+    else (if m.separator byte then Some roles.Separator
+    else (if m.point byte then Some roles.Point
+    else (if m.exponent_character byte then Some roles.Exponent
+    else (if m.suffix byte then Some roles.Suffix
+    else (if signs byte then Some roles.Sign
+    else (if m.prefix byte then Some roles.Prefix else None))))))
+
+-- `has_digit stage` is true if the part has a digit.
+abbrev pub has_digit : Stage → Bool
+has_digit stages.Bare = true
+has_digit stages.Zero = true
+has_digit stages.Led = true
+has_digit stages.Digits = true
+has_digit _ = false
+
+-- `is_fresh stage` is true if a sign may follow.
+abbrev pub is_fresh : Stage → Bool
+is_fresh stages.Start = true
+is_fresh stages.Mark = true
+is_fresh _ = false
+
+-- `is_lone stage` is true if the mantissa has no digits, after its decimal point.
+abbrev pub is_lone : Stage → Bool
+is_lone stages.Lone = true
+is_lone _ = false
+
+abbrev pub is_led : Stage → Bool
+is_led stages.Led = true
+is_led _ = false
+
+abbrev pub is_bare : Stage → Bool
+is_bare stages.Bare = true
+is_bare _ = false
+
+abbrev pub implies : Bool → Bool → Bool
+implies a b = not a || b
+
+-- `needs_exponent m` is true if each literal has an exponent.
+abbrev pub needs_exponent : Notation → Bool
+needs_exponent m = m.flag layout.required_exponent_notation && not m.integers_only
+
+-- `may_lead m` is true if some literal has a leading zero.
+abbrev pub may_lead : Notation → Bool
+may_lead m =
+    (not m.integers_only && not (m.flag layout.no_float_leading_zeros))
+    || (not (m.flag layout.no_integer_leading_zeros) && not (needs_exponent m))
+
+-- `may_follow m stage` is true if another digit may follow.
+abbrev pub may_follow : Notation → Stage → Bool
+may_follow m stages.Bare = may_lead m
+may_follow m stages.Zero = may_lead m
+may_follow m _ = true
+
+-- `first_digit gap zero` is the stage after the first digit of the integer.
+abbrev pub first_digit : Bool → Bool → Stage
+first_digit gap zero = if zero then (if gap then stages.Zero else stages.Bare) else stages.Digits
+
+-- `after_digit stage gap zero`, `after_separator stage` and `after_sign stage` are the stages after one more byte.
+abbrev pub after_digit : Stage → Bool → Bool → Stage
+after_digit stages.Start gap zero = first_digit gap zero
+after_digit stages.Empty gap zero = first_digit gap zero
+after_digit stages.Bare gap zero = stages.Led
+after_digit stages.Zero gap zero = stages.Led
+after_digit stages.Led gap zero = stages.Led
+after_digit _ gap zero = stages.Digits
+
+abbrev pub after_separator : Stage → Stage
+after_separator stages.Start = stages.Empty
+after_separator stages.Mark = stages.Free
+after_separator stages.Bare = stages.Zero
+after_separator stage = stage
+
+abbrev pub after_sign : Stage → Stage
+after_sign stages.Start = stages.Empty
+after_sign stages.Mark = stages.Free
+after_sign stage = stage
+
+-- `may_end m part digit gap` is true if the digits of `part` may end, after a digit or not, and in a gap or not.
+abbrev pub may_end : Notation → Part → Bool → Bool → Bool
+may_end m part digit gap = not gap || is_place m part digit false
+
+abbrev pub takes_digit : Notation → Part → Bool → Bool → Bool
+takes_digit m part digit gap = not gap || is_place m part digit true
+
+-- `is_open m part digit next` is true if a gap can be closed, where another digit may follow or not.
+abbrev pub is_open : Notation → Part → Bool → Bool → Bool
+is_open m part true next = is_place m part true false || (is_place m part true true && next)
+is_open m part false next = is_place m part false true
+
+abbrev pub takes_separator : Notation → Part → Bool → Bool → Bool → Bool
+takes_separator m part digit gap next = (not gap || m.flag (separators_in part).consecutive) && is_open m part digit next
+
+abbrev pub needs_sign : Notation → Part → Bool
+needs_sign m parts.Integer = m.flag layout.required_mantissa_sign
+needs_sign m parts.Fraction = false
+needs_sign m parts.Exponent = m.flag layout.required_exponent_sign
+
+abbrev pub forbids_plus : Notation → Part → Bool
+forbids_plus m parts.Integer = m.flag layout.no_positive_mantissa_sign
+forbids_plus m parts.Fraction = false
+forbids_plus m parts.Exponent = m.flag layout.no_positive_exponent_sign
+
+-- `is_signed m part stage` is true if the part has a sign, or needs none.
+abbrev pub is_signed : Notation → Part → Stage → Bool
+is_signed m part stage = not (is_fresh stage) || not (needs_sign m part)
+
+-- `digits_suffice m part stage` is true if the part has the digits that flags require.
+abbrev pub digits_suffice : Notation → Part → Stage → Bool
+digits_suffice m parts.Integer stage = implies (m.flag layout.required_integer_digits) (has_digit stage)
+digits_suffice m parts.Fraction stage =
+    implies (m.flag layout.required_fraction_digits) (has_digit stage) && implies (m.flag layout.required_mantissa_digits) (not (is_lone stage))
+digits_suffice m parts.Exponent stage = implies (m.flag layout.required_exponent_digits) (has_digit stage)
+
+-- `may_float m stage` is true if a decimal point or an exponent may follow the leading zero, if there is one.
+abbrev pub may_float : Notation → Stage → Bool
+may_float m stage = implies (m.flag layout.no_float_leading_zeros) (not (is_led stage))
+
+-- Whether a decimal point, an exponent character or nothing may follow a part that may end.
+abbrev pub may_point : Notation → Part → Stage → Bool
+may_point m parts.Integer stage = may_float m stage
+may_point m _ stage = false
+
+abbrev pub may_scale : Notation → Part → Stage → Bool
+may_scale m parts.Integer stage =
+    not (m.flag layout.no_exponent_notation) && (may_float m stage
+    && (implies (m.flag layout.required_mantissa_digits) (has_digit stage) && not (m.flag layout.no_exponent_without_fraction)))
+may_scale m parts.Fraction stage = not (m.flag layout.no_exponent_notation)
+may_scale m parts.Exponent stage = false
+
+abbrev pub may_stop : Notation → Part → Stage → Bool
+may_stop m parts.Integer stage =
+    not (needs_exponent m)
+    && (has_digit stage && implies (m.flag layout.no_integer_leading_zeros) (not (is_led stage)))
+may_stop m parts.Fraction stage = not (needs_exponent m)
+may_stop m parts.Exponent stage = true
+
+-- `ends m s` is true if the part of `s` may end.
+abbrev pub ends : Notation → Summary → Bool
+ends m s = is_signed m s.part s.stage && (may_end m s.part (has_digit s.stage) s.gap && digits_suffice m s.part s.stage)
+
+-- `is_complete m s` is true if what has been read is a literal.
+abbrev pub is_complete : Notation → Summary → Bool
+is_complete m s = s.ended || (ends m s && may_stop m s.part s.stage)
+
+-- `takes m s plus role` is true if some literal goes on with a byte that has the role `role`, and is a plus sign if `plus`
+-- is true.
+abbrev pub takes : Notation → Summary → Bool → Role → Bool
+takes m s plus roles.Digit =
+    is_signed m s.part s.stage && (takes_digit m s.part (has_digit s.stage) s.gap && may_follow m s.stage)
+takes m s plus roles.Separator =
+    is_signed m s.part s.stage && takes_separator m s.part (has_digit s.stage) s.gap (may_follow m s.stage)
+takes m s plus roles.Sign = is_fresh s.stage && implies (forbids_plus m s.part) (not plus)
+takes m s plus roles.Prefix = is_bare s.stage
+takes m s plus roles.Point = ends m s && may_point m s.part s.stage
+takes m s plus roles.Exponent = ends m s && may_scale m s.part s.stage
+takes m s plus roles.Suffix = ends m s && may_stop m s.part s.stage
+
+-- `after_point digit` is the stage after a decimal point that follows an integer with a digit if `digit` is true.
+abbrev pub after_point : Bool → Stage
+after_point digit = if digit then stages.Free else stages.Lone
+
+-- `finished` is the summary of a number with a suffix, behind which nothing follows.
+abbrev pub finished : Summary
+finished = record { part = parts.Exponent; stage = stages.Digits; gap = false; ended = true }
+
+-- `after s zero role` is the summary after a byte that has the role `role`, and is the digit 0 if `zero` is true.
+abbrev pub after : Summary → Bool → Role → Summary
+after s zero roles.Digit = record s { stage = after_digit s.stage s.gap zero; gap = false }
+after s zero roles.Separator = record s { stage = after_separator s.stage; gap = true }
+after s zero roles.Sign = record s { stage = after_sign s.stage }
+after s zero roles.Prefix = record s { stage = stages.Free; gap = false }
+after s zero roles.Point = record s { part = parts.Fraction; stage = after_point (has_digit s.stage); gap = false }
+after s zero roles.Exponent = record s { part = parts.Exponent; stage = stages.Mark; gap = false }
+after s zero roles.Suffix = finished
+
+abbrev pub move : Notation → Summary → Bool → Bool → Option Role → Option Summary
+move m s plus zero None = None
+move m s plus zero (Some role) = if not s.ended && takes m s plus role then Some (after s zero role) else None
+
+-- `step m s byte` is the summary after one more byte, or `None` if no literal begins so.
+abbrev pub step : Notation → Summary → ℕ → Option Summary
+step m s byte = move m s (byte == 43) (byte == 48) (role_in m s.part byte)
+
+-- `digits_piece part` is the piece of the digits of `part`, and `sign_piece part` that of a sign before them.
+abbrev pub digits_piece : Part → Piece
+digits_piece parts.Integer = pieces.Integer
+digits_piece parts.Fraction = pieces.Fraction
+digits_piece parts.Exponent = pieces.Exponent
+
+abbrev pub sign_piece : Part → Piece
+sign_piece parts.Exponent = pieces.ExponentSign
+sign_piece _ = pieces.Sign
+
+-- `piece_of part role` is the piece that a byte with the role `role` belongs to, after a front that ends in `part`.
+abbrev pub piece_of : Part → Role → Piece
+piece_of part roles.Digit = digits_piece part
+piece_of part roles.Separator = digits_piece part
+piece_of part roles.Sign = sign_piece part
+piece_of part roles.Prefix = pieces.Prefix
+piece_of part roles.Point = pieces.Point
+piece_of part roles.Exponent = pieces.ExponentCharacter
+piece_of part roles.Suffix = pieces.Suffix
+
+-- `Cuts` has the number of bytes of each piece that has been read. The zero of a prefix counts as a digit of the integer,
+-- and the suffix does not count.
+pub record Cuts : Type 0 where
+  pub sign : ℕ
+  pub prefix : ℕ
+  pub integer : ℕ
+  pub point : ℕ
+  pub fraction : ℕ
+  pub exponent_character : ℕ
+  pub exponent_sign : ℕ
+  pub exponent : ℕ
+
+-- `add c piece` counts one more byte of `piece`.
+abbrev pub add : Cuts → Piece → Cuts
+add c pieces.Sign = record c { sign = c.sign + 1 }
+add c pieces.Prefix = record c { prefix = c.prefix + 1 }
+add c pieces.Integer = record c { integer = c.integer + 1 }
+add c pieces.Point = record c { point = c.point + 1 }
+add c pieces.Fraction = record c { fraction = c.fraction + 1 }
+add c pieces.ExponentCharacter = record c { exponent_character = c.exponent_character + 1 }
+add c pieces.ExponentSign = record c { exponent_sign = c.exponent_sign + 1 }
+add c pieces.Exponent = record c { exponent = c.exponent + 1 }
+add c pieces.Suffix = c
+
+-- `count part role c` counts one more byte with the role `role` in `part`.
+abbrev pub count : Part → Option Role → Cuts → Cuts
+count part None c = c
+count part (Some role) c = add c (piece_of part role)
+
+-- `class_of m byte` is the class of `byte`.
+abbrev pub class_of : Notation → ℕ → Class
+class_of m byte =
+    if m.digit parts.Integer byte then
+    (if m.digit parts.Exponent byte then (if byte == 48 then classes.Zero else classes.Digit) else classes.MantissaDigit)
+    else (if m.digit parts.Exponent byte then classes.ExponentDigit
+    else (if m.separator byte then classes.Separator
+    else (if m.point byte then classes.Point
+    else (if m.exponent_character byte then classes.ExponentCharacter
+    else (if m.suffix byte then classes.Suffix
+    else (if signs byte then (if byte == 43 then classes.Plus else classes.Minus)
+    else (if m.prefix byte then classes.Prefix else classes.Other)))))))
+
+-- `role_of class` is the role of the bytes of `class`.
+abbrev pub role_of : Class → Option Role
+role_of classes.Other = None
+role_of classes.Zero = Some roles.Digit
+role_of classes.Digit = Some roles.Digit
+role_of classes.MantissaDigit = Some roles.Digit
+role_of classes.ExponentDigit = Some roles.Digit
+role_of classes.Separator = Some roles.Separator
+role_of classes.Prefix = Some roles.Prefix
+role_of classes.Suffix = Some roles.Suffix
+role_of classes.Point = Some roles.Point
+role_of classes.ExponentCharacter = Some roles.Exponent
+role_of classes.Plus = Some roles.Sign
+role_of classes.Minus = Some roles.Sign
+
+-- `in_part part class` is the role of a byte of `class` after a front that ends in `part`, where digits are those of the
+-- radix of `part`.
+abbrev pub in_part : Part → Class → Option Role
+in_part part classes.Other = None
+in_part parts.Exponent classes.MantissaDigit = None
+in_part parts.Integer classes.ExponentDigit = None
+in_part parts.Fraction classes.ExponentDigit = None
+in_part part class = role_of class
+
+abbrev pub is_zero : Class → Bool
+is_zero classes.Zero = true
+is_zero _ = false
+
+abbrev pub is_plus : Class → Bool
+is_plus classes.Plus = true
+is_plus _ = false
+
+-- `class_step m s class` is the summary after one more byte of `class`, or `None` if no literal begins so.
+abbrev pub class_step : Notation → Summary → Class → Option Summary
+class_step m s class = move m s (is_plus class) (is_zero class) (in_part s.part class)
+
+-- `IsMove m s class o` holds if `o` is what a byte of `class` makes of `s`, or `None` if no literal begins so.
+abbrev pub IsMove : Notation → Summary → Class → Option Move → Type 0
+IsMove m s class None = class_step m s class ≡ None
+IsMove m s class (Some next) =
+    (class_step m s class ≡ Some next.summary) × ((c : Cuts) → count s.part (in_part s.part class) c ≡ add c next.piece)
+
+-- `scan m s text` is the summary after the bytes of `text`.
+abbrev pub scan : Notation → Option Summary → List ℕ → Option Summary
+scan m s [] = s
+scan m None (byte ∷ text) = None
+scan m (Some s) (byte ∷ text) = scan m (step m s byte) text
+
+abbrev pub is_accepted : Notation → Option Summary → Bool
+is_accepted m None = false
+is_accepted m (Some s) = is_complete m s
+
+abbrev pub start : Summary
+start = record { part = parts.Integer; stage = stages.Start; gap = false; ended = false }
+
+-- `tally m s c text` has the lengths of the parts after the bytes of `text`.
+abbrev pub tally : Notation → Option Summary → Cuts → List ℕ → Cuts
+tally m s c [] = c
+tally m None c (byte ∷ text) = c
+tally m (Some s) c (byte ∷ text) = tally m (step m s byte) (count s.part (role_in m s.part byte) c) text
+
+abbrev pub no_cuts : Cuts
+no_cuts = record { sign = 0; prefix = 0; integer = 0; point = 0; fraction = 0; exponent_character = 0; exponent_sign = 0; exponent = 0 }
+
+-- `HasLengths l c` holds if the parts of `l` have the lengths `c`.
+pub record HasLengths (l : Literal) (c : Cuts) : Type 0 where
+  pub sign : length l.sign ≡ c.sign
+  pub prefix : length l.prefix ≡ c.prefix + c.prefix
+  pub integer : length l.integer + c.prefix ≡ c.integer
+  pub point : length l.point ≡ c.point
+  pub fraction : length l.fraction ≡ c.fraction
+  pub exponent_character : length l.exponent_character ≡ c.exponent_character
+  pub exponent_sign : length l.exponent_sign ≡ c.exponent_sign
+  pub exponent : length l.exponent ≡ c.exponent

@@ -1,0 +1,73 @@
+-- How numbers are written: the bytes that play each role, and the flags.
+use Rattle.std.specs.Prelude.{ℕ, ◌≡◌, ◌↔◌, ◌||◌, Bool, true, false, IsTrue, nat_lt, Option, Some, None}
+use Rattle.lexical_util.specs.Ascii.{ByteSet}
+use Rattle.lexical_util.specs.Digits.{byte_value}
+use Rattle.lexical_util.specs.Layout as layout
+use Rattle.lexical_util.specs.Layout.{Flag}
+use Rattle.lexical_util.specs.Record.{Record, raw, effective_exponent_radix}
+use Rattle.lexical_util.specs.Roles as sets
+use Rattle.lexical_util.specs.declared.feature_format.roles.Role.{Role}
+use Rattle.lexical_util.specs.declared.feature_format.roles.Role.TheVariants as roles
+use Rattle.lexical_util.specs.declared.format_flags.Part.{Part}
+use Rattle.lexical_util.specs.declared.format_flags.Part.TheVariants as parts
+use Rattle.lexical_literal.specs.declared.syntax.Options.{Options}
+use Rattle.lexical_literal.specs.declared.syntax.Grammar.{Grammar}
+
+-- `Notation` has the flags, the digits of each part, and the bytes that play each other role. If `integers_only` is
+-- true, every literal is an integer.
+pub record Notation : Type 0 where
+  pub flag : Flag → Bool
+  pub digit : Part → ByteSet
+  pub separator : ByteSet
+  pub prefix : ByteSet
+  pub suffix : ByteSet
+  pub point : ByteSet
+  pub exponent_character : ByteSet
+  pub integers_only : Bool
+
+-- `radix_of r part` is the radix of the digits of `part` in the format `r`.
+abbrev pub radix_of : Record → Part → ℕ
+radix_of r parts.Integer = r.byte layout.mantissa_radix
+radix_of r parts.Fraction = r.byte layout.mantissa_radix
+radix_of r parts.Exponent = effective_exponent_radix r
+
+-- `point_of options` is the decimal point, or the empty set without options.
+abbrev pub point_of : Option Options → ByteSet
+point_of None byte = false
+point_of (Some options) byte = sets.point options.point byte
+
+-- `exponent_character_of r options` is the exponent character in the format `r`, or the empty set without options.
+abbrev pub exponent_character_of : Record → Option Options → ByteSet
+exponent_character_of r None byte = false
+exponent_character_of r (Some options) byte = sets.exponent r options.exponent byte
+
+abbrev pub lacks_options : Option Options → Bool
+lacks_options None = true
+lacks_options (Some options) = false
+
+-- `notation_of g` is the notation of the format and the options of `g`.
+abbrev pub notation_of : Grammar → Notation
+notation_of g = record {
+  flag = (raw g.word).flag;
+  digit = λ part byte. nat_lt (byte_value byte) (radix_of (raw g.word) part);
+  separator = sets.used_separator (raw g.word);
+  prefix = sets.prefix (raw g.word);
+  suffix = sets.suffix (raw g.word);
+  point = point_of g.options;
+  exponent_character = exponent_character_of (raw g.word) g.options;
+  integers_only = lacks_options g.options;
+}
+
+-- `role_set m role` is the set of the bytes that play `role`.
+abbrev pub role_set : Notation → Role → ByteSet
+role_set m roles.Digit byte = m.digit parts.Integer byte || m.digit parts.Fraction byte || m.digit parts.Exponent byte
+role_set m roles.Sign byte = sets.signs byte
+role_set m roles.Separator byte = m.separator byte
+role_set m roles.Prefix byte = m.prefix byte
+role_set m roles.Suffix byte = m.suffix byte
+role_set m roles.Exponent byte = m.exponent_character byte
+role_set m roles.Point byte = m.point byte
+
+-- `IsOnlyRole m byte found` holds if `found` is the only role that `byte` plays, or if it is `None` and `byte` plays none.
+abbrev pub IsOnlyRole : Notation → ℕ → Option Role → Type 0
+IsOnlyRole m byte found = (role : Role) → IsTrue (role_set m role byte) ↔ (found ≡ Some role)

@@ -1,0 +1,56 @@
+//! Theorems on literals. Each is a clause of a function with an empty body.
+
+ghost use Rattle.std.specs.Prelude.{◌≡◌, ◌≢◌, ◌↔◌, ◌&&◌, ◌||◌, ◌∷◌, ℕ, IsFalse, IsTrue, List, Option, not};
+ghost use Rattle.lexical_util.specs.Layout as layout;
+ghost use Rattle.lexical_util.specs.Layout.{Flag};
+ghost use Rattle.lexical_util.specs.NormalForm.{normal_form_of};
+ghost use Rattle.lexical_util.specs.declared.format_flags.Part.{Part};
+ghost use Rattle.lexical_literal.specs.Literal.{Literal, Reads, requirement};
+ghost use Rattle.lexical_literal.specs.Notation.{notation_of};
+ghost use Rattle.lexical_literal.specs.Readings.{AllIn, PartsHaveRoles};
+ghost use Rattle.lexical_literal.specs.Syntax.{IsSyntax};
+ghost use Rattle.lexical_literal.specs.declared.syntax.Grammar.{Grammar};
+ghost use Rattle.lexical_literal.specs.declared.syntax.Options.{Options};
+
+pub mod examples;
+
+use lexical_util::format::Part;
+use lexical_util::laws::flags::role_facts;
+use lexical_util::laws::normal_form_facts;
+
+/// States what is true of every literal of a syntax, and which texts that writers make are literals.
+pub fn literal_facts()
+    // No text has two readings.
+    ensures one_reading { (g : Grammar) → IsSyntax g → (l k : Literal) → (text : List ℕ)
+        → Reads (notation_of g) l text → Reads (notation_of g) k text → l ≡ k }
+
+    // Equivalent words have the same literals. The words and the options may be any.
+    ensures same_literals { (a b : ℕ) → normal_form_of a ≡ normal_form_of b → (options : Option Options)
+        → (l : Literal) → (text : List ℕ) → Reads (notation_of (record { word = a; options = options })) l text
+        → Reads (notation_of (record { word = b; options = options })) l text }
+
+    // Each byte of a literal has the role of its part, or is the zero of a prefix. Digits are those of the radix of
+    // their own part.
+    ensures roles { (g : Grammar) → (l : Literal) → (text : List ℕ) → Reads (notation_of g) l text
+        → PartsHaveRoles (notation_of g) l }
+
+    // A literal is as each flag that is set requires.
+    ensures requirements { (g : Grammar) → (l : Literal) → (text : List ℕ) → Reads (notation_of g) l text
+        → (f : Flag) → IsTrue ((notation_of g).flag f) → IsTrue (requirement f (notation_of g) l) }
+
+    // Mantissa digits that do not begin with 0 are a literal if and only if no flag requires a sign or an exponent.
+    ensures digits { (g : Grammar) → IsSyntax g → (first : ℕ) → (digits : List ℕ) → first ≢ 48
+        → AllIn ((notation_of g).digit Part.Integer) (first ∷ digits)
+        → ((l : Literal) × Reads (notation_of g) l (first ∷ digits))
+        ↔ IsFalse ((notation_of g).flag layout.required_mantissa_sign
+        || ((notation_of g).flag layout.required_exponent_notation && not (notation_of g).integers_only)) }
+
+    // After a minus sign, they are a literal if and only if no flag requires an exponent.
+    ensures negative { (g : Grammar) → IsSyntax g → (first : ℕ) → (digits : List ℕ) → first ≢ 48
+        → AllIn ((notation_of g).digit Part.Integer) (first ∷ digits)
+        → ((l : Literal) × Reads (notation_of g) l (45 ∷ first ∷ digits))
+        ↔ IsFalse ((notation_of g).flag layout.required_exponent_notation && not (notation_of g).integers_only) }
+{
+    role_facts();
+    normal_form_facts();
+}

@@ -1,0 +1,371 @@
+//! Calls that read literals, and the parts that they find.
+
+ghost use Rattle.std.specs.Prelude.{◌≡◌, ◌++◌, ◌<◌, ◌≤◌, ℕ, IfErr, IfOk, IsErr, IsOkAnd, IsTrue, List, length, take};
+ghost use Rattle.lexical_literal.specs.Additions.Summary.{HasLengths, class_of, is_complete};
+ghost use Rattle.lexical_literal.specs.Additions.Tables.{HasTables, IsStep, cuts_of, summary_at};
+ghost use Rattle.std.specs.Option.{ForSome};
+ghost use Rattle.lexical_literal.specs.Additions.Longest.{IsLongest};
+ghost use Rattle.lexical_literal.specs.Front.{IsValidUpTo, NoLiteral, ReadsFront};
+ghost use Rattle.lexical_literal.specs.Literal.{Literal, Reads, text_of};
+ghost use Rattle.lexical_literal.specs.Notation.{notation_of};
+ghost use Rattle.lexical_literal.specs.Parts.{literal_of};
+ghost use Rattle.lexical_literal.specs.Syntax.{IsSyntax};
+
+use crate::steps::class_of;
+use crate::syntax::{Grammar, Syntax};
+use crate::tables::{START, Step, Tables, is_complete, piece_number, step_from};
+use lexical_util::laws::flags::role_facts;
+use std::marker::Model;
+
+/// The parts of a literal, in the order of the text. An absent part has no bytes.
+#[derive(Clone, Copy)]
+pub struct Parts<'a> {
+    /// The sign, `+` or `-`.
+    pub sign: &'a [u8],
+    /// The base prefix, with the zero before it.
+    pub prefix: &'a [u8],
+    /// The integer digits, with their separators.
+    pub integer: &'a [u8],
+    /// The decimal point.
+    pub point: &'a [u8],
+    /// The fraction digits, with their separators.
+    pub fraction: &'a [u8],
+    /// The exponent character.
+    pub exponent_character: &'a [u8],
+    /// The sign of the exponent, `+` or `-`.
+    pub exponent_sign: &'a [u8],
+    /// The exponent digits, with their separators.
+    pub exponent: &'a [u8],
+    /// The base suffix.
+    pub suffix: &'a [u8],
+}
+
+/// A leading piece of a text that is a literal.
+#[derive(Clone, Copy)]
+pub struct Front<'a> {
+    /// The parts of the literal.
+    pub parts: Parts<'a>,
+    /// The number of bytes of the literal.
+    pub size: usize,
+}
+
+/// Why a text is not a literal.
+#[derive(Debug, Clone, Copy, PartialEq, Eq)]
+pub struct ReadError {
+    valid_up_to: usize,
+}
+
+impl ReadError {
+    /// Returns the length of the longest front of the text that some literal begins with: the index of the first byte
+    /// that cannot follow the bytes before it, or the length of the text if bytes are missing.
+    #[must_use]
+    pub const fn valid_up_to(&self) -> usize
+        ensures { result ≡ self.now.valid_up_to }
+    {
+        self.valid_up_to
+    }
+}
+
+impl Syntax {
+    /// Returns the parts of the literal `text`.
+    ///
+    /// # Errors
+    ///
+    /// If `text` is not a literal, returns how far it is right.
+    pub fn read<'a>(&self, text: &'a [u8]) -> Result<Parts<'a>, ReadError>
+        // The text is a literal with the parts that are returned.
+        ensures found { IfOk result (λ parts. Reads (notation_of self.now) (literal_of parts) text.now) }
+
+        // A literal has no other parts, and they are returned.
+        ensures only { (l : Literal) → Reads (notation_of self.now) l text.now
+            → IsOkAnd result (λ parts. literal_of parts ≡ l) }
+
+        // An error has the length of the longest front that some literal begins with.
+        ensures error { IfErr result (λ error. IsValidUpTo (notation_of self.now) text.now error.valid_up_to) }
+    {
+        read(self.grammar(), None, text)
+    }
+
+    /// Returns the longest front of `text` that is a literal. What follows it may be anything. No byte behind the first
+    /// that no literal can have is looked at.
+    ///
+    /// # Errors
+    ///
+    /// If no front of `text` is a literal, returns the error of [`read`][Self::read].
+    pub fn read_prefix<'a>(&self, text: &'a [u8]) -> Result<Front<'a>, ReadError>
+        // A front of the text is a literal with the parts that are returned, and no longer front is a literal.
+        ensures found { IfOk result (λ front.
+            ReadsFront (notation_of self.now) (literal_of front.parts) text.now front.size) }
+
+        // If no front is returned, no front is a literal.
+        ensures none { IsErr result → (size : ℕ) → size ≤ length text.now
+            → NoLiteral (notation_of self.now) (take size text.now) }
+
+        // An error has the length of the longest front that some literal begins with.
+        ensures error { IfErr result (λ error. IsValidUpTo (notation_of self.now) text.now error.valid_up_to) }
+    {
+        read_prefix(self.grammar(), None, text)
+    }
+}
+
+/// A syntax with tables of all its steps. It reads literals in less time than [`Syntax::read`], and is worth its making
+/// where many texts are read.
+#[derive(Drop)]
+pub struct Reader {
+    grammar: Grammar,
+    tables: Tables,
+}
+
+impl Model for Reader {
+    ghost use Rattle.lexical_literal.specs.declared.syntax.Grammar.{Grammar};
+
+    ghost Value = { Grammar };
+
+    ghost use Rattle.lexical_literal.specs.Notation.{notation_of};
+    ghost use Rattle.lexical_literal.specs.Syntax.{IsSyntax};
+    ghost use Rattle.lexical_literal.specs.Additions.Tables.{HasTables};
+
+    ghost view = { λ reader. reader.grammar };
+
+    ghost invariant = { λ reader. IsSyntax reader.grammar × HasTables (notation_of reader.grammar) reader.tables };
+}
+
+impl Reader {
+    /// Returns a reader of the literals of `syntax`.
+    #[must_use]
+    pub fn new(syntax: Syntax) -> Reader
+        ensures { result ≡ syntax }
+    {
+        let grammar = syntax.grammar();
+        Reader {
+            grammar,
+            tables: Tables::new(grammar),
+        }
+    }
+
+    /// Returns the parts of the literal `text`, as [`Syntax::read`] does.
+    ///
+    /// # Errors
+    ///
+    /// If `text` is not a literal, returns how far it is right.
+    pub fn read<'a>(&self, text: &'a [u8]) -> Result<Parts<'a>, ReadError>
+        // The text is a literal with the parts that are returned.
+        ensures found { IfOk result (λ parts. Reads (notation_of self.now) (literal_of parts) text.now) }
+
+        // A literal has no other parts, and they are returned.
+        ensures only { (l : Literal) → Reads (notation_of self.now) l text.now
+            → IsOkAnd result (λ parts. literal_of parts ≡ l) }
+
+        // An error has the length of the longest front that some literal begins with.
+        ensures error { IfErr result (λ error. IsValidUpTo (notation_of self.now) text.now error.valid_up_to) }
+    {
+        read(self.grammar, Some(&self.tables), text)
+    }
+
+    /// Returns the longest front of `text` that is a literal. What follows it may be anything. No byte behind the first
+    /// that no literal can have is looked at.
+    ///
+    /// # Errors
+    ///
+    /// If no front of `text` is a literal, returns the error of [`read`][Self::read].
+    pub fn read_prefix<'a>(&self, text: &'a [u8]) -> Result<Front<'a>, ReadError>
+        // A front of the text is a literal with the parts that are returned, and no longer front is a literal.
+        ensures found { IfOk result (λ front.
+            ReadsFront (notation_of self.now) (literal_of front.parts) text.now front.size) }
+
+        // If no front is returned, no front is a literal.
+        ensures none { IsErr result → (size : ℕ) → size ≤ length text.now
+            → NoLiteral (notation_of self.now) (take size text.now) }
+
+        // An error has the length of the longest front that some literal begins with.
+        ensures error { IfErr result (λ error. IsValidUpTo (notation_of self.now) text.now error.valid_up_to) }
+    {
+        read_prefix(self.grammar, Some(&self.tables), text)
+    }
+}
+
+// What a whole text is: how far it is right, whether it is a literal, and the lengths of its parts.
+#[derive(Clone, Copy)]
+struct Scanned {
+    valid_up_to: usize,
+    is_literal: bool,
+    counts: [usize; 9],
+}
+
+// The length of the longest front that some literal begins with, and that of the longest literal, or 0.
+#[derive(Clone, Copy)]
+struct Ends {
+    valid_up_to: usize,
+    literal: usize,
+}
+
+// Returns the parts of the literal `text`, or how far it is right.
+#[inline(always)]
+fn read<'a>(
+    grammar: Grammar,
+    tables: Option<&Tables>,
+    text: &'a [u8],
+) -> Result<Parts<'a>, ReadError>
+    requires syntax { IsSyntax grammar }
+    requires tables { ForSome tables (λ tables. HasTables (notation_of grammar) tables.now) }
+    ensures found { IfOk result (λ parts. Reads (notation_of grammar) (literal_of parts) text.now) }
+    ensures only { (l : Literal) → Reads (notation_of grammar) l text.now → IsOkAnd result (λ parts. literal_of parts ≡ l) }
+    ensures error { IfErr result (λ error. IsValidUpTo (notation_of grammar) text.now error.valid_up_to) }
+{
+    let scanned = scan(grammar, tables, text);
+    if scanned.is_literal {
+        Ok(cut(text, scanned.counts))
+    } else {
+        Err(ReadError {
+            valid_up_to: scanned.valid_up_to,
+        })
+    }
+}
+
+// Returns the longest front of `text` that is a literal, or how far it is right.
+#[inline(always)]
+fn read_prefix<'a>(
+    grammar: Grammar,
+    tables: Option<&Tables>,
+    text: &'a [u8],
+) -> Result<Front<'a>, ReadError>
+    requires syntax { IsSyntax grammar }
+    requires tables { ForSome tables (λ tables. HasTables (notation_of grammar) tables.now) }
+    ensures found { IfOk result (λ front. ReadsFront (notation_of grammar) (literal_of front.parts) text.now front.size) }
+    ensures none { IsErr result → (size : ℕ) → size ≤ length text.now → NoLiteral (notation_of grammar) (take size text.now) }
+    ensures error { IfErr result (λ error. IsValidUpTo (notation_of grammar) text.now error.valid_up_to) }
+{
+    let ends = longest(grammar, tables, text);
+    if ends.literal == 0 {
+        Err(ReadError {
+            valid_up_to: ends.valid_up_to,
+        })
+    } else {
+        let front = &text[..ends.literal];
+        Ok(Front {
+            parts: cut(front, scan(grammar, tables, front).counts),
+            size: ends.literal,
+        })
+    }
+}
+
+// Splits off the first `size` bytes.
+fn split_front<'a>(text: &'a [u8], size: usize) -> (&'a [u8], &'a [u8])
+    requires { (x : List ℕ) × (rest : List ℕ) × (text.now ≡ x ++ rest) × (length x ≡ size) }
+    ensures { (x rest : List ℕ) → text.now ≡ x ++ rest → length x ≡ size
+        → (result.0.now ≡ x) × (result.1.now ≡ rest) }
+{
+    text.split_at(size)
+}
+
+// Splits `text` into parts with the lengths `counts`. The zero of a prefix is counted as a digit of the integer.
+fn cut<'a>(text: &'a [u8], counts: [usize; 9]) -> Parts<'a>
+    requires { (l : Literal) × (text.now ≡ text_of l) × HasLengths l (cuts_of counts) }
+    ensures { (l : Literal) → text.now ≡ text_of l → HasLengths l (cuts_of counts) → literal_of result ≡ l }
+{
+    let (sign, after_sign) = split_front(text, counts[0]);
+    let (prefix, after_prefix) = split_front(after_sign, counts[1] + counts[1]);
+    let (integer, after_integer) = split_front(after_prefix, counts[2] - counts[1]);
+    let (point, after_point) = split_front(after_integer, counts[3]);
+    let (fraction, after_fraction) = split_front(after_point, counts[4]);
+    let (exponent_character, after_character) = split_front(after_fraction, counts[5]);
+    let (exponent_sign, after_exponent_sign) = split_front(after_character, counts[6]);
+    let (exponent, suffix) = split_front(after_exponent_sign, counts[7]);
+    Parts {
+        sign,
+        prefix,
+        integer,
+        point,
+        fraction,
+        exponent_character,
+        exponent_sign,
+        exponent,
+        suffix,
+    }
+}
+
+// Reads `text` until no literal begins with what has been read.
+#[inline(always)]
+fn scan(grammar: Grammar, tables: Option<&Tables>, text: &[u8]) -> Scanned
+    requires syntax { IsSyntax grammar }
+    requires tables { ForSome tables (λ tables. HasTables (notation_of grammar) tables.now) }
+    ensures error { IsValidUpTo (notation_of grammar) text.now result.valid_up_to }
+    ensures literal { IsTrue result.is_literal → (l : Literal) × Reads (notation_of grammar) l text.now }
+    ensures counted { (l : Literal) → Reads (notation_of grammar) l text.now
+        → IsTrue result.is_literal × HasLengths l (cuts_of result.counts) }
+{
+    role_facts();
+    let mut row = START;
+    let mut counts = [0; 9];
+    for (index, byte) in text.iter().enumerate() {
+        let Some(next) = step_by(grammar, tables, row, *byte) else {
+            return Scanned {
+                valid_up_to: index,
+                is_literal: false,
+                counts,
+            };
+        };
+        row = next.row;
+        counts[piece_number(next.piece)] += 1;
+    }
+    Scanned {
+        valid_up_to: text.len(),
+        is_literal: is_complete_by(grammar, tables, row),
+        counts,
+    }
+}
+
+// Reads `text` until no literal begins with what has been read, and keeps the end of the longest literal.
+#[inline(always)]
+fn longest(grammar: Grammar, tables: Option<&Tables>, text: &[u8]) -> Ends
+    requires syntax { IsSyntax grammar }
+    requires tables { ForSome tables (λ tables. HasTables (notation_of grammar) tables.now) }
+    ensures error { IsValidUpTo (notation_of grammar) text.now result.valid_up_to }
+    ensures longest { IsLongest (notation_of grammar) text.now result.literal }
+{
+    role_facts();
+    let mut row = START;
+    let mut literal = 0;
+    for (index, byte) in text.iter().enumerate() {
+        let Some(next) = step_by(grammar, tables, row, *byte) else {
+            return Ends {
+                valid_up_to: index,
+                literal,
+            };
+        };
+        row = next.row;
+        if is_complete_by(grammar, tables, row) {
+            literal = index + 1;
+        }
+    }
+    Ends {
+        valid_up_to: text.len(),
+        literal,
+    }
+}
+
+// Returns what `byte` makes of a row, by the tables if there are any.
+#[inline(always)]
+fn step_by(grammar: Grammar, tables: Option<&Tables>, row: u8, byte: u8) -> Option<Step>
+    requires row { row < 55 }
+    requires tables { ForSome tables (λ tables. HasTables (notation_of grammar) tables.now) }
+    ensures { IsStep (notation_of grammar) row (class_of (notation_of grammar) byte) result }
+{
+    match tables {
+        None => step_from(grammar, row, class_of(grammar, byte)),
+        Some(tables) => tables.step(row, tables.class(byte)),
+    }
+}
+
+// Returns whether a row is that of a literal, by the tables if there are any.
+#[inline(always)]
+fn is_complete_by(grammar: Grammar, tables: Option<&Tables>, row: u8) -> bool
+    requires row { row < 55 }
+    requires tables { ForSome tables (λ tables. HasTables (notation_of grammar) tables.now) }
+    ensures { result ≡ is_complete (notation_of grammar) (summary_at row) }
+{
+    match tables {
+        None => is_complete(grammar, row),
+        Some(tables) => tables.is_complete(row),
+    }
+}

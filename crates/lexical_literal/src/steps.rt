@@ -1,0 +1,541 @@
+//! The steps of a reader: what has been read of a number, changed by the class of one byte.
+
+ghost use Rattle.std.specs.Prelude.{◌≡◌, IsFalse, nat_lt};
+ghost use Rattle.lexical_util.specs.Digits.{byte_value};
+ghost use Rattle.lexical_util.specs.Record.{raw};
+ghost use Rattle.lexical_literal.specs.Notation.{notation_of, radix_of, point_of, exponent_character_of};
+ghost use Rattle.lexical_literal.specs.Run.{is_place};
+ghost use Rattle.lexical_literal.specs.Additions.Summary.{IsMove, class_of, role_of, in_part, piece_of, has_digit, is_fresh, is_led, may_follow, after_digit, after_separator, after_sign, after_point, takes_digit, takes_separator, is_signed, needs_exponent, may_lead, forbids_plus, digits_suffice, may_float, may_point, may_scale, may_stop, ends, is_complete, takes, after};
+
+use crate::syntax::Grammar;
+use lexical_util::format::{Part, Role};
+
+/// A class of bytes: bytes of one class mean the same in a number.
+#[derive(Clone, Copy)]
+pub(crate) enum Class {
+    // A byte that plays no role.
+    Other,
+    // The digit 0.
+    Zero,
+    // Another digit of the mantissa and of the exponent.
+    Digit,
+    MantissaDigit,
+    ExponentDigit,
+    Separator,
+    Prefix,
+    Suffix,
+    Point,
+    ExponentCharacter,
+    Plus,
+    Minus,
+}
+
+// A part of a literal.
+#[derive(Clone, Copy)]
+pub(crate) enum Piece {
+    Sign,
+    Prefix,
+    Integer,
+    Point,
+    Fraction,
+    ExponentCharacter,
+    ExponentSign,
+    Exponent,
+    Suffix,
+}
+
+// The digits of a part that have been read.
+#[derive(Clone, Copy)]
+pub(crate) enum Stage {
+    // Nothing of the number.
+    Start,
+    // No digits of the integer.
+    Empty,
+    // The digit 0, and no separators.
+    Bare,
+    // The digit 0, and separators.
+    Zero,
+    // A leading zero, and more digits.
+    Led,
+    // Nothing since the exponent character.
+    Mark,
+    // No digits of the fraction, after no digits of the integer.
+    Lone,
+    // No digits, where a zero is not a leading one.
+    Free,
+    // Digits without a leading zero.
+    Digits,
+}
+
+// What has been read of a number.
+#[derive(Clone, Copy)]
+pub(crate) struct Summary {
+    // The part that a digit belongs to.
+    pub(crate) part: Part,
+    pub(crate) stage: Stage,
+    // Whether the last byte is a separator.
+    pub(crate) gap: bool,
+    // Whether the suffix has been read.
+    pub(crate) ended: bool,
+}
+
+// A number with a suffix, behind which nothing follows.
+pub(crate) const FINISHED: Summary = Summary {
+    part: Part::Exponent,
+    stage: Stage::Digits,
+    gap: false,
+    ended: true,
+};
+
+// What one byte makes of what has been read.
+#[derive(Clone, Copy)]
+pub(crate) struct Move {
+    pub(crate) summary: Summary,
+    pub(crate) piece: Piece,
+}
+
+// Returns whether `byte` is a digit of `part`.
+fn is_digit(grammar: Grammar, part: Part, byte: u8) -> bool
+    ensures { result ≡ nat_lt (byte_value byte) (radix_of (raw grammar.word) part) }
+{
+    match part {
+        Part::Integer | Part::Fraction => grammar.view().mantissa_digit(byte).is_some(),
+        Part::Exponent => grammar.view().exponent_digit(byte).is_some(),
+    }
+}
+
+// Returns whether `byte` is the decimal point.
+#[tactic(auto, unfolding(lexical_util::specs::Unfoldable::cased))]
+fn is_point(grammar: Grammar, byte: u8) -> bool
+    ensures { result ≡ point_of grammar.options byte }
+{
+    match grammar.options {
+        None => false,
+        Some(options) => options.point != 0 && byte == options.point,
+    }
+}
+
+// Returns whether `byte` is the exponent character.
+fn is_exponent_character(grammar: Grammar, byte: u8) -> bool
+    ensures { result ≡ exponent_character_of (raw grammar.word) grammar.options byte }
+{
+    match grammar.options {
+        None => false,
+        Some(options) => grammar.view().is_exponent_character(options.exponent, byte),
+    }
+}
+
+// Returns the class of `byte`.
+pub(crate) fn class_of(grammar: Grammar, byte: u8) -> Class
+    ensures { result ≡ class_of (notation_of grammar) byte }
+{
+    let mantissa = is_digit(grammar, Part::Integer, byte);
+    let exponent = is_digit(grammar, Part::Exponent, byte);
+    if mantissa && exponent {
+        if byte == b'0' {
+            Class::Zero
+        } else {
+            Class::Digit
+        }
+    } else if mantissa {
+        Class::MantissaDigit
+    } else if exponent {
+        Class::ExponentDigit
+    } else {
+        mark_of(grammar, byte)
+    }
+}
+
+// Returns the class of a `byte` that is not a digit.
+fn mark_of(grammar: Grammar, byte: u8) -> Class
+    requires mantissa { IsFalse ((notation_of grammar).digit Part.Integer byte) }
+    requires exponent { IsFalse ((notation_of grammar).digit Part.Exponent byte) }
+    ensures { result ≡ class_of (notation_of grammar) byte }
+{
+    let format = grammar.view();
+    if format.is_separator(byte) {
+        Class::Separator
+    } else if is_point(grammar, byte) {
+        Class::Point
+    } else if is_exponent_character(grammar, byte) {
+        Class::ExponentCharacter
+    } else if format.is_base_suffix(byte) {
+        Class::Suffix
+    } else if byte == b'+' {
+        Class::Plus
+    } else if byte == b'-' {
+        Class::Minus
+    } else if format.is_base_prefix(byte) {
+        Class::Prefix
+    } else {
+        Class::Other
+    }
+}
+
+// Returns the role of the bytes of `class`.
+pub(crate) fn role_of(class: Class) -> Option<Role>
+    ensures { result ≡ role_of class }
+{
+    match class {
+        Class::Other => None,
+        Class::Zero | Class::Digit | Class::MantissaDigit | Class::ExponentDigit => {
+            Some(Role::Digit)
+        }
+        Class::Separator => Some(Role::Separator),
+        Class::Prefix => Some(Role::Prefix),
+        Class::Suffix => Some(Role::Suffix),
+        Class::Point => Some(Role::Point),
+        Class::ExponentCharacter => Some(Role::Exponent),
+        Class::Plus | Class::Minus => Some(Role::Sign),
+    }
+}
+
+// Returns the role of a byte of `class` after a front that ends in `part`, where digits are those of the radix of `part`.
+fn in_part(part: Part, class: Class) -> Option<Role>
+    ensures { result ≡ in_part part class }
+{
+    match (class, part) {
+        (Class::MantissaDigit, Part::Exponent)
+        | (Class::ExponentDigit, Part::Integer | Part::Fraction) => None,
+        _ => role_of(class),
+    }
+}
+
+// Returns the piece that a byte with the role `role` belongs to, after a front that ends in `part`.
+fn piece_of(part: Part, role: Role) -> Piece
+    ensures { result ≡ piece_of part role }
+{
+    match (role, part) {
+        (Role::Digit | Role::Separator, Part::Integer) => Piece::Integer,
+        (Role::Digit | Role::Separator, Part::Fraction) => Piece::Fraction,
+        (Role::Digit | Role::Separator, Part::Exponent) => Piece::Exponent,
+        (Role::Sign, Part::Exponent) => Piece::ExponentSign,
+        (Role::Sign, Part::Integer | Part::Fraction) => Piece::Sign,
+        (Role::Prefix, _) => Piece::Prefix,
+        (Role::Point, _) => Piece::Point,
+        (Role::Exponent, _) => Piece::ExponentCharacter,
+        (Role::Suffix, _) => Piece::Suffix,
+    }
+}
+
+// Returns whether a separator may be at a place in `part` with digits before it, or not, and after it, or not.
+fn is_place(grammar: Grammar, part: Part, before: bool, after: bool) -> bool
+    ensures { result ≡ is_place (notation_of grammar) part before after }
+{
+    let allowed = grammar.view().separators(part);
+    match (before, after) {
+        (true, true) => allowed.internal,
+        (false, true) => allowed.leading,
+        (true, false) => allowed.trailing,
+        (false, false) => false,
+    }
+}
+
+// Returns whether the part has a digit.
+fn has_digit(stage: Stage) -> bool
+    ensures { result ≡ has_digit stage }
+{
+    matches!(
+        stage,
+        Stage::Bare | Stage::Zero | Stage::Led | Stage::Digits
+    )
+}
+
+// Returns whether a sign may follow.
+fn is_fresh(stage: Stage) -> bool
+    ensures { result ≡ is_fresh stage }
+{
+    matches!(stage, Stage::Start | Stage::Mark)
+}
+
+// Returns whether there is a leading zero.
+fn is_led(stage: Stage) -> bool
+    ensures { result ≡ is_led stage }
+{
+    matches!(stage, Stage::Led)
+}
+
+// Returns whether an exponent is required.
+fn needs_exponent(grammar: Grammar) -> bool
+    ensures { result ≡ needs_exponent (notation_of grammar) }
+{
+    grammar.view().required_exponent_notation() && grammar.options.is_some()
+}
+
+// Returns whether some literal has a leading zero.
+fn may_lead(grammar: Grammar) -> bool
+    ensures { result ≡ may_lead (notation_of grammar) }
+{
+    (grammar.options.is_some() && !grammar.view().no_float_leading_zeros())
+        || (!grammar.view().no_integer_leading_zeros() && !needs_exponent(grammar))
+}
+
+// Returns whether another digit may follow.
+fn may_follow(grammar: Grammar, stage: Stage) -> bool
+    ensures { result ≡ may_follow (notation_of grammar) stage }
+{
+    match stage {
+        Stage::Bare | Stage::Zero => may_lead(grammar),
+        Stage::Start
+        | Stage::Empty
+        | Stage::Led
+        | Stage::Mark
+        | Stage::Lone
+        | Stage::Free
+        | Stage::Digits => true,
+    }
+}
+
+// Returns the stage after a digit.
+fn after_digit(stage: Stage, gap: bool, zero: bool) -> Stage
+    ensures { result ≡ after_digit stage gap zero }
+{
+    match stage {
+        Stage::Start | Stage::Empty if !zero => Stage::Digits,
+        Stage::Start | Stage::Empty if gap => Stage::Zero,
+        Stage::Start | Stage::Empty => Stage::Bare,
+        Stage::Bare | Stage::Zero | Stage::Led => Stage::Led,
+        Stage::Mark | Stage::Lone | Stage::Free | Stage::Digits => Stage::Digits,
+    }
+}
+
+// Returns the stage after a sign.
+fn after_sign(stage: Stage) -> Stage
+    ensures { result ≡ after_sign stage }
+{
+    match stage {
+        Stage::Start => Stage::Empty,
+        Stage::Mark => Stage::Free,
+        Stage::Empty
+        | Stage::Bare
+        | Stage::Zero
+        | Stage::Led
+        | Stage::Lone
+        | Stage::Free
+        | Stage::Digits => stage,
+    }
+}
+
+// Returns the stage after a separator.
+fn after_separator(stage: Stage) -> Stage
+    ensures { result ≡ after_separator stage }
+{
+    match stage {
+        Stage::Bare => Stage::Zero,
+        Stage::Start
+        | Stage::Empty
+        | Stage::Zero
+        | Stage::Led
+        | Stage::Mark
+        | Stage::Lone
+        | Stage::Free
+        | Stage::Digits => after_sign(stage),
+    }
+}
+
+// Returns whether a digit may follow.
+fn takes_digit(grammar: Grammar, part: Part, digit: bool, gap: bool) -> bool
+    ensures { result ≡ takes_digit (notation_of grammar) part digit gap }
+{
+    !gap || is_place(grammar, part, digit, true)
+}
+
+// Returns whether a separator may follow, so that the gap can be closed.
+fn takes_separator(grammar: Grammar, part: Part, digit: bool, gap: bool, next: bool) -> bool
+    ensures { result ≡ takes_separator (notation_of grammar) part digit gap next }
+{
+    let allowed = grammar.view().separators(part);
+    let is_open = if digit {
+        allowed.trailing || (allowed.internal && next)
+    } else {
+        allowed.leading
+    };
+    (!gap || allowed.consecutive) && is_open
+}
+
+// Returns whether `part` has a sign, or needs none.
+fn is_signed(grammar: Grammar, part: Part, stage: Stage) -> bool
+    ensures { result ≡ is_signed (notation_of grammar) part stage }
+{
+    let format = grammar.view();
+    let needs_sign = match part {
+        Part::Integer => format.required_mantissa_sign(),
+        Part::Fraction => false,
+        Part::Exponent => format.required_exponent_sign(),
+    };
+    !is_fresh(stage) || !needs_sign
+}
+
+// Returns whether a plus sign is forbidden in `part`.
+fn forbids_plus(grammar: Grammar, part: Part) -> bool
+    ensures { result ≡ forbids_plus (notation_of grammar) part }
+{
+    match part {
+        Part::Integer => grammar.view().no_positive_mantissa_sign(),
+        Part::Fraction => false,
+        Part::Exponent => grammar.view().no_positive_exponent_sign(),
+    }
+}
+
+// Returns whether `part` has the digits that it needs.
+fn digits_suffice(grammar: Grammar, part: Part, stage: Stage) -> bool
+    ensures { result ≡ digits_suffice (notation_of grammar) part stage }
+{
+    let format = grammar.view();
+    let digit = has_digit(stage);
+    match part {
+        Part::Integer => !format.required_integer_digits() || digit,
+        Part::Fraction => {
+            (!format.required_fraction_digits() || digit)
+                && (!format.required_mantissa_digits() || !matches!(stage, Stage::Lone))
+        }
+        Part::Exponent => !format.required_exponent_digits() || digit,
+    }
+}
+
+// Returns whether the part that is read may end.
+fn ends(grammar: Grammar, read: Summary) -> bool
+    ensures { result ≡ ends (notation_of grammar) read }
+{
+    is_signed(grammar, read.part, read.stage)
+        && ((!read.gap || is_place(grammar, read.part, has_digit(read.stage), false))
+            && digits_suffice(grammar, read.part, read.stage))
+}
+
+// Returns whether a decimal point or an exponent may follow the leading zero, if there is one.
+fn may_float(grammar: Grammar, stage: Stage) -> bool
+    ensures { result ≡ may_float (notation_of grammar) stage }
+{
+    !grammar.view().no_float_leading_zeros() || !is_led(stage)
+}
+
+// Returns whether a decimal point may follow a part that may end.
+fn may_point(grammar: Grammar, part: Part, stage: Stage) -> bool
+    ensures { result ≡ may_point (notation_of grammar) part stage }
+{
+    match part {
+        Part::Integer => may_float(grammar, stage),
+        Part::Fraction | Part::Exponent => false,
+    }
+}
+
+// Returns whether an exponent may follow a part that may end.
+fn may_scale(grammar: Grammar, part: Part, stage: Stage) -> bool
+    ensures { result ≡ may_scale (notation_of grammar) part stage }
+{
+    let format = grammar.view();
+    match part {
+        Part::Integer => {
+            !format.no_exponent_notation()
+                && (may_float(grammar, stage)
+                    && ((!format.required_mantissa_digits() || has_digit(stage))
+                        && !format.no_exponent_without_fraction()))
+        }
+        Part::Fraction => !format.no_exponent_notation(),
+        Part::Exponent => false,
+    }
+}
+
+// Returns whether a literal may stop after a part that may end.
+fn may_stop(grammar: Grammar, part: Part, stage: Stage) -> bool
+    ensures { result ≡ may_stop (notation_of grammar) part stage }
+{
+    match part {
+        Part::Integer => {
+            !needs_exponent(grammar)
+                && (has_digit(stage)
+                    && (!grammar.view().no_integer_leading_zeros() || !is_led(stage)))
+        }
+        Part::Fraction => !needs_exponent(grammar),
+        Part::Exponent => true,
+    }
+}
+
+// Returns whether what has been read is a literal.
+pub(crate) fn is_complete(grammar: Grammar, read: Summary) -> bool
+    ensures { result ≡ is_complete (notation_of grammar) read }
+{
+    read.ended || (ends(grammar, read) && may_stop(grammar, read.part, read.stage))
+}
+
+// Returns whether some literal goes on with a byte that has the role `role`, and is a plus sign if `plus` is true.
+fn takes(grammar: Grammar, read: Summary, plus: bool, role: Role) -> bool
+    ensures { result ≡ takes (notation_of grammar) read plus role }
+{
+    let digit = has_digit(read.stage);
+    match role {
+        Role::Digit => {
+            is_signed(grammar, read.part, read.stage)
+                && (takes_digit(grammar, read.part, digit, read.gap)
+                    && may_follow(grammar, read.stage))
+        }
+        Role::Separator => {
+            let next = may_follow(grammar, read.stage);
+            is_signed(grammar, read.part, read.stage)
+                && takes_separator(grammar, read.part, digit, read.gap, next)
+        }
+        Role::Sign => is_fresh(read.stage) && (!forbids_plus(grammar, read.part) || !plus),
+        Role::Prefix => matches!(read.stage, Stage::Bare),
+        Role::Point => ends(grammar, read) && may_point(grammar, read.part, read.stage),
+        Role::Exponent => ends(grammar, read) && may_scale(grammar, read.part, read.stage),
+        Role::Suffix => ends(grammar, read) && may_stop(grammar, read.part, read.stage),
+    }
+}
+
+// Returns the summary after a byte that has the role `role`, and is the digit 0 if `zero` is true.
+fn after(read: Summary, zero: bool, role: Role) -> Summary
+    ensures { result ≡ after read zero role }
+{
+    let mut next = read;
+    match role {
+        Role::Digit => {
+            next.stage = after_digit(read.stage, read.gap, zero);
+            next.gap = false;
+        }
+        Role::Separator => {
+            next.stage = after_separator(read.stage);
+            next.gap = true;
+        }
+        Role::Sign => next.stage = after_sign(read.stage),
+        Role::Prefix => {
+            next.stage = Stage::Free;
+            next.gap = false;
+        }
+        Role::Point => {
+            next.part = Part::Fraction;
+            next.stage = after_point(has_digit(read.stage));
+            next.gap = false;
+        }
+        Role::Exponent => {
+            next.part = Part::Exponent;
+            next.stage = Stage::Mark;
+            next.gap = false;
+        }
+        Role::Suffix => next = FINISHED,
+    }
+    next
+}
+
+// Returns the stage after a decimal point that follows an integer with a digit, or without one.
+fn after_point(digit: bool) -> Stage
+    ensures { result ≡ after_point digit }
+{
+    if digit { Stage::Free } else { Stage::Lone }
+}
+
+// Returns what a byte of `class` makes of what has been read, or `None` if no literal begins so.
+pub(crate) fn step(grammar: Grammar, read: Summary, class: Class) -> Option<Move>
+    ensures { IsMove (notation_of grammar) read class result }
+{
+    let role = in_part(read.part, class)?;
+    let plus = matches!(class, Class::Plus);
+    let zero = matches!(class, Class::Zero);
+    if !read.ended & takes(grammar, read, plus, role) {
+        Some(Move {
+            summary: after(read, zero, role),
+            piece: piece_of(read.part, role),
+        })
+    } else {
+        None
+    }
+}
