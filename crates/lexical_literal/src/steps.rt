@@ -190,7 +190,7 @@ pub(crate) fn role_of(class: Class) -> Option<Role>
     }
 }
 
-// Returns the role of a byte of `class` after a front that ends in `part`, where digits are those of the radix of `part`.
+// Returns the role of a byte of `class` after a front that ends in `part`, whose radix decides what is a digit.
 fn in_part(part: Part, class: Class) -> Option<Role>
     ensures { result ≡ in_part part class }
 {
