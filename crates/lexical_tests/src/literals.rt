@@ -15,8 +15,8 @@ struct Row<'a> {
     text: &'a [u8],
 }
 
-// Returns a row, or `None` if the line is malformed.
-fn row(line: &str) -> Option<Row<'_>> {
+// Returns the row of a line, or `None` if the line is malformed.
+fn parsed(line: &str) -> Option<Row<'_>> {
     let mut cells = line.split(' ');
     let (word, exponent) = (parse_word(cells.next()?).ok()?, cells.next()?);
     let syntax = match exponent.as_bytes() {
@@ -34,7 +34,7 @@ fn row(line: &str) -> Option<Row<'_>> {
 #[test]
 fn texts_are_literals_where_grammars_and_flags_say_so(rt: HostRuntime) {
     for line in ROWS.lines() {
-        let Some(row) = row(line) else {
+        let Some(row) = parsed(line) else {
             assert!(rt; false, "{line}");
             return;
         };
