@@ -11,15 +11,13 @@ use Rattle.lexical_flags.specs.Layout.{Flag, Byte, bit, part, flags, bytes, digi
 use Rattle.lexical_flags.specs.Layout as layout
 use Rattle.lexical_flags.specs.Record.{Record, HasBytes, raw, trim, fill, pack, word_of, flag_bits, byte_bits, effective}
 use Rattle.lexical_flags.specs.Record.{separator_allowed, SeparatorAllowedOrAbsent}
-use Rattle.lexical_flags.proofs.RecordLemmas.{record_same}
-use Rattle.lexical_flags.proofs.Packing.{raw-injective, kept_same, trimmed_unused}
+use Rattle.lexical_flags.proofs.Packing.{kept_same, trimmed_unused}
 use Rattle.lexical_flags.specs.declared.format_flags.TheConstants.{FLAG_MASK}
 use Rattle.lexical_flags.proofs.FlagBits.{flags-lt}
 use Rattle.lexical_flags.proofs.Masks.{and_all}
 use Rattle.lexical_builder.proofs.BuilderFlags.{bit_value}
 use Rattle.lexical_builder.specs.Writes.{Write, IsLegal, after}
-use Rattle.lexical_builder.proofs.WriteLemmas.{after_none}
-use Rattle.lexical_util.proofs.EditLemmas.{edited-fields, edited-clean, edited-fits}
+use Rattle.lexical_util.proofs.EditLemmas.{edited-fields, edited-clean, edited-fits, edited-only}
 use Rattle.lexical_util.specs.Edits.{edited}
 use Rattle.lexical_util.specs.Groups.{any_flag, bits_of}
 use Rattle.lexical_util.specs.NormalForm.{normal_form_of, SameFormat, IsNormal}
@@ -38,7 +36,7 @@ used_same p q x y e h t = grind (arith, nat_tests)
 
 -- If two records are equivalent, then they are equal after they are filled and trimmed.
 pub trim-same_format : (R S : Record) → SameFormat R S → trim (fill R) ≡ trim (fill S)
-trim-same_format R S s = record_same _ _ s.flags on_byte where
+trim-same_format R S s = λ i. record { flag = λ f. s.flags f i; byte = λ b. on_byte b i } where
   on_byte : (b : Byte) → (trim (fill R)).byte b ≡ (trim (fill S)).byte b
   on_byte layout.digit_separator = use_same (separator_allowed R) (separator_allowed S) (R.byte layout.digit_separator) (S.byte layout.digit_separator)
       (list_any_same R.flag S.flag digit_separator_flags s.flags) s.digit_separator
@@ -66,7 +64,8 @@ SameFormat-from_trim R S e =
 
 -- The normal form is the word into which the filled record packs.
 pub normal_form-is : (w : ℕ) → normal_form_of w ≡ pack (fill (raw w))
-normal_form-is w = ap pack (after_none (fill (raw w)))
+unfolding after
+normal_form-is w = refl
 
 -- The flags of a word under the mask of all flags are the sum of the flags.
 masked_flags : (w : ℕ) → bit_and w FLAG_MASK ≡ sum_by (flag_bits (raw w)) flags
@@ -112,7 +111,8 @@ normal_same a b s = normal_form-is a ∙ ap word_of (trim-same_format (raw a) (r
 
 -- The fields of a normal form are the fields of the word, filled and trimmed.
 pub raw_normal : (w : ℕ) → raw (normal_form_of w) ≡ trim (fill (raw w))
-raw_normal w = edited-fields w [] (All-nil IsLegal) ∙ ap trim (after_none (fill (raw w)))
+unfolding after
+raw_normal w = edited-fields w [] (All-nil IsLegal)
 
 -- If the normal forms of two words are equal, then the words are equivalent.
 pub SameFormat-from_normal : (a b : ℕ) → normal_form_of a ≡ normal_form_of b → SameFormat (raw a) (raw b)
@@ -150,8 +150,8 @@ module _ (w : ℕ) where
 
   -- No other clean word has the fields of the normal form.
   pub normal_only : (u : ℕ) → u < 2 ^ 128 → IsClean u → raw u ≡ trim (fill (raw w)) → u ≡ normal_form_of w
-  normal_only u fits clean same =
-      raw-injective u (normal_form_of w) fits normal_fits clean clean_normal (same ∙ sym (raw_normal w))
+  unfolding after
+  normal_only = edited-only w [] (All-nil IsLegal)
 
   pub normal_keeps : SameFormat (raw w) (raw (normal_form_of w))
   normal_keeps = subst (λ (S : Record). SameFormat (raw w) S) (sym (raw_normal w)) (SameFormat-normal (raw w))
@@ -171,13 +171,12 @@ module _ (w : ℕ) where
       }
 
   pub fixed_from_normal : w < 2 ^ 128 → IsNormal w → normal_form_of w ≡ w
-  fixed_from_normal fits n = raw-injective (normal_form_of w) w normal_fits fits clean_normal n.clean
-      (raw_normal w ∙ record_same (trim (fill (raw w))) (raw w) (λ f. refl) on_byte) where
-        on_byte : (b : Byte) → (trim (fill (raw w))).byte b ≡ (raw w).byte b
-        on_byte layout.digit_separator = kept_same (separator_allowed (raw w)) ((raw w).byte layout.digit_separator) n.separator_used
-        on_byte layout.exponent_base = full ((raw w).byte layout.exponent_base) ((raw w).byte layout.mantissa_radix) n.exponent_base
-        on_byte layout.exponent_radix = full ((raw w).byte layout.exponent_radix) ((raw w).byte layout.mantissa_radix) n.exponent_radix
-        on_byte _ = refl
+  fixed_from_normal fits n = sym (normal_only w fits n.clean (λ i. record { flag = (raw w).flag; byte = λ b. on_byte b i })) where
+    on_byte : (b : Byte) → (raw w).byte b ≡ (trim (fill (raw w))).byte b
+    on_byte layout.digit_separator = sym (kept_same (separator_allowed (raw w)) ((raw w).byte layout.digit_separator) n.separator_used)
+    on_byte layout.exponent_base = sym (full ((raw w).byte layout.exponent_base) ((raw w).byte layout.mantissa_radix) n.exponent_base)
+    on_byte layout.exponent_radix = sym (full ((raw w).byte layout.exponent_radix) ((raw w).byte layout.mantissa_radix) n.exponent_radix)
+    on_byte _ = refl
 
   pub groups_normal : (fs : List Flag) → any_flag w fs ≡ any_flag (normal_form_of w) fs
   unfolding any_flag
@@ -189,7 +188,7 @@ module _ (w : ℕ) where
 
 -- If the separator of a record is allowed or absent, then the trimmed and filled record is the filled record.
 filled_again : (R : Record) → SeparatorAllowedOrAbsent R → fill (trim (fill R)) ≡ fill R
-filled_again R used = record_same _ _ (λ f. refl) on_byte where
+filled_again R used = λ i. record { flag = R.flag; byte = λ b. on_byte b i } where
   on_byte : (b : Byte) → (fill (trim (fill R))).byte b ≡ (fill R).byte b
   on_byte layout.digit_separator = kept_same (separator_allowed R) (R.byte layout.digit_separator) used
   on_byte layout.exponent_base = sym (effective_again (R.byte layout.exponent_base) (R.byte layout.mantissa_radix))

@@ -97,9 +97,6 @@ separator_when r note = test _ _ refl refl where
 case_when : (r : Record) (f : FlagSetter) (name : Byte) → (is_cased r name ≡ true → IsSetCaseFlag r f name) → (note : Note)
     → case_note r f name ≡ Some note → IsIdle r note
 case_when r f name set note = test _ _ refl refl where
-  value : ℕ
-  value = value_of r 0 0 name
-
   test : (t z : Bool) → (is_cased r name && (other_case (value_of r 0 0 name) == value_of r 0 0 name)) ≡ t
       → (value_of r 0 0 name == 0) ≡ z
       → then_some t (if z then notes.CaseFlagWithoutByte f name else notes.CaseFlagOfNonLetter f (named r 0 0 name)) ≡ Some note
@@ -113,9 +110,19 @@ case_when r f name set note = test _ _ refl refl where
   test false z t z_is is = absurd (cc)
 
 -- A note whose fields have its values stands in one of the three slots.
-in_slot : (r : Record) (note : Note) → IsIdle r note → (separator_note r ≡ Some note)
+abbrev InSlot : Record → Note → Type 0
+InSlot r note = (separator_note r ≡ Some note)
     ⊎ ((case_note r setters.CaseSensitiveBasePrefix bytes.BasePrefix ≡ Some note)
     ⊎ (case_note r setters.CaseSensitiveBaseSuffix bytes.BaseSuffix ≡ Some note))
+
+case_slot : (r : Record) (f : FlagSetter) (name : Byte) (note : Note) → IsSetCaseFlag r f name
+    → (is_cased r name ≡ true → case_note r f name ≡ Some note) → InSlot r note
+case_slot r f name note (inl (f_is, name_is, on)) there =
+    inr (inl (sym (λ i. case_note r (f_is i) (name_is i)) ∙ there (ap (is_cased r) name_is ∙ on)))
+case_slot r f name note (inr (f_is, name_is, on)) there =
+    inr (inr (sym (λ i. case_note r (f_is i) (name_is i)) ∙ there (ap (is_cased r) name_is ∙ on)))
+
+in_slot : (r : Record) (note : Note) → IsIdle r note → InSlot r note
 in_slot r (notes.SeparatorWithoutFlag b) (off, name, has, some) =
     let none = not_zero b.value some in
     inl ((λ i. if off i then then_some (has i == 0) notes.FlagsWithoutSeparator
@@ -125,24 +132,16 @@ in_slot r notes.FlagsWithoutSeparator (on, absent) =
     inl (λ i. if on i then then_some (absent i == 0) notes.FlagsWithoutSeparator
     else then_some (not (absent i == 0)) (notes.SeparatorWithoutFlag (record { name = bytes.DigitSeparator; value = absent i })))
 in_slot r (notes.CaseFlagWithoutByte f name) (set, absent) =
-    let there : is_cased r name ≡ true → case_note r f name ≡ Some (notes.CaseFlagWithoutByte f name) =
-    λ on i. then_some (on i && (other_case (absent i) == absent i)) (if absent i == 0 then notes.CaseFlagWithoutByte f name
-    else notes.CaseFlagOfNonLetter f (record { name = name; value = absent i })) in
-    elim set [
-      | inl h ↦ inr (inl (sym (λ i. case_note r (h.0 i) (h.1 i)) ∙ there (ap (is_cased r) h.1 ∙ h.2)))
-      | inr h ↦ inr (inr (sym (λ i. case_note r (h.0 i) (h.1 i)) ∙ there (ap (is_cased r) h.1 ∙ h.2)))
-    ]
+    case_slot r f name (notes.CaseFlagWithoutByte f name) set (λ on i.
+    then_some (on i && (other_case (absent i) == absent i)) (if absent i == 0 then notes.CaseFlagWithoutByte f name
+    else notes.CaseFlagOfNonLetter f (record { name = name; value = absent i })))
 in_slot r (notes.CaseFlagOfNonLetter f b) (set, has, some, same) =
     let none = not_zero b.value some in
     let equal = eq-eqb _ _ same in
-    let there : is_cased r b.name ≡ true → case_note r f b.name ≡ Some (notes.CaseFlagOfNonLetter f b) =
-    λ on. (λ i. then_some (on i && (other_case (has i) == has i)) (if has i == 0 then notes.CaseFlagWithoutByte f b.name
+    case_slot r f b.name (notes.CaseFlagOfNonLetter f b) set (λ on.
+    (λ i. then_some (on i && (other_case (has i) == has i)) (if has i == 0 then notes.CaseFlagWithoutByte f b.name
     else notes.CaseFlagOfNonLetter f (record { name = b.name; value = has i })))
-    ∙ (λ i. then_some (equal i) (if none i then notes.CaseFlagWithoutByte f b.name else notes.CaseFlagOfNonLetter f b)) in
-    elim set [
-      | inl h ↦ inr (inl (sym (λ i. case_note r (h.0 i) (h.1 i)) ∙ there (ap (is_cased r) h.1 ∙ h.2)))
-      | inr h ↦ inr (inr (sym (λ i. case_note r (h.0 i) (h.1 i)) ∙ there (ap (is_cased r) h.1 ∙ h.2)))
-    ]
+    ∙ (λ i. then_some (equal i) (if none i then notes.CaseFlagWithoutByte f b.name else notes.CaseFlagOfNonLetter f b)))
 
 -- `all_notes mask r` lists the notes on `r` that name no field under `mask`, each in its slot.
 abbrev pub all_notes : ℕ → Record → List (Option Note)
@@ -165,9 +164,7 @@ notes_when mask r note = (found, λ both. place both.1 (in_slot r note both.0)) 
       (case_when r setters.CaseSensitiveBaseSuffix bytes.BaseSuffix (λ on. inr (refl, refl, on)) note own.0, own.1)
   found (suc (suc (suc k)), below, is) = absurd (omega (arith, below))
 
-  place : bit_and mask (mask_of_note note) ≡ 0 → (separator_note r ≡ Some note)
-      ⊎ ((case_note r setters.CaseSensitiveBasePrefix bytes.BasePrefix ≡ Some note)
-      ⊎ (case_note r setters.CaseSensitiveBaseSuffix bytes.BaseSuffix ≡ Some note)) → Contains (all_notes mask r) (Some note)
+  place : bit_and mask (mask_of_note note) ≡ 0 → InSlot r note → Contains (all_notes mask r) (Some note)
   place free (inl is) = (0, omega arith, (unless_is mask _ note).1 (is, free))
   place free (inr (inl is)) = (1, omega arith, (unless_is mask _ note).1 (is, free))
   place free (inr (inr is)) = (2, omega arith, (unless_is mask _ note).1 (is, free))
@@ -233,21 +230,20 @@ IsReady r notes.FlagsWithoutSeparator = r.byte layout.digit_separator ≡ 0
 IsReady r (notes.CaseFlagWithoutByte f name) = IsCaseless r f
 IsReady r (notes.CaseFlagOfNonLetter f b) = IsCaseless r f
 
-ready : (r : Record) (note : Note) → IsIdle r note → IsReady r note
-ready r (notes.SeparatorWithoutFlag b) idle = idle.0
-ready r notes.FlagsWithoutSeparator idle = idle.1
-ready r (notes.CaseFlagWithoutByte f name) (set, absent) = elim set [
-  | inl h ↦ inl (h.0, caseless _ (sym (ap (value_of r 0 0) h.1) ∙ absent))
-  | inr h ↦ inr (h.0, caseless _ (sym (ap (value_of r 0 0) h.1) ∙ absent))
-] where
-  caseless : (n : ℕ) → n ≡ 0 → other_case n ≡ n
-  caseless n absent = ap other_case absent ∙ sym absent
-ready r (notes.CaseFlagOfNonLetter f b) (set, has, some, same) = elim set [
+caseless : (r : Record) (f : FlagSetter) (name : Byte) (value : ℕ) → IsSetCaseFlag r f name → value_of r 0 0 name ≡ value
+    → other_case value ≡ value → IsCaseless r f
+caseless r f name value set has same = elim set [
   | inl h ↦ inl (h.0, equal _ (sym (ap (value_of r 0 0) h.1) ∙ has))
   | inr h ↦ inr (h.0, equal _ (sym (ap (value_of r 0 0) h.1) ∙ has))
 ] where
-  equal : (n : ℕ) → n ≡ b.value → other_case n ≡ n
+  equal : (n : ℕ) → n ≡ value → other_case n ≡ n
   equal n is = ap other_case is ∙ same ∙ sym is
+
+ready : (r : Record) (note : Note) → IsIdle r note → IsReady r note
+ready r (notes.SeparatorWithoutFlag b) idle = idle.0
+ready r notes.FlagsWithoutSeparator idle = idle.1
+ready r (notes.CaseFlagWithoutByte f name) (set, absent) = caseless r f name 0 set absent refl
+ready r (notes.CaseFlagOfNonLetter f b) (set, has, some, same) = caseless r f b.name b.value set has same
 
 ready_packed : (r : Record) (note : Note) → IsReady r note → IsReady (trim r) note
 ready_packed r (notes.SeparatorWithoutFlag b) h = h
@@ -501,19 +497,19 @@ quiet_flag v w f (inl (is, caseless)) clears =
     (no_case _ ((raw w).flag layout.case_sensitive_base_prefix) _ caseless
     ∙ (λ i. cased ((raw w).flag layout.case_sensitive_base_prefix) (same_byte v w _ own layout.base_prefix refl i)))
     (suffix_stays v w _ own refl refl) reads where
-  reads : (q : Rule) → (q ≡ rules.PunctuationDiffers)
-      ⊎ (bit_and (mask_read q) (mask_of (layout.case_sensitive_base_prefix ∷ [])) ≡ 0)
-  reads rules.PunctuationDiffers = inl refl
-  reads q = inr refl
+      reads : (q : Rule) → (q ≡ rules.PunctuationDiffers)
+          ⊎ (bit_and (mask_read q) (mask_of (layout.case_sensitive_base_prefix ∷ [])) ≡ 0)
+      reads rules.PunctuationDiffers = inl refl
+      reads q = inr refl
 quiet_flag v w f (inr (is, caseless)) clears =
     let own : Clears (mask_of (layout.case_sensitive_base_suffix ∷ [])) v w = subst (λ f. Clears (mask_of_setter f) v w) is clears in
     quiet_case v w (mask_of (layout.case_sensitive_base_suffix ∷ [])) own refl refl refl (prefix_stays v w _ own refl refl)
     (no_case _ ((raw w).flag layout.case_sensitive_base_suffix) _ caseless
     ∙ (λ i. cased ((raw w).flag layout.case_sensitive_base_suffix) (same_byte v w _ own layout.base_suffix refl i))) reads where
-  reads : (q : Rule) → (q ≡ rules.PunctuationDiffers)
-      ⊎ (bit_and (mask_read q) (mask_of (layout.case_sensitive_base_suffix ∷ [])) ≡ 0)
-  reads rules.PunctuationDiffers = inl refl
-  reads q = inr refl
+      reads : (q : Rule) → (q ≡ rules.PunctuationDiffers)
+          ⊎ (bit_and (mask_read q) (mask_of (layout.case_sensitive_base_suffix ∷ [])) ≡ 0)
+      reads rules.PunctuationDiffers = inl refl
+      reads q = inr refl
 
 quiet : (v w : ℕ) (note : Note) → IsReady (raw v) note → Clears (idle_mask note) v w → IsQuiet v w
 quiet v w (notes.SeparatorWithoutFlag b) h clears = quiet_separator v w clears h

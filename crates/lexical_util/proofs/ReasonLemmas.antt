@@ -439,12 +439,14 @@ shape_settled (absent_or_punctuation b) word =
     (λ free. inr (subst (IsPunctuation (raw word)) (value_is word b) free))))
 shape_settled roles_differ word =
     let all = clashes_settled word 0 0 (omega arith) (omega arith) (Own roles_differ) format_pairs
-    (λ w d. (assumption d, (assumption d, (assumption d, tt)))) in
-    (all.0, λ none.
-    let apart = all.1 none in
-    let rest = apart.1 in
-    let last = rest.1 in
-    ((apart.0, (rest.0, tt)), ((last.0, tt), (tt, tt))))
+    (λ w d. (assumption d, (assumption d, (assumption d, tt)))) in (
+      all.0,
+      λ none.
+          let apart = all.1 none in
+          let rest = apart.1 in
+          let last = rest.1 in
+          ((apart.0, (rest.0, tt)), ((last.0, tt), (tt, tt))),
+    )
 shape_settled (not_both a b) word =
     let D = Own (not_both a b) in
     alone _ _ _ (settled_if (Explains word 0 0 D) (D word) _ _
@@ -595,6 +597,16 @@ of_rules : (P : Option Reason → Type 0) (word : ℕ) → ((rule : Rule) → Al
 of_rules P word each [] = tt
 of_rules P word each (rule ∷ list) = join P (slots word rule) _ (each rule) (of_rules P word each list)
 
+-- If a word satisfies each rule of a list, then their slots are `None`.
+pub kept : (word : ℕ) (list : List Rule) → AllByRecursion (λ rule. Holds rule word) list
+    → NoReason (flat_map (slots word) list)
+kept word [] all = tt
+kept word (rule ∷ list) all =
+    join (λ o. o ≡ None) (slots word rule) _
+    (no_reason (slots word rule) (lift (reason_of (raw word) (Some rule)) _ (λ r. ⊥)
+    (λ c h. h.refutes word h.is_true (own_demand rule word all.0)) (causes_of (shape_of rule) word)
+    (shape_settled (shape_of rule) word).0)) (kept word list all.1)
+
 all_reasoned : (word : ℕ) → EachReason (Reasoned word) (reason_slots word)
 all_reasoned word = of_rules (λ o. IfSome o (Reasoned word)) word (rule_reasoned word) rules_in_order
 
@@ -639,9 +651,7 @@ by_rules word rule = (
 pub lawful_without_reason : (word : ℕ) → (Lawful word ↔ ((rule : Rule) → Holds rule word))
     → Lawful word ↔ NoReason (reason_slots word)
 lawful_without_reason word all = (
-  λ lawful.
-      no_reason (reason_slots word) (weaken (Reasoned word) (λ r. ⊥) (λ r h.
-      let here = h.blames word refl in here.1 h.first (inl h.is_first) (all.0 lawful h.first)) (reason_slots word) (all_reasoned word)),
+  λ lawful. let h = all.0 lawful in kept word rules_in_order (grind arith),
   λ none. all.1 (λ rule. (by_rules word rule).1 (without (λ r. Breaks r rule → ⊥) (reason_slots word) none)),
 )
 

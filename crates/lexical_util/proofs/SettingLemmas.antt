@@ -1,5 +1,5 @@
 -- Lemmas on the names of setters.
-use Rattle.std.proofs.Common.{ℕ, ◌≡◌, ◌∙◌, List, Option, Some, None, refl, sym, ap, subst}
+use Rattle.std.proofs.Common.{ℕ, ◌≡◌, ◌∙◌, List, Option, Some, refl, sym, ap}
 use Rattle.std.specs.List.{AllByRecursion, find}
 use Rattle.std.specs.Str.{bytes_eq}
 use Rattle.lexical_util.specs.declared.edits.setters.FlagSetter.TheVariants as flags

@@ -164,31 +164,36 @@ pub const fn reasons(format: u128) -> [Option<Reason>; MAX_REASONS]
         exponent: 0,
         point: 0,
     };
-    macro_rules! slots {
-        ($($Rule:ident $cause:ident($($argument:expr),*);)*) => {
-            [$(word.slot(Some(Rule::$Rule), word.$cause($($argument),*)),)*]
+    // If the word satisfies all rules of a group, its slots stay `None`. Most words do, and their tests take less time.
+    let mut slots = [None; MAX_REASONS];
+    macro_rules! fill {
+        ($($($index:literal $Rule:ident $cause:ident($($argument:expr),*)),*;)*) => {
+            $(if !($(Rule::$Rule.is_kept(format))&*) {
+                $(slots[$index] = word.slot(Some(Rule::$Rule), word.$cause($($argument),*));)*
+            })*
         };
     }
-    slots! {
-        MantissaRadixInRange radix_cause(Byte::MantissaRadix);
-        ExponentBaseInRange if_present(Byte::ExponentBase, word.radix_cause(Byte::ExponentBase));
-        ExponentRadixInRange if_present(Byte::ExponentRadix, word.radix_cause(Byte::ExponentRadix));
-        DigitSeparatorIsPunctuation if_present(Byte::DigitSeparator, word.byte_cause(Byte::DigitSeparator));
-        BasePrefixIsPunctuation if_present(Byte::BasePrefix, word.byte_cause(Byte::BasePrefix));
-        BaseSuffixIsPunctuation if_present(Byte::BaseSuffix, word.byte_cause(Byte::BaseSuffix));
-        PunctuationDiffers clash(Byte::DigitSeparator, Byte::BasePrefix);
-        PunctuationDiffers clash(Byte::DigitSeparator, Byte::BaseSuffix);
-        PunctuationDiffers clash(Byte::BasePrefix, Byte::BaseSuffix);
-        ExponentFlagsAgree both_set(FlagSetter::NoExponentNotation, FlagSetter::RequiredExponentNotation);
-        MantissaSignFlagsAgree both_set(FlagSetter::NoPositiveMantissaSign, FlagSetter::RequiredMantissaSign);
-        ExponentSignFlagsAgree both_set(FlagSetter::NoPositiveExponentSign, FlagSetter::RequiredExponentSign);
-        SpecialCaseFlagsAgree both_set(FlagSetter::NoSpecial, FlagSetter::CaseSensitiveSpecial);
-        SpecialSeparatorFlagsAgree both_set(FlagSetter::NoSpecial, FlagSetter::SpecialDigitSeparator);
-        IntegerConsecutiveIsAllowed needs_position(Part::Integer);
-        FractionConsecutiveIsAllowed needs_position(Part::Fraction);
-        ExponentConsecutiveIsAllowed needs_position(Part::Exponent);
-        ReservedBitsAreZero reserved_bits();
+    fill! {
+        0 MantissaRadixInRange radix_cause(Byte::MantissaRadix),
+        1 ExponentBaseInRange if_present(Byte::ExponentBase, word.radix_cause(Byte::ExponentBase)),
+        2 ExponentRadixInRange if_present(Byte::ExponentRadix, word.radix_cause(Byte::ExponentRadix));
+        3 DigitSeparatorIsPunctuation if_present(Byte::DigitSeparator, word.byte_cause(Byte::DigitSeparator)),
+        4 BasePrefixIsPunctuation if_present(Byte::BasePrefix, word.byte_cause(Byte::BasePrefix)),
+        5 BaseSuffixIsPunctuation if_present(Byte::BaseSuffix, word.byte_cause(Byte::BaseSuffix));
+        6 PunctuationDiffers clash(Byte::DigitSeparator, Byte::BasePrefix),
+        7 PunctuationDiffers clash(Byte::DigitSeparator, Byte::BaseSuffix),
+        8 PunctuationDiffers clash(Byte::BasePrefix, Byte::BaseSuffix);
+        9 ExponentFlagsAgree both_set(FlagSetter::NoExponentNotation, FlagSetter::RequiredExponentNotation),
+        10 MantissaSignFlagsAgree both_set(FlagSetter::NoPositiveMantissaSign, FlagSetter::RequiredMantissaSign),
+        11 ExponentSignFlagsAgree both_set(FlagSetter::NoPositiveExponentSign, FlagSetter::RequiredExponentSign),
+        12 SpecialCaseFlagsAgree both_set(FlagSetter::NoSpecial, FlagSetter::CaseSensitiveSpecial),
+        13 SpecialSeparatorFlagsAgree both_set(FlagSetter::NoSpecial, FlagSetter::SpecialDigitSeparator),
+        14 IntegerConsecutiveIsAllowed needs_position(Part::Integer),
+        15 FractionConsecutiveIsAllowed needs_position(Part::Fraction),
+        16 ExponentConsecutiveIsAllowed needs_position(Part::Exponent);
     }
+    slots[17] = word.slot(Some(Rule::ReservedBitsAreZero), word.reserved_bits());
+    slots
 }
 
 /// Returns the reasons why numbers in `format` cannot have the exponent character `exponent` and the decimal point

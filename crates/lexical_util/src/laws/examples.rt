@@ -54,19 +54,29 @@ pub fn note_examples()
 #[tactic(auto, unfolding(crate::specs::Unfoldable::on_literals))]
 pub fn reason_examples()
     ensures blames { Blames 0 0 (record {
-        rule = Some rules.MantissaRadixInRange; followers = (None, None);
-        cause = causes.OutOfRange (record { name = bytes.MantissaRadix; value = 0 });
-        mask = byte_mask layout.mantissa_radix }) }
+      rule = Some rules.MantissaRadixInRange;
+      followers = (None, None);
+      cause = causes.OutOfRange (record { name = bytes.MantissaRadix; value = 0 });
+      mask = byte_mask layout.mantissa_radix;
+    }) }
     ensures another_radix { Blames 0 0 (record {
-        rule = Some rules.MantissaRadixInRange; followers = (None, None);
-        cause = causes.OutOfRange (record { name = bytes.MantissaRadix; value = 37 });
-        mask = byte_mask layout.mantissa_radix }) → ⊥ }
+      rule = Some rules.MantissaRadixInRange;
+      followers = (None, None);
+      cause = causes.OutOfRange (record { name = bytes.MantissaRadix; value = 37 });
+      mask = byte_mask layout.mantissa_radix;
+    }) → ⊥ }
     ensures option { BlamesForOptions 0 43 46 0 (record {
-        rule = None; followers = (None, None); mask = 0;
-        cause = causes.IsSign (record { name = bytes.ExponentCharacter; value = 43 }) }) }
+      rule = None;
+      followers = (None, None);
+      mask = 0;
+      cause = causes.IsSign (record { name = bytes.ExponentCharacter; value = 43 });
+    }) }
     ensures another_option { BlamesForOptions 0 43 46 0 (record {
-        rule = None; followers = (None, None); mask = 0;
-        cause = causes.IsSign (record { name = bytes.ExponentCharacter; value = 45 }) }) → ⊥ }
+      rule = None;
+      followers = (None, None);
+      mask = 0;
+      cause = causes.IsSign (record { name = bytes.ExponentCharacter; value = 45 });
+    }) → ⊥ }
 {}
 
 /// States that `+` is a sign, and not a digit, in decimal numbers with the exponent character `e` and the decimal point

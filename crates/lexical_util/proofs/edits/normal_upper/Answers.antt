@@ -1,11 +1,10 @@
-use Rattle.std.proofs.Common.{◌≡◌, ◌∙◌, ◌+◌, ◌*◌, ◌^◌, ap, arith}
+use Rattle.std.proofs.Common.{◌≡◌, ◌∙◌, ◌+◌, ◌*◌, ◌^◌, ap, arith, subst}
 use Rattle.std.proofs.Common.{bit_or}
 use Rattle.lexical_flags.specs.Layout.{part}
 use Rattle.lexical_flags.specs.Layout as layout
-use Rattle.lexical_flags.specs.Record.{Record, raw, fill, trim, effective}
-use Rattle.lexical_flags.proofs.Packing.{HasBytes-raw, HasBytes-fill, HasBytes-trim}
+use Rattle.lexical_flags.specs.Record.{Record, raw, fill, trim, effective, HasBytes}
 use Rattle.lexical_builder.proofs.BuilderFlags.{part-upper}
-use Rattle.lexical_util.proofs.NormalLemmas.{lower_bytes, bytes_joined}
+use Rattle.lexical_util.proofs.NormalLemmas.{lower_bytes, bytes_joined, raw_normal}
 use Rattle.lexical_util.proofs.edits.normal_upper.Goals as goal
 
 pub returns : goal.returns
@@ -20,4 +19,4 @@ returns c =
     let kept : c.kept_bits.result ≡ lower_bytes r =
     c.kept_bits.ensures ∙ ap (λ n. r.byte layout.digit_separator + n * 2 ^ 24) middle in
     (λ i. bit_or (bit_or (base i) (radix i)) (kept i) * 2 ^ 64)
-    ∙ bytes_joined r (HasBytes-trim (fill (raw w)) (HasBytes-fill (raw w) (HasBytes-raw w)))
+    ∙ bytes_joined r (subst HasBytes (raw_normal w) (record { each = λ b. omega arith }))

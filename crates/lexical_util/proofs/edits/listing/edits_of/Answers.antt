@@ -6,7 +6,7 @@ use Rattle.std.proofs.Math.Seq.{take-append_seam}
 use Rattle.std.proofs.lemmas.List.{drop_all, length-map}
 use Rattle.std.proofs.lemmas.List.Filters.{length-filter_both}
 use Rattle.lexical_flags.specs.Record.{raw}
-use Rattle.lexical_flags.proofs.Packing.{HasBytes-raw, pack-raw}
+use Rattle.lexical_flags.proofs.Packing.{pack-raw}
 use Rattle.lexical_builder.specs.Writes.{IsLegal, new_record, after}
 use Rattle.lexical_util.specs.Edits.{all_writes}
 use Rattle.lexical_util.specs.Additions.FieldEdits.{edit_of_write, needed_edits, other_edits}
@@ -55,7 +55,7 @@ returns c =
     record {
       list = subst (AllZip IsEditOf (needed_writes R ++ other_writes R)) (sym listed) (IsEditOf-both R);
       number = number ∙ length-map (needed_writes R) edit_of_write;
-      legal = subst (λ es. All IsLegal (all_writes es)) (sym listed) (legal-both R (HasBytes-raw c.args.format));
+      legal = subst (λ es. All IsLegal (all_writes es)) (sym listed) (legal-both R (record { each = λ b. omega arith }));
       first = ap (λ es. after new_record (all_writes es)) (ap (take count) listed
           ∙ ap (λ n. take n (needed_edits R ++ other_edits R)) number
           ∙ take-append_seam (needed_edits R) (other_edits R)) ∙ after-needed R;

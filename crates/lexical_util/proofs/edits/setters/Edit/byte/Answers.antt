@@ -1,4 +1,4 @@
-use Rattle.std.proofs.Common.{◌≡◌, false, sym, ap, subst, ◌∙◌, min, cond}
+use Rattle.std.proofs.Common.{sym, ap, subst, ◌∙◌, min, cond}
 use Rattle.std.specs.Bool.{IsFalse}
 use Rattle.lexical_util.specs.Additions.Settings.{takes_flag}
 use Rattle.lexical_util.proofs.edits.setters.Edit.byte.Goals as goal

@@ -1,4 +1,4 @@
-use Rattle.std.proofs.Common.{◌≡◌, sym}
+use Rattle.std.proofs.Common.{sym}
 use Rattle.lexical_util.proofs.edits.setters.Edit.flag.Goals as goal
 
 pub returns-in-Flag-clause-unknown : goal.returns-in-Flag-clause-unknown
