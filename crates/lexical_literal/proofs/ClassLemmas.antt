@@ -34,14 +34,7 @@ pick parts.Exponent mantissa exponent = exponent
 pick _ mantissa exponent = mantissa
 
 mark_role : (part : Part) (s p e x g plus r : Bool) → in_part part (marks s p e x g plus r) ≡ tests false s p e x g r
-mark_role part true p e x g plus r = refl
-mark_role part false true e x g plus r = refl
-mark_role part false false true x g plus r = refl
-mark_role part false false false true g plus r = refl
-mark_role part false false false false true true r = refl
-mark_role part false false false false true false r = refl
-mark_role part false false false false false plus true = refl
-mark_role part false false false false false plus false = refl
+mark_role part s p e x g plus r = grind arith
 
 digit_role : (part : Part) (x y zero : Bool) (rest : Class) → (x || y) ≡ true
     → in_part part (digits x y zero rest) ≡ (if pick part x y then Some roles.Digit else None)
@@ -60,36 +53,16 @@ digit_role parts.Exponent false true zero rest some = refl
 digit_role part false false zero rest some = absurd (false≢true some)
 
 mark_plus : (s p e x g r : Bool) → is_plus (marks s p e x g false r) ≡ false
-mark_plus true p e x g r = refl
-mark_plus false true e x g r = refl
-mark_plus false false true x g r = refl
-mark_plus false false false true g r = refl
-mark_plus false false false false true r = refl
-mark_plus false false false false false true = refl
-mark_plus false false false false false false = refl
+mark_plus s p e x g r = grind arith
 
 mark_zero : (s p e x g plus r : Bool) → is_zero (marks s p e x g plus r) ≡ false
-mark_zero true p e x g plus r = refl
-mark_zero false true e x g plus r = refl
-mark_zero false false true x g plus r = refl
-mark_zero false false false true g plus r = refl
-mark_zero false false false false true true r = refl
-mark_zero false false false false true false r = refl
-mark_zero false false false false false plus true = refl
-mark_zero false false false false false plus false = refl
+mark_zero s p e x g plus r = grind arith
 
 digit_plus : (x y zero : Bool) (rest : Class) → is_plus rest ≡ false → is_plus (digits x y zero rest) ≡ false
-digit_plus true true true rest none = refl
-digit_plus true true false rest none = refl
-digit_plus true false zero rest none = refl
-digit_plus false true zero rest none = refl
-digit_plus false false zero rest none = none
+digit_plus x y zero rest none = grind arith
 
 digit_zero : (x y : Bool) (rest : Class) → is_zero rest ≡ false → is_zero (digits x y false rest) ≡ false
-digit_zero true true rest none = refl
-digit_zero true false rest none = refl
-digit_zero false true rest none = refl
-digit_zero false false rest none = none
+digit_zero x y rest none = grind arith
 
 module _ (m : Notation) (h : HasRoles m) (b : ℕ) where
   abbrev mantissa : Bool
