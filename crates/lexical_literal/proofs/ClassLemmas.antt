@@ -38,19 +38,8 @@ mark_role part s p e x g plus r = grind arith
 
 digit_role : (part : Part) (x y zero : Bool) (rest : Class) → (x || y) ≡ true
     → in_part part (digits x y zero rest) ≡ (if pick part x y then Some roles.Digit else None)
-digit_role parts.Integer true true true rest some = refl
-digit_role parts.Integer true true false rest some = refl
-digit_role parts.Integer true false zero rest some = refl
-digit_role parts.Integer false true zero rest some = refl
-digit_role parts.Fraction true true true rest some = refl
-digit_role parts.Fraction true true false rest some = refl
-digit_role parts.Fraction true false zero rest some = refl
-digit_role parts.Fraction false true zero rest some = refl
-digit_role parts.Exponent true true true rest some = refl
-digit_role parts.Exponent true true false rest some = refl
-digit_role parts.Exponent true false zero rest some = refl
-digit_role parts.Exponent false true zero rest some = refl
-digit_role part false false zero rest some = absurd (false≢true some)
+digit_role parts.Integer x y zero rest some = grind arith
+digit_role _ x y zero rest some = grind arith
 
 mark_plus : (s p e x g r : Bool) → is_plus (marks s p e x g false r) ≡ false
 mark_plus s p e x g r = grind arith
@@ -158,33 +147,12 @@ plays roles.Exponent x y s p e u g r = e
 plays roles.Point x y s p e u g r = p
 
 played : (x y z s p e u g plus r : Bool) (role : Role) → role_of (digits x y z (marks s p e u g plus r)) ≡ Some role → plays role x y s p e u g r ≡ true
-played true true true s p e u g plus r role is = let same : roles.Digit ≡ role = cc in subst (λ a. plays a true true s p e u g r ≡ true) same refl
-played true true false s p e u g plus r role is = let same : roles.Digit ≡ role = cc in subst (λ a. plays a true true s p e u g r ≡ true) same refl
-played true false z s p e u g plus r role is = let same : roles.Digit ≡ role = cc in subst (λ a. plays a true false s p e u g r ≡ true) same refl
-played false true z s p e u g plus r role is = let same : roles.Digit ≡ role = cc in subst (λ a. plays a false true s p e u g r ≡ true) same refl
-played false false z true p e u g plus r role is = let same : roles.Separator ≡ role = cc in subst (λ a. plays a false false true p e u g r ≡ true) same refl
-played false false z false true e u g plus r role is = let same : roles.Point ≡ role = cc in subst (λ a. plays a false false false true e u g r ≡ true) same refl
-played false false z false false true u g plus r role is = let same : roles.Exponent ≡ role = cc in subst (λ a. plays a false false false false true u g r ≡ true) same refl
-played false false z false false false true g plus r role is = let same : roles.Suffix ≡ role = cc in subst (λ a. plays a false false false false false true g r ≡ true) same refl
-played false false z false false false false true true r role is = let same : roles.Sign ≡ role = cc in subst (λ a. plays a false false false false false false true r ≡ true) same refl
-played false false z false false false false true false r role is = let same : roles.Sign ≡ role = cc in subst (λ a. plays a false false false false false false true r ≡ true) same refl
-played false false z false false false false false plus true role is = let same : roles.Prefix ≡ role = cc in subst (λ a. plays a false false false false false false false true ≡ true) same refl
-played false false z false false false false false plus false role is = cc
+played x y z s p e u g plus r roles.Digit is = grind arith
+played x y z s p e u g plus r _ is = grind arith
 
 unplayed : (x y z s p e u g plus r : Bool) (role : Role) → role_of (digits x y z (marks s p e u g plus r)) ≡ None → plays role x y s p e u g r ≡ false
-unplayed false false z false false false false false plus false roles.Digit is = refl
-unplayed false false z false false false false false plus false _ is = refl
-unplayed true true true s p e u g plus r role is = cc
-unplayed true true false s p e u g plus r role is = cc
-unplayed true false z s p e u g plus r role is = cc
-unplayed false true z s p e u g plus r role is = cc
-unplayed false false z true p e u g plus r role is = cc
-unplayed false false z false true e u g plus r role is = cc
-unplayed false false z false false true u g plus r role is = cc
-unplayed false false z false false false true g plus r role is = cc
-unplayed false false z false false false false true true r role is = cc
-unplayed false false z false false false false true false r role is = cc
-unplayed false false z false false false false false plus true role is = cc
+unplayed x y z s p e u g plus r roles.Digit is = grind arith
+unplayed x y z s p e u g plus r _ is = grind arith
 
 module _ (m : Notation) (h : HasRoles m) (b : ℕ) where
   abbrev test : Role → Bool

@@ -229,24 +229,19 @@ module _ (m : Notation) where
 
   -- The stage after a decimal point.
   point_seen : (any : Bool) → has_digit (after_point any) ≡ false
-  point_seen true = refl
-  point_seen false = refl
+  point_seen any = grind arith
 
   point_settles : (any : Bool) → is_fresh (after_point any) ≡ false
-  point_settles true = refl
-  point_settles false = refl
+  point_settles any = grind arith
 
   point_bare : (any : Bool) → is_bare (after_point any) ≡ false
-  point_bare true = refl
-  point_bare false = refl
+  point_bare any = grind arith
 
   point_begins : (any : Bool) → begins (after_point any) ≡ false
-  point_begins true = refl
-  point_begins false = refl
+  point_begins any = grind arith
 
   point_counts : (any : Bool) → not (is_lone (after_point any)) ≡ any
-  point_counts true = refl
-  point_counts false = refl
+  point_counts any = grind arith
 
   or_swap : (a b : Bool) → (a || b) ≡ (b || a)
   or_swap a b = grind arith

@@ -79,20 +79,9 @@ module _ (D : ByteSet) where
   led_separator stages.Zero b run is = or_other (D b) (list_any D run) is
   led_separator _ b run is = refl
 
-first_seen : (gap zero : Bool) → has_digit (first_digit gap zero) ≡ true
-first_seen true true = refl
-first_seen false true = refl
-first_seen gap false = refl
-
-first_counts : (gap zero : Bool) → is_lone (first_digit gap zero) ≡ false
-first_counts true true = refl
-first_counts false true = refl
-first_counts gap false = refl
-
 pub digit_seen : (stage : Stage) (gap zero : Bool) → has_digit (after_digit stage gap zero) ≡ true
-digit_seen stages.Start gap zero = first_seen gap zero
-digit_seen stages.Empty gap zero = first_seen gap zero
-digit_seen _ gap zero = refl
+digit_seen stages.Start gap zero = grind arith
+digit_seen _ gap zero = grind arith
 
 pub same_seen : (stage : Stage) → has_digit (after_separator stage) ≡ has_digit stage
 same_seen stages.Start = refl
@@ -102,9 +91,8 @@ same_seen _ = refl
 
 -- After a digit, the mantissa has one.
 digit_counts : (stage : Stage) (gap zero : Bool) → is_lone (after_digit stage gap zero) ≡ false
-digit_counts stages.Start gap zero = first_counts gap zero
-digit_counts stages.Empty gap zero = first_counts gap zero
-digit_counts _ gap zero = refl
+digit_counts stages.Start gap zero = grind arith
+digit_counts _ gap zero = grind arith
 
 same_counts : (stage : Stage) → is_lone (after_separator stage) ≡ is_lone stage
 same_counts stages.Start = refl
@@ -114,13 +102,8 @@ same_counts _ = refl
 
 -- After a digit or a separator, no sign may follow.
 pub digit_settles : (stage : Stage) (gap zero : Bool) → is_fresh (after_digit stage gap zero) ≡ false
-digit_settles stages.Start true true = refl
-digit_settles stages.Start false true = refl
-digit_settles stages.Start gap false = refl
-digit_settles stages.Empty true true = refl
-digit_settles stages.Empty false true = refl
-digit_settles stages.Empty gap false = refl
-digit_settles _ gap zero = refl
+digit_settles stages.Start gap zero = grind arith
+digit_settles _ gap zero = grind arith
 
 separator_settles : (stage : Stage) → is_fresh (after_separator stage) ≡ false
 separator_settles stages.Start = refl
@@ -135,9 +118,7 @@ begins stages.Empty = true
 begins _ = false
 
 bare_first : (zero gap : Bool) → is_bare (first_digit gap zero) ≡ true → (zero ≡ true) × (gap ≡ false)
-bare_first true true is = absurd (false≢true is)
-bare_first true false is = (refl, refl)
-bare_first false gap is = absurd (false≢true is)
+bare_first zero gap is = grind arith
 
 -- Only a digit 0 that is first is bare.
 bare_digit : (stage : Stage) (gap : Bool) (b : ℕ) → is_bare (after_digit stage gap (b == 48)) ≡ true → (b ≡ 48) × (begins stage ≡ true) × (gap ≡ false)
