@@ -28,9 +28,7 @@ record CanGoOn (m : Notation) (s : Summary) : Type 0 where
 
 -- The first digit is no leading zero yet.
 first : (zero gap : Bool) → is_led (first_digit gap zero) ≡ true → ⊥
-first true true is = false≢true is
-first true false is = false≢true is
-first false gap is = false≢true is
+first zero gap is = grind arith
 
 module _ (m : Notation) where
   led_next : (stage : Stage) (gap zero : Bool) → may_follow m stage ≡ true → (is_led stage ≡ true → may_lead m ≡ true)
@@ -45,14 +43,10 @@ module _ (m : Notation) where
   open_next : (part : Part) (stage : Stage) → is_open m part (has_digit stage) (may_follow m stage) ≡ true
       → is_open m part (has_digit (after_separator stage)) (may_follow m (after_separator stage)) ≡ true
   open_next part stages.Start is = is
-  open_next part stages.Mark is = is
-  open_next part stages.Bare is = is
   open_next part _ is = is
 
   led_kept : (stage : Stage) → is_led (after_separator stage) ≡ true → is_led stage ≡ true
   led_kept stages.Start is = is
-  led_kept stages.Mark is = is
-  led_kept stages.Bare is = is
   led_kept _ is = is
 
   can_sign : (s : Summary) → CanGoOn m s → CanGoOn m (record s { stage = after_sign s.stage })
@@ -63,8 +57,7 @@ module _ (m : Notation) where
     go stage is = subst (λ t. CanGoOn m (record s { stage = t })) is can
 
   point_unled : (digit : Bool) → is_led (after_point digit) ≡ true → ⊥
-  point_unled true is = false≢true is
-  point_unled false is = false≢true is
+  point_unled digit is = grind arith
 
   -- What can go on does so after each byte that is taken.
   goes_on : (s : Summary) (plus zero : Bool) (r : Role) → CanGoOn m s → takes m s plus r ≡ true → CanGoOn m (after s zero r)

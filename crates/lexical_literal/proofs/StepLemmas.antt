@@ -85,8 +85,6 @@ digit_seen _ gap zero = grind arith
 
 pub same_seen : (stage : Stage) → has_digit (after_separator stage) ≡ has_digit stage
 same_seen stages.Start = refl
-same_seen stages.Mark = refl
-same_seen stages.Bare = refl
 same_seen _ = refl
 
 -- After a digit, the mantissa has one.
@@ -96,8 +94,6 @@ digit_counts _ gap zero = grind arith
 
 same_counts : (stage : Stage) → is_lone (after_separator stage) ≡ is_lone stage
 same_counts stages.Start = refl
-same_counts stages.Mark = refl
-same_counts stages.Bare = refl
 same_counts _ = refl
 
 -- After a digit or a separator, no sign may follow.
@@ -107,8 +103,6 @@ digit_settles _ gap zero = grind arith
 
 separator_settles : (stage : Stage) → is_fresh (after_separator stage) ≡ false
 separator_settles stages.Start = refl
-separator_settles stages.Mark = refl
-separator_settles stages.Bare = refl
 separator_settles _ = refl
 
 -- `begins stage` is true if the first digit of the integer follows.
@@ -128,15 +122,12 @@ bare_digit stages.Bare gap b is = absurd (false≢true is)
 bare_digit _ gap b is = absurd (false≢true is)
 
 begins_without : (stage : Stage) → has_digit stage ≡ true → begins stage ≡ true → ⊥
-begins_without stages.Start digit is = false≢true digit
-begins_without stages.Empty digit is = false≢true digit
-begins_without _ digit is = false≢true is
+begins_without stages.Start digit is = grind arith
+begins_without _ digit is = grind arith
 
 bare_separator : (stage : Stage) → is_bare (after_separator stage) ≡ true → ⊥
-bare_separator stages.Start is = false≢true is
-bare_separator stages.Mark is = false≢true is
-bare_separator stages.Bare is = false≢true is
-bare_separator _ is = false≢true is
+bare_separator stages.Start is = grind arith
+bare_separator _ is = grind arith
 
 -- What has been read of the digits of a part.
 pub record Run (m : Notation) (part : Part) (stage : Stage) (gap : Bool) (text : List ℕ) : Type 0 where
