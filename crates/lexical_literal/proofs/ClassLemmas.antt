@@ -183,3 +183,15 @@ module _ (m : Notation) (h : HasRoles m) (b : ℕ) where
   -- The role of its class is the only one of a byte.
   pub only_role : IsOnlyRole m b (role_of (class_of m b))
   only_role role = (to role (role_of (class_of m b)) refl, from role)
+
+-- The part decides only which bytes are digits.
+in_any : (part : Part) (class : Class) (r : Role) → role_of class ≡ Some r → (roles.Digit ≡ r → ⊥) → in_part part class ≡ Some r
+in_any part classes.Zero r is other = absurd (other cc)
+in_any part classes.Digit r is other = absurd (other cc)
+in_any part classes.MantissaDigit r is other = absurd (other cc)
+in_any part classes.ExponentDigit r is other = absurd (other cc)
+in_any part _ r is other = is
+
+-- A byte that plays a role other than a digit has that role in each part.
+pub is_role : (m : Notation) → HasRoles m → (part : Part) (r : Role) (b : ℕ) → (roles.Digit ≡ r → ⊥) → role_set m r b ≡ true → role_in m part b ≡ Some r
+is_role m h part r b other is = sym (class_role m h b part) ∙ in_any part (class_of m b) r ((only_role m h b r).0 is) other

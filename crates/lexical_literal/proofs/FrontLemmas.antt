@@ -13,7 +13,8 @@ use Rattle.lexical_literal.specs.Additions.Summary.{role_in, implies, has_digit,
 use Rattle.lexical_literal.specs.declared.steps.Stage.{Stage}
 use Rattle.lexical_literal.specs.declared.steps.Stage.TheVariants as stages
 use Rattle.lexical_literal.specs.declared.steps.Summary.{Summary}
-use Rattle.lexical_literal.proofs.ScanLemmas.{IsReady, Accepts, scan_none, scan_append, accepts_byte, digit_role, is_role}
+use Rattle.lexical_literal.proofs.ClassLemmas.{is_role}
+use Rattle.lexical_literal.proofs.ScanLemmas.{IsReady, Accepts, scan_none, scan_append, accepts_byte, digit_role}
 use Rattle.lexical_literal.proofs.StepLemmas.{reading, digit_seen, digit_settles, settled}
 use Rattle.lexical_literal.proofs.LiteralLemmas.{literal_from, literal_arrives}
 
@@ -155,10 +156,10 @@ module _ (m : Notation) where
         → ((stage : Stage) → is_signed m part stage ≡ true → CanGoOn m (reading part stage gap) → Completed (reading part stage gap))
         → Completed (reading part stage gap)
     sign_first part stages.Start gap can more =
-        then_byte (reading part stages.Start gap) 45 roles.Sign refl (is_role m ready.roles part roles.Sign 45 (λ e. cc) (λ e. cc) refl)
+        then_byte (reading part stages.Start gap) 45 roles.Sign refl (is_role m ready.roles part roles.Sign 45 (λ e. cc) refl)
         (met (forbids_plus m part)) (more stages.Empty refl (can_sign (reading part stages.Start gap) can))
     sign_first part stages.Mark gap can more =
-        then_byte (reading part stages.Mark gap) 45 roles.Sign refl (is_role m ready.roles part roles.Sign 45 (λ e. cc) (λ e. cc) refl)
+        then_byte (reading part stages.Mark gap) 45 roles.Sign refl (is_role m ready.roles part roles.Sign 45 (λ e. cc) refl)
         (met (forbids_plus m part)) (more stages.Free refl (can_sign (reading part stages.Mark gap) can))
     sign_first part stage gap can more = more stage refl can
 
@@ -185,7 +186,7 @@ module _ (m : Notation) where
         part_completed parts.Fraction stage gap signed can (λ last gap digit end led.
         elim (cases_Bool (needs_exponent m)) [
           | inl set ↦ then_byte (reading parts.Fraction last gap) ready.exponent roles.Exponent refl
-              (is_role m ready.roles parts.Fraction roles.Exponent ready.exponent (λ e. cc) (λ e. cc) (ready.has_exponent (has_options set))) (and_from _ _ end (may_scale_if set))
+              (is_role m ready.roles parts.Fraction roles.Exponent ready.exponent (λ e. cc) (ready.has_exponent (has_options set))) (and_from _ _ end (may_scale_if set))
               (exponent_completed stages.Mark false (start_of parts.Exponent stages.Mark refl))
           | inr unset ↦ ([], and_from _ _ end (ap not unset))
         ]))
@@ -213,7 +214,7 @@ module _ (m : Notation) where
                 (m.flag layout.required_exponent_notation) m.integers_only digit no_point led),
           )
           | inr none ↦ then_byte (reading parts.Integer last gap) ready.point roles.Point refl
-              (is_role m ready.roles parts.Integer roles.Point ready.point (λ e. cc) (λ e. cc) (ready.has_point (options (is_led last) (m.flag layout.no_float_leading_zeros) m.integers_only none)))
+              (is_role m ready.roles parts.Integer roles.Point ready.point (λ e. cc) (ready.has_point (options (is_led last) (m.flag layout.no_float_leading_zeros) m.integers_only none)))
               (and_from _ _ end (float (is_led last) (m.flag layout.no_float_leading_zeros) m.integers_only none))
               (fraction_completed (after_point (has_digit last)) false
               (start_of parts.Fraction (after_point (has_digit last)) (false_from_ne_true _ (point_unled (has_digit last)))))

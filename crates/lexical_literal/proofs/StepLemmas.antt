@@ -14,7 +14,8 @@ use Rattle.lexical_literal.specs.declared.steps.Stage.{Stage}
 use Rattle.lexical_literal.specs.declared.steps.Stage.TheVariants as stages
 use Rattle.lexical_literal.specs.declared.steps.Summary.{Summary}
 use Rattle.lexical_literal.proofs.RunLemmas.{is_rest, run_with_digit, run_with_separator, digit_fits, after_run_digit, is_run_separator, separator_fits, after_run_separator, opens}
-use Rattle.lexical_literal.proofs.ScanLemmas.{HasRoles, Accepts, Arrives, plus, kept, none_accepts, arrives_byte, as_digit, no_digit, as_role, digit_role, separator_role, is_role}
+use Rattle.lexical_literal.proofs.ClassLemmas.{is_role}
+use Rattle.lexical_literal.proofs.ScanLemmas.{HasRoles, Accepts, Arrives, plus, kept, none_accepts, arrives_byte, as_digit, no_digit, as_role, digit_role, separator_role}
 
 abbrev pub reading : Part → Stage → Bool → Summary
 reading part stage gap = record { part = part; stage = stage; gap = gap; ended = false }
@@ -334,5 +335,5 @@ pub stop_arrives : (m : Notation) → HasRoles m → (s : Summary) (c : Cuts) (s
     → is_none_or_one m.suffix suffix ≡ true → Arrives m (Some s) c suffix c
 stop_arrives m h s c [] open_is is one = (or_right s.ended _ is, refl)
 stop_arrives m h s c (b ∷ []) open_is is one =
-    arrives_byte m s b roles.Suffix c [] c open_is (is_role m h s.part roles.Suffix b (λ e. cc) (λ e. cc) one) is (refl, refl)
+    arrives_byte m s b roles.Suffix c [] c open_is (is_role m h s.part roles.Suffix b (λ e. cc) one) is (refl, refl)
 stop_arrives m h s c (b ∷ x ∷ suffix) open_is is one = absurd (false≢true one)
