@@ -33,13 +33,11 @@ abbrev pick : Part → Bool → Bool → Bool
 pick parts.Exponent mantissa exponent = exponent
 pick _ mantissa exponent = mantissa
 
-mark_role : (part : Part) (s p e x g plus r : Bool) → in_part part (marks s p e x g plus r) ≡ tests false s p e x g r
-mark_role part s p e x g plus r = grind arith
-
-digit_role : (part : Part) (x y zero : Bool) (rest : Class) → (x || y) ≡ true
-    → in_part part (digits x y zero rest) ≡ (if pick part x y then Some roles.Digit else None)
-digit_role parts.Integer x y zero rest some = grind arith
-digit_role _ x y zero rest some = grind arith
+-- The tests find the same role, if a digit passes no other test.
+same_role : (part : Part) (x y z s p e u g plus r d : Bool) → d ≡ pick part x y → ((x || y) ≡ true → (s || (p || (e || (u || (g || r))))) ≡ false)
+    → in_part part (digits x y z (marks s p e u g plus r)) ≡ tests d s p e u g r
+same_role parts.Integer x y z s p e u g plus r d is alone = grind arith
+same_role _ x y z s p e u g plus r d is alone = grind arith
 
 mark_plus : (s p e x g r : Bool) → is_plus (marks s p e x g false r) ≡ false
 mark_plus s p e x g r = grind arith
@@ -80,23 +78,11 @@ module _ (m : Notation) (h : HasRoles m) (b : ℕ) where
   neither true y is = absurd (false≢true (sym is))
 
   class_role : (part : Part) → in_part part (class_of m b) ≡ role_in m part b
-  class_role part = elim (cases_Bool (mantissa || exponent)) [
-    | inl some ↦
-        let digit = is_digit some in
-        digit_role part mantissa exponent (b == 48) others some
-        ∙ sym (λ j. tests (picked part j) (none roles.Digit roles.Separator digit (λ e. cc) j) (none roles.Digit roles.Point digit (λ e. cc) j)
-        (none roles.Digit roles.Exponent digit (λ e. cc) j) (none roles.Digit roles.Suffix digit (λ e. cc) j) (none roles.Digit roles.Sign digit (λ e. cc) j)
-        (none roles.Digit roles.Prefix digit (λ e. cc) j))
-    | inr other ↦
-        let each = neither mantissa exponent other in
-        (λ j. in_part part (digits (each.0 j) (each.1 j) (b == 48) others))
-        ∙ mark_role part (m.separator b) (m.point b) (m.exponent_character b) (m.suffix b) (signs b) (b == 43) (m.prefix b)
-        ∙ sym (λ j. tests ((picked part ∙ no_digit part each) j) (m.separator b) (m.point b) (m.exponent_character b) (m.suffix b) (signs b) (m.prefix b))
-  ] where
-    no_digit : (part : Part) → (mantissa ≡ false) × (exponent ≡ false) → pick part mantissa exponent ≡ false
-    no_digit parts.Integer each = each.0
-    no_digit parts.Fraction each = each.0
-    no_digit parts.Exponent each = each.1
+  class_role part = same_role part mantissa exponent (b == 48) (m.separator b) (m.point b) (m.exponent_character b) (m.suffix b) (signs b) (b == 43)
+      (m.prefix b) (m.digit part b) (picked part) (λ some j.
+      none roles.Digit roles.Separator (is_digit some) (λ e. cc) j || (none roles.Digit roles.Point (is_digit some) (λ e. cc) j
+      || (none roles.Digit roles.Exponent (is_digit some) (λ e. cc) j || (none roles.Digit roles.Suffix (is_digit some) (λ e. cc) j
+      || (none roles.Digit roles.Sign (is_digit some) (λ e. cc) j || none roles.Digit roles.Prefix (is_digit some) (λ e. cc) j)))))
 
   class_plus : is_plus (class_of m b) ≡ (b == 43)
   class_plus = elim (cases_Bool (b == 43)) [
