@@ -1,6 +1,6 @@
 -- The step of a class is that of each of its bytes.
 use Rattle.std.proofs.Common.{ℕ, ◌≡◌, Bool, true, false, ◌==◌, ◌||◌, if◌then◌else◌, inl, inr, IsTrue, Option, Some, None, refl, sym, ap, ◌∙◌, arith}
-use Rattle.std.proofs.lemmas.Bool.{false≢true, false_from_ne_true, or_left, or_right, or_cases, eqb-true, cases_Bool}
+use Rattle.std.proofs.lemmas.Bool.{false≢true, false_from_ne_true, or_left, or_right, or_cases, eqb-true}
 use Rattle.lexical_util.specs.Roles.{signs}
 use Rattle.lexical_util.specs.declared.feature_format.roles.Role.{Role}
 use Rattle.lexical_util.specs.declared.feature_format.roles.Role.TheVariants as roles
@@ -39,17 +39,13 @@ same_role : (part : Part) (x y z s p e u g plus r d : Bool) → d ≡ pick part 
 same_role parts.Integer x y z s p e u g plus r d is alone = grind arith
 same_role _ x y z s p e u g plus r d is alone = grind arith
 
-mark_plus : (s p e x g r : Bool) → is_plus (marks s p e x g false r) ≡ false
-mark_plus s p e x g r = grind arith
+-- The tests find a plus sign, if it passes only the test of a sign, and the digit 0, if it is a digit of both radixes.
+same_plus : (x y z s p e u g plus r : Bool) → (plus ≡ true → (((x || y) || (s || (p || (e || u)))) ≡ false) × (g ≡ true))
+    → is_plus (digits x y z (marks s p e u g plus r)) ≡ plus
+same_plus x y z s p e u g plus r alone = grind arith
 
-mark_zero : (s p e x g plus r : Bool) → is_zero (marks s p e x g plus r) ≡ false
-mark_zero s p e x g plus r = grind arith
-
-digit_plus : (x y zero : Bool) (rest : Class) → is_plus rest ≡ false → is_plus (digits x y zero rest) ≡ false
-digit_plus x y zero rest none = grind arith
-
-digit_zero : (x y : Bool) (rest : Class) → is_zero rest ≡ false → is_zero (digits x y false rest) ≡ false
-digit_zero x y rest none = grind arith
+same_zero : (x y z s p e u g plus r : Bool) → (z ≡ true → (x ≡ true) × (y ≡ true)) → is_zero (digits x y z (marks s p e u g plus r)) ≡ z
+same_zero x y z s p e u g plus r both = grind arith
 
 module _ (m : Notation) (h : HasRoles m) (b : ℕ) where
   abbrev mantissa : Bool
@@ -57,9 +53,6 @@ module _ (m : Notation) (h : HasRoles m) (b : ℕ) where
 
   abbrev exponent : Bool
   exponent = m.digit parts.Exponent b
-
-  abbrev others : Class
-  others = marks (m.separator b) (m.point b) (m.exponent_character b) (m.suffix b) (signs b) (b == 43) (m.prefix b)
 
   picked : (part : Part) → m.digit part b ≡ pick part mantissa exponent
   picked parts.Integer = refl
@@ -73,10 +66,6 @@ module _ (m : Notation) (h : HasRoles m) (b : ℕ) where
   none : (r a : Role) → IsTrue (role_set m r b) → (r ≡ a → ⊥) → role_set m a b ≡ false
   none r a is differ = false_from_ne_true _ (λ other. differ (h.one r a b is other))
 
-  neither : (x y : Bool) → (x || y) ≡ false → (x ≡ false) × (y ≡ false)
-  neither false y is = (refl, is)
-  neither true y is = absurd (false≢true (sym is))
-
   class_role : (part : Part) → in_part part (class_of m b) ≡ role_in m part b
   class_role part = same_role part mantissa exponent (b == 48) (m.separator b) (m.point b) (m.exponent_character b) (m.suffix b) (signs b) (b == 43)
       (m.prefix b) (m.digit part b) (picked part) (λ some j.
@@ -85,33 +74,22 @@ module _ (m : Notation) (h : HasRoles m) (b : ℕ) where
       || (none roles.Digit roles.Sign (is_digit some) (λ e. cc) j || none roles.Digit roles.Prefix (is_digit some) (λ e. cc) j)))))
 
   class_plus : is_plus (class_of m b) ≡ (b == 43)
-  class_plus = elim (cases_Bool (b == 43)) [
-    | inl plus ↦
-        let sign : IsTrue (role_set m roles.Sign b) = or_left _ (b == 45) plus in
-        let digit = none roles.Sign roles.Digit sign (λ e. cc) in
-        let each = neither mantissa exponent (no_digits digit) in
-        (λ j. is_plus (digits (each.0 j) (each.1 j) (b == 48) (marks (none roles.Sign roles.Separator sign (λ e. cc) j) (none roles.Sign roles.Point sign (λ e. cc) j)
-        (none roles.Sign roles.Exponent sign (λ e. cc) j) (none roles.Sign roles.Suffix sign (λ e. cc) j) (sign j) (plus j) (m.prefix b)))) ∙ sym plus
-    | inr other ↦
-        (λ j. is_plus (digits mantissa exponent (b == 48)
-        (marks (m.separator b) (m.point b) (m.exponent_character b) (m.suffix b) (signs b) (other j) (m.prefix b))))
-        ∙ digit_plus mantissa exponent (b == 48) _ (mark_plus (m.separator b) (m.point b) (m.exponent_character b) (m.suffix b) (signs b) (m.prefix b)) ∙ sym other
-  ] where
-    no_digits : ((mantissa || m.digit parts.Fraction b) || exponent) ≡ false → (mantissa || exponent) ≡ false
-    no_digits digit = drop mantissa (m.digit parts.Fraction b) exponent digit where
-      drop : (x y z : Bool) → ((x || y) || z) ≡ false → (x || z) ≡ false
-      drop x y z is = grind arith
+  class_plus = same_plus mantissa exponent (b == 48) (m.separator b) (m.point b) (m.exponent_character b) (m.suffix b) (signs b) (b == 43) (m.prefix b)
+      (λ plus.
+      let sign : IsTrue (role_set m roles.Sign b) = or_left _ (b == 45) plus in
+      let no_digits = drop mantissa (m.digit parts.Fraction b) exponent (none roles.Sign roles.Digit sign (λ e. cc)) in (
+        λ j. no_digits j || (none roles.Sign roles.Separator sign (λ e. cc) j || (none roles.Sign roles.Point sign (λ e. cc) j
+            || (none roles.Sign roles.Exponent sign (λ e. cc) j || none roles.Sign roles.Suffix sign (λ e. cc) j))),
+        sign,
+      )) where
+        drop : (x y z : Bool) → ((x || y) || z) ≡ false → (x || z) ≡ false
+        drop x y z is = grind arith
 
   class_zero : is_zero (class_of m b) ≡ (b == 48)
-  class_zero = elim (cases_Bool (b == 48)) [
-    | inl zero ↦
-        let same = eqb-true b 48 zero in
-        (λ j. is_zero (digits ((ap (m.digit parts.Integer) same ∙ h.zero_is_digit parts.Integer) j) ((ap (m.digit parts.Exponent) same ∙ h.zero_is_digit parts.Exponent) j)
-        (zero j) others)) ∙ sym zero
-    | inr other ↦
-        (λ j. is_zero (digits mantissa exponent (other j) others)) ∙ digit_zero mantissa exponent others
-        (mark_zero (m.separator b) (m.point b) (m.exponent_character b) (m.suffix b) (signs b) (b == 43) (m.prefix b)) ∙ sym other
-  ]
+  class_zero = same_zero mantissa exponent (b == 48) (m.separator b) (m.point b) (m.exponent_character b) (m.suffix b) (signs b) (b == 43) (m.prefix b)
+      (λ zero.
+      let same = eqb-true b 48 zero in
+      (ap (m.digit parts.Integer) same ∙ h.zero_is_digit parts.Integer, ap (m.digit parts.Exponent) same ∙ h.zero_is_digit parts.Exponent))
 
   -- What the step of its class says of a byte.
   pub step_as : (s : Summary) (class : Class) (o : Option Summary) → class ≡ class_of m b → class_step m s class ≡ o → step m s b ≡ o
