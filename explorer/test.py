@@ -254,6 +254,16 @@ class Walk(unittest.TestCase):
         self.assertTrue(self.find("#internal_digit_separator").get_property("indeterminate"))
         self.assertEqual(self.value(), "0x00000A000000005F000000050000000C")
 
+    def test_a_format_with_any_two_flags_allows_the_number_in_its_picture(self):
+        self.assertEqual(self.run_script("""const { library } = page;
+            const names = library.flags.map(({ name }) => `${name}=true`);
+            return names.flatMap((first) => names.map((second) => [first, second])).filter((flags) => {
+                const { word } = library.build(["digit_separator='_'", "base_prefix='x'", "base_suffix='h'", ...flags]);
+                const state = { word, exponent: 101, point: 46 };
+                const parts = new NumberPicture(library, state).parts().filter(({ isNever }) => !isNever);
+                const number = parts.flatMap(({ pieces }) => pieces.map(({ text }) => text)).join("");
+                return library.explain(state).error === "" && library.literal(state, number).error; })"""), [])
+
     def test_reasons_lead_to_the_controls_that_they_blame(self):
         self.load("#word=0x000010006200000000000000000000CC&exponent=112")
         self.assertEqual(self.text("#verdict"), "Not lawful: 1 reason")

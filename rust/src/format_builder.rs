@@ -56,7 +56,7 @@ pub type OptionU8 = Option<NonZeroU8>;
 /// A builder for number formats. It sets the fields of a format one by one, and packs them into a `u128`, the *format
 /// word*.
 ///
-/// A builder has 31 flags, the mantissa radix, and five bytes that may be absent: the digit separator, the base prefix,
+/// A builder has flags, the mantissa radix, and five bytes that may be absent: the digit separator, the base prefix,
 /// the base suffix, the exponent base and the exponent radix. Each setter takes the builder, sets one field or all
 /// flags of one group, and returns the builder. It leaves every other field as it is. Setters of different fields can
 /// therefore be called in any order. If several calls set the same field, the last one wins.

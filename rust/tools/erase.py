@@ -97,7 +97,6 @@ ATTRIBUTES = [
     ("format_builder.rt", "pub const fn build(&self)", f"{DEPRECATED} pub const fn build(&self)"),
     ("feature_format.rt", "#[derive(Clone, Copy)]", f"#[derive({COMPARED})]"),
     ("short_text.rt", "#[derive(Drop)]", "#[derive(Clone, Copy)]"),
-    ("edits/setters.rt", "macro_rules! with_setters {", "#[doc(hidden)] #[macro_export] macro_rules! with_setters {"),
 ]
 
 # Words that plain Rust must not contain. If one is left, a ghost form was not removed.

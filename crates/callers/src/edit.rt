@@ -9,6 +9,7 @@ ghost use Rattle.lexical_util.specs.Record.{raw};
 use lexical_util::edits::{Edit, FlagSetter, edit_word};
 use lexical_util::format::NonZeroU8;
 use lexical_util::laws::{edit_facts, write_facts};
+use lexical_util::with_setters;
 
 /// Returns `format`, which may be any word, with the base prefix `prefix`, of which the case matters.
 pub fn with_prefix(format: u128, prefix: NonZeroU8) -> u128
@@ -24,30 +25,18 @@ pub fn with_prefix(format: u128, prefix: NonZeroU8) -> u128
     edit_word(format, &[Edit::BasePrefix(Some(prefix)), case_matters])
 }
 
-/// Returns whether `setter` sets several flags. No arm is `_`, so this has to be decided for each new variant too.
-#[rattlefmt::skip]
+/// Returns whether `setter` sets several flags. No arm is `_`: the rows of `with_setters` are all variants.
 pub const fn sets_several(setter: FlagSetter) -> bool
     ensures { result ≡ nat_lt 1 (length (flags_of setter)) }
 {
-    match setter {
-        FlagSetter::RequiredDigits | FlagSetter::InternalDigitSeparator | FlagSetter::LeadingDigitSeparator
-            | FlagSetter::TrailingDigitSeparator | FlagSetter::ConsecutiveDigitSeparator
-            | FlagSetter::DigitSeparatorFlags | FlagSetter::IntegerDigitSeparatorFlags
-            | FlagSetter::FractionDigitSeparatorFlags | FlagSetter::ExponentDigitSeparatorFlags => true,
-        FlagSetter::RequiredIntegerDigits | FlagSetter::RequiredFractionDigits
-            | FlagSetter::RequiredExponentDigits | FlagSetter::RequiredMantissaDigits
-            | FlagSetter::NoPositiveMantissaSign | FlagSetter::RequiredMantissaSign | FlagSetter::NoExponentNotation
-            | FlagSetter::NoPositiveExponentSign | FlagSetter::RequiredExponentSign
-            | FlagSetter::NoExponentWithoutFraction | FlagSetter::NoSpecial | FlagSetter::CaseSensitiveSpecial
-            | FlagSetter::NoIntegerLeadingZeros | FlagSetter::NoFloatLeadingZeros
-            | FlagSetter::RequiredExponentNotation | FlagSetter::CaseSensitiveExponent
-            | FlagSetter::CaseSensitiveBasePrefix | FlagSetter::CaseSensitiveBaseSuffix
-            | FlagSetter::IntegerInternalDigitSeparator | FlagSetter::FractionInternalDigitSeparator
-            | FlagSetter::ExponentInternalDigitSeparator | FlagSetter::IntegerLeadingDigitSeparator
-            | FlagSetter::FractionLeadingDigitSeparator | FlagSetter::ExponentLeadingDigitSeparator
-            | FlagSetter::IntegerTrailingDigitSeparator | FlagSetter::FractionTrailingDigitSeparator
-            | FlagSetter::ExponentTrailingDigitSeparator | FlagSetter::IntegerConsecutiveDigitSeparator
-            | FlagSetter::FractionConsecutiveDigitSeparator | FlagSetter::ExponentConsecutiveDigitSeparator
-            | FlagSetter::SpecialDigitSeparator => false,
+    macro_rules! arms {
+        (($setter:ident)
+            { $($Flag:ident $flag:ident $FLAG:ident;)* } { $($Group:ident $group:ident $GROUP:ident;)* }) => {
+            match $setter {
+                $(FlagSetter::$Flag => false,)*
+                $(FlagSetter::$Group => true,)*
+            }
+        };
     }
+    with_setters!(arms(setter))
 }

@@ -7,7 +7,7 @@ use Rattle.lexical_flags.specs.declared.format_flags.parts.Part.TheVariants as p
 abbrev pub part : ℕ → ℕ → ℕ → ℕ
 part word s n = word / 2 ^ s % 2 ^ n
 
--- `Flag` is the type of the 31 flags.
+-- `Flag` is the type of the flags.
 pub data Flag : Type 0 where
   required_integer_digits : Flag
   required_fraction_digits : Flag

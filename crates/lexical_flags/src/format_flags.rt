@@ -1,6 +1,6 @@
 //! The layout of a format word, and the functions that read its flags and bytes and check its rules.
 //!
-//! A format word is a `u128`. Its lower 64 bits hold 31 flags in two runs, which start at bit 0 and at bit 32. Its
+//! A format word is a `u128`. Its lower 64 bits hold the flags in two runs, which start at bit 0 and at bit 32. Its
 //! upper 64 bits hold six bytes: the digit separator, base prefix, base suffix, mantissa radix, exponent base and
 //! exponent radix. A *field* is a flag or one of these bytes. The other bits are *reserved*: they belong to no field. A
 //! word is *lawful* if it satisfies every [`Rule`]. The reserved bits of a lawful word are 0. The setters of

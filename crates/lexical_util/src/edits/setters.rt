@@ -18,6 +18,8 @@ use lexical_flags::format_flags::FLAG_MASK;
 // Calls `$rows!` with `$args`, a row for each flag, and a row for each flag group. A row has the variant of
 // `FlagSetter`, the name of the setter, and the mask that the setter writes. The getter and the setter that belong to a
 // flag have the same name.
+#[doc(hidden)]
+#[macro_export]
 macro_rules! with_setters {
     ($rows:ident $args:tt) => {
         $rows! {
