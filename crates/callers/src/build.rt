@@ -7,6 +7,7 @@ ghost use Rattle.lexical_util.specs.Record.{raw, set_byte};
 ghost use Rattle.lexical_util.specs.Rules.{Lawful, Holds};
 
 use lexical_util::format::{NumberFormatBuilder, Rule};
+use lexical_util::laws::flags::rule_facts;
 use lexical_util::laws::{builder_facts, change_facts, write_facts};
 
 /// The format of decimal numbers with `_` between integer digits. Its exponent bytes are absent, so they follow the
@@ -47,6 +48,7 @@ pub fn plain(format: u128) -> u128
     ensures lawful { Lawful format → Lawful result }
 {
     change_facts();
+    rule_facts();
     NumberFormatBuilder::from_word(format)
         .digit_separator(None)
         .build_unchecked()

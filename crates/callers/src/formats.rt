@@ -115,8 +115,8 @@ pub fn octal_facts()
     ensures options { OptionsFit OCTAL EXPONENT POINT }
 {}
 
-/// Returns the number that the integer `text` represents in the format [`DECIMAL`], without its sign, or `None` if `text`
-/// is not such an integer, or if the number is 2^64 or more. It may have `_` between digits, as in `1_000`.
+/// Returns the number that the integer `text` represents in the format [`DECIMAL`], without its sign, or `None` if
+/// `text` is not such an integer, or if the number is 2^64 or more. It may have `_` between digits, as in `1_000`.
 pub fn read_decimal(text: &[u8]) -> Option<u64>
     ensures { (l : Literal) → Reads (notation_of (record { word = DECIMAL; options = None })) l text.now
         → SomeIff result (magnitude (raw DECIMAL) l.integer < 2 ^ 64) (magnitude (raw DECIMAL) l.integer) }

@@ -1,6 +1,6 @@
 //! Theorems on writes to the fields of a builder. Each is a clause of a function with an empty body.
 
-ghost use Rattle.std.specs.Prelude.{◌≡◌, ◌≤◌, ℕ, List, [], ◌∷◌, ◌++◌, None, IsTrue, unwrap_or};
+ghost use Rattle.std.specs.Prelude.{◌≡◌, ◌≢◌, ◌≤◌, ℕ, List, [], ◌∷◌, ◌++◌, None, IsTrue, unwrap_or};
 ghost use Rattle.lexical_base.specs.Digits.{byte_value};
 ghost use Rattle.lexical_flags.specs.Layout as layout;
 ghost use Rattle.lexical_flags.specs.Layout.{Flag, Byte};
@@ -30,16 +30,8 @@ pub fn write_facts()
 /// States the fields of the word that a builder packs one by one: they are the fields of the builder.
 pub fn builder_facts()
     ensures flag { (r : Record) → HasBytes r → (f : Flag) → (raw (pack r)).flag f ≡ r.flag f }
-    ensures base_prefix { (r : Record) → HasBytes r
-        → (raw (pack r)).byte layout.base_prefix ≡ r.byte layout.base_prefix }
-    ensures base_suffix { (r : Record) → HasBytes r
-        → (raw (pack r)).byte layout.base_suffix ≡ r.byte layout.base_suffix }
-    ensures mantissa_radix { (r : Record) → HasBytes r
-        → (raw (pack r)).byte layout.mantissa_radix ≡ r.byte layout.mantissa_radix }
-    ensures exponent_base { (r : Record) → HasBytes r
-        → (raw (pack r)).byte layout.exponent_base ≡ r.byte layout.exponent_base }
-    ensures exponent_radix { (r : Record) → HasBytes r
-        → (raw (pack r)).byte layout.exponent_radix ≡ r.byte layout.exponent_radix }
+    ensures byte { (r : Record) → HasBytes r → (b : Byte) → b ≢ layout.digit_separator
+        → (raw (pack r)).byte b ≡ r.byte b }
 
     // The digit separator is kept only if a flag of the record allows one.
     ensures digit_separator { (r : Record) → HasBytes r → IsTrue (separator_allowed r)
@@ -60,8 +52,6 @@ pub fn change_facts()
         → raw bare ≡ set_byte (raw word) layout.digit_separator 0 }
     ensures no_separator { (word : ℕ) → (rule : Rule) → Holds rule word
         → Holds rule (pack (after (raw word) (write_byte layout.digit_separator 0 ∷ []))) }
-    ensures no_separator_lawful { (word : ℕ) → Lawful word
-        → Lawful (pack (after (raw word) (write_byte layout.digit_separator 0 ∷ []))) }
 {
     rule_facts();
 }

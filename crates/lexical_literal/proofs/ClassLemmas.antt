@@ -1,6 +1,6 @@
 -- The step of a class is that of each of its bytes.
-use Rattle.std.proofs.Common.{ℕ, ◌≡◌, Bool, true, false, ◌==◌, ◌||◌, if◌then◌else◌, inl, inr, IsTrue, Option, Some, None, refl, sym, ap, subst, ◌∙◌, arith}
-use Rattle.std.proofs.lemmas.Bool.{false≢true, false_from_ne_true, or_left, or_right, or_cases, eqb-true, cases_Bool}
+use Rattle.std.proofs.Common.{ℕ, ◌≡◌, Bool, true, false, ◌==◌, ◌||◌, if◌then◌else◌, inl, inr, IsTrue, Option, Some, None, refl, sym, ap, ◌∙◌, arith}
+use Rattle.std.proofs.lemmas.Bool.{false≢true, false_from_ne_true, or_left, or_right, or_cases, eqb-true}
 use Rattle.lexical_util.specs.Roles.{signs}
 use Rattle.lexical_util.specs.declared.feature_format.roles.Role.{Role}
 use Rattle.lexical_util.specs.declared.feature_format.roles.Role.TheVariants as roles
@@ -33,63 +33,19 @@ abbrev pick : Part → Bool → Bool → Bool
 pick parts.Exponent mantissa exponent = exponent
 pick _ mantissa exponent = mantissa
 
-mark_role : (part : Part) (s p e x g plus r : Bool) → in_part part (marks s p e x g plus r) ≡ tests false s p e x g r
-mark_role part true p e x g plus r = refl
-mark_role part false true e x g plus r = refl
-mark_role part false false true x g plus r = refl
-mark_role part false false false true g plus r = refl
-mark_role part false false false false true true r = refl
-mark_role part false false false false true false r = refl
-mark_role part false false false false false plus true = refl
-mark_role part false false false false false plus false = refl
+-- The tests find the same role, if a digit passes no other test.
+same_role : (part : Part) (x y z s p e u g plus r d : Bool) → d ≡ pick part x y → ((x || y) ≡ true → (s || (p || (e || (u || (g || r))))) ≡ false)
+    → in_part part (digits x y z (marks s p e u g plus r)) ≡ tests d s p e u g r
+same_role parts.Integer x y z s p e u g plus r d is alone = grind arith
+same_role _ x y z s p e u g plus r d is alone = grind arith
 
-digit_role : (part : Part) (x y zero : Bool) (rest : Class) → (x || y) ≡ true
-    → in_part part (digits x y zero rest) ≡ (if pick part x y then Some roles.Digit else None)
-digit_role parts.Integer true true true rest some = refl
-digit_role parts.Integer true true false rest some = refl
-digit_role parts.Integer true false zero rest some = refl
-digit_role parts.Integer false true zero rest some = refl
-digit_role parts.Fraction true true true rest some = refl
-digit_role parts.Fraction true true false rest some = refl
-digit_role parts.Fraction true false zero rest some = refl
-digit_role parts.Fraction false true zero rest some = refl
-digit_role parts.Exponent true true true rest some = refl
-digit_role parts.Exponent true true false rest some = refl
-digit_role parts.Exponent true false zero rest some = refl
-digit_role parts.Exponent false true zero rest some = refl
-digit_role part false false zero rest some = absurd (false≢true some)
+-- The tests find a plus sign, if it passes only the test of a sign, and the digit 0, if it is a digit of both radixes.
+same_plus : (x y z s p e u g plus r : Bool) → (plus ≡ true → (((x || y) || (s || (p || (e || u)))) ≡ false) × (g ≡ true))
+    → is_plus (digits x y z (marks s p e u g plus r)) ≡ plus
+same_plus x y z s p e u g plus r alone = grind arith
 
-mark_plus : (s p e x g r : Bool) → is_plus (marks s p e x g false r) ≡ false
-mark_plus true p e x g r = refl
-mark_plus false true e x g r = refl
-mark_plus false false true x g r = refl
-mark_plus false false false true g r = refl
-mark_plus false false false false true r = refl
-mark_plus false false false false false true = refl
-mark_plus false false false false false false = refl
-
-mark_zero : (s p e x g plus r : Bool) → is_zero (marks s p e x g plus r) ≡ false
-mark_zero true p e x g plus r = refl
-mark_zero false true e x g plus r = refl
-mark_zero false false true x g plus r = refl
-mark_zero false false false true g plus r = refl
-mark_zero false false false false true true r = refl
-mark_zero false false false false true false r = refl
-mark_zero false false false false false plus true = refl
-mark_zero false false false false false plus false = refl
-
-digit_plus : (x y zero : Bool) (rest : Class) → is_plus rest ≡ false → is_plus (digits x y zero rest) ≡ false
-digit_plus true true true rest none = refl
-digit_plus true true false rest none = refl
-digit_plus true false zero rest none = refl
-digit_plus false true zero rest none = refl
-digit_plus false false zero rest none = none
-
-digit_zero : (x y : Bool) (rest : Class) → is_zero rest ≡ false → is_zero (digits x y false rest) ≡ false
-digit_zero true true rest none = refl
-digit_zero true false rest none = refl
-digit_zero false true rest none = refl
-digit_zero false false rest none = none
+same_zero : (x y z s p e u g plus r : Bool) → (z ≡ true → (x ≡ true) × (y ≡ true)) → is_zero (digits x y z (marks s p e u g plus r)) ≡ z
+same_zero x y z s p e u g plus r both = grind arith
 
 module _ (m : Notation) (h : HasRoles m) (b : ℕ) where
   abbrev mantissa : Bool
@@ -97,9 +53,6 @@ module _ (m : Notation) (h : HasRoles m) (b : ℕ) where
 
   abbrev exponent : Bool
   exponent = m.digit parts.Exponent b
-
-  abbrev others : Class
-  others = marks (m.separator b) (m.point b) (m.exponent_character b) (m.suffix b) (signs b) (b == 43) (m.prefix b)
 
   picked : (part : Part) → m.digit part b ≡ pick part mantissa exponent
   picked parts.Integer = refl
@@ -113,57 +66,30 @@ module _ (m : Notation) (h : HasRoles m) (b : ℕ) where
   none : (r a : Role) → IsTrue (role_set m r b) → (r ≡ a → ⊥) → role_set m a b ≡ false
   none r a is differ = false_from_ne_true _ (λ other. differ (h.one r a b is other))
 
-  neither : (x y : Bool) → (x || y) ≡ false → (x ≡ false) × (y ≡ false)
-  neither false y is = (refl, is)
-  neither true y is = absurd (false≢true (sym is))
-
   class_role : (part : Part) → in_part part (class_of m b) ≡ role_in m part b
-  class_role part = elim (cases_Bool (mantissa || exponent)) [
-    | inl some ↦
-        let digit = is_digit some in
-        digit_role part mantissa exponent (b == 48) others some
-        ∙ sym (λ j. tests (picked part j) (none roles.Digit roles.Separator digit (λ e. cc) j) (none roles.Digit roles.Point digit (λ e. cc) j)
-        (none roles.Digit roles.Exponent digit (λ e. cc) j) (none roles.Digit roles.Suffix digit (λ e. cc) j) (none roles.Digit roles.Sign digit (λ e. cc) j)
-        (none roles.Digit roles.Prefix digit (λ e. cc) j))
-    | inr other ↦
-        let each = neither mantissa exponent other in
-        (λ j. in_part part (digits (each.0 j) (each.1 j) (b == 48) others))
-        ∙ mark_role part (m.separator b) (m.point b) (m.exponent_character b) (m.suffix b) (signs b) (b == 43) (m.prefix b)
-        ∙ sym (λ j. tests ((picked part ∙ no_digit part each) j) (m.separator b) (m.point b) (m.exponent_character b) (m.suffix b) (signs b) (m.prefix b))
-  ] where
-    no_digit : (part : Part) → (mantissa ≡ false) × (exponent ≡ false) → pick part mantissa exponent ≡ false
-    no_digit parts.Integer each = each.0
-    no_digit parts.Fraction each = each.0
-    no_digit parts.Exponent each = each.1
+  class_role part = same_role part mantissa exponent (b == 48) (m.separator b) (m.point b) (m.exponent_character b) (m.suffix b) (signs b) (b == 43)
+      (m.prefix b) (m.digit part b) (picked part) (λ some j.
+      none roles.Digit roles.Separator (is_digit some) (λ e. cc) j || (none roles.Digit roles.Point (is_digit some) (λ e. cc) j
+      || (none roles.Digit roles.Exponent (is_digit some) (λ e. cc) j || (none roles.Digit roles.Suffix (is_digit some) (λ e. cc) j
+      || (none roles.Digit roles.Sign (is_digit some) (λ e. cc) j || none roles.Digit roles.Prefix (is_digit some) (λ e. cc) j)))))
 
   class_plus : is_plus (class_of m b) ≡ (b == 43)
-  class_plus = elim (cases_Bool (b == 43)) [
-    | inl plus ↦
-        let sign : IsTrue (role_set m roles.Sign b) = or_left _ (b == 45) plus in
-        let digit = none roles.Sign roles.Digit sign (λ e. cc) in
-        let each = neither mantissa exponent (no_digits digit) in
-        (λ j. is_plus (digits (each.0 j) (each.1 j) (b == 48) (marks (none roles.Sign roles.Separator sign (λ e. cc) j) (none roles.Sign roles.Point sign (λ e. cc) j)
-        (none roles.Sign roles.Exponent sign (λ e. cc) j) (none roles.Sign roles.Suffix sign (λ e. cc) j) (sign j) (plus j) (m.prefix b)))) ∙ sym plus
-    | inr other ↦
-        (λ j. is_plus (digits mantissa exponent (b == 48)
-        (marks (m.separator b) (m.point b) (m.exponent_character b) (m.suffix b) (signs b) (other j) (m.prefix b))))
-        ∙ digit_plus mantissa exponent (b == 48) _ (mark_plus (m.separator b) (m.point b) (m.exponent_character b) (m.suffix b) (signs b) (m.prefix b)) ∙ sym other
-  ] where
-    no_digits : ((mantissa || m.digit parts.Fraction b) || exponent) ≡ false → (mantissa || exponent) ≡ false
-    no_digits digit = drop mantissa (m.digit parts.Fraction b) exponent digit where
-      drop : (x y z : Bool) → ((x || y) || z) ≡ false → (x || z) ≡ false
-      drop x y z is = grind arith
+  class_plus = same_plus mantissa exponent (b == 48) (m.separator b) (m.point b) (m.exponent_character b) (m.suffix b) (signs b) (b == 43) (m.prefix b)
+      (λ plus.
+      let sign : IsTrue (role_set m roles.Sign b) = or_left _ (b == 45) plus in
+      let no_digits = drop mantissa (m.digit parts.Fraction b) exponent (none roles.Sign roles.Digit sign (λ e. cc)) in (
+        λ j. no_digits j || (none roles.Sign roles.Separator sign (λ e. cc) j || (none roles.Sign roles.Point sign (λ e. cc) j
+            || (none roles.Sign roles.Exponent sign (λ e. cc) j || none roles.Sign roles.Suffix sign (λ e. cc) j))),
+        sign,
+      )) where
+        drop : (x y z : Bool) → ((x || y) || z) ≡ false → (x || z) ≡ false
+        drop x y z is = grind arith
 
   class_zero : is_zero (class_of m b) ≡ (b == 48)
-  class_zero = elim (cases_Bool (b == 48)) [
-    | inl zero ↦
-        let same = eqb-true b 48 zero in
-        (λ j. is_zero (digits ((ap (m.digit parts.Integer) same ∙ h.zero_is_digit parts.Integer) j) ((ap (m.digit parts.Exponent) same ∙ h.zero_is_digit parts.Exponent) j)
-        (zero j) others)) ∙ sym zero
-    | inr other ↦
-        (λ j. is_zero (digits mantissa exponent (other j) others)) ∙ digit_zero mantissa exponent others
-        (mark_zero (m.separator b) (m.point b) (m.exponent_character b) (m.suffix b) (signs b) (b == 43) (m.prefix b)) ∙ sym other
-  ]
+  class_zero = same_zero mantissa exponent (b == 48) (m.separator b) (m.point b) (m.exponent_character b) (m.suffix b) (signs b) (b == 43) (m.prefix b)
+      (λ zero.
+      let same = eqb-true b 48 zero in
+      (ap (m.digit parts.Integer) same ∙ h.zero_is_digit parts.Integer, ap (m.digit parts.Exponent) same ∙ h.zero_is_digit parts.Exponent))
 
   -- What the step of its class says of a byte.
   pub step_as : (s : Summary) (class : Class) (o : Option Summary) → class ≡ class_of m b → class_step m s class ≡ o → step m s b ≡ o
@@ -185,33 +111,12 @@ plays roles.Exponent x y s p e u g r = e
 plays roles.Point x y s p e u g r = p
 
 played : (x y z s p e u g plus r : Bool) (role : Role) → role_of (digits x y z (marks s p e u g plus r)) ≡ Some role → plays role x y s p e u g r ≡ true
-played true true true s p e u g plus r role is = let same : roles.Digit ≡ role = cc in subst (λ a. plays a true true s p e u g r ≡ true) same refl
-played true true false s p e u g plus r role is = let same : roles.Digit ≡ role = cc in subst (λ a. plays a true true s p e u g r ≡ true) same refl
-played true false z s p e u g plus r role is = let same : roles.Digit ≡ role = cc in subst (λ a. plays a true false s p e u g r ≡ true) same refl
-played false true z s p e u g plus r role is = let same : roles.Digit ≡ role = cc in subst (λ a. plays a false true s p e u g r ≡ true) same refl
-played false false z true p e u g plus r role is = let same : roles.Separator ≡ role = cc in subst (λ a. plays a false false true p e u g r ≡ true) same refl
-played false false z false true e u g plus r role is = let same : roles.Point ≡ role = cc in subst (λ a. plays a false false false true e u g r ≡ true) same refl
-played false false z false false true u g plus r role is = let same : roles.Exponent ≡ role = cc in subst (λ a. plays a false false false false true u g r ≡ true) same refl
-played false false z false false false true g plus r role is = let same : roles.Suffix ≡ role = cc in subst (λ a. plays a false false false false false true g r ≡ true) same refl
-played false false z false false false false true true r role is = let same : roles.Sign ≡ role = cc in subst (λ a. plays a false false false false false false true r ≡ true) same refl
-played false false z false false false false true false r role is = let same : roles.Sign ≡ role = cc in subst (λ a. plays a false false false false false false true r ≡ true) same refl
-played false false z false false false false false plus true role is = let same : roles.Prefix ≡ role = cc in subst (λ a. plays a false false false false false false false true ≡ true) same refl
-played false false z false false false false false plus false role is = cc
+played x y z s p e u g plus r roles.Digit is = grind arith
+played x y z s p e u g plus r _ is = grind arith
 
 unplayed : (x y z s p e u g plus r : Bool) (role : Role) → role_of (digits x y z (marks s p e u g plus r)) ≡ None → plays role x y s p e u g r ≡ false
-unplayed false false z false false false false false plus false roles.Digit is = refl
-unplayed false false z false false false false false plus false _ is = refl
-unplayed true true true s p e u g plus r role is = cc
-unplayed true true false s p e u g plus r role is = cc
-unplayed true false z s p e u g plus r role is = cc
-unplayed false true z s p e u g plus r role is = cc
-unplayed false false z true p e u g plus r role is = cc
-unplayed false false z false true e u g plus r role is = cc
-unplayed false false z false false true u g plus r role is = cc
-unplayed false false z false false false true g plus r role is = cc
-unplayed false false z false false false false true true r role is = cc
-unplayed false false z false false false false true false r role is = cc
-unplayed false false z false false false false false plus true role is = cc
+unplayed x y z s p e u g plus r roles.Digit is = grind arith
+unplayed x y z s p e u g plus r _ is = grind arith
 
 module _ (m : Notation) (h : HasRoles m) (b : ℕ) where
   abbrev test : Role → Bool
@@ -242,3 +147,15 @@ module _ (m : Notation) (h : HasRoles m) (b : ℕ) where
   -- The role of its class is the only one of a byte.
   pub only_role : IsOnlyRole m b (role_of (class_of m b))
   only_role role = (to role (role_of (class_of m b)) refl, from role)
+
+-- The part decides only which bytes are digits.
+in_any : (part : Part) (class : Class) (r : Role) → role_of class ≡ Some r → (roles.Digit ≡ r → ⊥) → in_part part class ≡ Some r
+in_any part classes.Zero r is other = absurd (other cc)
+in_any part classes.Digit r is other = absurd (other cc)
+in_any part classes.MantissaDigit r is other = absurd (other cc)
+in_any part classes.ExponentDigit r is other = absurd (other cc)
+in_any part _ r is other = is
+
+-- A byte that plays a role other than a digit has that role in each part.
+pub is_role : (m : Notation) → HasRoles m → (part : Part) (r : Role) (b : ℕ) → (roles.Digit ≡ r → ⊥) → role_set m r b ≡ true → role_in m part b ≡ Some r
+is_role m h part r b other is = sym (class_role m h b part) ∙ in_any part (class_of m b) r ((only_role m h b r).0 is) other

@@ -13,7 +13,8 @@ use Rattle.lexical_literal.specs.Additions.Summary.{role_in, implies, has_digit,
 use Rattle.lexical_literal.specs.declared.steps.Stage.{Stage}
 use Rattle.lexical_literal.specs.declared.steps.Stage.TheVariants as stages
 use Rattle.lexical_literal.specs.declared.steps.Summary.{Summary}
-use Rattle.lexical_literal.proofs.ScanLemmas.{IsReady, Accepts, scan_none, scan_append, accepts_byte, digit_role, is_role}
+use Rattle.lexical_literal.proofs.ClassLemmas.{is_role}
+use Rattle.lexical_literal.proofs.ScanLemmas.{IsReady, Accepts, scan_none, scan_append, accepts_byte, digit_role}
 use Rattle.lexical_literal.proofs.StepLemmas.{reading, digit_seen, digit_settles, settled}
 use Rattle.lexical_literal.proofs.LiteralLemmas.{literal_from, literal_arrives}
 
@@ -28,9 +29,7 @@ record CanGoOn (m : Notation) (s : Summary) : Type 0 where
 
 -- The first digit is no leading zero yet.
 first : (zero gap : Bool) → is_led (first_digit gap zero) ≡ true → ⊥
-first true true is = false≢true is
-first true false is = false≢true is
-first false gap is = false≢true is
+first zero gap is = grind arith
 
 module _ (m : Notation) where
   led_next : (stage : Stage) (gap zero : Bool) → may_follow m stage ≡ true → (is_led stage ≡ true → may_lead m ≡ true)
@@ -45,14 +44,10 @@ module _ (m : Notation) where
   open_next : (part : Part) (stage : Stage) → is_open m part (has_digit stage) (may_follow m stage) ≡ true
       → is_open m part (has_digit (after_separator stage)) (may_follow m (after_separator stage)) ≡ true
   open_next part stages.Start is = is
-  open_next part stages.Mark is = is
-  open_next part stages.Bare is = is
   open_next part _ is = is
 
   led_kept : (stage : Stage) → is_led (after_separator stage) ≡ true → is_led stage ≡ true
   led_kept stages.Start is = is
-  led_kept stages.Mark is = is
-  led_kept stages.Bare is = is
   led_kept _ is = is
 
   can_sign : (s : Summary) → CanGoOn m s → CanGoOn m (record s { stage = after_sign s.stage })
@@ -63,8 +58,7 @@ module _ (m : Notation) where
     go stage is = subst (λ t. CanGoOn m (record s { stage = t })) is can
 
   point_unled : (digit : Bool) → is_led (after_point digit) ≡ true → ⊥
-  point_unled true is = false≢true is
-  point_unled false is = false≢true is
+  point_unled digit is = grind arith
 
   -- What can go on does so after each byte that is taken.
   goes_on : (s : Summary) (plus zero : Bool) (r : Role) → CanGoOn m s → takes m s plus r ≡ true → CanGoOn m (after s zero r)
@@ -162,10 +156,10 @@ module _ (m : Notation) where
         → ((stage : Stage) → is_signed m part stage ≡ true → CanGoOn m (reading part stage gap) → Completed (reading part stage gap))
         → Completed (reading part stage gap)
     sign_first part stages.Start gap can more =
-        then_byte (reading part stages.Start gap) 45 roles.Sign refl (is_role m ready.roles part roles.Sign 45 (λ e. cc) (λ e. cc) refl)
+        then_byte (reading part stages.Start gap) 45 roles.Sign refl (is_role m ready.roles part roles.Sign 45 (λ e. cc) refl)
         (met (forbids_plus m part)) (more stages.Empty refl (can_sign (reading part stages.Start gap) can))
     sign_first part stages.Mark gap can more =
-        then_byte (reading part stages.Mark gap) 45 roles.Sign refl (is_role m ready.roles part roles.Sign 45 (λ e. cc) (λ e. cc) refl)
+        then_byte (reading part stages.Mark gap) 45 roles.Sign refl (is_role m ready.roles part roles.Sign 45 (λ e. cc) refl)
         (met (forbids_plus m part)) (more stages.Free refl (can_sign (reading part stages.Mark gap) can))
     sign_first part stage gap can more = more stage refl can
 
@@ -192,7 +186,7 @@ module _ (m : Notation) where
         part_completed parts.Fraction stage gap signed can (λ last gap digit end led.
         elim (cases_Bool (needs_exponent m)) [
           | inl set ↦ then_byte (reading parts.Fraction last gap) ready.exponent roles.Exponent refl
-              (is_role m ready.roles parts.Fraction roles.Exponent ready.exponent (λ e. cc) (λ e. cc) (ready.has_exponent (has_options set))) (and_from _ _ end (may_scale_if set))
+              (is_role m ready.roles parts.Fraction roles.Exponent ready.exponent (λ e. cc) (ready.has_exponent (has_options set))) (and_from _ _ end (may_scale_if set))
               (exponent_completed stages.Mark false (start_of parts.Exponent stages.Mark refl))
           | inr unset ↦ ([], and_from _ _ end (ap not unset))
         ]))
@@ -220,7 +214,7 @@ module _ (m : Notation) where
                 (m.flag layout.required_exponent_notation) m.integers_only digit no_point led),
           )
           | inr none ↦ then_byte (reading parts.Integer last gap) ready.point roles.Point refl
-              (is_role m ready.roles parts.Integer roles.Point ready.point (λ e. cc) (λ e. cc) (ready.has_point (options (is_led last) (m.flag layout.no_float_leading_zeros) m.integers_only none)))
+              (is_role m ready.roles parts.Integer roles.Point ready.point (λ e. cc) (ready.has_point (options (is_led last) (m.flag layout.no_float_leading_zeros) m.integers_only none)))
               (and_from _ _ end (float (is_led last) (m.flag layout.no_float_leading_zeros) m.integers_only none))
               (fraction_completed (after_point (has_digit last)) false
               (start_of parts.Fraction (after_point (has_digit last)) (false_from_ne_true _ (point_unled (has_digit last)))))

@@ -16,7 +16,8 @@ use Rattle.lexical_literal.specs.declared.steps.Stage.{Stage}
 use Rattle.lexical_literal.specs.declared.steps.Stage.TheVariants as stages
 use Rattle.lexical_literal.specs.declared.steps.Summary.{Summary}
 use Rattle.lexical_literal.proofs.RunLemmas.{is_rest, run_from_start, digits_present}
-use Rattle.lexical_literal.proofs.ScanLemmas.{HasRoles, Accepts, Arrives, plus, arrives_byte, digit_role, is_role}
+use Rattle.lexical_literal.proofs.ClassLemmas.{is_role}
+use Rattle.lexical_literal.proofs.ScanLemmas.{HasRoles, Accepts, Arrives, plus, arrives_byte, digit_role}
 use Rattle.lexical_literal.proofs.StepLemmas.{reading, begins, led_after, Taken, Run, run_of, run_arrives, stop_arrives}
 
 -- `Met m f d` holds if `d` is true or the flag `f` is not set.
@@ -229,24 +230,19 @@ module _ (m : Notation) where
 
   -- The stage after a decimal point.
   point_seen : (any : Bool) → has_digit (after_point any) ≡ false
-  point_seen true = refl
-  point_seen false = refl
+  point_seen any = grind arith
 
   point_settles : (any : Bool) → is_fresh (after_point any) ≡ false
-  point_settles true = refl
-  point_settles false = refl
+  point_settles any = grind arith
 
   point_bare : (any : Bool) → is_bare (after_point any) ≡ false
-  point_bare true = refl
-  point_bare false = refl
+  point_bare any = grind arith
 
   point_begins : (any : Bool) → begins (after_point any) ≡ false
-  point_begins true = refl
-  point_begins false = refl
+  point_begins any = grind arith
 
   point_counts : (any : Bool) → not (is_lone (after_point any)) ≡ any
-  point_counts true = refl
-  point_counts false = refl
+  point_counts any = grind arith
 
   or_swap : (a b : Bool) → (a || b) ≡ (b || a)
   or_swap a b = grind arith
@@ -523,7 +519,7 @@ module _ (m : Notation) where
     power_arrives b (s ∷ []) exponent suffix c facts =
         let more : Cuts = record c { exponent_sign = c.exponent_sign + 1 } in
         arrives_byte m (reading parts.Exponent stages.Mark false) s roles.Sign c (exponent ++ suffix) (record more { exponent = plus exponent c.exponent }) refl
-        (is_role m h parts.Exponent roles.Sign s (λ e. cc) (λ e. cc) facts.sign_one) facts.plus_sign
+        (is_role m h parts.Exponent roles.Sign s (λ e. cc) facts.sign_one) facts.plus_sign
         (exponent_arrives stages.Free exponent suffix more refl refl refl facts.run facts.digits facts.suffix_one)
     power_arrives b (s ∷ x ∷ sign) exponent suffix c facts = absurd (false≢true facts.sign_one)
 
@@ -540,7 +536,7 @@ module _ (m : Notation) where
     tail_arrives s (b ∷ []) sign exponent suffix c going facts end stop scale =
         let more : Cuts = record c { exponent_character = c.exponent_character + 1 } in
         arrives_byte m s b roles.Exponent c (sign ++ (exponent ++ suffix)) (record more { exponent_sign = plus sign c.exponent_sign; exponent = plus exponent c.exponent }) going
-        (is_role m h s.part roles.Exponent b (λ e. cc) (λ e. cc) facts.mark_one) (and_from _ _ end (scale refl))
+        (is_role m h s.part roles.Exponent b (λ e. cc) facts.mark_one) (and_from _ _ end (scale refl))
         (subst (λ e. Arrives m (Some (record (reading parts.Exponent stages.Mark false) { ended = e })) more (sign ++ (exponent ++ suffix))
         (record more { exponent_sign = plus sign c.exponent_sign; exponent = plus exponent c.exponent })) (sym going)
         (power_arrives b sign exponent suffix more facts))
@@ -627,7 +623,7 @@ module _ (m : Notation) where
           exponent_character = plus exponent_character c.exponent_character;
           exponent_sign = plus sign c.exponent_sign;
           exponent = plus exponent c.exponent;
-        }) refl (is_role m h parts.Integer roles.Point p (λ e. cc) (λ e. cc) facts.point_one) (and_from _ _ end facts.float_led)
+        }) refl (is_role m h parts.Integer roles.Point p (λ e. cc) facts.point_one) (and_from _ _ end facts.float_led)
         (fraction_arrives (has_digit last) (is_led last) p fraction exponent_character sign exponent suffix more facts)
     end_arrives last gap (p ∷ x ∷ point) fraction exponent_character sign exponent suffix c facts end = absurd (false≢true facts.point_one)
 
@@ -736,7 +732,7 @@ module _ (m : Notation) where
           (arrives_byte m (reading parts.Integer stage false) 48 roles.Digit c (b ∷ (l.integer ++ rest)) (lengths l more) refl
           (digit_role m parts.Integer 48 (h.zero_is_digit parts.Integer)) (and_from _ _ signed (new_follows stage new))
           (subst (λ s. Arrives m (Some (reading parts.Integer s false)) zero (b ∷ (l.integer ++ rest)) (lengths l more)) (sym (new_bare stage new)) (arrives_byte m (reading parts.Integer stages.Bare false) b roles.Prefix zero (l.integer ++ rest) (lengths l more) refl
-          (is_role m h parts.Integer roles.Prefix b (λ e. cc) (λ e. cc) both.1) refl
+          (is_role m h parts.Integer roles.Prefix b (λ e. cc) both.1) refl
           (integer_arrives stages.Free more refl (ap (λ t. is_absent t && has_leading_zero (m.digit parts.Integer) l.integer) (sym same)) refl))))
       prefix_arrives stage new signed (z ∷ b ∷ x ∷ prefix) same one c = absurd (false≢true one)
 
@@ -748,7 +744,7 @@ module _ (m : Notation) where
           let more : Cuts = record no_cuts { sign = 0 + 1 } in
           arrives_byte m start b roles.Sign no_cuts (l.prefix ++ (l.integer ++ rest))
           (lengths l (record more { prefix = plus (is_tail l.prefix) 0; integer = plus (is_tail l.prefix) 0 })) refl
-          (is_role m h parts.Integer roles.Sign b (λ e. cc) (λ e. cc) one) no_plus (prefix_arrives stages.Empty refl refl l.prefix refl is.prefix more)
+          (is_role m h parts.Integer roles.Sign b (λ e. cc) one) no_plus (prefix_arrives stages.Empty refl refl l.prefix refl is.prefix more)
       sign_arrives (b ∷ x ∷ sign) one no_plus signed = absurd (false≢true one)
 
       -- A literal is accepted, and its parts are counted.

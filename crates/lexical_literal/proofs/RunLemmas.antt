@@ -37,22 +37,7 @@ ends_with_push A (x ∷ []) byte = refl
 ends_with_push A (x ∷ y ∷ bytes) byte = ends_with_push A (y ∷ bytes) byte
 
 rearrange : (g s c p f : Bool) → ((s && (not g || c)) && (p && f)) ≡ ((not g || p) && (((s && p) && (c || not g)) && f))
-rearrange true true true true f = refl
-rearrange true true true false f = refl
-rearrange true true false true f = refl
-rearrange true true false false f = refl
-rearrange true false true true f = refl
-rearrange true false true false f = refl
-rearrange true false false true f = refl
-rearrange true false false false f = refl
-rearrange false true true true f = refl
-rearrange false true true false f = refl
-rearrange false true false true f = refl
-rearrange false true false false f = refl
-rearrange false false true true f = refl
-rearrange false false true false f = refl
-rearrange false false false true f = refl
-rearrange false false false false f = refl
+rearrange g s c p f = grind arith
 
 -- The automaton tests what is left of a gap, and then each byte.
 module _ (m : Notation) (part : Part) where

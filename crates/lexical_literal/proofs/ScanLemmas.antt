@@ -1,8 +1,7 @@
 -- How a text is read, byte by byte.
-use Rattle.std.proofs.Common.{ℕ, ◌≡◌, Bool, true, false, not, IsTrue, ◌==◌, ◌&&◌, ◌||◌, ◌+◌, if◌then◌else◌, List, [], ◌∷◌, ◌++◌, Option, Some, None, refl, sym, ap, subst, ◌∙◌, arith}
-use Rattle.std.proofs.lemmas.Bool.{false≢true, false_from_ne_true, or_left, or_right}
+use Rattle.std.proofs.Common.{ℕ, ◌≡◌, Bool, true, false, not, IsTrue, ◌==◌, ◌&&◌, ◌+◌, if◌then◌else◌, List, [], ◌∷◌, ◌++◌, Option, Some, None, refl, sym, ap, subst, ◌∙◌, arith}
+use Rattle.std.proofs.lemmas.Bool.{false≢true}
 use Rattle.lexical_util.specs.Layout as layout
-use Rattle.lexical_util.specs.Roles.{signs}
 use Rattle.lexical_util.specs.declared.feature_format.roles.Role.{Role}
 use Rattle.lexical_util.specs.declared.feature_format.roles.Role.TheVariants as roles
 use Rattle.lexical_util.specs.declared.format_flags.Part.{Part}
@@ -115,29 +114,3 @@ module _ (m : Notation) where
 
     pub separator_role : m.digit part b ≡ false → m.separator b ≡ true → role_in m part b ≡ Some roles.Separator
     separator_role other is = grind arith
-
-  module _ (h : HasRoles m) where
-    is_digit : (part : Part) (b : ℕ) → IsTrue (m.digit part b) → IsTrue (role_set m roles.Digit b)
-    is_digit parts.Integer b is = or_left _ _ (or_left _ _ is)
-    is_digit parts.Fraction b is = or_left _ _ (or_right (m.digit parts.Integer b) _ is)
-    is_digit parts.Exponent b is = or_right (m.digit parts.Integer b || m.digit parts.Fraction b) _ is
-
-    -- A byte that plays a role other than a digit or a separator has that role.
-    pub is_role : (part : Part) (r : Role) (b : ℕ) → (roles.Digit ≡ r → ⊥) → (roles.Separator ≡ r → ⊥) → role_set m r b ≡ true → role_in m part b ≡ Some r
-    is_role part r b no_digit no_separator is = found r
-        (false_from_ne_true _ (λ inside. no_digit (h.one roles.Digit r b (is_digit part b inside) is)))
-        (λ a other. false_from_ne_true _ (λ inside. other (h.one a r b inside is))) no_digit no_separator is where
-          found : (r : Role) → m.digit part b ≡ false → ((a : Role) → (a ≡ r → ⊥) → role_set m a b ≡ false) → (roles.Digit ≡ r → ⊥) → (roles.Separator ≡ r → ⊥)
-              → role_set m r b ≡ true → role_in m part b ≡ Some r
-          found roles.Digit d none first second is = absurd (first refl)
-          found roles.Separator d none first second is = absurd (second refl)
-          found roles.Point d none first second is =
-              λ j. tests (d j) (none roles.Separator (λ e. cc) j) (is j) (m.exponent_character b) (m.suffix b) (signs b) (m.prefix b)
-          found roles.Exponent d none first second is =
-              λ j. tests (d j) (none roles.Separator (λ e. cc) j) (none roles.Point (λ e. cc) j) (is j) (m.suffix b) (signs b) (m.prefix b)
-          found roles.Suffix d none first second is = λ j. tests (d j) (none roles.Separator (λ e. cc) j) (none roles.Point (λ e. cc) j)
-              (none roles.Exponent (λ e. cc) j) (is j) (signs b) (m.prefix b)
-          found roles.Sign d none first second is = λ j. tests (d j) (none roles.Separator (λ e. cc) j) (none roles.Point (λ e. cc) j)
-              (none roles.Exponent (λ e. cc) j) (none roles.Suffix (λ e. cc) j) (is j) (m.prefix b)
-          found roles.Prefix d none first second is = λ j. tests (d j) (none roles.Separator (λ e. cc) j) (none roles.Point (λ e. cc) j)
-              (none roles.Exponent (λ e. cc) j) (none roles.Suffix (λ e. cc) j) (none roles.Sign (λ e. cc) j) (is j)

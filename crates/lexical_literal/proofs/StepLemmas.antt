@@ -14,7 +14,8 @@ use Rattle.lexical_literal.specs.declared.steps.Stage.{Stage}
 use Rattle.lexical_literal.specs.declared.steps.Stage.TheVariants as stages
 use Rattle.lexical_literal.specs.declared.steps.Summary.{Summary}
 use Rattle.lexical_literal.proofs.RunLemmas.{is_rest, run_with_digit, run_with_separator, digit_fits, after_run_digit, is_run_separator, separator_fits, after_run_separator, opens}
-use Rattle.lexical_literal.proofs.ScanLemmas.{HasRoles, Accepts, Arrives, plus, kept, none_accepts, arrives_byte, as_digit, no_digit, as_role, digit_role, separator_role, is_role}
+use Rattle.lexical_literal.proofs.ClassLemmas.{is_role}
+use Rattle.lexical_literal.proofs.ScanLemmas.{HasRoles, Accepts, Arrives, plus, kept, none_accepts, arrives_byte, as_digit, no_digit, as_role, digit_role, separator_role}
 
 abbrev pub reading : Part → Stage → Bool → Summary
 reading part stage gap = record { part = part; stage = stage; gap = gap; ended = false }
@@ -79,53 +80,30 @@ module _ (D : ByteSet) where
   led_separator stages.Zero b run is = or_other (D b) (list_any D run) is
   led_separator _ b run is = refl
 
-first_seen : (gap zero : Bool) → has_digit (first_digit gap zero) ≡ true
-first_seen true true = refl
-first_seen false true = refl
-first_seen gap false = refl
-
-first_counts : (gap zero : Bool) → is_lone (first_digit gap zero) ≡ false
-first_counts true true = refl
-first_counts false true = refl
-first_counts gap false = refl
-
 pub digit_seen : (stage : Stage) (gap zero : Bool) → has_digit (after_digit stage gap zero) ≡ true
-digit_seen stages.Start gap zero = first_seen gap zero
-digit_seen stages.Empty gap zero = first_seen gap zero
-digit_seen _ gap zero = refl
+digit_seen stages.Start gap zero = grind arith
+digit_seen _ gap zero = grind arith
 
 pub same_seen : (stage : Stage) → has_digit (after_separator stage) ≡ has_digit stage
 same_seen stages.Start = refl
-same_seen stages.Mark = refl
-same_seen stages.Bare = refl
 same_seen _ = refl
 
 -- After a digit, the mantissa has one.
 digit_counts : (stage : Stage) (gap zero : Bool) → is_lone (after_digit stage gap zero) ≡ false
-digit_counts stages.Start gap zero = first_counts gap zero
-digit_counts stages.Empty gap zero = first_counts gap zero
-digit_counts _ gap zero = refl
+digit_counts stages.Start gap zero = grind arith
+digit_counts _ gap zero = grind arith
 
 same_counts : (stage : Stage) → is_lone (after_separator stage) ≡ is_lone stage
 same_counts stages.Start = refl
-same_counts stages.Mark = refl
-same_counts stages.Bare = refl
 same_counts _ = refl
 
 -- After a digit or a separator, no sign may follow.
 pub digit_settles : (stage : Stage) (gap zero : Bool) → is_fresh (after_digit stage gap zero) ≡ false
-digit_settles stages.Start true true = refl
-digit_settles stages.Start false true = refl
-digit_settles stages.Start gap false = refl
-digit_settles stages.Empty true true = refl
-digit_settles stages.Empty false true = refl
-digit_settles stages.Empty gap false = refl
-digit_settles _ gap zero = refl
+digit_settles stages.Start gap zero = grind arith
+digit_settles _ gap zero = grind arith
 
 separator_settles : (stage : Stage) → is_fresh (after_separator stage) ≡ false
 separator_settles stages.Start = refl
-separator_settles stages.Mark = refl
-separator_settles stages.Bare = refl
 separator_settles _ = refl
 
 -- `begins stage` is true if the first digit of the integer follows.
@@ -135,9 +113,7 @@ begins stages.Empty = true
 begins _ = false
 
 bare_first : (zero gap : Bool) → is_bare (first_digit gap zero) ≡ true → (zero ≡ true) × (gap ≡ false)
-bare_first true true is = absurd (false≢true is)
-bare_first true false is = (refl, refl)
-bare_first false gap is = absurd (false≢true is)
+bare_first zero gap is = grind arith
 
 -- Only a digit 0 that is first is bare.
 bare_digit : (stage : Stage) (gap : Bool) (b : ℕ) → is_bare (after_digit stage gap (b == 48)) ≡ true → (b ≡ 48) × (begins stage ≡ true) × (gap ≡ false)
@@ -147,15 +123,12 @@ bare_digit stages.Bare gap b is = absurd (false≢true is)
 bare_digit _ gap b is = absurd (false≢true is)
 
 begins_without : (stage : Stage) → has_digit stage ≡ true → begins stage ≡ true → ⊥
-begins_without stages.Start digit is = false≢true digit
-begins_without stages.Empty digit is = false≢true digit
-begins_without _ digit is = false≢true is
+begins_without stages.Start digit is = grind arith
+begins_without _ digit is = grind arith
 
 bare_separator : (stage : Stage) → is_bare (after_separator stage) ≡ true → ⊥
-bare_separator stages.Start is = false≢true is
-bare_separator stages.Mark is = false≢true is
-bare_separator stages.Bare is = false≢true is
-bare_separator _ is = false≢true is
+bare_separator stages.Start is = grind arith
+bare_separator _ is = grind arith
 
 -- What has been read of the digits of a part.
 pub record Run (m : Notation) (part : Part) (stage : Stage) (gap : Bool) (text : List ℕ) : Type 0 where
@@ -362,5 +335,5 @@ pub stop_arrives : (m : Notation) → HasRoles m → (s : Summary) (c : Cuts) (s
     → is_none_or_one m.suffix suffix ≡ true → Arrives m (Some s) c suffix c
 stop_arrives m h s c [] open_is is one = (or_right s.ended _ is, refl)
 stop_arrives m h s c (b ∷ []) open_is is one =
-    arrives_byte m s b roles.Suffix c [] c open_is (is_role m h s.part roles.Suffix b (λ e. cc) (λ e. cc) one) is (refl, refl)
+    arrives_byte m s b roles.Suffix c [] c open_is (is_role m h s.part roles.Suffix b (λ e. cc) one) is (refl, refl)
 stop_arrives m h s c (b ∷ x ∷ suffix) open_is is one = absurd (false≢true one)

@@ -26,33 +26,15 @@ set_more P xs i x d inside here below =
 
 part_below : (part : Part) → part_number part < 3
 part_below parts.Integer = omega arith
-part_below parts.Fraction = omega arith
-part_below parts.Exponent = omega arith
+part_below _ = omega arith
 
 stage_below : (stage : Stage) → stage_number stage < 9
 stage_below stages.Start = omega arith
-stage_below stages.Empty = omega arith
-stage_below stages.Bare = omega arith
-stage_below stages.Zero = omega arith
-stage_below stages.Led = omega arith
-stage_below stages.Mark = omega arith
-stage_below stages.Lone = omega arith
-stage_below stages.Free = omega arith
-stage_below stages.Digits = omega arith
+stage_below _ = omega arith
 
 class_below : (class : Class) → class_number class < 12
 class_below classes.Other = omega arith
-class_below classes.Zero = omega arith
-class_below classes.Digit = omega arith
-class_below classes.MantissaDigit = omega arith
-class_below classes.ExponentDigit = omega arith
-class_below classes.Separator = omega arith
-class_below classes.Prefix = omega arith
-class_below classes.Suffix = omega arith
-class_below classes.Point = omega arith
-class_below classes.ExponentCharacter = omega arith
-class_below classes.Plus = omega arith
-class_below classes.Minus = omega arith
+class_below _ = omega arith
 
 gap_below : (gap : Bool) → gap_number gap < 2
 gap_below true = omega arith
@@ -60,33 +42,15 @@ gap_below false = omega arith
 
 part_back : (part : Part) → part_at (part_number part) ≡ part
 part_back parts.Integer = refl
-part_back parts.Fraction = refl
-part_back parts.Exponent = refl
+part_back _ = refl
 
 stage_back : (stage : Stage) → stage_at (stage_number stage) ≡ stage
 stage_back stages.Start = refl
-stage_back stages.Empty = refl
-stage_back stages.Bare = refl
-stage_back stages.Zero = refl
-stage_back stages.Led = refl
-stage_back stages.Mark = refl
-stage_back stages.Lone = refl
-stage_back stages.Free = refl
-stage_back stages.Digits = refl
+stage_back _ = refl
 
 class_back : (class : Class) → class_at (class_number class) ≡ class
 class_back classes.Other = refl
-class_back classes.Zero = refl
-class_back classes.Digit = refl
-class_back classes.MantissaDigit = refl
-class_back classes.ExponentDigit = refl
-class_back classes.Separator = refl
-class_back classes.Prefix = refl
-class_back classes.Suffix = refl
-class_back classes.Point = refl
-class_back classes.ExponentCharacter = refl
-class_back classes.Plus = refl
-class_back classes.Minus = refl
+class_back _ = refl
 
 gap_back : (gap : Bool) → (gap_number gap == 1) ≡ gap
 gap_back true = refl
@@ -123,12 +87,7 @@ summary_back s going =
 
 after_back : (s : Summary) (zero : Bool) (role : Role) → s.ended ≡ false → summary_at (row (after s zero role)) ≡ after s zero role
 after_back s zero roles.Suffix going = refl
-after_back s zero roles.Digit going = summary_back (after s zero roles.Digit) going
-after_back s zero roles.Separator going = summary_back (after s zero roles.Separator) going
-after_back s zero roles.Sign going = summary_back (after s zero roles.Sign) going
-after_back s zero roles.Prefix going = summary_back (after s zero roles.Prefix) going
-after_back s zero roles.Point going = summary_back (after s zero roles.Point) going
-after_back s zero roles.Exponent going = summary_back (after s zero roles.Exponent) going
+after_back s zero role going = summary_back (after s zero role) going
 
 -- What a step returns is the summary of its row.
 pub moved_back : (m : Notation) (s : Summary) (plus zero : Bool) (o : Option Role) (t : Summary) → move m s plus zero o ≡ Some t → summary_at (row t) ≡ t
@@ -157,24 +116,8 @@ class_of_place n class = ap class_at (left n (class_number class) (class_below c
 pub count_one : (counts : List ℕ) → length counts ≡ 9 → (piece : Piece)
     → add (cuts_of counts) piece ≡ cuts_of (set counts (piece_number piece) (get_or counts (piece_number piece) 0 + 1))
 count_one (a ∷ b ∷ c ∷ d ∷ e ∷ f ∷ g ∷ h ∷ i ∷ []) nine pieces.Sign = refl
-count_one (a ∷ b ∷ c ∷ d ∷ e ∷ f ∷ g ∷ h ∷ i ∷ []) nine pieces.Prefix = refl
-count_one (a ∷ b ∷ c ∷ d ∷ e ∷ f ∷ g ∷ h ∷ i ∷ []) nine pieces.Integer = refl
-count_one (a ∷ b ∷ c ∷ d ∷ e ∷ f ∷ g ∷ h ∷ i ∷ []) nine pieces.Point = refl
-count_one (a ∷ b ∷ c ∷ d ∷ e ∷ f ∷ g ∷ h ∷ i ∷ []) nine pieces.Fraction = refl
-count_one (a ∷ b ∷ c ∷ d ∷ e ∷ f ∷ g ∷ h ∷ i ∷ []) nine pieces.ExponentCharacter = refl
-count_one (a ∷ b ∷ c ∷ d ∷ e ∷ f ∷ g ∷ h ∷ i ∷ []) nine pieces.ExponentSign = refl
-count_one (a ∷ b ∷ c ∷ d ∷ e ∷ f ∷ g ∷ h ∷ i ∷ []) nine pieces.Exponent = refl
-count_one (a ∷ b ∷ c ∷ d ∷ e ∷ f ∷ g ∷ h ∷ i ∷ []) nine pieces.Suffix = refl
-count_one [] nine piece = absurd (omega (arith, nine))
-count_one (a ∷ []) nine piece = absurd (omega (arith, nine))
-count_one (a ∷ b ∷ []) nine piece = absurd (omega (arith, nine))
-count_one (a ∷ b ∷ c ∷ []) nine piece = absurd (omega (arith, nine))
-count_one (a ∷ b ∷ c ∷ d ∷ []) nine piece = absurd (omega (arith, nine))
-count_one (a ∷ b ∷ c ∷ d ∷ e ∷ []) nine piece = absurd (omega (arith, nine))
-count_one (a ∷ b ∷ c ∷ d ∷ e ∷ f ∷ []) nine piece = absurd (omega (arith, nine))
-count_one (a ∷ b ∷ c ∷ d ∷ e ∷ f ∷ g ∷ []) nine piece = absurd (omega (arith, nine))
-count_one (a ∷ b ∷ c ∷ d ∷ e ∷ f ∷ g ∷ h ∷ []) nine piece = absurd (omega (arith, nine))
-count_one (a ∷ b ∷ c ∷ d ∷ e ∷ f ∷ g ∷ h ∷ i ∷ j ∷ counts) nine piece = absurd (omega (arith, nine))
+count_one (a ∷ b ∷ c ∷ d ∷ e ∷ f ∷ g ∷ h ∷ i ∷ []) nine _ = refl
+count_one counts nine piece = absurd (omega (arith, nine))
 
 -- No piece has more bytes than have been read.
 pub small_more : (counts : List ℕ) (n k : ℕ) → k < length counts → ((j : ℕ) → get_or counts j 0 ≤ n) → (j : ℕ) → get_or (set counts k (get_or counts k 0 + 1)) j 0 ≤ n + 1

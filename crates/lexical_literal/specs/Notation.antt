@@ -41,6 +41,7 @@ abbrev pub exponent_character_of : Record → Option Options → ByteSet
 exponent_character_of r None byte = false
 exponent_character_of r (Some options) byte = sets.exponent r options.exponent byte
 
+-- `lacks_options options` is true if there are no options, so that literals are integers.
 abbrev pub lacks_options : Option Options → Bool
 lacks_options None = true
 lacks_options (Some options) = false

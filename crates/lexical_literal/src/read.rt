@@ -184,18 +184,13 @@ impl Reader {
     }
 }
 
-// What a whole text is: how far it is right, whether it is a literal, and the lengths of its parts.
+// The length of the longest front that some literal begins with, the lengths of its parts, and whether the whole text is
+// a literal; if they are looked for, also the length of the longest front that is a literal, or 0 if none is.
 #[derive(Clone, Copy)]
 struct Scanned {
     valid_up_to: usize,
-    is_literal: bool,
     counts: [usize; 9],
-}
-
-// The length of the longest front that some literal begins with, and that of the longest literal, or 0.
-#[derive(Clone, Copy)]
-struct Ends {
-    valid_up_to: usize,
+    is_literal: bool,
     literal: usize,
 }
 
@@ -209,10 +204,11 @@ fn read<'a>(
     requires syntax { IsSyntax grammar }
     requires tables { ForSome tables (λ tables. HasTables (notation_of grammar) tables.now) }
     ensures found { IfOk result (λ parts. Reads (notation_of grammar) (literal_of parts) text.now) }
-    ensures only { (l : Literal) → Reads (notation_of grammar) l text.now → IsOkAnd result (λ parts. literal_of parts ≡ l) }
+    ensures only { (l : Literal) → Reads (notation_of grammar) l text.now
+        → IsOkAnd result (λ parts. literal_of parts ≡ l) }
     ensures error { IfErr result (λ error. IsValidUpTo (notation_of grammar) text.now error.valid_up_to) }
 {
-    let scanned = scan(grammar, tables, text);
+    let scanned = scan(grammar, tables, text, false);
     if scanned.is_literal {
         Ok(cut(text, scanned.counts))
     } else {
@@ -231,20 +227,22 @@ fn read_prefix<'a>(
 ) -> Result<Front<'a>, ReadError>
     requires syntax { IsSyntax grammar }
     requires tables { ForSome tables (λ tables. HasTables (notation_of grammar) tables.now) }
-    ensures found { IfOk result (λ front. ReadsFront (notation_of grammar) (literal_of front.parts) text.now front.size) }
-    ensures none { IsErr result → (size : ℕ) → size ≤ length text.now → NoLiteral (notation_of grammar) (take size text.now) }
+    ensures found { IfOk result (λ front.
+        ReadsFront (notation_of grammar) (literal_of front.parts) text.now front.size) }
+    ensures none { IsErr result → (size : ℕ) → size ≤ length text.now
+        → NoLiteral (notation_of grammar) (take size text.now) }
     ensures error { IfErr result (λ error. IsValidUpTo (notation_of grammar) text.now error.valid_up_to) }
 {
-    let ends = longest(grammar, tables, text);
-    if ends.literal == 0 {
+    let fronts = scan(grammar, tables, text, true);
+    if fronts.literal == 0 {
         Err(ReadError {
-            valid_up_to: ends.valid_up_to,
+            valid_up_to: fronts.valid_up_to,
         })
     } else {
-        let front = &text[..ends.literal];
+        let front = &text[..fronts.literal];
         Ok(Front {
-            parts: cut(front, scan(grammar, tables, front).counts),
-            size: ends.literal,
+            parts: cut(front, scan(grammar, tables, front, false).counts),
+            size: fronts.literal,
         })
     }
 }
@@ -284,62 +282,40 @@ fn cut<'a>(text: &'a [u8], counts: [usize; 9]) -> Parts<'a>
     }
 }
 
-// Reads `text` until no literal begins with what has been read.
+// Reads `text` until no literal begins with what has been read, and looks for fronts that are literals if `fronts` is true.
 #[inline(always)]
-fn scan(grammar: Grammar, tables: Option<&Tables>, text: &[u8]) -> Scanned
+fn scan(grammar: Grammar, tables: Option<&Tables>, text: &[u8], fronts: bool) -> Scanned
     requires syntax { IsSyntax grammar }
     requires tables { ForSome tables (λ tables. HasTables (notation_of grammar) tables.now) }
     ensures error { IsValidUpTo (notation_of grammar) text.now result.valid_up_to }
     ensures literal { IsTrue result.is_literal → (l : Literal) × Reads (notation_of grammar) l text.now }
     ensures counted { (l : Literal) → Reads (notation_of grammar) l text.now
         → IsTrue result.is_literal × HasLengths l (cuts_of result.counts) }
+    ensures longest { IsTrue fronts → IsLongest (notation_of grammar) text.now result.literal }
 {
     role_facts();
     let mut row = START;
     let mut counts = [0; 9];
+    let mut literal = 0;
     for (index, byte) in text.iter().enumerate() {
         let Some(next) = step_by(grammar, tables, row, *byte) else {
             return Scanned {
                 valid_up_to: index,
-                is_literal: false,
                 counts,
-            };
-        };
-        row = next.row;
-        counts[piece_number(next.piece)] += 1;
-    }
-    Scanned {
-        valid_up_to: text.len(),
-        is_literal: is_complete_by(grammar, tables, row),
-        counts,
-    }
-}
-
-// Reads `text` until no literal begins with what has been read, and keeps the end of the longest literal.
-#[inline(always)]
-fn longest(grammar: Grammar, tables: Option<&Tables>, text: &[u8]) -> Ends
-    requires syntax { IsSyntax grammar }
-    requires tables { ForSome tables (λ tables. HasTables (notation_of grammar) tables.now) }
-    ensures error { IsValidUpTo (notation_of grammar) text.now result.valid_up_to }
-    ensures longest { IsLongest (notation_of grammar) text.now result.literal }
-{
-    role_facts();
-    let mut row = START;
-    let mut literal = 0;
-    for (index, byte) in text.iter().enumerate() {
-        let Some(next) = step_by(grammar, tables, row, *byte) else {
-            return Ends {
-                valid_up_to: index,
+                is_literal: false,
                 literal,
             };
         };
         row = next.row;
-        if is_complete_by(grammar, tables, row) {
+        counts[piece_number(next.piece)] += 1;
+        if fronts && is_complete_by(grammar, tables, row) {
             literal = index + 1;
         }
     }
-    Ends {
+    Scanned {
         valid_up_to: text.len(),
+        counts,
+        is_literal: is_complete_by(grammar, tables, row),
         literal,
     }
 }

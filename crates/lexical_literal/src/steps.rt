@@ -5,7 +5,7 @@ ghost use Rattle.lexical_util.specs.Digits.{byte_value};
 ghost use Rattle.lexical_util.specs.Record.{raw};
 ghost use Rattle.lexical_literal.specs.Notation.{notation_of, radix_of, point_of, exponent_character_of};
 ghost use Rattle.lexical_literal.specs.Run.{is_place};
-ghost use Rattle.lexical_literal.specs.Additions.Summary.{IsMove, class_of, role_of, in_part, piece_of, has_digit, is_fresh, is_led, may_follow, after_digit, after_separator, after_sign, after_point, takes_digit, takes_separator, is_signed, needs_exponent, may_lead, forbids_plus, digits_suffice, may_float, may_point, may_scale, may_stop, ends, is_complete, takes, after};
+ghost use Rattle.lexical_literal.specs.Additions.Summary.{IsMove, class_of, role_of, in_part, piece_of, has_digit, is_fresh, may_follow, after_digit, after_separator, after_sign, takes_separator, is_signed, needs_exponent, may_lead, forbids_plus, digits_suffice, may_float, may_scale, may_stop, ends, is_complete, takes, after};
 
 use crate::syntax::Grammar;
 use lexical_util::format::{Part, Role};
@@ -190,7 +190,7 @@ pub(crate) fn role_of(class: Class) -> Option<Role>
     }
 }
 
-// Returns the role of a byte of `class` after a front that ends in `part`, where digits are those of the radix of `part`.
+// Returns the role of a byte of `class` after a front that ends in `part`, whose radix decides what is a digit.
 fn in_part(part: Part, class: Class) -> Option<Role>
     ensures { result ≡ in_part part class }
 {
@@ -246,13 +246,6 @@ fn is_fresh(stage: Stage) -> bool
     ensures { result ≡ is_fresh stage }
 {
     matches!(stage, Stage::Start | Stage::Mark)
-}
-
-// Returns whether there is a leading zero.
-fn is_led(stage: Stage) -> bool
-    ensures { result ≡ is_led stage }
-{
-    matches!(stage, Stage::Led)
 }
 
 // Returns whether an exponent is required.
@@ -333,13 +326,6 @@ fn after_separator(stage: Stage) -> Stage
     }
 }
 
-// Returns whether a digit may follow.
-fn takes_digit(grammar: Grammar, part: Part, digit: bool, gap: bool) -> bool
-    ensures { result ≡ takes_digit (notation_of grammar) part digit gap }
-{
-    !gap || is_place(grammar, part, digit, true)
-}
-
 // Returns whether a separator may follow, so that the gap can be closed.
 fn takes_separator(grammar: Grammar, part: Part, digit: bool, gap: bool, next: bool) -> bool
     ensures { result ≡ takes_separator (notation_of grammar) part digit gap next }
@@ -406,17 +392,7 @@ fn ends(grammar: Grammar, read: Summary) -> bool
 fn may_float(grammar: Grammar, stage: Stage) -> bool
     ensures { result ≡ may_float (notation_of grammar) stage }
 {
-    !grammar.view().no_float_leading_zeros() || !is_led(stage)
-}
-
-// Returns whether a decimal point may follow a part that may end.
-fn may_point(grammar: Grammar, part: Part, stage: Stage) -> bool
-    ensures { result ≡ may_point (notation_of grammar) part stage }
-{
-    match part {
-        Part::Integer => may_float(grammar, stage),
-        Part::Fraction | Part::Exponent => false,
-    }
+    !grammar.view().no_float_leading_zeros() || !matches!(stage, Stage::Led)
 }
 
 // Returns whether an exponent may follow a part that may end.
@@ -444,7 +420,7 @@ fn may_stop(grammar: Grammar, part: Part, stage: Stage) -> bool
         Part::Integer => {
             !needs_exponent(grammar)
                 && (has_digit(stage)
-                    && (!grammar.view().no_integer_leading_zeros() || !is_led(stage)))
+                    && (!grammar.view().no_integer_leading_zeros() || !matches!(stage, Stage::Led)))
         }
         Part::Fraction => !needs_exponent(grammar),
         Part::Exponent => true,
@@ -466,7 +442,7 @@ fn takes(grammar: Grammar, read: Summary, plus: bool, role: Role) -> bool
     match role {
         Role::Digit => {
             is_signed(grammar, read.part, read.stage)
-                && (takes_digit(grammar, read.part, digit, read.gap)
+                && ((!read.gap || is_place(grammar, read.part, digit, true))
                     && may_follow(grammar, read.stage))
         }
         Role::Separator => {
@@ -476,7 +452,10 @@ fn takes(grammar: Grammar, read: Summary, plus: bool, role: Role) -> bool
         }
         Role::Sign => is_fresh(read.stage) && (!forbids_plus(grammar, read.part) || !plus),
         Role::Prefix => matches!(read.stage, Stage::Bare),
-        Role::Point => ends(grammar, read) && may_point(grammar, read.part, read.stage),
+        Role::Point => {
+            ends(grammar, read)
+                && (matches!(read.part, Part::Integer) && may_float(grammar, read.stage))
+        }
         Role::Exponent => ends(grammar, read) && may_scale(grammar, read.part, read.stage),
         Role::Suffix => ends(grammar, read) && may_stop(grammar, read.part, read.stage),
     }
@@ -503,7 +482,11 @@ fn after(read: Summary, zero: bool, role: Role) -> Summary
         }
         Role::Point => {
             next.part = Part::Fraction;
-            next.stage = after_point(has_digit(read.stage));
+            next.stage = if has_digit(read.stage) {
+                Stage::Free
+            } else {
+                Stage::Lone
+            };
             next.gap = false;
         }
         Role::Exponent => {
@@ -514,13 +497,6 @@ fn after(read: Summary, zero: bool, role: Role) -> Summary
         Role::Suffix => next = FINISHED,
     }
     next
-}
-
-// Returns the stage after a decimal point that follows an integer with a digit, or without one.
-fn after_point(digit: bool) -> Stage
-    ensures { result ≡ after_point digit }
-{
-    if digit { Stage::Free } else { Stage::Lone }
 }
 
 // Returns what a byte of `class` makes of what has been read, or `None` if no literal begins so.

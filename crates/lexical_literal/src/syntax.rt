@@ -63,23 +63,25 @@ impl Model for Syntax {
 }
 
 impl Syntax {
-    /// Returns the syntax of the format word `word` with the exponent character `exponent` and the decimal point `point`.
+    /// Returns the syntax of the format word `word` with the exponent character `exponent` and the decimal point
+    /// `point`.
     ///
-    /// Equivalent lawful words have the same syntax. The options are checked against the [normal form][normal_form] of the
-    /// word. So in contrast to [`is_valid_options_punctuation`][lexical_util::format::is_valid_options_punctuation], they
-    /// may be a digit separator that no flag allows, since that byte plays no role.
+    /// Equivalent lawful words have the same syntax. The options are checked against the
+    /// [normal form][normal_form] of the word, in which a separator that no flag allows is absent. So they may be such
+    /// a separator, which [`options_error`] refuses.
     ///
     /// # Errors
     ///
-    /// If `word` is not lawful, returns the error of the first rule that it breaks. Otherwise, if the options do not fit
-    /// the normal form of `word`, returns the [error][options_error] of the first condition that they do not satisfy.
+    /// If `word` is not lawful, returns the error of the first rule that it breaks. Otherwise, if the options do not
+    /// fit the normal form of `word`, returns the [error][options_error] of the first condition that they break.
     pub const fn new(word: u128, exponent: u8, point: u8) -> Result<Syntax, Error>
         ensures accepted { OkIff result (Lawful word × OptionsFit (normal_form_of word) exponent point) (record {
           word = normal_form_of word;
           options = Some (record { exponent = exponent; point = point });
         }) }
         ensures word { IfErr result (λ error. (Lawful word → ⊥) → IsErrorOf word error) }
-        ensures options { IfErr result (λ error. Lawful word → IsOptionsError (normal_form_of word) exponent point error) }
+        ensures options { IfErr result (λ error. Lawful word
+            → IsOptionsError (normal_form_of word) exponent point error) }
     {
         match check(word) {
             Err(error) => Err(error),

@@ -3,32 +3,42 @@
 use crate::literals::rows::ROWS;
 use lexical_literal::read::Reader;
 use lexical_literal::syntax::Syntax;
-use lexical_util::error::Error;
+use lexical_util::word_text::parse_word;
 
 mod rows;
 
-fn syntax_of(word: u128, exponent: Option<u8>) -> Result<Syntax, Error> {
-    match exponent {
-        Some(exponent) => Syntax::new(word, exponent, b'.'),
-        None => Syntax::integers(word),
-    }
+// A row of the table.
+#[derive(Clone, Copy)]
+struct Row<'a> {
+    syntax: Syntax,
+    is_literal: bool,
+    text: &'a [u8],
+}
+
+// Returns the row of a line, or `None` if the line is malformed.
+fn parsed(line: &str) -> Option<Row<'_>> {
+    let mut cells = line.split(' ');
+    let (word, exponent) = (parse_word(cells.next()?).ok()?, cells.next()?);
+    let syntax = match exponent.as_bytes() {
+        b"none" => Syntax::integers(word).ok()?,
+        [exponent] => Syntax::new(word, *exponent, b'.').ok()?,
+        _ => return None,
+    };
+    Some(Row {
+        syntax,
+        is_literal: cells.next()? == "+",
+        text: cells.next()?.as_bytes(),
+    })
 }
 
 #[test]
 fn texts_are_literals_where_grammars_and_flags_say_so(rt: HostRuntime) {
-    for (word, exponent, literals, others) in &ROWS {
-        let Ok(syntax) = syntax_of(*word, *exponent) else {
-            assert!(rt; false, "{word:#034X}");
+    for line in ROWS.lines() {
+        let Some(row) = parsed(line) else {
+            assert!(rt; false, "{line}");
             return;
         };
-        let reader = Reader::new(syntax);
-        for text in literals.iter() {
-            assert!(rt; syntax.read(text.as_bytes()).is_ok(), "{word:#034X}: {text}");
-            assert!(rt; reader.read(text.as_bytes()).is_ok(), "{word:#034X}: {text}");
-        }
-        for text in others.iter() {
-            assert!(rt; syntax.read(text.as_bytes()).is_err(), "{word:#034X}: {text}");
-            assert!(rt; reader.read(text.as_bytes()).is_err(), "{word:#034X}: {text}");
-        }
+        assert!(rt; row.syntax.read(row.text).is_ok() == row.is_literal, "{line}");
+        assert!(rt; Reader::new(row.syntax).read(row.text).is_ok() == row.is_literal, "{line}");
     }
 }

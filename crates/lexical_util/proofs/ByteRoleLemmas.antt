@@ -1,5 +1,5 @@
 -- In a lawful format with options that fit, a byte plays at most one role.
-use Rattle.std.proofs.Common.{◌≡◌, ◌≢◌, ◌<◌, ◌⊎◌, inl, inr, ℕ, ◌↔◌, Bool, true, false, cond, List, [], ◌∷◌, Option, Some, None, IsTrue}
+use Rattle.std.proofs.Common.{◌≡◌, ◌≢◌, ◌<◌, ◌⊎◌, inl, inr, ℕ, ◌↔◌, Bool, true, List, [], ◌∷◌, Some, None, IsTrue}
 use Rattle.std.proofs.Common.{refl, sym, ap, subst, ◌∙◌, arith}
 use Rattle.std.proofs.lemmas.Bool.{and_parts, cond-true, cond_both}
 use Rattle.std.proofs.lemmas.Bool.Decides.{nat_tests}
@@ -21,12 +21,7 @@ stored_set r e p role = role_set r e p role
 -- A byte that plays a role is in its stored set.
 stored : (r : Record) (e p byte : ℕ) (role : Role) → IsTrue (role_set r e p role byte) → IsTrue (stored_set r e p role byte)
 stored r e p byte roles.Separator plays = (and_parts (separator_allowed r) (separator r byte) plays).1
-stored r e p byte roles.Digit plays = plays
-stored r e p byte roles.Sign plays = plays
-stored r e p byte roles.Prefix plays = plays
-stored r e p byte roles.Suffix plays = plays
-stored r e p byte roles.Exponent plays = plays
-stored r e p byte roles.Point plays = plays
+stored r e p byte _ plays = plays
 
 -- `IsAmong list role` holds if `role` is in `list`.
 abbrev IsAmong : List Role → Role → Type 0
@@ -36,23 +31,14 @@ IsAmong (x ∷ list) role = (x ≡ role) ⊎ IsAmong list role
 -- Every role is looked for.
 listed : (role : Role) → IsAmong roles_in_order role
 listed roles.Digit = inl refl
-listed roles.Sign = inr (inl refl)
-listed roles.Separator = inr (inr (inl refl))
-listed roles.Prefix = inr (inr (inr (inl refl)))
-listed roles.Suffix = inr (inr (inr (inr (inl refl))))
-listed roles.Exponent = inr (inr (inr (inr (inr (inl refl)))))
-listed roles.Point = inr (inr (inr (inr (inr (inr (inl refl))))))
+listed _ = search (inl, inr) depth 8
 
 -- What is found passes the test. A role in the list that alone passes the test is found.
 module _ (test : Role → Bool) (role : Role) where
-  found_from : (t : Bool) (x : Role) (rest : Option Role) → test x ≡ t → (rest ≡ Some role → IsTrue (test role))
-      → cond t (Some x) rest ≡ Some role → IsTrue (test role)
-  found_from true x rest is more same = let own : x ≡ role = cc in subst (λ y. IsTrue (test y)) own is
-  found_from false x rest is more same = more same
-
   found : (list : List Role) → find test list ≡ Some role → IsTrue (test role)
-  found [] same = absurd (let no : None ≡ Some role = same in cc)
-  found (x ∷ list) same = found_from (test x) x (find test list) refl (found list) same
+  found [] = λ same. let no : None ≡ Some role = same in cc
+  found (x ∷ list) = cond_both (test x) (Some x) (find test list) (λ o. o ≡ Some role → IsTrue (test role))
+      (λ is same. let own : x ≡ role = cc in subst (λ y. IsTrue (test y)) own is) (λ _. found list)
 
   finds : IsTrue (test role) → ((x : Role) → IsTrue (test x) → x ≡ role) → (list : List Role) → IsAmong list role
       → find test list ≡ Some role

@@ -10,10 +10,9 @@ use Rattle.std.proofs.lemmas.List.Sums.{sum_by-cons, length-filter}
 use Rattle.lexical_flags.specs.Layout.{Flag, Byte}
 use Rattle.lexical_flags.specs.Layout as layout
 use Rattle.lexical_flags.specs.Record.{Record, raw, trim, pack, separator_allowed}
-use Rattle.lexical_flags.proofs.Packing.{raw-pack}
 use Rattle.lexical_builder.specs.Writes.{Write, write_flag, write_byte, IsLegal, new_record, flag_written, byte_written}
 use Rattle.lexical_builder.specs.Writes.{after, changes}
-use Rattle.lexical_builder.proofs.WriteLemmas.{left_by, left_by-cons, HasBytes-after, HasBytes-new}
+use Rattle.lexical_util.proofs.Lower.{raw-pack, left_by, left_by-cons, HasBytes-after, HasBytes-new}
 use Rattle.lexical_util.specs.Listing.{field_writes, needed_writes}
 use Rattle.lexical_util.proofs.FieldWrites.{All-field_writes}
 

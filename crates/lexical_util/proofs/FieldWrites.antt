@@ -9,10 +9,9 @@ use Rattle.std.proofs.lemmas.List.Elements.{All-append, All-map}
 use Rattle.lexical_flags.specs.Layout.{Flag, Byte, flags, bytes}
 use Rattle.lexical_flags.specs.Layout as layout
 use Rattle.lexical_flags.specs.Record.{Record, HasBytes}
-use Rattle.lexical_flags.proofs.RecordLemmas.{record_same}
 use Rattle.lexical_builder.specs.Writes.{Write, write_flag, write_byte, IsLegal, flag_written, byte_written, after}
 use Rattle.lexical_builder.specs.Writes.{changes}
-use Rattle.lexical_builder.proofs.WriteLemmas.{left_by}
+use Rattle.lexical_util.proofs.Lower.{record_same, left_by}
 use Rattle.lexical_util.specs.Listing.{field_writes}
 
 -- Writing all fields of `r` into any record gives `r`.

@@ -3,9 +3,8 @@ use Rattle.std.proofs.Common.{◌≡◌, ℕ, ◌<◌, ◌^◌, ◌↔◌, ◌�
 use Rattle.std.proofs.Common.{refl, sym, ap, ◌∙◌, subst}
 use Rattle.lexical_flags.specs.Layout as layout
 use Rattle.lexical_flags.specs.Record.{Record, raw, pack, separator_allowed, HasBytes, IsBuilt}
-use Rattle.lexical_flags.proofs.Packing.{raw-pack, pack-clean, pack-raw, HasBytes-raw}
 use Rattle.lexical_builder.specs.Writes.{new_record, after}
-use Rattle.lexical_builder.proofs.WriteLemmas.{HasBytes-after, HasBytes-new}
+use Rattle.lexical_util.proofs.Lower.{raw-pack, pack-clean, pack-raw, HasBytes-raw, HasBytes-after, HasBytes-new}
 use Rattle.lexical_util.proofs.FieldWrites.{after-field_writes, legal-field_writes}
 use Rattle.lexical_util.specs.Listing.{field_writes, IsBuiltByWrites}
 

@@ -1,3 +1,4 @@
+mod Lower
 mod EditLemmas
 mod NormalLemmas
 mod ViewLemmas

@@ -10,8 +10,7 @@ use Rattle.lexical_flags.specs.Layout as layout
 use Rattle.lexical_flags.specs.Layout.{Flag}
 use Rattle.lexical_flags.specs.Record.{Record, HasBytes}
 use Rattle.lexical_builder.specs.Writes.{Write, write_flag, write_byte, IsLegal, new_record, after, changes}
-use Rattle.lexical_builder.proofs.OptionByteLemmas.{byte_of_option_back}
-use Rattle.lexical_builder.proofs.WriteLemmas.{after-append}
+use Rattle.lexical_util.proofs.Lower.{byte_of_option_back, after-append}
 use Rattle.lexical_util.proofs.FieldWrites.{legal-field_writes, after-own}
 use Rattle.lexical_util.proofs.FieldWrites.{after-changes}
 use Rattle.lexical_util.specs.Edits.{flags_of, writes_of, all_writes}

@@ -11,11 +11,8 @@ use Rattle.lexical_flags.specs.Layout.{Flag, Byte, bit, part, flags, bytes, digi
 use Rattle.lexical_flags.specs.Layout as layout
 use Rattle.lexical_flags.specs.Record.{Record, HasBytes, raw, trim, fill, pack, word_of, flag_bits, byte_bits, effective}
 use Rattle.lexical_flags.specs.Record.{separator_allowed, SeparatorAllowedOrAbsent}
-use Rattle.lexical_flags.proofs.Packing.{kept_same, trimmed_unused}
 use Rattle.lexical_flags.specs.declared.format_flags.TheConstants.{FLAG_MASK}
-use Rattle.lexical_flags.proofs.FlagBits.{flags-lt}
-use Rattle.lexical_flags.proofs.Masks.{and_all}
-use Rattle.lexical_builder.proofs.BuilderFlags.{bit_value}
+use Rattle.lexical_util.proofs.Lower.{kept_same, trimmed_unused, flags-lt, and_all, bit_value}
 use Rattle.lexical_builder.specs.Writes.{Write, IsLegal, after}
 use Rattle.lexical_util.proofs.EditLemmas.{edited-fields, edited-clean, edited-fits, edited-only}
 use Rattle.lexical_util.specs.Edits.{edited}

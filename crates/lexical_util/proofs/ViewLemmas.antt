@@ -10,10 +10,8 @@ use Rattle.std.proofs.lemmas.Nat.Bits.{and_high}
 use Rattle.lexical_flags.specs.Layout.{part, Flag, bit}
 use Rattle.lexical_flags.specs.Record.{raw, flag_bits}
 use Rattle.lexical_flags.specs.Additions.Masks.{mask_of}
-use Rattle.lexical_flags.proofs.Masks.{ascends, and_all}
-use Rattle.lexical_flags.proofs.FlagBits.{flag_by_mask, mask_test}
 use Rattle.lexical_flags.specs.Common.{common}
-use Rattle.lexical_flags.proofs.CommonLemmas.{common-bit_and}
+use Rattle.lexical_util.proofs.Lower.{ascends, and_all, flag_by_mask, mask_test, common-bit_and}
 use Rattle.lexical_util.specs.Edits.{flags_of}
 use Rattle.lexical_util.specs.Groups.{any_flag, bits_of}
 use Rattle.lexical_util.specs.declared.edits.setters.FlagSetter.{FlagSetter}

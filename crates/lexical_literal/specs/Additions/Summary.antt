@@ -49,14 +49,17 @@ abbrev pub is_lone : Stage → Bool
 is_lone stages.Lone = true
 is_lone _ = false
 
+-- `is_led stage` is true if the integer has a leading zero.
 abbrev pub is_led : Stage → Bool
 is_led stages.Led = true
 is_led _ = false
 
+-- `is_bare stage` is true if the integer is the digit 0, which may be the zero of a prefix.
 abbrev pub is_bare : Stage → Bool
 is_bare stages.Bare = true
 is_bare _ = false
 
+-- `implies a b` is true if `b` is true or `a` is false.
 abbrev pub implies : Bool → Bool → Bool
 implies a b = not a || b
 
@@ -80,7 +83,7 @@ may_follow m _ = true
 abbrev pub first_digit : Bool → Bool → Stage
 first_digit gap zero = if zero then (if gap then stages.Zero else stages.Bare) else stages.Digits
 
--- `after_digit stage gap zero`, `after_separator stage` and `after_sign stage` are the stages after one more byte.
+-- `after_digit stage gap zero` is the stage after a digit, which is 0 if `zero` is true.
 abbrev pub after_digit : Stage → Bool → Bool → Stage
 after_digit stages.Start gap zero = first_digit gap zero
 after_digit stages.Empty gap zero = first_digit gap zero
@@ -89,12 +92,14 @@ after_digit stages.Zero gap zero = stages.Led
 after_digit stages.Led gap zero = stages.Led
 after_digit _ gap zero = stages.Digits
 
+-- `after_separator stage` is the stage after a separator.
 abbrev pub after_separator : Stage → Stage
 after_separator stages.Start = stages.Empty
 after_separator stages.Mark = stages.Free
 after_separator stages.Bare = stages.Zero
 after_separator stage = stage
 
+-- `after_sign stage` is the stage after a sign.
 abbrev pub after_sign : Stage → Stage
 after_sign stages.Start = stages.Empty
 after_sign stages.Mark = stages.Free
@@ -104,6 +109,7 @@ after_sign stage = stage
 abbrev pub may_end : Notation → Part → Bool → Bool → Bool
 may_end m part digit gap = not gap || is_place m part digit false
 
+-- `takes_digit m part digit gap` is true if another digit may follow, as far as separators decide.
 abbrev pub takes_digit : Notation → Part → Bool → Bool → Bool
 takes_digit m part digit gap = not gap || is_place m part digit true
 
@@ -112,14 +118,17 @@ abbrev pub is_open : Notation → Part → Bool → Bool → Bool
 is_open m part true next = is_place m part true false || (is_place m part true true && next)
 is_open m part false next = is_place m part false true
 
+-- `takes_separator m part digit gap next` is true if a separator may follow, so that its gap can be closed.
 abbrev pub takes_separator : Notation → Part → Bool → Bool → Bool → Bool
 takes_separator m part digit gap next = (not gap || m.flag (separators_in part).consecutive) && is_open m part digit next
 
+-- `needs_sign m part` is true if a sign is required before the digits of `part`.
 abbrev pub needs_sign : Notation → Part → Bool
 needs_sign m parts.Integer = m.flag layout.required_mantissa_sign
 needs_sign m parts.Fraction = false
 needs_sign m parts.Exponent = m.flag layout.required_exponent_sign
 
+-- `forbids_plus m part` is true if that sign must not be a plus sign.
 abbrev pub forbids_plus : Notation → Part → Bool
 forbids_plus m parts.Integer = m.flag layout.no_positive_mantissa_sign
 forbids_plus m parts.Fraction = false
@@ -140,11 +149,12 @@ digits_suffice m parts.Exponent stage = implies (m.flag layout.required_exponent
 abbrev pub may_float : Notation → Stage → Bool
 may_float m stage = implies (m.flag layout.no_float_leading_zeros) (not (is_led stage))
 
--- Whether a decimal point, an exponent character or nothing may follow a part that may end.
+-- `may_point m part stage` is true if a decimal point may follow `part`.
 abbrev pub may_point : Notation → Part → Stage → Bool
 may_point m parts.Integer stage = may_float m stage
 may_point m _ stage = false
 
+-- `may_scale m part stage` is true if an exponent may follow `part`.
 abbrev pub may_scale : Notation → Part → Stage → Bool
 may_scale m parts.Integer stage =
     not (m.flag layout.no_exponent_notation) && (may_float m stage
@@ -152,6 +162,7 @@ may_scale m parts.Integer stage =
 may_scale m parts.Fraction stage = not (m.flag layout.no_exponent_notation)
 may_scale m parts.Exponent stage = false
 
+-- `may_stop m part stage` is true if nothing, or the suffix, may follow `part`.
 abbrev pub may_stop : Notation → Part → Stage → Bool
 may_stop m parts.Integer stage =
     not (needs_exponent m)
@@ -198,6 +209,7 @@ after s zero roles.Point = record s { part = parts.Fraction; stage = after_point
 after s zero roles.Exponent = record s { part = parts.Exponent; stage = stages.Mark; gap = false }
 after s zero roles.Suffix = finished
 
+-- `move m s plus zero role` is the summary after a byte with this role, or `None` if no literal begins so.
 abbrev pub move : Notation → Summary → Bool → Bool → Option Role → Option Summary
 move m s plus zero None = None
 move m s plus zero (Some role) = if not s.ended && takes m s plus role then Some (after s zero role) else None
@@ -292,10 +304,12 @@ in_part parts.Integer classes.ExponentDigit = None
 in_part parts.Fraction classes.ExponentDigit = None
 in_part part class = role_of class
 
+-- `is_zero class` is true if the bytes of `class` are the digit 0.
 abbrev pub is_zero : Class → Bool
 is_zero classes.Zero = true
 is_zero _ = false
 
+-- `is_plus class` is true if the bytes of `class` are plus signs.
 abbrev pub is_plus : Class → Bool
 is_plus classes.Plus = true
 is_plus _ = false
@@ -316,10 +330,12 @@ scan m s [] = s
 scan m None (byte ∷ text) = None
 scan m (Some s) (byte ∷ text) = scan m (step m s byte) text
 
+-- `is_accepted m s` is true if a text that ends with the summary `s` is a literal.
 abbrev pub is_accepted : Notation → Option Summary → Bool
 is_accepted m None = false
 is_accepted m (Some s) = is_complete m s
 
+-- `start` is the summary before any byte.
 abbrev pub start : Summary
 start = record { part = parts.Integer; stage = stages.Start; gap = false; ended = false }
 
@@ -329,6 +345,7 @@ tally m s c [] = c
 tally m None c (byte ∷ text) = c
 tally m (Some s) c (byte ∷ text) = tally m (step m s byte) (count s.part (role_in m s.part byte) c) text
 
+-- `no_cuts` counts no bytes.
 abbrev pub no_cuts : Cuts
 no_cuts = record { sign = 0; prefix = 0; integer = 0; point = 0; fraction = 0; exponent_character = 0; exponent_sign = 0; exponent = 0 }
 

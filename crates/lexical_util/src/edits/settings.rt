@@ -1,12 +1,9 @@
 //! Settings, which are edits written as text: `NAME=VALUE`.
 
-ghost use Rattle.std.specs.Prelude.{◌≡◌, ◌≢◌, ◌≤◌, ◌<◌, IsTrue, length, MatchOption, MatchResult};
+ghost use Rattle.std.specs.Prelude.{◌≡◌, ◌≢◌, ◌≤◌, ◌<◌, length, MatchOption, MatchResult};
 ghost use Rattle.std.specs.Bool.{IsFalse};
 ghost use Rattle.std.specs.List.{position_or_len, before_first, after_first};
-ghost use Rattle.std.specs.Option.{SomeIff};
-ghost use Rattle.lexical_base.specs.Digits.{numeral};
 ghost use Rattle.lexical_util.specs.Additions.EditMasks.{argument_byte};
-ghost use Rattle.lexical_util.specs.Additions.Numeral.{is_numeral};
 ghost use Rattle.lexical_util.specs.Additions.Settings.{name_of, setter_of, takes_flag, byte_of_digits, byte_of_text, is_equals};
 ghost use Rattle.lexical_util.specs.Additions.Settings.{no_equals, unknown_name, bad_value, IsNoName, IsParsed, IsSetting};
 ghost use Rattle.lexical_util.specs.declared.edits.setters.FlagSetter.{FlagSetter};
@@ -134,9 +131,8 @@ impl Setter {
 
 // Returns the setter with a name.
 fn setter_named(name: &str) -> Result<Setter, SettingError>
-    ensures { MatchResult result
-        (λ own. (name_of own ≡ name.now) × ((setter : Setter) → name_of setter ≡ name.now → setter ≡ own))
-        (λ error. (error ≡ unknown_name) × IsNoName name.now) }
+    ensures known { (setter : Setter) → name_of setter ≡ name.now → result ≡ Ok setter }
+    ensures unknown { IsNoName name.now → result ≡ Err unknown_name }
 {
     match Setter::from_name(name) {
         Some(setter) => Ok(setter),
@@ -241,7 +237,7 @@ fn byte_from_text(text: &str) -> Option<u8>
 #[must_use]
 #[doc(hidden)]
 pub fn byte_from_decimal(text: &str) -> Option<u8>
-    ensures { SomeIff result (IsTrue (is_numeral 10 3 text.now) × (numeral 10 text.now < 256)) (numeral 10 text.now) }
+    ensures { result ≡ byte_of_digits 10 3 text.now }
 {
     byte_from_digits(text.as_bytes(), 10, 3)
 }

@@ -1,18 +1,19 @@
-use Rattle.std.proofs.Common.{ap, ◌∙◌}
+use Rattle.std.proofs.Common.{◌≡◌, ◌≢◌, refl, ap, ◌∙◌}
 use Rattle.std.proofs.lemmas.Bool.{cond-true}
 use Rattle.lexical_flags.specs.Layout as layout
-use Rattle.lexical_flags.specs.Record.{Record}
+use Rattle.lexical_flags.specs.Layout.{Byte}
+use Rattle.lexical_flags.specs.Record.{Record, trim}
 use Rattle.lexical_flags.proofs.Packing.{raw-pack}
 use Rattle.lexical_builder.proofs.laws.builder_facts.Goals as goal
+
+kept : (r : Record) (b : Byte) → b ≢ layout.digit_separator → (trim r).byte b ≡ r.byte b
+kept r layout.digit_separator other = absurd (other refl)
+kept r _ other = refl
 
 pub returns : goal.returns
 returns c = record {
   flag = λ r bytes f. ap (λ (s : Record). s.flag f) (raw-pack r bytes);
-  base_prefix = λ r bytes. ap (λ (s : Record). s.byte layout.base_prefix) (raw-pack r bytes);
-  base_suffix = λ r bytes. ap (λ (s : Record). s.byte layout.base_suffix) (raw-pack r bytes);
-  mantissa_radix = λ r bytes. ap (λ (s : Record). s.byte layout.mantissa_radix) (raw-pack r bytes);
-  exponent_base = λ r bytes. ap (λ (s : Record). s.byte layout.exponent_base) (raw-pack r bytes);
-  exponent_radix = λ r bytes. ap (λ (s : Record). s.byte layout.exponent_radix) (raw-pack r bytes);
+  byte = λ r bytes b other. ap (λ (s : Record). s.byte b) (raw-pack r bytes) ∙ kept r b other;
   digit_separator = λ r bytes allowed.
       ap (λ (s : Record). s.byte layout.digit_separator) (raw-pack r bytes) ∙ cond-true _ _ 0 allowed;
 }

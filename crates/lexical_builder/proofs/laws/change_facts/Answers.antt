@@ -9,6 +9,4 @@ returns c = record {
       (Holds-radix word radix ((c.rule_facts.ensures.lawful word).0 lawful) in_range separator prefix suffix);
   no_separator_fields = λ word bare is. ap raw is ∙ raw-bare word;
   no_separator = Holds-bare;
-  no_separator_lawful = λ word lawful. (c.rule_facts.ensures.lawful _).1
-      (λ rule. Holds-bare word rule ((c.rule_facts.ensures.lawful word).0 lawful rule));
 }

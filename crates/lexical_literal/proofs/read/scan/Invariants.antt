@@ -1,7 +1,8 @@
-use Rattle.std.proofs.Common.{ℕ, ◌≡◌, ◌<◌, ◌≤◌, Some, take, length, get_or}
+use Rattle.std.proofs.Common.{ℕ, ◌≡◌, ◌<◌, ◌≤◌, Some, take, length, get_or, IsTrue}
 use Rattle.lexical_literal.specs.Notation.{notation_of}
 use Rattle.lexical_literal.specs.Additions.Summary.{scan, start, tally, no_cuts}
 use Rattle.lexical_literal.specs.Additions.Tables.{summary_at, cuts_of}
+use Rattle.lexical_literal.proofs.LongestLemmas.{IsLatest}
 use Rattle.lexical_literal.proofs.read.scan.Given as goal
 
 abbrev pub invariant-loop-index : goal.invariant-loop-index
@@ -13,4 +14,5 @@ invariant-loop-index l =
       counted : tally m (Some start) no_cuts (take l.index l.text) ≡ cuts_of l.counts;
       size : length l.counts ≡ 9;
       small : (k : ℕ) → get_or l.counts k 0 ≤ l.index;
+      latest : IsTrue l.fronts → IsLatest m l.text l.literal l.index;
     }

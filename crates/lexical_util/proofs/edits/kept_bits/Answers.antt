@@ -1,7 +1,7 @@
 use Rattle.std.proofs.Common.{◌/◌, ◌^◌, ◌∙◌, sym, arith}
 use Rattle.std.specs.Int.Bits.{and_zero_r}
 use Rattle.std.proofs.lemmas.Nat.{and_mask}
-use Rattle.lexical_flags.proofs.Masks.{and_block_more}
+use Rattle.lexical_util.proofs.Lower.{and_block_more}
 use Rattle.lexical_util.proofs.edits.kept_bits.Goals as goal
 
 pub returns-then-is_separator_allowed : goal.returns-then-is_separator_allowed

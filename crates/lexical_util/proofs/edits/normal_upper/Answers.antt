@@ -3,7 +3,7 @@ use Rattle.std.proofs.Common.{bit_or}
 use Rattle.lexical_flags.specs.Layout.{part}
 use Rattle.lexical_flags.specs.Layout as layout
 use Rattle.lexical_flags.specs.Record.{Record, raw, fill, trim, effective, HasBytes}
-use Rattle.lexical_builder.proofs.BuilderFlags.{part-upper}
+use Rattle.lexical_util.proofs.Lower.{part-upper}
 use Rattle.lexical_util.proofs.NormalLemmas.{lower_bytes, bytes_joined, raw_normal}
 use Rattle.lexical_util.proofs.edits.normal_upper.Goals as goal
 

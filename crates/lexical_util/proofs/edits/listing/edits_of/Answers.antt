@@ -6,7 +6,7 @@ use Rattle.std.proofs.Math.Seq.{take-append_seam}
 use Rattle.std.proofs.lemmas.List.{drop_all, length-map}
 use Rattle.std.proofs.lemmas.List.Filters.{length-filter_both}
 use Rattle.lexical_flags.specs.Record.{raw}
-use Rattle.lexical_flags.proofs.Packing.{pack-raw}
+use Rattle.lexical_util.proofs.Lower.{pack-raw}
 use Rattle.lexical_builder.specs.Writes.{IsLegal, new_record, after}
 use Rattle.lexical_util.specs.Edits.{all_writes}
 use Rattle.lexical_util.specs.Additions.FieldEdits.{edit_of_write, needed_edits, other_edits}

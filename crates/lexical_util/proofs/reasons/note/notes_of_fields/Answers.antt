@@ -1,6 +1,6 @@
 use Rattle.std.proofs.Common.{◌≡◌, ◌∙◌, ap, sym, subst}
 use Rattle.lexical_builder.specs.OptionByte.{byte_of_option}
-use Rattle.lexical_builder.proofs.OptionByteLemmas.{byte_of_option_back}
+use Rattle.lexical_util.proofs.Lower.{byte_of_option_back}
 use Rattle.lexical_flags.specs.Layout as layout
 use Rattle.lexical_flags.specs.Record.{Record, trim, set_byte}
 use Rattle.lexical_util.specs.Additions.Notes.{AreNotes, AreReasons, ChangeNothing}
