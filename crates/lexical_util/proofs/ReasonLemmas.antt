@@ -10,6 +10,7 @@ use Rattle.std.specs.List.{AllByRecursion}
 use Rattle.std.proofs.lemmas.Bool.{true≢false, cases_eq, eqb-true, eq-eqb, or_left, or_right, and_from, and_parts}
 use Rattle.std.proofs.lemmas.Bool.{not_from_true, not-false}
 use Rattle.std.proofs.lemmas.Bool.Decides.{nat_tests}
+use Rattle.std.proofs.lemmas.Option.{same_Some, none-some}
 use Rattle.std.proofs.lemmas.Nat.{and_assoc, and_comm, and_or_self, or_comm, pow_pos}
 use lib.Bits.{and_self, and_zero_l}
 use Rattle.lexical_base.specs.Ascii.{between, allowed_ascii}
@@ -35,7 +36,7 @@ use Rattle.lexical_util.specs.Groups.{any_flag}
 use Rattle.lexical_util.specs.Additions.EditMasks.{mask_of_setter}
 use Rattle.lexical_util.specs.Additions.FieldEdits.{setter_of}
 use Rattle.lexical_util.specs.Additions.Reasons.{value_of, mask_of_byte, Has, IsUnset, IsTrueOf, Breaks, Blames}
-use Rattle.lexical_util.specs.Additions.Reasons.{BlamesForOptions, EachReason, NoReason}
+use Rattle.lexical_util.specs.Additions.Reasons.{AreDigits, BlamesForOptions, EachReason, NoReason}
 use Rattle.lexical_util.specs.Private.{named, case_flag, is_cased, unset_flag, if_present, radix_cause, radixes_where}
 use Rattle.lexical_util.specs.Private.{digit_cause, byte_cause, role, clash, reserved_cause, followers, flag_mask}
 use Rattle.lexical_util.specs.Private.{absent_mask, mask_of_cause, reason_of}
@@ -43,6 +44,7 @@ use Rattle.lexical_util.specs.declared.edits.setters.FlagSetter.{FlagSetter}
 use Rattle.lexical_util.specs.declared.reasons.Byte.{Byte}
 use Rattle.lexical_util.specs.declared.reasons.Byte.TheVariants as bytes
 use Rattle.lexical_util.specs.declared.reasons.NamedByte.{NamedByte}
+use Rattle.lexical_util.specs.declared.reasons.Radixes.{Radixes}
 use Rattle.lexical_util.specs.declared.reasons.Radixes.TheVariants as radixes
 use Rattle.lexical_util.specs.declared.reasons.Cause.{Cause}
 use Rattle.lexical_util.specs.declared.reasons.Cause.TheVariants as causes
@@ -178,11 +180,8 @@ is_radix : (n : ℕ) → not (between 2 36 n) ≡ false → IsRadix n
 is_radix n in_range = grind (arith, nat_tests)
 
 -- The mantissa radix is used in place of itself.
-same_radix : (n k : ℕ) → k ≡ n → IsRadix (effective k k) → IsRadix n
-same_radix n k same radix = grind (arith, nat_tests)
-
-own_effective : (n : ℕ) → IsRadix n → IsRadix (effective n n)
-own_effective n radix = grind (arith, nat_tests)
+effective_self : (n : ℕ) → effective n n ≡ n
+effective_self n = grind (arith, nat_tests)
 
 -- A radix that is used is absent or in range, and one that is absent or in range is in range where it is used, unless
 -- it is absent and the mantissa radix is out of range.
@@ -199,15 +198,14 @@ effective_radix n m follows (inr radix) = grind (arith, nat_tests)
 -- PUNCTUATION
 
 -- A digit of the mantissa radix or of the exponent radix is a digit of the format.
-mantissa_digit : (r : Record) (m n : ℕ) → r.byte layout.mantissa_radix ≡ m → IsTrue (digits_of m n) → IsTrue (digits r n)
-mantissa_digit r m n same is_digit = or_left _ _ (subst (λ k. IsTrue (digits_of k n)) (sym same) is_digit)
-
 effective_digit : (x m n : ℕ) → IsTrue (digits_of x n) → IsTrue (digits_of (effective x m) n)
 effective_digit x m n is_digit = grind (arith, nat_tests)
 
-exponent_digit : (r : Record) (x n : ℕ) → r.byte layout.exponent_radix ≡ x → IsTrue (digits_of x n) → IsTrue (digits r n)
-exponent_digit r x n same is_digit =
-    or_right _ _ (effective_digit _ _ n (subst (λ k. IsTrue (digits_of k n)) (sym same) is_digit))
+is_digit : (w n : ℕ) (found : Radixes) → AreDigits w n found → IsTrue (digits (raw w) n)
+is_digit w n (radixes.Mantissa m) (is, digit) = or_left _ _ (subst (λ k. IsTrue (digits_of k n)) (sym is) digit)
+is_digit w n (radixes.Exponent x) (is, digit) =
+    or_right _ _ (effective_digit _ _ n (subst (λ k. IsTrue (digits_of k n)) (sym is) digit))
+is_digit w n (radixes.Both m x) (is, digit, x_is, x_digit) = or_left _ _ (subst (λ k. IsTrue (digits_of k n)) (sym is) digit)
 
 no_digits : (m x n : ℕ) → digits_of m n ≡ false → digits_of x n ≡ false
     → IsTrue (digits_of m n || digits_of (effective x m) n) → ⊥
@@ -219,22 +217,16 @@ byte_settled : (word e p : ℕ) (b : NamedByte) (D : ℕ → Type 0) (N : Type 0
     → MatchOption (byte_cause (raw word) b) N (Explains word e p D)
 unfolding IsPunctuation
 byte_settled word e p b D N own free enough = text (allowed_ascii b.value) (signs b.value) refl refl where
+  found : (radixes : Radixes) → AreDigits word b.value radixes → Explains word e p D (causes.IsDigit b radixes)
+  found radixes are = record { is_true = (own, are); refutes = λ w is d. (free w is.0 d).1 (is_digit w _ radixes is.1) }
+
   digit : (m x : ℕ) → (raw word).byte layout.mantissa_radix ≡ m → (raw word).byte layout.exponent_radix ≡ x
       → (f g : Bool) → digits_of m b.value ≡ f → digits_of x b.value ≡ g
       → (digits_of m b.value ≡ false → digits_of x b.value ≡ false → N)
       → MatchOption (option_map (causes.IsDigit b) (radixes_where m x f g)) N (Explains word e p D)
-  digit m x mi xi true true f g none = record {
-    is_true = (own, (mi, f, xi, g));
-    refutes = λ w is d. let at = is.1 in (free w is.0 d).1 (mantissa_digit (raw w) m _ at.0 f);
-  }
-  digit m x mi xi true false f g none = record {
-    is_true = (own, (mi, f));
-    refutes = λ w is d. let at = is.1 in (free w is.0 d).1 (mantissa_digit (raw w) m _ at.0 f);
-  }
-  digit m x mi xi false true f g none = record {
-    is_true = (own, (xi, g));
-    refutes = λ w is d. let at = is.1 in (free w is.0 d).1 (exponent_digit (raw w) x _ at.0 g);
-  }
+  digit m x mi xi true true f g none = found (radixes.Both m x) (mi, f, xi, g)
+  digit m x mi xi true false f g none = found (radixes.Mantissa m) (mi, f)
+  digit m x mi xi false true f g none = found (radixes.Exponent x) (xi, g)
   digit m x mi xi false false f g none = none f g
 
   text : (t s : Bool) → allowed_ascii b.value ≡ t → signs b.value ≡ s
@@ -397,7 +389,7 @@ Own shape w = Meets shape w
 
 own_demand : (rule : Rule) (w : ℕ) → Holds rule w → Own (shape_of rule) w
 unfolding Holds
-own_demand rules.MantissaRadixInRange w h = same_radix _ _ refl h
+own_demand rules.MantissaRadixInRange w h = subst IsRadix (effective_self _) h
 own_demand rules.ExponentBaseInRange w h = used_radix _ _ h
 own_demand rules.ExponentRadixInRange w h = used_radix _ _ h
 own_demand rule w h = h
@@ -510,80 +502,62 @@ slots word rule = map (option_map (reason_of (raw word) (Some rule))) (causes_of
 abbrev pub reason_slots : ℕ → List (Option Reason)
 reason_slots word = flat_map (slots word) rules_in_order
 
--- `Reasoned word r` holds if `r` has a rule and blames what it depends on.
-record Reasoned (word : ℕ) (r : Reason) : Type 0 where
-  first : Rule
-  is_first : r.rule ≡ Some first
-  blames : (other : ℕ) → Blames word other r
+-- If a radix that is absent in `word` follows the mantissa radix, and its rule holds in `other`, which has the same bits
+-- under the mask of absent bytes, then the mantissa radix of `other` is in range.
+followed : (word other m : ℕ) (b : Byte) (own q : Rule) → (Holds own other → IsRadix (effective (value_of (raw other) 0 0 b) m))
+    → then_some (value_of (raw word) 0 0 b == 0) own ≡ Some q → SameUnder (absent_mask (raw word) b) word other → Holds q other
+    → IsRadix m
+followed word other m b own q step = test _ refl where
+  test : (t : Bool) → (value_of (raw word) 0 0 b == 0) ≡ t → then_some t own ≡ Some q
+      → SameUnder (if t then mask_of_byte b else 0) word other → Holds q other → IsRadix m
+  test true zero is same holds =
+      subst (λ k. IsRadix (effective k m)) (sym (value_agrees word other 0 0 b same) ∙ eqb-true _ 0 zero)
+      (step (subst (λ q. Holds q other) (sym (same_Some own q is)) holds))
+  test false zero is same holds = absurd (none-some q is)
 
-some_is : (a b : Rule) → Some a ≡ Some b → a ≡ b
-some_is a b same = ap (λ o. unwrap_or o a) same
-
-then_some_is : (t : Bool) (a b : Rule) → then_some t a ≡ Some b → IsTrue t × (a ≡ b)
-then_some_is true a b same = (refl, some_is a b same)
-then_some_is false a b same = cc
-
--- If a word agrees with another under the mask of a mantissa radix that is out of range, and satisfies the rule of a
--- byte that is absent in the other, then its mantissa radix is in range.
-followed : (word other : ℕ) → SameUnder (mask_of_cause (raw word) (causes.OutOfRange (named (raw word) 0 0 bytes.MantissaRadix))) word other
-    → (q : Rule) → let f = followers (raw word) (Some rules.MantissaRadixInRange) in ((f.0 ≡ Some q) ⊎ (f.1 ≡ Some q)) → Holds q other
-    → IsRadix ((raw other).byte layout.mantissa_radix)
-unfolding Holds
-followed word other same q follows holds =
-    let base = absent_mask (raw word) bytes.ExponentBase in
-    let radix = absent_mask (raw word) bytes.ExponentRadix in
-    let both = halves word other (mask_of_byte bytes.MantissaRadix) (bit_or base radix) same in
-    let absent = halves word other base radix both.1 in elim follows [
-      | inl is ↦
-          let f = then_some_is _ _ _ is in
-          let own : Holds rules.ExponentBaseInRange other = subst (λ q. Holds q other) (sym f.1) holds in
-          follow _ _ (stays_absent bytes.ExponentBase f.0 absent.0) own
-      | inr is ↦
-          let f = then_some_is _ _ _ is in
-          let own : Holds rules.ExponentRadixInRange other = subst (λ q. Holds q other) (sym f.1) holds in
-          follow _ _ (stays_absent bytes.ExponentRadix f.0 absent.1) own
-    ] where
-      stays_absent : (b : Byte) → IsTrue (value_of (raw word) 0 0 b == 0) → SameUnder (absent_mask (raw word) b) word other
-          → value_of (raw other) 0 0 b ≡ 0
-      stays_absent b zero same =
-          sym (value_agrees word other 0 0 b (subst (λ t. SameUnder (if t then mask_of_byte b else 0) word other) zero same))
-          ∙ eqb-true _ 0 zero
-
-      follow : (n m : ℕ) → n ≡ 0 → IsRadix (effective n m) → IsRadix m
-      follow n m zero radix = subst (λ k. IsRadix (effective k m)) zero radix
+-- `Demanded word rule c other` holds if the rules that follow `rule` hold in `other` only where the demand of `rule` does.
+abbrev Demanded : ℕ → Rule → Cause → ℕ → Type 0
+Demanded word rule c other = SameUnder (mask_of_cause (raw word) c) word other → (q : Rule)
+    → let f = followers (raw word) (Some rule) in ((f.0 ≡ Some q) ⊎ (f.1 ≡ Some q)) → Holds q other → Own (shape_of rule) other
 
 -- A cause of a rule blames what it depends on, if the rules that follow hold only where the rule does.
-reasoned : (word : ℕ) (rule : Rule) (c : Cause) → Explains word 0 0 (Own (shape_of rule)) c
-    → ((other : ℕ) → SameUnder (mask_of_cause (raw word) c) word other → (q : Rule)
-    → let f = followers (raw word) (Some rule) in ((f.0 ≡ Some q) ⊎ (f.1 ≡ Some q)) → Holds q other → Own (shape_of rule) other)
-    → Reasoned word (reason_of (raw word) (Some rule) c)
-reasoned word rule c h follow = record {
-  first = rule;
-  is_first = refl;
-  blames = λ other same.
-      let there = stays word other 0 0 c same h.is_true in (
-        there,
-        λ q breaks holds. h.refutes other there (elim breaks [
-          | inl is ↦ own_demand rule other (subst (λ q. Holds q other) (sym (some_is rule q is)) holds)
-          | inr follows ↦ follow other same q follows holds
-        ]),
-      );
-}
+blames : (word : ℕ) (rule : Rule) (c : Cause) (other : ℕ) → Explains word 0 0 (Own (shape_of rule)) c → Demanded word rule c other
+    → Blames word other (reason_of (raw word) (Some rule) c)
+blames word rule c other h follow same =
+    let there = stays word other 0 0 c same h.is_true in (
+      there,
+      λ q breaks holds. h.refutes other there (elim breaks [
+        | inl is ↦ own_demand rule other (subst (λ q. Holds q other) (sym (same_Some rule q is)) holds)
+        | inr follows ↦ follow same q follows holds
+      ]),
+    )
 
-rule_reasoned : (word : ℕ) (rule : Rule) → EachReason (Reasoned word) (slots word rule)
-rule_reasoned word rules.MantissaRadixInRange =
-    let settled = shape_settled (radix_in_range layout.mantissa_radix) word in
-    let explained = settled.0 in
-    (one (not (between 2 36 ((raw word).byte layout.mantissa_radix))) (named (raw word) 0 0 bytes.MantissaRadix) refl explained.0, tt) where
-      one : (b : Bool) (n : NamedByte) → n ≡ named (raw word) 0 0 bytes.MantissaRadix
-          → IfSome (then_some b (causes.OutOfRange n)) (Explains word 0 0 (Own (radix_in_range layout.mantissa_radix)))
-          → IfSome (option_map (reason_of (raw word) (Some rules.MantissaRadixInRange)) (then_some b (causes.OutOfRange n))) (Reasoned word)
-      one true n is h = reasoned word rules.MantissaRadixInRange (causes.OutOfRange n) h (λ other same q follows holds.
-          followed word other (subst (λ n. SameUnder (mask_of_cause (raw word) (causes.OutOfRange n)) word other) is same) q follows holds)
-      one false n is h = tt
-rule_reasoned word rule =
-    lift (reason_of (raw word) (Some rule)) _ (Reasoned word)
-    (λ c h. reasoned word rule c h (λ other same q follows holds. elim follows [ inl is ↦ cc | inr is ↦ cc ]))
+rule_blames : (word other : ℕ) (rule : Rule) → EachReason (Blames word other) (slots word rule)
+unfolding Holds
+rule_blames word other rules.MantissaRadixInRange = (one _ (shape_settled (radix_in_range layout.mantissa_radix) word).0.0, tt) where
+  cause : Cause
+  cause = causes.OutOfRange (named (raw word) 0 0 bytes.MantissaRadix)
+
+  mantissa : ℕ
+  mantissa = (raw other).byte layout.mantissa_radix
+
+  follow : Demanded word rules.MantissaRadixInRange cause other
+  follow same q follows holds =
+      let base = absent_mask (raw word) bytes.ExponentBase in
+      let radix = absent_mask (raw word) bytes.ExponentRadix in
+      let both = halves word other (mask_of_byte bytes.MantissaRadix) (bit_or base radix) same in
+      let absent = halves word other base radix both.1 in elim follows [
+        | inl is ↦ followed word other mantissa bytes.ExponentBase rules.ExponentBaseInRange q (λ h. h) is absent.0 holds
+        | inr is ↦ followed word other mantissa bytes.ExponentRadix rules.ExponentRadixInRange q (λ h. h) is absent.1 holds
+      ]
+
+  one : (t : Bool) → IfSome (then_some t cause) (Explains word 0 0 (Own (radix_in_range layout.mantissa_radix)))
+      → IfSome (option_map (reason_of (raw word) (Some rules.MantissaRadixInRange)) (then_some t cause)) (Blames word other)
+  one false h = tt
+  one true h = blames word rules.MantissaRadixInRange cause other h follow
+rule_blames word other rule =
+    lift (reason_of (raw word) (Some rule)) _ (Blames word other)
+    (λ c h. blames word rule c other h (λ same q follows holds. elim follows [ inl is ↦ cc | inr is ↦ cc ]))
     (causes_of (shape_of rule) word) (shape_settled (shape_of rule) word).0
 
 -- A property of all slots of a list of rules is a property of the slots of each rule.
@@ -607,12 +581,9 @@ kept word (rule ∷ list) all =
     (λ c h. h.refutes word h.is_true (own_demand rule word all.0)) (causes_of (shape_of rule) word)
     (shape_settled (shape_of rule) word).0)) (kept word list all.1)
 
-all_reasoned : (word : ℕ) → EachReason (Reasoned word) (reason_slots word)
-all_reasoned word = of_rules (λ o. IfSome o (Reasoned word)) word (rule_reasoned word) rules_in_order
-
 -- Each reason of a word is true of each word that has the same bits under its mask, and breaks its rules there.
 pub blame : (word other : ℕ) → EachReason (Blames word other) (reason_slots word)
-blame word other = weaken (Reasoned word) (Blames word other) (λ r h. h.blames other) (reason_slots word) (all_reasoned word)
+blame word other = of_rules (λ o. IfSome o (Blames word other)) word (rule_blames word other) rules_in_order
 
 -- A word satisfies a rule if and only if it does not break it because of one of its reasons.
 pub by_rules : (word : ℕ) (rule : Rule) → Holds rule word ↔ EachReason (λ r. Breaks r rule → ⊥) (reason_slots word)
@@ -638,7 +609,8 @@ by_rules word rule = (
   zero_is {q} zero = ap (λ t. then_some t q) (eq-eqb _ 0 zero)
 
   met : (q : Rule) → EachReason (λ r. Breaks r q → ⊥) (reason_slots word) → Holds q word
-  met rules.MantissaRadixInRange fine = own_effective _ (own rules.MantissaRadixInRange _ (λ c. inl refl) fine)
+  met rules.MantissaRadixInRange fine =
+      subst IsRadix (sym (effective_self _)) (own rules.MantissaRadixInRange _ (λ c. inl refl) fine)
   met rules.ExponentBaseInRange fine =
       effective_radix _ _ (λ zero. own rules.MantissaRadixInRange rules.ExponentBaseInRange (λ c. inr (inl (zero_is zero))) fine)
       (own rules.ExponentBaseInRange _ (λ c. inl refl) fine)
@@ -674,11 +646,10 @@ abbrev pub options_slots : ℕ → ℕ → ℕ → List (Option Reason)
 options_slots word e p = map (option_map (reason_of (raw word) None)) (options_causes word e p)
 
 module _ (word e p : ℕ) (e_below : e < 256) (p_below : p < 256) where
-  Fit : ℕ → Type 0
+  abbrev Fit : ℕ → Type 0
   Fit w = OptionsFit w e p
 
   options_settled : Settled (Explains word e p Fit) (OptionsFit word e p) (options_causes word e p)
-  unfolding Fit
   options_settled =
       let x = alone _ _ _ (byte_settled word e p (named (raw word) e p bytes.ExponentCharacter) Fit
       (IsPunctuation (raw word) e) refl (λ w is fit. fit.exponent_is_punctuation) (λ h. h)) in
@@ -704,7 +675,6 @@ module _ (word e p : ℕ) (e_below : e < 256) (p_below : p < 256) where
 
   -- Each reason of options is true of each word that has the same bits under its mask, which does not accept them.
   pub options_blame : (other : ℕ) → EachReason (BlamesForOptions word e p other) (options_slots word e p)
-  unfolding Fit
   options_blame other =
       lift (reason_of (raw word) None) (Explains word e p Fit) (BlamesForOptions word e p other)
       (λ c h same. let there = stays word other e p c same h.is_true in (there, h.refutes other there))
@@ -712,7 +682,6 @@ module _ (word e p : ℕ) (e_below : e < 256) (p_below : p < 256) where
 
   -- A word accepts options if and only if they have no reason.
   pub options_fit : OptionsFit word e p ↔ NoReason (options_slots word e p)
-  unfolding Fit
   options_fit = (
     λ fit.
         no_reason (options_slots word e p) (lift (reason_of (raw word) None) (Explains word e p Fit) (λ r. ⊥)
