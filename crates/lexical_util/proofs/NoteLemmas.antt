@@ -8,6 +8,7 @@ use Rattle.std.specs.Bool.{then_some}
 use Rattle.std.specs.List.{AllByRecursion, list_any}
 use Rattle.std.proofs.lemmas.Bool.{true≢false, eqb-true, eq-eqb, and_parts, and_left, not-false}
 use Rattle.std.proofs.lemmas.Bool.Decides.{nat_tests}
+use Rattle.std.proofs.lemmas.Option.{same_Some, none-some}
 use Rattle.std.proofs.lemmas.Nat.{and_assoc, and_comm, and_or_apart}
 use Rattle.std.proofs.lemmas.Nat.Bits.{and_pow}
 use lib.Bits.{and_self, and_zero_l}
@@ -65,49 +66,44 @@ blamed_by_none (Some r ∷ list) m =
 not_zero : (n : ℕ) → n ≢ 0 → (n == 0) ≡ false
 not_zero n some = grind (arith, nat_tests)
 
-some_note : (a b : Note) → Some a ≡ Some b → a ≡ b
-some_note a b same = ap (λ o. unwrap_or o a) same
+then_some_is : (t : Bool) (a b : Note) → then_some t a ≡ Some b → IsTrue t × (a ≡ b)
+then_some_is true a b same = (refl, same_Some a b same)
+then_some_is false a b same = absurd (none-some b same)
 
 -- A note is left if and only if it was there and names no field under the mask.
 unless_is : (mask : ℕ) (o : Option Note) (note : Note)
     → (unless_blamed mask o ≡ Some note) ↔ ((o ≡ Some note) × (bit_and mask (mask_of_note note) ≡ 0))
-unless_is mask None note = (λ is. absurd (cc), λ both. let is = both.0 in absurd (cc))
+unless_is mask None note = (λ is. absurd (none-some note is), λ both. both.0)
 unless_is mask (Some own) note = (
-  λ is. test _ refl is,
+  λ is.
+      let both = then_some_is _ own note is in
+      (ap Some both.1, subst (λ n. bit_and mask (mask_of_note n) ≡ 0) both.1 (eqb-true _ 0 both.0)),
   λ both.
-      let free = subst (λ n. bit_and mask (mask_of_note n) ≡ 0) (sym (some_note own note both.0)) both.1 in
+      let free = subst (λ n. bit_and mask (mask_of_note n) ≡ 0) (sym (same_Some own note both.0)) both.1 in
       ap (λ t. then_some t own) (eq-eqb _ 0 free) ∙ both.0,
-) where
-  test : (t : Bool) → (bit_and mask (mask_of_note own) == 0) ≡ t → then_some t own ≡ Some note
-      → (Some own ≡ Some note) × (bit_and mask (mask_of_note note) ≡ 0)
-  test true t is = (is, subst (λ n. bit_and mask (mask_of_note n) ≡ 0) (some_note own note is) (eqb-true _ 0 t))
-  test false t is = absurd (cc)
+)
 
 separator_when : (r : Record) (note : Note) → separator_note r ≡ Some note → IsIdle r note
-separator_when r note = test _ _ refl refl where
-  test : (t z : Bool) → separator_allowed r ≡ t → (r.byte layout.digit_separator == 0) ≡ z
-      → (if t then then_some z notes.FlagsWithoutSeparator
-      else then_some (not z) (notes.SeparatorWithoutFlag (named r 0 0 bytes.DigitSeparator))) ≡ Some note → IsIdle r note
-  test true true t z is = subst (IsIdle r) (some_note _ note is) (t, eqb-true _ 0 z)
-  test false false t z is =
-      subst (IsIdle r) (some_note _ note is) (t, refl, refl, λ absent. true≢false (sym (eq-eqb _ 0 absent) ∙ z))
-  test true false t z is = absurd (cc)
-  test false true t z is = absurd (cc)
+separator_when r note = test _ refl where
+  test : (t : Bool) → separator_allowed r ≡ t
+      → (if t then then_some (r.byte layout.digit_separator == 0) notes.FlagsWithoutSeparator
+      else then_some (not (r.byte layout.digit_separator == 0)) (notes.SeparatorWithoutFlag (named r 0 0 bytes.DigitSeparator)))
+      ≡ Some note → IsIdle r note
+  test true t is = let own = then_some_is _ _ note is in subst (IsIdle r) own.1 (t, eqb-true _ 0 own.0)
+  test false t is =
+      let own = then_some_is _ _ note is in
+      subst (IsIdle r) own.1 (t, refl, refl, λ absent. true≢false (sym own.0 ∙ ap not (eq-eqb _ 0 absent)))
 
 case_when : (r : Record) (f : FlagSetter) (name : Byte) → (is_cased r name ≡ true → IsSetCaseFlag r f name) → (note : Note)
     → case_note r f name ≡ Some note → IsIdle r note
-case_when r f name set note = test _ _ refl refl where
-  test : (t z : Bool) → (is_cased r name && (other_case (value_of r 0 0 name) == value_of r 0 0 name)) ≡ t
-      → (value_of r 0 0 name == 0) ≡ z
-      → then_some t (if z then notes.CaseFlagWithoutByte f name else notes.CaseFlagOfNonLetter f (named r 0 0 name)) ≡ Some note
-      → IsIdle r note
-  test true true t z is =
-      let both = and_parts _ _ t in subst (IsIdle r) (some_note _ note is) (set both.0, eqb-true _ 0 z)
-  test true false t z is =
-      let both = and_parts _ _ t in
-      subst (IsIdle r) (some_note _ note is)
-      (set both.0, refl, λ absent. true≢false (sym (eq-eqb _ 0 absent) ∙ z), eqb-true _ _ both.1)
-  test false z t z_is is = absurd (cc)
+case_when r f name set note is =
+    let own = then_some_is _ _ note is in
+    let both = and_parts _ _ own.0 in subst (IsIdle r) own.1 (test (set both.0) (eqb-true _ _ both.1) _ refl) where
+      test : IsSetCaseFlag r f name → other_case (value_of r 0 0 name) ≡ value_of r 0 0 name → (z : Bool)
+          → (value_of r 0 0 name == 0) ≡ z
+          → IsIdle r (if z then notes.CaseFlagWithoutByte f name else notes.CaseFlagOfNonLetter f (named r 0 0 name))
+      test on same true z = (on, eqb-true _ 0 z)
+      test on same false z = (on, refl, λ absent. true≢false (sym (eq-eqb _ 0 absent) ∙ z), same)
 
 -- A note whose fields have its values stands in one of the three slots.
 abbrev InSlot : Record → Note → Type 0
@@ -188,12 +184,10 @@ idle_agrees v w mask note is same = agrees note (subst (λ m. bit_and v m ≡ bi
   set : (f : FlagSetter) (name : Byte) → SameUnder (mask_of_setter f) v w → IsSetCaseFlag (raw v) f name
       → IsSetCaseFlag (raw w) f name
   set f name same (inl (f_is, name_is, on)) =
-      let own : SameFlag v w layout.case_sensitive_base_prefix =
-      flag v w _ (subst (λ f. SameUnder (mask_of_setter f) v w) f_is same) layout.case_sensitive_base_prefix refl in
+      let own = flag v w _ (subst (λ f. SameUnder (mask_of_setter f) v w) f_is same) layout.case_sensitive_base_prefix refl in
       inl (f_is, name_is, sym own ∙ on)
   set f name same (inr (f_is, name_is, on)) =
-      let own : SameFlag v w layout.case_sensitive_base_suffix =
-      flag v w _ (subst (λ f. SameUnder (mask_of_setter f) v w) f_is same) layout.case_sensitive_base_suffix refl in
+      let own = flag v w _ (subst (λ f. SameUnder (mask_of_setter f) v w) f_is same) layout.case_sensitive_base_suffix refl in
       inr (f_is, name_is, sym own ∙ on)
 
   agrees : (note : Note) → bit_and v (mask_of_note note) ≡ bit_and w (mask_of_note note) → IsIdle (raw v) note

@@ -400,67 +400,50 @@ not_clean w bits some inside has clean =
     some (sym has ∙ ap (bit_and w) (sym inside ∙ and_comm bits reserved_mask)
     ∙ sym (and_assoc bits w reserved_mask) ∙ ap (λ n. bit_and n bits) none ∙ and_zero_l bits)
 
+-- If a cause that is true of a word contradicts `D`, and `D` holds without it, then the cause explains why `D` fails.
+settled : (word : ℕ) (D : ℕ → Type 0) (b : Bool) (c : Cause) → (IsTrue b → IsTrueOf word 0 0 c)
+    → ((w : ℕ) → IsTrueOf w 0 0 c → D w → ⊥) → (b ≡ false → D word) → MatchOption (then_some b c) (D word) (Explains word 0 0 D)
+settled word D true c is refutes none = record { is_true = is refl; refutes = refutes }
+settled word D false c is refutes none = none refl
+
 -- Each cause of a shape explains why a word is not as the shape demands, and without a cause the word is.
 shape_settled : (shape : Shape) (word : ℕ) → Settled (Explains word 0 0 (Own shape)) (Own shape word) (causes_of shape word)
 shape_settled (radix_in_range layout.mantissa_radix) word =
-    let D = Own (radix_in_range layout.mantissa_radix) in
-    alone _ _ _ (settled_if (Explains word 0 0 D) (D word) _ _
-    (λ out. record {
-      is_true = (refl, not_radix _ out);
-      refutes = λ w is d. let fact = is.1 in fact (subst IsRadix is.0 d);
-    })
-    (is_radix _))
+    alone _ _ _ (settled word (Own (radix_in_range layout.mantissa_radix)) _ _ (λ out. (refl, not_radix _ out))
+    (λ w is d. let fact = is.1 in fact (subst IsRadix is.0 d)) (is_radix _))
 shape_settled (radix_in_range b) word =
     let n = named (raw word) 0 0 (byte_of b) in
     let D = Own (radix_in_range b) in
-    alone _ _ _ (settled_there (Explains word 0 0 D) (D word) n _ inl (λ some. settled_if (Explains word 0 0 D) (D word) _ _
-    (λ out. record {
-      is_true = (refl, not_radix _ out);
-      refutes = λ w is d. let fact = is.1 in elim d [
-        | inl zero ↦ some (sym is.0 ∙ zero)
-        | inr radix ↦ fact (subst IsRadix is.0 radix)
-      ];
-    })
+    alone _ _ _ (settled_there (Explains word 0 0 D) (D word) n _ inl (λ some. settled word D _ _
+    (λ out. (refl, not_radix _ out))
+    (λ w is d. let fact = is.1 in elim d [
+      | inl zero ↦ some (sym is.0 ∙ zero)
+      | inr radix ↦ fact (subst IsRadix is.0 radix)
+    ])
     (λ in_range. inr (is_radix _ in_range))))
 shape_settled (absent_or_punctuation b) word =
     let n = named (raw word) 0 0 (byte_of b) in
-    alone _ _ _ (settled_there (Explains word 0 0 (Own (absent_or_punctuation b))) (Own (absent_or_punctuation b) word) n _
-    (λ zero. inl (sym (value_is word b) ∙ zero)) (λ some.
-    byte_settled word 0 0 n (Own (absent_or_punctuation b)) _ refl
-    (λ w is d. present (raw w) n.value _ some (sym (value_is w b) ∙ is) d)
+    let D = Own (absent_or_punctuation b) in
+    alone _ _ _ (settled_there (Explains word 0 0 D) (D word) n _ (λ zero. inl (sym (value_is word b) ∙ zero)) (λ some.
+    byte_settled word 0 0 n D _ refl (λ w is d. present (raw w) n.value _ some (sym (value_is w b) ∙ is) d)
     (λ free. inr (subst (IsPunctuation (raw word)) (value_is word b) free))))
 shape_settled roles_differ word =
     let all = clashes_settled word 0 0 (omega arith) (omega arith) (Own roles_differ) format_pairs
-    (λ w d. (assumption d, (assumption d, (assumption d, tt)))) in (
-      all.0,
-      λ none.
-          let apart = all.1 none in
-          let rest = apart.1 in
-          let last = rest.1 in
-          ((apart.0, (rest.0, tt)), ((last.0, tt), (tt, tt))),
-    )
+    (λ w d. (assumption d, (assumption d, (assumption d, tt)))) in
+    (all.0, λ none. let apart = all.1 none in ((apart.0, (assumption apart, tt)), ((assumption apart, tt), (tt, tt))))
 shape_settled (not_both a b) word =
-    let D = Own (not_both a b) in
-    alone _ _ _ (settled_if (Explains word 0 0 D) (D word) _ _
-    (λ h. record {
-      is_true = and_parts _ _ h;
-      refutes = λ w is d.
-          true≢false (sym (and_from _ _ (sym (set_is w a) ∙ is.0) (sym (set_is w b) ∙ is.1)) ∙ d);
-    })
+    alone _ _ _ (settled word (Own (not_both a b)) _ (causes.BothSet (setter_of a) (setter_of b)) (and_parts _ _)
+    (λ w is d. true≢false (sym (and_from _ _ (sym (set_is w a) ∙ is.0) (sym (set_is w b) ∙ is.1)) ∙ d))
     (λ h. sym (λ i. set_is word a i && set_is word b i) ∙ h))
 shape_settled (position_allowed part) word =
-    let D = Own (position_allowed part) in
-    alone _ _ _ (settled_if (Explains word 0 0 D) (D word) _ _
-    (λ h. record { is_true = h; refutes = λ w is d. true≢false (sym is ∙ d) }) (λ h. h))
+    alone _ _ _ (settled word (Own (position_allowed part)) _ (causes.NeedsPosition part) (λ h. h) (λ w is d. true≢false (sym is ∙ d)) (λ h. h))
 shape_settled reserved_zero word =
-    let D = Own reserved_zero in
-    alone _ _ _ (settled_if (Explains word 0 0 D) (D word) _ _
-    (λ set.
-    let own = sym (and_assoc reserved_mask word word) ∙ ap (λ n. bit_and n reserved_mask) (and_self word) in record {
-      is_true = (λ none. true≢false (sym set ∙ ap not (eq-eqb _ 0 none)), and_assoc reserved_mask word reserved_mask, own);
-      refutes = λ w is d. not_clean w _ is.0 is.1 is.2 d;
-    })
-    (λ h. (reserved_bits word).0 (not-false _ h)))
+    alone _ _ _ (settled word (Own reserved_zero) _ (causes.ReservedBits (bit_and word reserved_mask)) (λ set. (
+      λ none. true≢false (sym set ∙ ap not (eq-eqb _ 0 none)),
+      and_assoc reserved_mask word reserved_mask,
+      sym (and_assoc reserved_mask word word) ∙ ap (λ n. bit_and n reserved_mask) (and_self word),
+    ))
+    (λ w is d. not_clean w _ is.0 is.1 is.2 d) (λ h. (reserved_bits word).0 (not-false _ h)))
 
 -- REASONS
 
