@@ -173,10 +173,6 @@ are_notes r reasons note =
       λ idle. when.1 (idle.0, none.1 idle.1),
     )
 
-any_same : (v w : ℕ) (fs : List Flag) → AllByRecursion (SameFlag v w) fs → list_any (raw v).flag fs ≡ list_any (raw w).flag fs
-any_same v w [] all = refl
-any_same v w (f ∷ fs) (first, rest) = λ i. first i || any_same v w fs rest i
-
 -- A note depends only on the bits of its mask.
 pub idle_agrees : (v w mask : ℕ) (note : Note) → mask ≡ mask_of_note note → bit_and v mask ≡ bit_and w mask
     → IsIdle (raw v) note → IsIdle (raw w) note
@@ -190,18 +186,18 @@ idle_agrees v w mask note is same = agrees note (subst (λ m. bit_and v m ≡ bi
       let own = flag v w _ (subst (λ f. SameUnder (mask_of_setter f) v w) f_is same) layout.case_sensitive_base_suffix refl in
       inr (f_is, name_is, sym own ∙ on)
 
+  allowed : SameUnder (mask_of_note notes.FlagsWithoutSeparator) v w → separator_allowed (raw v) ≡ separator_allowed (raw w)
+  allowed same = any_same digit_separator_flags (flags_agree v w _ same digit_separator_flags refl) where
+    any_same : (fs : List Flag) → AllByRecursion (SameFlag v w) fs → list_any (raw v).flag fs ≡ list_any (raw w).flag fs
+    any_same [] all = refl
+    any_same (f ∷ fs) (first, rest) = λ i. first i || any_same fs rest i
+
   agrees : (note : Note) → bit_and v (mask_of_note note) ≡ bit_and w (mask_of_note note) → IsIdle (raw v) note
       → IsIdle (raw w) note
-  agrees (notes.SeparatorWithoutFlag b) same (off, name, has, some) = (
-    sym (any_same v w digit_separator_flags (flags_agree v w _ same digit_separator_flags refl)) ∙ off,
-    name,
-    sym (byte v w _ same layout.digit_separator refl) ∙ has,
-    some,
-  )
-  agrees notes.FlagsWithoutSeparator same (on, absent) = (
-    sym (any_same v w digit_separator_flags (flags_agree v w _ same digit_separator_flags refl)) ∙ on,
-    sym (byte v w _ same layout.digit_separator refl) ∙ absent,
-  )
+  agrees (notes.SeparatorWithoutFlag b) same (off, name, has, some) =
+      (sym (allowed same) ∙ off, name, sym (byte v w _ same layout.digit_separator refl) ∙ has, some)
+  agrees notes.FlagsWithoutSeparator same (on, absent) =
+      (sym (allowed same) ∙ on, sym (byte v w _ same layout.digit_separator refl) ∙ absent)
   agrees (notes.CaseFlagWithoutByte f name) same (on, absent) =
       let both = halves v w (mask_of_setter f) (mask_of_byte name) same in
       (set f name both.0 on, sym (value_agrees v w 0 0 name both.1) ∙ absent)

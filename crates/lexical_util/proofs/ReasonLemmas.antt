@@ -3,6 +3,7 @@
 use Rattle.std.proofs.Common.{ℕ, ◌≡◌, ◌≢◌, ◌↔◌, ◌==◌, ◌&&◌, ◌||◌, ◌⊎◌, inl, inr, ◌<◌, bit_and, bit_or, option_map}
 use Rattle.std.proofs.Common.{Option, None, Some, unwrap_or, List, [], ◌∷◌, ◌++◌, map, flat_map, Bool, true, false, IsTrue}
 use Rattle.std.proofs.Common.{not, if◌then◌else◌, refl, ap, sym, subst, ◌∙◌, arith, mod-lt}
+use Rattle.std.proofs.Math.Bool.{or-false}
 use Rattle.std.specs.Prelude.{IfSome, MatchOption}
 use Rattle.std.specs.Option.{option_map_or}
 use Rattle.std.specs.Bool.{then_some}
@@ -91,14 +92,14 @@ flag_agrees v w s same =
 lacks_agrees : (v w : ℕ) (part : Part) → SameUnder (mask_of (separator_flags part)) v w
     → lacks_position (raw v) part ≡ lacks_position (raw w) part
 lacks_agrees v w part same = agree part (each part same) where
-  agree : (part : Part) → AllByRecursion (SameFlag v w) (separator_flags part)
-      → lacks_position (raw v) part ≡ lacks_position (raw w) part
-  agree part (between, (before, (after, (several, none)))) = λ i. several i && not (between i || before i || after i)
-
   each : (part : Part) → SameUnder (mask_of (separator_flags part)) v w → AllByRecursion (SameFlag v w) (separator_flags part)
   each parts.Integer same = flags_agree v w _ same (separator_flags parts.Integer) refl
   each parts.Fraction same = flags_agree v w _ same (separator_flags parts.Fraction) refl
   each parts.Exponent same = flags_agree v w _ same (separator_flags parts.Exponent) refl
+
+  agree : (part : Part) → AllByRecursion (SameFlag v w) (separator_flags part)
+      → lacks_position (raw v) part ≡ lacks_position (raw w) part
+  agree part (between, (before, (after, (several, none)))) = λ i. several i && not (between i || before i || after i)
 
 -- A cause of a word is true of each word that agrees with it under the mask of the cause.
 stays : (v w e p : ℕ) (cause : Cause) → SameUnder (mask_of_cause (raw v) cause) v w → IsTrueOf v e p cause
@@ -246,25 +247,19 @@ present r n k some same (inr free) = subst (IsPunctuation r) same free
 
 -- If two roles share a byte, then their bytes are present, and equal or the two cases of a letter.
 clash_facts : (ac : Bool) (a : ℕ) (bc : Bool) (b : ℕ) → (Disjoint (cased ac a) (cased bc b) → ⊥)
-    → (a ≢ 0) × ((b ≡ a) ⊎ (b ≡ other_case a))
+    → (a ≢ 0) × (b ≢ a → b ≡ other_case a)
 clash_facts ac a bc b clash = (
   λ none. clash (differ_apart ac a bc b (λ some. absurd (some none))),
-  elim (cases_eq b a) [
-    | inl same ↦ inl same
-    | inr differ ↦ elim (cases_eq b (other_case a)) [
-      | inl other ↦ inr other
-      | inr not_other ↦ absurd (clash (differ_apart ac a bc b (λ some. (λ same. differ (sym same), not_other))))
-    ]
+  λ differ. elim (cases_eq b (other_case a)) [
+    | inl other ↦ other
+    | inr not_other ↦ absurd (clash (differ_apart ac a bc b (λ some. (λ same. differ (sym same), not_other))))
   ],
 )
 
 -- The flag of a setter is set if and only if the setter's test says so.
 set_is : (w : ℕ) (f : Flag) → any_flag w (flags_of (setter_of f)) ≡ (raw w).flag f
 unfolding any_flag
-set_is w f = ap (any_flag w) (setter_alone f) ∙ one _ where
-  one : (set : Bool) → (set || false) ≡ set
-  one true = refl
-  one false = refl
+set_is w f = ap (any_flag w) (setter_alone f) ∙ or-false _
 
 -- The case flag that a reason of `v` names is not set in `w` if and only if a byte that is not case-sensitive in `v` is
 -- not case-sensitive in `w` either.
@@ -308,7 +303,7 @@ module _ (word e p : ℕ) (e_below : e < 256) (p_below : p < 256) (D : ℕ → T
 
         each : (t : Bool) → (second == first) ≡ t
             → (Disjoint (role (raw word) e p a) (role (raw word) e p b) → ⊥)
-            → (first ≢ 0) × ((second ≡ first) ⊎ (second ≡ other_case first))
+            → (first ≢ 0) × (second ≢ first → second ≡ other_case first)
             → Explains word e p D (if t then causes.Same (named (raw word) e p a) (named (raw word) e p b)
             else causes.DifferInCase (named (raw word) e p a) (unset_flag (raw word) a) (named (raw word) e p b)
             (unset_flag (raw word) b))
@@ -321,16 +316,8 @@ module _ (word e p : ℕ) (e_below : e < 256) (p_below : p < 256) (D : ℕ → T
                   (subst (λ n. Disjoint (role (raw w) e p a) (cased (is_cased (raw w) b) n)) (is.1 ∙ same ∙ sym is.0)
                   (apart w d));
             }
-        each false test clash (some, inl same) = absurd (true≢false (sym (eq-eqb _ _ same) ∙ test))
-        each false test clash (some, inr other) = record {
-          is_true = (
-            refl,
-            refl,
-            λ same. true≢false (sym (eq-eqb _ _ same) ∙ test),
-            other,
-            (unset_is word word a).1 (λ h. h),
-            (unset_is word word b).1 (λ h. h),
-          );
+        each false test clash facts = let differ : second ≢ first = λ same. true≢false (sym (eq-eqb _ _ same) ∙ test) in record {
+          is_true = (refl, refl, differ, facts.1 differ, (unset_is word word a).1 (λ h. h), (unset_is word word b).1 (λ h. h));
           refutes = λ w is d.
               still_clash _ first _ second _ _ ((unset_is word w a).0 is.4) ((unset_is word w b).0 is.5) clash
               (subst (λ n. Disjoint (cased (is_cased (raw w) a) n) (cased (is_cased (raw w) b) second)) is.0
@@ -460,11 +447,6 @@ without P [] none = tt
 without P (None ∷ list) none = (tt, without P list none.1)
 without P (Some r ∷ list) none = cc
 
-no_reason : (list : List (Option Reason)) → EachReason (λ r. ⊥) list → NoReason list
-no_reason [] all = tt
-no_reason (None ∷ list) all = (refl, no_reason list all.1)
-no_reason (Some r ∷ list) all = absurd all.0
-
 -- The reasons of causes.
 lift : (f : Cause → Reason) (P : Cause → Type 0) (Q : Reason → Type 0) → ((c : Cause) → P c → Q (f c))
     → (list : List (Option Cause)) → EachCause P list → EachReason Q (map (option_map f) list)
@@ -477,6 +459,16 @@ no_causes : (f : Cause → Reason) (Q : Reason → Type 0) → ((c : Cause) → 
 no_causes f Q out [] all = tt
 no_causes f Q out (None ∷ list) all = (refl, no_causes f Q out list all.1)
 no_causes f Q out (Some c ∷ list) all = absurd (out c all.0)
+
+-- If causes explain why `D` fails, and it holds without them, then it holds if and only if they give no reason.
+none_iff : (word e p : ℕ) (D : ℕ → Type 0) (f : Cause → Reason) (list : List (Option Cause))
+    → Settled (Explains word e p D) (D word) list → D word ↔ NoReason (map (option_map f) list)
+none_iff word e p D f [] (each, enough) = (λ d. tt, enough)
+none_iff word e p D f (None ∷ list) (each, enough) =
+    let rest = none_iff word e p D f list (each.1, λ none. enough (refl, none)) in
+    (λ d. (refl, rest.0 d), λ none. rest.1 none.1)
+none_iff word e p D f (Some c ∷ list) (each, enough) =
+    let own = each.0 in (λ d. absurd (own.refutes word own.is_true d), λ none. absurd (none-some (f c) (sym none.0)))
 
 -- `reason_slots word` lists the reasons why `word` breaks rules, in the order of the rules, each in its slot.
 abbrev pub slots : ℕ → Rule → List (Option Reason)
@@ -560,9 +552,9 @@ pub kept : (word : ℕ) (list : List Rule) → AllByRecursion (λ rule. Holds ru
 kept word [] all = tt
 kept word (rule ∷ list) all =
     join (λ o. o ≡ None) (slots word rule) _
-    (no_reason (slots word rule) (lift (reason_of (raw word) (Some rule)) _ (λ r. ⊥)
-    (λ c h. h.refutes word h.is_true (own_demand rule word all.0)) (causes_of (shape_of rule) word)
-    (shape_settled (shape_of rule) word).0)) (kept word list all.1)
+    ((none_iff word 0 0 (Own (shape_of rule)) (reason_of (raw word) (Some rule)) (causes_of (shape_of rule) word)
+    (shape_settled (shape_of rule) word)).0 (own_demand rule word all.0))
+    (kept word list all.1)
 
 -- Each reason of a word is true of each word that has the same bits under its mask, and breaks its rules there.
 pub blame : (word other : ℕ) → EachReason (Blames word other) (reason_slots word)
@@ -665,11 +657,4 @@ module _ (word e p : ℕ) (e_below : e < 256) (p_below : p < 256) where
 
   -- A word accepts options if and only if they have no reason.
   pub options_fit : OptionsFit word e p ↔ NoReason (options_slots word e p)
-  options_fit = (
-    λ fit.
-        no_reason (options_slots word e p) (lift (reason_of (raw word) None) (Explains word e p Fit) (λ r. ⊥)
-        (λ c h. h.refutes word h.is_true fit) (options_causes word e p) options_settled.0),
-    λ none.
-        options_settled.1 (no_causes (reason_of (raw word) None) (λ r. ⊥) (λ c h. h) (options_causes word e p)
-        (without (λ r. ⊥) (options_slots word e p) none)),
-  )
+  options_fit = none_iff word e p Fit (reason_of (raw word) None) (options_causes word e p) options_settled
