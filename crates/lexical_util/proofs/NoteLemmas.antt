@@ -6,7 +6,7 @@ use Rattle.std.proofs.Math.Bool.{and-false}
 use Rattle.std.specs.Prelude.{Contains}
 use Rattle.std.specs.Bool.{then_some}
 use Rattle.std.specs.List.{AllByRecursion, list_any}
-use Rattle.std.proofs.lemmas.Bool.{true≢false, eqb-true, eq-eqb, and_parts, and_left, not-false}
+use Rattle.std.proofs.lemmas.Bool.{true≢false, eqb-true, eq-eqb, and_parts, and_left, ne_eqb, not-false}
 use Rattle.std.proofs.lemmas.Bool.Decides.{nat_tests}
 use Rattle.std.proofs.lemmas.Option.{same_Some, none-some}
 use Rattle.std.proofs.lemmas.Nat.{and_assoc, and_comm, and_or_apart}
@@ -63,9 +63,6 @@ blamed_by_none (Some r ∷ list) m =
       λ all. and_or_apart m r.mask (blamed list) (rest.1 all.1) ∙ all.0,
     )
 
-not_zero : (n : ℕ) → n ≢ 0 → (n == 0) ≡ false
-not_zero n some = grind (arith, nat_tests)
-
 then_some_is : (t : Bool) (a b : Note) → then_some t a ≡ Some b → IsTrue t × (a ≡ b)
 then_some_is true a b same = (refl, same_Some a b same)
 then_some_is false a b same = absurd (none-some b same)
@@ -120,7 +117,7 @@ case_slot r f name note (inr (f_is, name_is, on)) there =
 
 in_slot : (r : Record) (note : Note) → IsIdle r note → InSlot r note
 in_slot r (notes.SeparatorWithoutFlag b) (off, name, has, some) =
-    let none = not_zero b.value some in
+    let none = ne_eqb _ 0 some in
     inl ((λ i. if off i then then_some (has i == 0) notes.FlagsWithoutSeparator
     else then_some (not (has i == 0)) (notes.SeparatorWithoutFlag (record { name = sym name i; value = has i })))
     ∙ (λ i. then_some (not (none i)) (notes.SeparatorWithoutFlag b)))
@@ -132,7 +129,7 @@ in_slot r (notes.CaseFlagWithoutByte f name) (set, absent) =
     then_some (on i && (other_case (absent i) == absent i)) (if absent i == 0 then notes.CaseFlagWithoutByte f name
     else notes.CaseFlagOfNonLetter f (record { name = name; value = absent i })))
 in_slot r (notes.CaseFlagOfNonLetter f b) (set, has, some, same) =
-    let none = not_zero b.value some in
+    let none = ne_eqb _ 0 some in
     let equal = eq-eqb _ _ same in
     case_slot r f b.name (notes.CaseFlagOfNonLetter f b) set (λ on.
     (λ i. then_some (on i && (other_case (has i) == has i)) (if has i == 0 then notes.CaseFlagWithoutByte f b.name
@@ -213,9 +210,7 @@ unfolding cased
 no_case c d n same = λ i b. at c d b i where
   at : (c d : Bool) (b : ℕ) → cased c n b ≡ cased d n b
   at true true b = refl
-  at false false b = refl
-  at true false b = grind (arith, nat_tests)
-  at false true b = grind (arith, nat_tests)
+  at c d b = grind (arith, nat_tests)
 
 -- An absent byte plays no role.
 apart_from_absent : (a c : Bool) (m n : ℕ) → n ≡ 0 → Disjoint (cased a m) (cased c n)
@@ -284,6 +279,7 @@ data Idle : Type 0 where
   prefix_case : Idle
   suffix_case : Idle
 
+-- `mask_at idle` is the mask of `idle`.
 abbrev mask_at : Idle → ℕ
 mask_at lone_separator = byte_mask layout.digit_separator
 mask_at lone_flags = mask_of digit_separator_flags
@@ -435,7 +431,7 @@ idle_part m (notes.CaseFlagOfNonLetter f b) none = (zero_halves m (mask_of_sette
 
 -- If reasons explain which rules a word breaks, and notes beside them are on `r`, from which the word is packed, then
 -- clearing what these notes name changes nothing.
-change_nothing : (word : ℕ) (r : Record) (t : Bool) → raw word ≡ trim_if t r → (reasons : List (Option Reason))
+pub change_nothing : (word : ℕ) (r : Record) (t : Bool) → raw word ≡ trim_if t r → (reasons : List (Option Reason))
     → (found : List (Option Note)) → AreReasons word reasons → AreNotes r reasons found → ChangeNothing word found
 change_nothing word r t fields reasons found explains are note there other clears =
     let idle = (are note).0 there in
@@ -449,8 +445,3 @@ pub idle_in_word : (word : ℕ) (reasons : List (Option Reason)) (found : List (
     → AreNotes (raw word) reasons found → ChangeNothing word found
 idle_in_word word reasons found explains are =
     change_nothing word (raw word) true (record_same _ _ (λ f. refl) (bytes_same _ _ refl refl refl refl refl refl)) reasons found explains are
-
-pub idle_in_builder : (word : ℕ) (r : Record) (reasons : List (Option Reason)) (found : List (Option Note)) → raw word ≡ trim r
-    → AreReasons word reasons → AreNotes r reasons found → ChangeNothing word found
-idle_in_builder word r reasons found fields explains are =
-    change_nothing word r (separator_allowed r) fields reasons found explains are

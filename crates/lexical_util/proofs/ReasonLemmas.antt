@@ -390,8 +390,7 @@ not_clean w bits some inside has clean =
 -- If a cause that is true of a word contradicts `D`, and `D` holds without it, then the cause explains why `D` fails.
 settled : (word : ℕ) (D : ℕ → Type 0) (b : Bool) (c : Cause) → (IsTrue b → IsTrueOf word 0 0 c)
     → ((w : ℕ) → IsTrueOf w 0 0 c → D w → ⊥) → (b ≡ false → D word) → MatchOption (then_some b c) (D word) (Explains word 0 0 D)
-settled word D true c is refutes none = record { is_true = is refl; refutes = refutes }
-settled word D false c is refutes none = none refl
+settled word D b c is refutes none = settled_if _ _ b c (λ h. record { is_true = is h; refutes = refutes }) none
 
 -- Each cause of a shape explains why a word is not as the shape demands, and without a cause the word is.
 shape_settled : (shape : Shape) (word : ℕ) → Settled (Explains word 0 0 (Own shape)) (Own shape word) (causes_of shape word)
