@@ -75,21 +75,14 @@ unless_is mask (Some own) note = (
   λ is.
       let both = then_some_is _ own note is in
       (ap Some both.1, subst (λ n. bit_and mask (mask_of_note n) ≡ 0) both.1 (eqb-true _ 0 both.0)),
-  λ both.
-      let free = subst (λ n. bit_and mask (mask_of_note n) ≡ 0) (sym (same_Some own note both.0)) both.1 in
-      ap (λ t. then_some t own) (eq-eqb _ 0 free) ∙ both.0,
+  λ both. let same = same_Some own note both.0 in grind (arith, nat_tests),
 )
 
 separator_when : (r : Record) (note : Note) → separator_note r ≡ Some note → IsIdle r note
-separator_when r note = test _ refl where
-  test : (t : Bool) → separator_allowed r ≡ t
-      → (if t then then_some (r.byte layout.digit_separator == 0) notes.FlagsWithoutSeparator
-      else then_some (not (r.byte layout.digit_separator == 0)) (notes.SeparatorWithoutFlag (named r 0 0 bytes.DigitSeparator)))
-      ≡ Some note → IsIdle r note
-  test true t is = let own = then_some_is _ _ note is in subst (IsIdle r) own.1 (t, eqb-true _ 0 own.0)
-  test false t is =
-      let own = then_some_is _ _ note is in
-      subst (IsIdle r) own.1 (t, refl, refl, λ absent. true≢false (sym own.0 ∙ ap not (eq-eqb _ 0 absent)))
+separator_when r (notes.SeparatorWithoutFlag b) is = grind (arith, nat_tests)
+separator_when r notes.FlagsWithoutSeparator is = grind (arith, nat_tests)
+separator_when r (notes.CaseFlagWithoutByte f name) is = absurd (grind (arith, nat_tests))
+separator_when r (notes.CaseFlagOfNonLetter f b) is = absurd (grind (arith, nat_tests))
 
 case_when : (r : Record) (f : FlagSetter) (name : Byte) → (is_cased r name ≡ true → IsSetCaseFlag r f name) → (note : Note)
     → case_note r f name ≡ Some note → IsIdle r note
@@ -116,25 +109,12 @@ case_slot r f name note (inr (f_is, name_is, on)) there =
     inr (inr (sym (λ i. case_note r (f_is i) (name_is i)) ∙ there (ap (is_cased r) name_is ∙ on)))
 
 in_slot : (r : Record) (note : Note) → IsIdle r note → InSlot r note
-in_slot r (notes.SeparatorWithoutFlag b) (off, name, has, some) =
-    let none = ne_eqb _ 0 some in
-    inl ((λ i. if off i then then_some (has i == 0) notes.FlagsWithoutSeparator
-    else then_some (not (has i == 0)) (notes.SeparatorWithoutFlag (record { name = sym name i; value = has i })))
-    ∙ (λ i. then_some (not (none i)) (notes.SeparatorWithoutFlag b)))
-in_slot r notes.FlagsWithoutSeparator (on, absent) =
-    inl (λ i. if on i then then_some (absent i == 0) notes.FlagsWithoutSeparator
-    else then_some (not (absent i == 0)) (notes.SeparatorWithoutFlag (record { name = bytes.DigitSeparator; value = absent i })))
+in_slot r (notes.SeparatorWithoutFlag b) (off, name, has, some) = inl (grind (arith, nat_tests))
+in_slot r notes.FlagsWithoutSeparator (on, absent) = inl (grind (arith, nat_tests))
 in_slot r (notes.CaseFlagWithoutByte f name) (set, absent) =
-    case_slot r f name (notes.CaseFlagWithoutByte f name) set (λ on i.
-    then_some (on i && (other_case (absent i) == absent i)) (if absent i == 0 then notes.CaseFlagWithoutByte f name
-    else notes.CaseFlagOfNonLetter f (record { name = name; value = absent i })))
+    case_slot r f name (notes.CaseFlagWithoutByte f name) set (λ on. grind (arith, nat_tests))
 in_slot r (notes.CaseFlagOfNonLetter f b) (set, has, some, same) =
-    let none = ne_eqb _ 0 some in
-    let equal = eq-eqb _ _ same in
-    case_slot r f b.name (notes.CaseFlagOfNonLetter f b) set (λ on.
-    (λ i. then_some (on i && (other_case (has i) == has i)) (if has i == 0 then notes.CaseFlagWithoutByte f b.name
-    else notes.CaseFlagOfNonLetter f (record { name = b.name; value = has i })))
-    ∙ (λ i. then_some (equal i) (if none i then notes.CaseFlagWithoutByte f b.name else notes.CaseFlagOfNonLetter f b)))
+    case_slot r f b.name (notes.CaseFlagOfNonLetter f b) set (λ on. grind (arith, nat_tests))
 
 -- `all_notes mask r` lists the notes on `r` that name no field under `mask`, each in its slot.
 abbrev pub all_notes : ℕ → Record → List (Option Note)

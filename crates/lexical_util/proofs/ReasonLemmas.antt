@@ -117,8 +117,7 @@ stays v w e p = stay where
   stay (causes.NotText b) same (is, fact) = (has b same is, fact)
   stay (causes.IsSign b) same (is, fact) = (has b same is, fact)
   stay (causes.IsDigit b (radixes.Mantissa m)) same (is, (m_is, digit)) =
-      let all = halves v w _ _ same in
-      let own = halves v w _ _ all.0 in
+      let own = halves v w _ _ (halves v w _ _ same).0 in
       (has b own.0 is, (sym (byte v w _ own.1 layout.mantissa_radix refl) ∙ m_is, digit))
   stay (causes.IsDigit b (radixes.Exponent x)) same (is, (x_is, digit)) =
       let own = halves v w _ _ same in
@@ -170,7 +169,7 @@ settled_there : (P : Cause → Type 0) (D : Type 0) (b : NamedByte) (o : Option 
 settled_there P D b o absent there = test (b.value == 0) refl where
   test : (t : Bool) → (b.value == 0) ≡ t → MatchOption (if t then None else o) D P
   test true is = absent (eqb-true _ 0 is)
-  test false is = there (λ zero. true≢false (sym (eq-eqb _ 0 zero) ∙ is))
+  test false is = there (grind (arith, nat_tests))
 
 -- RADIXES
 
@@ -193,20 +192,16 @@ used_radix n m radix = elim (cases_eq n 0) [
 ]
 
 effective_radix : (n m : ℕ) → (n ≡ 0 → IsRadix m) → (n ≡ 0) ⊎ IsRadix n → IsRadix (effective n m)
-effective_radix n m follows (inl none) = subst (λ k. IsRadix (effective k m)) (sym none) (follows none)
+effective_radix n m follows (inl none) = let own = follows none in grind (arith, nat_tests)
 effective_radix n m follows (inr radix) = grind (arith, nat_tests)
 
 -- PUNCTUATION
 
 -- A digit of the mantissa radix or of the exponent radix is a digit of the format.
-effective_digit : (x m n : ℕ) → IsTrue (digits_of x n) → IsTrue (digits_of (effective x m) n)
-effective_digit x m n is_digit = grind (arith, nat_tests)
-
 is_digit : (w n : ℕ) (found : Radixes) → AreDigits w n found → IsTrue (digits (raw w) n)
-is_digit w n (radixes.Mantissa m) (is, digit) = or_left _ _ (subst (λ k. IsTrue (digits_of k n)) (sym is) digit)
-is_digit w n (radixes.Exponent x) (is, digit) =
-    or_right _ _ (effective_digit _ _ n (subst (λ k. IsTrue (digits_of k n)) (sym is) digit))
-is_digit w n (radixes.Both m x) (is, digit, x_is, x_digit) = or_left _ _ (subst (λ k. IsTrue (digits_of k n)) (sym is) digit)
+is_digit w n (radixes.Mantissa m) are = grind (arith, nat_tests)
+is_digit w n (radixes.Exponent x) are = grind (arith, nat_tests)
+is_digit w n (radixes.Both m x) are = grind (arith, nat_tests)
 
 no_digits : (m x n : ℕ) → digits_of m n ≡ false → digits_of x n ≡ false
     → IsTrue (digits_of m n || digits_of (effective x m) n) → ⊥
