@@ -3,6 +3,7 @@
 use Rattle.std.proofs.Common.{ℕ, ◌≡◌, ◌≢◌, ◌↔◌, ◌==◌, ◌&&◌, ◌||◌, ◌⊎◌, inl, inr, ◌<◌, bit_and, bit_or, option_map}
 use Rattle.std.proofs.Common.{Option, None, Some, unwrap_or, List, [], ◌∷◌, ◌++◌, map, flat_map, Bool, true, false, IsTrue}
 use Rattle.std.proofs.Common.{not, if◌then◌else◌, refl, ap, sym, subst, ◌∙◌, arith, mod-lt}
+use Rattle.std.proofs.Math.Bool.{or-false}
 use Rattle.std.specs.Prelude.{IfSome, MatchOption}
 use Rattle.std.specs.Option.{option_map_or}
 use Rattle.std.specs.Bool.{then_some}
@@ -10,6 +11,7 @@ use Rattle.std.specs.List.{AllByRecursion}
 use Rattle.std.proofs.lemmas.Bool.{true≢false, cases_eq, eqb-true, eq-eqb, or_left, or_right, and_from, and_parts}
 use Rattle.std.proofs.lemmas.Bool.{not_from_true, not-false}
 use Rattle.std.proofs.lemmas.Bool.Decides.{nat_tests}
+use Rattle.std.proofs.lemmas.Option.{same_Some, none-some}
 use Rattle.std.proofs.lemmas.Nat.{and_assoc, and_comm, and_or_self, or_comm, pow_pos}
 use lib.Bits.{and_self, and_zero_l}
 use Rattle.lexical_base.specs.Ascii.{between, allowed_ascii}
@@ -35,7 +37,7 @@ use Rattle.lexical_util.specs.Groups.{any_flag}
 use Rattle.lexical_util.specs.Additions.EditMasks.{mask_of_setter}
 use Rattle.lexical_util.specs.Additions.FieldEdits.{setter_of}
 use Rattle.lexical_util.specs.Additions.Reasons.{value_of, mask_of_byte, Has, IsUnset, IsTrueOf, Breaks, Blames}
-use Rattle.lexical_util.specs.Additions.Reasons.{BlamesForOptions, EachReason, NoReason}
+use Rattle.lexical_util.specs.Additions.Reasons.{AreDigits, BlamesForOptions, EachReason, NoReason}
 use Rattle.lexical_util.specs.Private.{named, case_flag, is_cased, unset_flag, if_present, radix_cause, radixes_where}
 use Rattle.lexical_util.specs.Private.{digit_cause, byte_cause, role, clash, reserved_cause, followers, flag_mask}
 use Rattle.lexical_util.specs.Private.{absent_mask, mask_of_cause, reason_of}
@@ -43,6 +45,7 @@ use Rattle.lexical_util.specs.declared.edits.setters.FlagSetter.{FlagSetter}
 use Rattle.lexical_util.specs.declared.reasons.Byte.{Byte}
 use Rattle.lexical_util.specs.declared.reasons.Byte.TheVariants as bytes
 use Rattle.lexical_util.specs.declared.reasons.NamedByte.{NamedByte}
+use Rattle.lexical_util.specs.declared.reasons.Radixes.{Radixes}
 use Rattle.lexical_util.specs.declared.reasons.Radixes.TheVariants as radixes
 use Rattle.lexical_util.specs.declared.reasons.Cause.{Cause}
 use Rattle.lexical_util.specs.declared.reasons.Cause.TheVariants as causes
@@ -89,14 +92,14 @@ flag_agrees v w s same =
 lacks_agrees : (v w : ℕ) (part : Part) → SameUnder (mask_of (separator_flags part)) v w
     → lacks_position (raw v) part ≡ lacks_position (raw w) part
 lacks_agrees v w part same = agree part (each part same) where
-  agree : (part : Part) → AllByRecursion (SameFlag v w) (separator_flags part)
-      → lacks_position (raw v) part ≡ lacks_position (raw w) part
-  agree part (between, (before, (after, (several, none)))) = λ i. several i && not (between i || before i || after i)
-
   each : (part : Part) → SameUnder (mask_of (separator_flags part)) v w → AllByRecursion (SameFlag v w) (separator_flags part)
   each parts.Integer same = flags_agree v w _ same (separator_flags parts.Integer) refl
   each parts.Fraction same = flags_agree v w _ same (separator_flags parts.Fraction) refl
   each parts.Exponent same = flags_agree v w _ same (separator_flags parts.Exponent) refl
+
+  agree : (part : Part) → AllByRecursion (SameFlag v w) (separator_flags part)
+      → lacks_position (raw v) part ≡ lacks_position (raw w) part
+  agree part (between, (before, (after, (several, none)))) = λ i. several i && not (between i || before i || after i)
 
 -- A cause of a word is true of each word that agrees with it under the mask of the cause.
 stays : (v w e p : ℕ) (cause : Cause) → SameUnder (mask_of_cause (raw v) cause) v w → IsTrueOf v e p cause
@@ -114,8 +117,7 @@ stays v w e p = stay where
   stay (causes.NotText b) same (is, fact) = (has b same is, fact)
   stay (causes.IsSign b) same (is, fact) = (has b same is, fact)
   stay (causes.IsDigit b (radixes.Mantissa m)) same (is, (m_is, digit)) =
-      let all = halves v w _ _ same in
-      let own = halves v w _ _ all.0 in
+      let own = halves v w _ _ (halves v w _ _ same).0 in
       (has b own.0 is, (sym (byte v w _ own.1 layout.mantissa_radix refl) ∙ m_is, digit))
   stay (causes.IsDigit b (radixes.Exponent x)) same (is, (x_is, digit)) =
       let own = halves v w _ _ same in
@@ -167,7 +169,7 @@ settled_there : (P : Cause → Type 0) (D : Type 0) (b : NamedByte) (o : Option 
 settled_there P D b o absent there = test (b.value == 0) refl where
   test : (t : Bool) → (b.value == 0) ≡ t → MatchOption (if t then None else o) D P
   test true is = absent (eqb-true _ 0 is)
-  test false is = there (λ zero. true≢false (sym (eq-eqb _ 0 zero) ∙ is))
+  test false is = there (grind (arith, nat_tests))
 
 -- RADIXES
 
@@ -178,11 +180,8 @@ is_radix : (n : ℕ) → not (between 2 36 n) ≡ false → IsRadix n
 is_radix n in_range = grind (arith, nat_tests)
 
 -- The mantissa radix is used in place of itself.
-same_radix : (n k : ℕ) → k ≡ n → IsRadix (effective k k) → IsRadix n
-same_radix n k same radix = grind (arith, nat_tests)
-
-own_effective : (n : ℕ) → IsRadix n → IsRadix (effective n n)
-own_effective n radix = grind (arith, nat_tests)
+effective_self : (n : ℕ) → effective n n ≡ n
+effective_self n = grind (arith, nat_tests)
 
 -- A radix that is used is absent or in range, and one that is absent or in range is in range where it is used, unless
 -- it is absent and the mantissa radix is out of range.
@@ -193,21 +192,16 @@ used_radix n m radix = elim (cases_eq n 0) [
 ]
 
 effective_radix : (n m : ℕ) → (n ≡ 0 → IsRadix m) → (n ≡ 0) ⊎ IsRadix n → IsRadix (effective n m)
-effective_radix n m follows (inl none) = subst (λ k. IsRadix (effective k m)) (sym none) (follows none)
+effective_radix n m follows (inl none) = let own = follows none in grind (arith, nat_tests)
 effective_radix n m follows (inr radix) = grind (arith, nat_tests)
 
 -- PUNCTUATION
 
 -- A digit of the mantissa radix or of the exponent radix is a digit of the format.
-mantissa_digit : (r : Record) (m n : ℕ) → r.byte layout.mantissa_radix ≡ m → IsTrue (digits_of m n) → IsTrue (digits r n)
-mantissa_digit r m n same is_digit = or_left _ _ (subst (λ k. IsTrue (digits_of k n)) (sym same) is_digit)
-
-effective_digit : (x m n : ℕ) → IsTrue (digits_of x n) → IsTrue (digits_of (effective x m) n)
-effective_digit x m n is_digit = grind (arith, nat_tests)
-
-exponent_digit : (r : Record) (x n : ℕ) → r.byte layout.exponent_radix ≡ x → IsTrue (digits_of x n) → IsTrue (digits r n)
-exponent_digit r x n same is_digit =
-    or_right _ _ (effective_digit _ _ n (subst (λ k. IsTrue (digits_of k n)) (sym same) is_digit))
+is_digit : (w n : ℕ) (found : Radixes) → AreDigits w n found → IsTrue (digits (raw w) n)
+is_digit w n (radixes.Mantissa m) are = grind (arith, nat_tests)
+is_digit w n (radixes.Exponent x) are = grind (arith, nat_tests)
+is_digit w n (radixes.Both m x) are = grind (arith, nat_tests)
 
 no_digits : (m x n : ℕ) → digits_of m n ≡ false → digits_of x n ≡ false
     → IsTrue (digits_of m n || digits_of (effective x m) n) → ⊥
@@ -219,22 +213,16 @@ byte_settled : (word e p : ℕ) (b : NamedByte) (D : ℕ → Type 0) (N : Type 0
     → MatchOption (byte_cause (raw word) b) N (Explains word e p D)
 unfolding IsPunctuation
 byte_settled word e p b D N own free enough = text (allowed_ascii b.value) (signs b.value) refl refl where
+  found : (radixes : Radixes) → AreDigits word b.value radixes → Explains word e p D (causes.IsDigit b radixes)
+  found radixes are = record { is_true = (own, are); refutes = λ w is d. (free w is.0 d).1 (is_digit w _ radixes is.1) }
+
   digit : (m x : ℕ) → (raw word).byte layout.mantissa_radix ≡ m → (raw word).byte layout.exponent_radix ≡ x
       → (f g : Bool) → digits_of m b.value ≡ f → digits_of x b.value ≡ g
       → (digits_of m b.value ≡ false → digits_of x b.value ≡ false → N)
       → MatchOption (option_map (causes.IsDigit b) (radixes_where m x f g)) N (Explains word e p D)
-  digit m x mi xi true true f g none = record {
-    is_true = (own, (mi, f, xi, g));
-    refutes = λ w is d. let at = is.1 in (free w is.0 d).1 (mantissa_digit (raw w) m _ at.0 f);
-  }
-  digit m x mi xi true false f g none = record {
-    is_true = (own, (mi, f));
-    refutes = λ w is d. let at = is.1 in (free w is.0 d).1 (mantissa_digit (raw w) m _ at.0 f);
-  }
-  digit m x mi xi false true f g none = record {
-    is_true = (own, (xi, g));
-    refutes = λ w is d. let at = is.1 in (free w is.0 d).1 (exponent_digit (raw w) x _ at.0 g);
-  }
+  digit m x mi xi true true f g none = found (radixes.Both m x) (mi, f, xi, g)
+  digit m x mi xi true false f g none = found (radixes.Mantissa m) (mi, f)
+  digit m x mi xi false true f g none = found (radixes.Exponent x) (xi, g)
   digit m x mi xi false false f g none = none f g
 
   text : (t s : Bool) → allowed_ascii b.value ≡ t → signs b.value ≡ s
@@ -254,25 +242,19 @@ present r n k some same (inr free) = subst (IsPunctuation r) same free
 
 -- If two roles share a byte, then their bytes are present, and equal or the two cases of a letter.
 clash_facts : (ac : Bool) (a : ℕ) (bc : Bool) (b : ℕ) → (Disjoint (cased ac a) (cased bc b) → ⊥)
-    → (a ≢ 0) × ((b ≡ a) ⊎ (b ≡ other_case a))
+    → (a ≢ 0) × (b ≢ a → b ≡ other_case a)
 clash_facts ac a bc b clash = (
   λ none. clash (differ_apart ac a bc b (λ some. absurd (some none))),
-  elim (cases_eq b a) [
-    | inl same ↦ inl same
-    | inr differ ↦ elim (cases_eq b (other_case a)) [
-      | inl other ↦ inr other
-      | inr not_other ↦ absurd (clash (differ_apart ac a bc b (λ some. (λ same. differ (sym same), not_other))))
-    ]
+  λ differ. elim (cases_eq b (other_case a)) [
+    | inl other ↦ other
+    | inr not_other ↦ absurd (clash (differ_apart ac a bc b (λ some. (λ same. differ (sym same), not_other))))
   ],
 )
 
 -- The flag of a setter is set if and only if the setter's test says so.
 set_is : (w : ℕ) (f : Flag) → any_flag w (flags_of (setter_of f)) ≡ (raw w).flag f
 unfolding any_flag
-set_is w f = ap (any_flag w) (setter_alone f) ∙ one _ where
-  one : (set : Bool) → (set || false) ≡ set
-  one true = refl
-  one false = refl
+set_is w f = ap (any_flag w) (setter_alone f) ∙ or-false _
 
 -- The case flag that a reason of `v` names is not set in `w` if and only if a byte that is not case-sensitive in `v` is
 -- not case-sensitive in `w` either.
@@ -316,7 +298,7 @@ module _ (word e p : ℕ) (e_below : e < 256) (p_below : p < 256) (D : ℕ → T
 
         each : (t : Bool) → (second == first) ≡ t
             → (Disjoint (role (raw word) e p a) (role (raw word) e p b) → ⊥)
-            → (first ≢ 0) × ((second ≡ first) ⊎ (second ≡ other_case first))
+            → (first ≢ 0) × (second ≢ first → second ≡ other_case first)
             → Explains word e p D (if t then causes.Same (named (raw word) e p a) (named (raw word) e p b)
             else causes.DifferInCase (named (raw word) e p a) (unset_flag (raw word) a) (named (raw word) e p b)
             (unset_flag (raw word) b))
@@ -329,16 +311,8 @@ module _ (word e p : ℕ) (e_below : e < 256) (p_below : p < 256) (D : ℕ → T
                   (subst (λ n. Disjoint (role (raw w) e p a) (cased (is_cased (raw w) b) n)) (is.1 ∙ same ∙ sym is.0)
                   (apart w d));
             }
-        each false test clash (some, inl same) = absurd (true≢false (sym (eq-eqb _ _ same) ∙ test))
-        each false test clash (some, inr other) = record {
-          is_true = (
-            refl,
-            refl,
-            λ same. true≢false (sym (eq-eqb _ _ same) ∙ test),
-            other,
-            (unset_is word word a).1 (λ h. h),
-            (unset_is word word b).1 (λ h. h),
-          );
+        each false test clash facts = let differ : second ≢ first = λ same. true≢false (sym (eq-eqb _ _ same) ∙ test) in record {
+          is_true = (refl, refl, differ, facts.1 differ, (unset_is word word a).1 (λ h. h), (unset_is word word b).1 (λ h. h));
           refutes = λ w is d.
               still_clash _ first _ second _ _ ((unset_is word w a).0 is.4) ((unset_is word w b).0 is.5) clash
               (subst (λ n. Disjoint (cased (is_cased (raw w) a) n) (cased (is_cased (raw w) b) second)) is.0
@@ -397,7 +371,7 @@ Own shape w = Meets shape w
 
 own_demand : (rule : Rule) (w : ℕ) → Holds rule w → Own (shape_of rule) w
 unfolding Holds
-own_demand rules.MantissaRadixInRange w h = same_radix _ _ refl h
+own_demand rules.MantissaRadixInRange w h = subst IsRadix (effective_self _) h
 own_demand rules.ExponentBaseInRange w h = used_radix _ _ h
 own_demand rules.ExponentRadixInRange w h = used_radix _ _ h
 own_demand rule w h = h
@@ -408,67 +382,49 @@ not_clean w bits some inside has clean =
     some (sym has ∙ ap (bit_and w) (sym inside ∙ and_comm bits reserved_mask)
     ∙ sym (and_assoc bits w reserved_mask) ∙ ap (λ n. bit_and n bits) none ∙ and_zero_l bits)
 
+-- If a cause that is true of a word contradicts `D`, and `D` holds without it, then the cause explains why `D` fails.
+settled : (word : ℕ) (D : ℕ → Type 0) (b : Bool) (c : Cause) → (IsTrue b → IsTrueOf word 0 0 c)
+    → ((w : ℕ) → IsTrueOf w 0 0 c → D w → ⊥) → (b ≡ false → D word) → MatchOption (then_some b c) (D word) (Explains word 0 0 D)
+settled word D b c is refutes none = settled_if _ _ b c (λ h. record { is_true = is h; refutes = refutes }) none
+
 -- Each cause of a shape explains why a word is not as the shape demands, and without a cause the word is.
 shape_settled : (shape : Shape) (word : ℕ) → Settled (Explains word 0 0 (Own shape)) (Own shape word) (causes_of shape word)
 shape_settled (radix_in_range layout.mantissa_radix) word =
-    let D = Own (radix_in_range layout.mantissa_radix) in
-    alone _ _ _ (settled_if (Explains word 0 0 D) (D word) _ _
-    (λ out. record {
-      is_true = (refl, not_radix _ out);
-      refutes = λ w is d. let fact = is.1 in fact (subst IsRadix is.0 d);
-    })
-    (is_radix _))
+    alone _ _ _ (settled word (Own (radix_in_range layout.mantissa_radix)) _ _ (λ out. (refl, not_radix _ out))
+    (λ w is d. let fact = is.1 in fact (subst IsRadix is.0 d)) (is_radix _))
 shape_settled (radix_in_range b) word =
     let n = named (raw word) 0 0 (byte_of b) in
     let D = Own (radix_in_range b) in
-    alone _ _ _ (settled_there (Explains word 0 0 D) (D word) n _ inl (λ some. settled_if (Explains word 0 0 D) (D word) _ _
-    (λ out. record {
-      is_true = (refl, not_radix _ out);
-      refutes = λ w is d. let fact = is.1 in elim d [
-        | inl zero ↦ some (sym is.0 ∙ zero)
-        | inr radix ↦ fact (subst IsRadix is.0 radix)
-      ];
-    })
+    alone _ _ _ (settled_there (Explains word 0 0 D) (D word) n _ inl (λ some. settled word D _ _
+    (λ out. (refl, not_radix _ out))
+    (λ w is d. let fact = is.1 in elim d [
+      | inl zero ↦ some (sym is.0 ∙ zero)
+      | inr radix ↦ fact (subst IsRadix is.0 radix)
+    ])
     (λ in_range. inr (is_radix _ in_range))))
 shape_settled (absent_or_punctuation b) word =
     let n = named (raw word) 0 0 (byte_of b) in
-    alone _ _ _ (settled_there (Explains word 0 0 (Own (absent_or_punctuation b))) (Own (absent_or_punctuation b) word) n _
-    (λ zero. inl (sym (value_is word b) ∙ zero)) (λ some.
-    byte_settled word 0 0 n (Own (absent_or_punctuation b)) _ refl
-    (λ w is d. present (raw w) n.value _ some (sym (value_is w b) ∙ is) d)
+    let D = Own (absent_or_punctuation b) in
+    alone _ _ _ (settled_there (Explains word 0 0 D) (D word) n _ (λ zero. inl (sym (value_is word b) ∙ zero)) (λ some.
+    byte_settled word 0 0 n D _ refl (λ w is d. present (raw w) n.value _ some (sym (value_is w b) ∙ is) d)
     (λ free. inr (subst (IsPunctuation (raw word)) (value_is word b) free))))
 shape_settled roles_differ word =
     let all = clashes_settled word 0 0 (omega arith) (omega arith) (Own roles_differ) format_pairs
-    (λ w d. (assumption d, (assumption d, (assumption d, tt)))) in (
-      all.0,
-      λ none.
-          let apart = all.1 none in
-          let rest = apart.1 in
-          let last = rest.1 in
-          ((apart.0, (rest.0, tt)), ((last.0, tt), (tt, tt))),
-    )
+    (λ w d. (assumption d, (assumption d, (assumption d, tt)))) in
+    (all.0, λ none. let apart = all.1 none in ((apart.0, (assumption apart, tt)), ((assumption apart, tt), (tt, tt))))
 shape_settled (not_both a b) word =
-    let D = Own (not_both a b) in
-    alone _ _ _ (settled_if (Explains word 0 0 D) (D word) _ _
-    (λ h. record {
-      is_true = and_parts _ _ h;
-      refutes = λ w is d.
-          true≢false (sym (and_from _ _ (sym (set_is w a) ∙ is.0) (sym (set_is w b) ∙ is.1)) ∙ d);
-    })
+    alone _ _ _ (settled word (Own (not_both a b)) _ (causes.BothSet (setter_of a) (setter_of b)) (and_parts _ _)
+    (λ w is d. true≢false (sym (and_from _ _ (sym (set_is w a) ∙ is.0) (sym (set_is w b) ∙ is.1)) ∙ d))
     (λ h. sym (λ i. set_is word a i && set_is word b i) ∙ h))
 shape_settled (position_allowed part) word =
-    let D = Own (position_allowed part) in
-    alone _ _ _ (settled_if (Explains word 0 0 D) (D word) _ _
-    (λ h. record { is_true = h; refutes = λ w is d. true≢false (sym is ∙ d) }) (λ h. h))
+    alone _ _ _ (settled word (Own (position_allowed part)) _ (causes.NeedsPosition part) (λ h. h) (λ w is d. true≢false (sym is ∙ d)) (λ h. h))
 shape_settled reserved_zero word =
-    let D = Own reserved_zero in
-    alone _ _ _ (settled_if (Explains word 0 0 D) (D word) _ _
-    (λ set.
-    let own = sym (and_assoc reserved_mask word word) ∙ ap (λ n. bit_and n reserved_mask) (and_self word) in record {
-      is_true = (λ none. true≢false (sym set ∙ ap not (eq-eqb _ 0 none)), and_assoc reserved_mask word reserved_mask, own);
-      refutes = λ w is d. not_clean w _ is.0 is.1 is.2 d;
-    })
-    (λ h. (reserved_bits word).0 (not-false _ h)))
+    alone _ _ _ (settled word (Own reserved_zero) _ (causes.ReservedBits (bit_and word reserved_mask)) (λ set. (
+      λ none. true≢false (sym set ∙ ap not (eq-eqb _ 0 none)),
+      and_assoc reserved_mask word reserved_mask,
+      sym (and_assoc reserved_mask word word) ∙ ap (λ n. bit_and n reserved_mask) (and_self word),
+    ))
+    (λ w is d. not_clean w _ is.0 is.1 is.2 d) (λ h. (reserved_bits word).0 (not-false _ h)))
 
 -- REASONS
 
@@ -485,11 +441,6 @@ without P [] none = tt
 without P (None ∷ list) none = (tt, without P list none.1)
 without P (Some r ∷ list) none = cc
 
-no_reason : (list : List (Option Reason)) → EachReason (λ r. ⊥) list → NoReason list
-no_reason [] all = tt
-no_reason (None ∷ list) all = (refl, no_reason list all.1)
-no_reason (Some r ∷ list) all = absurd all.0
-
 -- The reasons of causes.
 lift : (f : Cause → Reason) (P : Cause → Type 0) (Q : Reason → Type 0) → ((c : Cause) → P c → Q (f c))
     → (list : List (Option Cause)) → EachCause P list → EachReason Q (map (option_map f) list)
@@ -503,6 +454,16 @@ no_causes f Q out [] all = tt
 no_causes f Q out (None ∷ list) all = (refl, no_causes f Q out list all.1)
 no_causes f Q out (Some c ∷ list) all = absurd (out c all.0)
 
+-- If causes explain why `D` fails, and it holds without them, then it holds if and only if they give no reason.
+none_iff : (word e p : ℕ) (D : ℕ → Type 0) (f : Cause → Reason) (list : List (Option Cause))
+    → Settled (Explains word e p D) (D word) list → D word ↔ NoReason (map (option_map f) list)
+none_iff word e p D f [] (each, enough) = (λ d. tt, enough)
+none_iff word e p D f (None ∷ list) (each, enough) =
+    let rest = none_iff word e p D f list (each.1, λ none. enough (refl, none)) in
+    (λ d. (refl, rest.0 d), λ none. rest.1 none.1)
+none_iff word e p D f (Some c ∷ list) (each, enough) =
+    let own = each.0 in (λ d. absurd (own.refutes word own.is_true d), λ none. absurd (none-some (f c) (sym none.0)))
+
 -- `reason_slots word` lists the reasons why `word` breaks rules, in the order of the rules, each in its slot.
 abbrev pub slots : ℕ → Rule → List (Option Reason)
 slots word rule = map (option_map (reason_of (raw word) (Some rule))) (causes_of (shape_of rule) word)
@@ -510,80 +471,62 @@ slots word rule = map (option_map (reason_of (raw word) (Some rule))) (causes_of
 abbrev pub reason_slots : ℕ → List (Option Reason)
 reason_slots word = flat_map (slots word) rules_in_order
 
--- `Reasoned word r` holds if `r` has a rule and blames what it depends on.
-record Reasoned (word : ℕ) (r : Reason) : Type 0 where
-  first : Rule
-  is_first : r.rule ≡ Some first
-  blames : (other : ℕ) → Blames word other r
+-- If a radix that is absent in `word` follows the mantissa radix, and its rule holds in `other`, which has the same bits
+-- under the mask of absent bytes, then the mantissa radix of `other` is in range.
+followed : (word other m : ℕ) (b : Byte) (own q : Rule) → (Holds own other → IsRadix (effective (value_of (raw other) 0 0 b) m))
+    → then_some (value_of (raw word) 0 0 b == 0) own ≡ Some q → SameUnder (absent_mask (raw word) b) word other → Holds q other
+    → IsRadix m
+followed word other m b own q step = test _ refl where
+  test : (t : Bool) → (value_of (raw word) 0 0 b == 0) ≡ t → then_some t own ≡ Some q
+      → SameUnder (if t then mask_of_byte b else 0) word other → Holds q other → IsRadix m
+  test true zero is same holds =
+      subst (λ k. IsRadix (effective k m)) (sym (value_agrees word other 0 0 b same) ∙ eqb-true _ 0 zero)
+      (step (subst (λ q. Holds q other) (sym (same_Some own q is)) holds))
+  test false zero is same holds = absurd (none-some q is)
 
-some_is : (a b : Rule) → Some a ≡ Some b → a ≡ b
-some_is a b same = ap (λ o. unwrap_or o a) same
-
-then_some_is : (t : Bool) (a b : Rule) → then_some t a ≡ Some b → IsTrue t × (a ≡ b)
-then_some_is true a b same = (refl, some_is a b same)
-then_some_is false a b same = cc
-
--- If a word agrees with another under the mask of a mantissa radix that is out of range, and satisfies the rule of a
--- byte that is absent in the other, then its mantissa radix is in range.
-followed : (word other : ℕ) → SameUnder (mask_of_cause (raw word) (causes.OutOfRange (named (raw word) 0 0 bytes.MantissaRadix))) word other
-    → (q : Rule) → let f = followers (raw word) (Some rules.MantissaRadixInRange) in ((f.0 ≡ Some q) ⊎ (f.1 ≡ Some q)) → Holds q other
-    → IsRadix ((raw other).byte layout.mantissa_radix)
-unfolding Holds
-followed word other same q follows holds =
-    let base = absent_mask (raw word) bytes.ExponentBase in
-    let radix = absent_mask (raw word) bytes.ExponentRadix in
-    let both = halves word other (mask_of_byte bytes.MantissaRadix) (bit_or base radix) same in
-    let absent = halves word other base radix both.1 in elim follows [
-      | inl is ↦
-          let f = then_some_is _ _ _ is in
-          let own : Holds rules.ExponentBaseInRange other = subst (λ q. Holds q other) (sym f.1) holds in
-          follow _ _ (stays_absent bytes.ExponentBase f.0 absent.0) own
-      | inr is ↦
-          let f = then_some_is _ _ _ is in
-          let own : Holds rules.ExponentRadixInRange other = subst (λ q. Holds q other) (sym f.1) holds in
-          follow _ _ (stays_absent bytes.ExponentRadix f.0 absent.1) own
-    ] where
-      stays_absent : (b : Byte) → IsTrue (value_of (raw word) 0 0 b == 0) → SameUnder (absent_mask (raw word) b) word other
-          → value_of (raw other) 0 0 b ≡ 0
-      stays_absent b zero same =
-          sym (value_agrees word other 0 0 b (subst (λ t. SameUnder (if t then mask_of_byte b else 0) word other) zero same))
-          ∙ eqb-true _ 0 zero
-
-      follow : (n m : ℕ) → n ≡ 0 → IsRadix (effective n m) → IsRadix m
-      follow n m zero radix = subst (λ k. IsRadix (effective k m)) zero radix
+-- `Demanded word rule c other` holds if the rules that follow `rule` hold in `other` only where the demand of `rule` does.
+abbrev Demanded : ℕ → Rule → Cause → ℕ → Type 0
+Demanded word rule c other = SameUnder (mask_of_cause (raw word) c) word other → (q : Rule)
+    → let f = followers (raw word) (Some rule) in ((f.0 ≡ Some q) ⊎ (f.1 ≡ Some q)) → Holds q other → Own (shape_of rule) other
 
 -- A cause of a rule blames what it depends on, if the rules that follow hold only where the rule does.
-reasoned : (word : ℕ) (rule : Rule) (c : Cause) → Explains word 0 0 (Own (shape_of rule)) c
-    → ((other : ℕ) → SameUnder (mask_of_cause (raw word) c) word other → (q : Rule)
-    → let f = followers (raw word) (Some rule) in ((f.0 ≡ Some q) ⊎ (f.1 ≡ Some q)) → Holds q other → Own (shape_of rule) other)
-    → Reasoned word (reason_of (raw word) (Some rule) c)
-reasoned word rule c h follow = record {
-  first = rule;
-  is_first = refl;
-  blames = λ other same.
-      let there = stays word other 0 0 c same h.is_true in (
-        there,
-        λ q breaks holds. h.refutes other there (elim breaks [
-          | inl is ↦ own_demand rule other (subst (λ q. Holds q other) (sym (some_is rule q is)) holds)
-          | inr follows ↦ follow other same q follows holds
-        ]),
-      );
-}
+blames : (word : ℕ) (rule : Rule) (c : Cause) (other : ℕ) → Explains word 0 0 (Own (shape_of rule)) c → Demanded word rule c other
+    → Blames word other (reason_of (raw word) (Some rule) c)
+blames word rule c other h follow same =
+    let there = stays word other 0 0 c same h.is_true in (
+      there,
+      λ q breaks holds. h.refutes other there (elim breaks [
+        | inl is ↦ own_demand rule other (subst (λ q. Holds q other) (sym (same_Some rule q is)) holds)
+        | inr follows ↦ follow same q follows holds
+      ]),
+    )
 
-rule_reasoned : (word : ℕ) (rule : Rule) → EachReason (Reasoned word) (slots word rule)
-rule_reasoned word rules.MantissaRadixInRange =
-    let settled = shape_settled (radix_in_range layout.mantissa_radix) word in
-    let explained = settled.0 in
-    (one (not (between 2 36 ((raw word).byte layout.mantissa_radix))) (named (raw word) 0 0 bytes.MantissaRadix) refl explained.0, tt) where
-      one : (b : Bool) (n : NamedByte) → n ≡ named (raw word) 0 0 bytes.MantissaRadix
-          → IfSome (then_some b (causes.OutOfRange n)) (Explains word 0 0 (Own (radix_in_range layout.mantissa_radix)))
-          → IfSome (option_map (reason_of (raw word) (Some rules.MantissaRadixInRange)) (then_some b (causes.OutOfRange n))) (Reasoned word)
-      one true n is h = reasoned word rules.MantissaRadixInRange (causes.OutOfRange n) h (λ other same q follows holds.
-          followed word other (subst (λ n. SameUnder (mask_of_cause (raw word) (causes.OutOfRange n)) word other) is same) q follows holds)
-      one false n is h = tt
-rule_reasoned word rule =
-    lift (reason_of (raw word) (Some rule)) _ (Reasoned word)
-    (λ c h. reasoned word rule c h (λ other same q follows holds. elim follows [ inl is ↦ cc | inr is ↦ cc ]))
+rule_blames : (word other : ℕ) (rule : Rule) → EachReason (Blames word other) (slots word rule)
+unfolding Holds
+rule_blames word other rules.MantissaRadixInRange = (one _ (shape_settled (radix_in_range layout.mantissa_radix) word).0.0, tt) where
+  cause : Cause
+  cause = causes.OutOfRange (named (raw word) 0 0 bytes.MantissaRadix)
+
+  mantissa : ℕ
+  mantissa = (raw other).byte layout.mantissa_radix
+
+  follow : Demanded word rules.MantissaRadixInRange cause other
+  follow same q follows holds =
+      let base = absent_mask (raw word) bytes.ExponentBase in
+      let radix = absent_mask (raw word) bytes.ExponentRadix in
+      let both = halves word other (mask_of_byte bytes.MantissaRadix) (bit_or base radix) same in
+      let absent = halves word other base radix both.1 in elim follows [
+        | inl is ↦ followed word other mantissa bytes.ExponentBase rules.ExponentBaseInRange q (λ h. h) is absent.0 holds
+        | inr is ↦ followed word other mantissa bytes.ExponentRadix rules.ExponentRadixInRange q (λ h. h) is absent.1 holds
+      ]
+
+  one : (t : Bool) → IfSome (then_some t cause) (Explains word 0 0 (Own (radix_in_range layout.mantissa_radix)))
+      → IfSome (option_map (reason_of (raw word) (Some rules.MantissaRadixInRange)) (then_some t cause)) (Blames word other)
+  one false h = tt
+  one true h = blames word rules.MantissaRadixInRange cause other h follow
+rule_blames word other rule =
+    lift (reason_of (raw word) (Some rule)) _ (Blames word other)
+    (λ c h. blames word rule c other h (λ same q follows holds. elim follows [ inl is ↦ cc | inr is ↦ cc ]))
     (causes_of (shape_of rule) word) (shape_settled (shape_of rule) word).0
 
 -- A property of all slots of a list of rules is a property of the slots of each rule.
@@ -603,16 +546,13 @@ pub kept : (word : ℕ) (list : List Rule) → AllByRecursion (λ rule. Holds ru
 kept word [] all = tt
 kept word (rule ∷ list) all =
     join (λ o. o ≡ None) (slots word rule) _
-    (no_reason (slots word rule) (lift (reason_of (raw word) (Some rule)) _ (λ r. ⊥)
-    (λ c h. h.refutes word h.is_true (own_demand rule word all.0)) (causes_of (shape_of rule) word)
-    (shape_settled (shape_of rule) word).0)) (kept word list all.1)
-
-all_reasoned : (word : ℕ) → EachReason (Reasoned word) (reason_slots word)
-all_reasoned word = of_rules (λ o. IfSome o (Reasoned word)) word (rule_reasoned word) rules_in_order
+    ((none_iff word 0 0 (Own (shape_of rule)) (reason_of (raw word) (Some rule)) (causes_of (shape_of rule) word)
+    (shape_settled (shape_of rule) word)).0 (own_demand rule word all.0))
+    (kept word list all.1)
 
 -- Each reason of a word is true of each word that has the same bits under its mask, and breaks its rules there.
 pub blame : (word other : ℕ) → EachReason (Blames word other) (reason_slots word)
-blame word other = weaken (Reasoned word) (Blames word other) (λ r h. h.blames other) (reason_slots word) (all_reasoned word)
+blame word other = of_rules (λ o. IfSome o (Blames word other)) word (rule_blames word other) rules_in_order
 
 -- A word satisfies a rule if and only if it does not break it because of one of its reasons.
 pub by_rules : (word : ℕ) (rule : Rule) → Holds rule word ↔ EachReason (λ r. Breaks r rule → ⊥) (reason_slots word)
@@ -638,7 +578,8 @@ by_rules word rule = (
   zero_is {q} zero = ap (λ t. then_some t q) (eq-eqb _ 0 zero)
 
   met : (q : Rule) → EachReason (λ r. Breaks r q → ⊥) (reason_slots word) → Holds q word
-  met rules.MantissaRadixInRange fine = own_effective _ (own rules.MantissaRadixInRange _ (λ c. inl refl) fine)
+  met rules.MantissaRadixInRange fine =
+      subst IsRadix (sym (effective_self _)) (own rules.MantissaRadixInRange _ (λ c. inl refl) fine)
   met rules.ExponentBaseInRange fine =
       effective_radix _ _ (λ zero. own rules.MantissaRadixInRange rules.ExponentBaseInRange (λ c. inr (inl (zero_is zero))) fine)
       (own rules.ExponentBaseInRange _ (λ c. inl refl) fine)
@@ -674,11 +615,10 @@ abbrev pub options_slots : ℕ → ℕ → ℕ → List (Option Reason)
 options_slots word e p = map (option_map (reason_of (raw word) None)) (options_causes word e p)
 
 module _ (word e p : ℕ) (e_below : e < 256) (p_below : p < 256) where
-  Fit : ℕ → Type 0
+  abbrev Fit : ℕ → Type 0
   Fit w = OptionsFit w e p
 
   options_settled : Settled (Explains word e p Fit) (OptionsFit word e p) (options_causes word e p)
-  unfolding Fit
   options_settled =
       let x = alone _ _ _ (byte_settled word e p (named (raw word) e p bytes.ExponentCharacter) Fit
       (IsPunctuation (raw word) e) refl (λ w is fit. fit.exponent_is_punctuation) (λ h. h)) in
@@ -704,7 +644,6 @@ module _ (word e p : ℕ) (e_below : e < 256) (p_below : p < 256) where
 
   -- Each reason of options is true of each word that has the same bits under its mask, which does not accept them.
   pub options_blame : (other : ℕ) → EachReason (BlamesForOptions word e p other) (options_slots word e p)
-  unfolding Fit
   options_blame other =
       lift (reason_of (raw word) None) (Explains word e p Fit) (BlamesForOptions word e p other)
       (λ c h same. let there = stays word other e p c same h.is_true in (there, h.refutes other there))
@@ -712,12 +651,4 @@ module _ (word e p : ℕ) (e_below : e < 256) (p_below : p < 256) where
 
   -- A word accepts options if and only if they have no reason.
   pub options_fit : OptionsFit word e p ↔ NoReason (options_slots word e p)
-  unfolding Fit
-  options_fit = (
-    λ fit.
-        no_reason (options_slots word e p) (lift (reason_of (raw word) None) (Explains word e p Fit) (λ r. ⊥)
-        (λ c h. h.refutes word h.is_true fit) (options_causes word e p) options_settled.0),
-    λ none.
-        options_settled.1 (no_causes (reason_of (raw word) None) (λ r. ⊥) (λ c h. h) (options_causes word e p)
-        (without (λ r. ⊥) (options_slots word e p) none)),
-  )
+  options_fit = none_iff word e p Fit (reason_of (raw word) None) (options_causes word e p) options_settled

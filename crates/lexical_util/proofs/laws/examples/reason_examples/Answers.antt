@@ -1,4 +1,5 @@
-use Rattle.std.proofs.Common.{ap, refl, arith, subst, sym, unwrap_or, inl, inr}
+use Rattle.std.proofs.Common.{refl, arith, subst, sym, inl, inr}
+use Rattle.std.proofs.lemmas.Option.{same_Some}
 use Rattle.lexical_flags.specs.Rules.{Holds, IsPunctuation}
 use Rattle.lexical_flags.specs.declared.format_flags.rule.Rule.TheVariants as rules
 use Rattle.lexical_util.proofs.laws.examples.reason_examples.Goals as goal
@@ -9,9 +10,7 @@ returns-clause-blames c same = (
   (refl, λ radix. omega (arith, radix.0)),
   λ rule breaks holds. elim breaks [
     | inl is ↦
-        let own : Holds rules.MantissaRadixInRange 0 =
-        subst (λ q. Holds q 0) (sym (ap (λ o. unwrap_or o rules.MantissaRadixInRange) is)) holds in
-        omega (arith, own.0)
+        let own = subst (λ q. Holds q 0) (sym (same_Some rules.MantissaRadixInRange rule is)) holds in omega (arith, own.0)
     | inr follows ↦ elim follows [ inl is ↦ cc | inr is ↦ cc ]
   ],
 )

@@ -2,9 +2,9 @@ use Rattle.std.proofs.Common.{◌≡◌, ◌∙◌, ap, sym, subst}
 use Rattle.lexical_builder.specs.OptionByte.{byte_of_option}
 use Rattle.lexical_util.proofs.Lower.{byte_of_option_back}
 use Rattle.lexical_flags.specs.Layout as layout
-use Rattle.lexical_flags.specs.Record.{Record, trim, set_byte}
+use Rattle.lexical_flags.specs.Record.{Record, trim, set_byte, separator_allowed}
 use Rattle.lexical_util.specs.Additions.Notes.{AreNotes, AreReasons, ChangeNothing}
-use Rattle.lexical_util.proofs.NoteLemmas.{all_notes, are_notes, idle_in_builder}
+use Rattle.lexical_util.proofs.NoteLemmas.{all_notes, are_notes, change_nothing}
 use Rattle.lexical_util.proofs.reasons.note.notes_of_fields.Goals as goal
 use Rattle.lexical_util.proofs.reasons.note.notes_of_fields.Goals.{in-Some, in-None}
 
@@ -29,8 +29,8 @@ returns c =
     subst (AreNotes r reasons) (ap (λ m. all_notes m r) (sym c.blamed.ensures) ∙ sym same) (are_notes r reasons) in
     let explains : AreReasons c.build_unchecked-format.result reasons =
     record { lawful = c.reasons.ensures.lawful; rules = c.reasons.ensures.rules; blame = c.reasons.ensures.blame } in
-    let idle = idle_in_builder c.build_unchecked-format.result r reasons c.notes_beside.result
-    c.build_unchecked-format.ensures.fields explains found in record {
+    let idle = change_nothing c.build_unchecked-format.result r (separator_allowed r) c.build_unchecked-format.ensures.fields
+    reasons c.notes_beside.result explains found in record {
       found = (reasons, (subst (λ w. AreReasons w reasons) c.build_unchecked-format.ensures.word explains, found));
       idle = subst (λ w. ChangeNothing w c.notes_beside.result) c.build_unchecked-format.ensures.word idle;
     }
