@@ -1,9 +1,9 @@
 //! Theorems on writes to the fields of a builder. Each is a clause of a function with an empty body.
 
-ghost use Rattle.std.specs.Prelude.{◌≡◌, ◌≢◌, ◌≤◌, ℕ, List, [], ◌∷◌, ◌++◌, None, IsTrue, unwrap_or};
+ghost use Rattle.std.specs.Prelude.{◌≡◌, ◌≤◌, ◌==◌, ℕ, List, [], ◌∷◌, ◌++◌, None, IsTrue, IsFalse, unwrap_or};
 ghost use Rattle.lexical_base.specs.Digits.{byte_value};
 ghost use Rattle.lexical_flags.specs.Layout as layout;
-ghost use Rattle.lexical_flags.specs.Layout.{Flag, Byte};
+ghost use Rattle.lexical_flags.specs.Layout.{Flag, Byte, shift};
 ghost use Rattle.lexical_flags.specs.Record.{Record, HasBytes, raw, pack, set_byte, separator_allowed};
 ghost use Rattle.lexical_flags.specs.Rules.{IsRadix, Holds, Lawful};
 ghost use Rattle.lexical_flags.specs.declared.format_flags.rule.Rule.{Rule};
@@ -30,7 +30,7 @@ pub fn write_facts()
 /// States the fields of the word that a builder packs one by one: they are the fields of the builder.
 pub fn builder_facts()
     ensures flag { (r : Record) → HasBytes r → (f : Flag) → (raw (pack r)).flag f ≡ r.flag f }
-    ensures byte { (r : Record) → HasBytes r → (b : Byte) → b ≢ layout.digit_separator
+    ensures byte { (r : Record) → HasBytes r → (b : Byte) → IsFalse (shift b == shift layout.digit_separator)
         → (raw (pack r)).byte b ≡ r.byte b }
 
     // The digit separator is kept only if a flag of the record allows one.

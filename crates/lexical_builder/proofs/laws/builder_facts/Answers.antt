@@ -1,19 +1,14 @@
-use Rattle.std.proofs.Common.{◌≡◌, ◌≢◌, refl, ap, ◌∙◌}
-use Rattle.std.proofs.lemmas.Bool.{cond-true}
+use Rattle.std.proofs.Common.{ap, ◌∙◌}
+use Rattle.std.proofs.lemmas.Bool.{cond-false, cond-true}
 use Rattle.lexical_flags.specs.Layout as layout
-use Rattle.lexical_flags.specs.Layout.{Byte}
-use Rattle.lexical_flags.specs.Record.{Record, trim}
+use Rattle.lexical_flags.specs.Record.{Record}
 use Rattle.lexical_flags.proofs.Packing.{raw-pack}
 use Rattle.lexical_builder.proofs.laws.builder_facts.Goals as goal
-
-kept : (r : Record) (b : Byte) → b ≢ layout.digit_separator → (trim r).byte b ≡ r.byte b
-kept r layout.digit_separator other = absurd (other refl)
-kept r _ other = refl
 
 pub returns : goal.returns
 returns c = record {
   flag = λ r bytes f. ap (λ (s : Record). s.flag f) (raw-pack r bytes);
-  byte = λ r bytes b other. ap (λ (s : Record). s.byte b) (raw-pack r bytes) ∙ kept r b other;
+  byte = λ r bytes b other. ap (λ (s : Record). s.byte b) (raw-pack r bytes) ∙ cond-false _ _ _ other;
   digit_separator = λ r bytes allowed.
       ap (λ (s : Record). s.byte layout.digit_separator) (raw-pack r bytes) ∙ cond-true _ _ 0 allowed;
 }
