@@ -1,12 +1,12 @@
 -- Lemmas on when a note is found, on the bits on which it depends, and that what it names can be cleared.
-use Rattle.std.proofs.Common.{ℕ, ◌≡◌, ◌≢◌, ◌↔◌, ◌⊎◌, ◌^◌, ◌*◌, ◌==◌, ◌&&◌, ◌||◌, not, if◌then◌else◌, inl, inr, Bool, true, false}
-use Rattle.std.proofs.Common.{Option, None, Some, unwrap_or, IsTrue, List, [], ◌∷◌, refl, sym, subst, ap, ◌∙◌, arith, bit_and}
+use Rattle.std.proofs.Common.{ℕ, ◌≡◌, ◌≢◌, ◌↔◌, ◌⊎◌, ◌^◌, ◌*◌, ◌==◌, ◌&&◌, ◌||◌, if◌then◌else◌, inl, inr, Bool, true, false}
+use Rattle.std.proofs.Common.{Option, None, Some, IsTrue, List, [], ◌∷◌, refl, sym, subst, ap, ◌∙◌, arith, bit_and}
 use Rattle.std.proofs.Common.{bit_or, zero, suc}
 use Rattle.std.proofs.Math.Bool.{and-false}
 use Rattle.std.specs.Prelude.{Contains}
 use Rattle.std.specs.Bool.{then_some}
 use Rattle.std.specs.List.{AllByRecursion, list_any}
-use Rattle.std.proofs.lemmas.Bool.{true≢false, eqb-true, eq-eqb, and_parts, and_left, ne_eqb, not-false}
+use Rattle.std.proofs.lemmas.Bool.{true≢false, eqb-true, eq-eqb, and_parts, and_left, not-false}
 use Rattle.std.proofs.lemmas.Bool.Decides.{nat_tests}
 use Rattle.std.proofs.lemmas.Option.{same_Some, none-some}
 use Rattle.std.proofs.lemmas.Nat.{and_assoc, and_comm, and_or_apart}
@@ -14,7 +14,7 @@ use Rattle.std.proofs.lemmas.Nat.Bits.{and_pow}
 use lib.Bits.{and_self, and_zero_l}
 use Rattle.lexical_flags.specs.Layout as layout
 use Rattle.lexical_flags.specs.Layout.{Flag, bit, digit_separator_flags}
-use Rattle.lexical_flags.specs.Record.{Record, raw, set_byte, trim, separator_allowed}
+use Rattle.lexical_flags.specs.Record.{Record, raw, set_byte, separator_allowed}
 use Rattle.lexical_flags.specs.Roles.{Disjoint, AreDisjoint, cased, other_case, separator, point, format_roles}
 use Rattle.lexical_flags.specs.Rules.{IsPunctuation, Holds, shape_of}
 use Rattle.lexical_flags.specs.Options.{OptionsFit}

@@ -1,14 +1,14 @@
 -- Lemmas that each reason of a word is true of each word with the same bits under its mask, and breaks its rules there,
 -- and that a word without a reason for a rule satisfies it. The same for reasons of options.
 use Rattle.std.proofs.Common.{ℕ, ◌≡◌, ◌≢◌, ◌↔◌, ◌==◌, ◌&&◌, ◌||◌, ◌⊎◌, inl, inr, ◌<◌, bit_and, bit_or, option_map}
-use Rattle.std.proofs.Common.{Option, None, Some, unwrap_or, List, [], ◌∷◌, ◌++◌, map, flat_map, Bool, true, false, IsTrue}
+use Rattle.std.proofs.Common.{Option, None, Some, List, [], ◌∷◌, ◌++◌, map, flat_map, Bool, true, false, IsTrue}
 use Rattle.std.proofs.Common.{not, if◌then◌else◌, refl, ap, sym, subst, ◌∙◌, arith, mod-lt}
 use Rattle.std.proofs.Math.Bool.{or-false}
 use Rattle.std.specs.Prelude.{IfSome, MatchOption}
 use Rattle.std.specs.Option.{option_map_or}
 use Rattle.std.specs.Bool.{then_some}
 use Rattle.std.specs.List.{AllByRecursion}
-use Rattle.std.proofs.lemmas.Bool.{true≢false, cases_eq, eqb-true, eq-eqb, or_left, or_right, and_from, and_parts}
+use Rattle.std.proofs.lemmas.Bool.{true≢false, cases_eq, eqb-true, eq-eqb, and_from, and_parts}
 use Rattle.std.proofs.lemmas.Bool.{not_from_true, not-false}
 use Rattle.std.proofs.lemmas.Bool.Decides.{nat_tests}
 use Rattle.std.proofs.lemmas.Option.{same_Some, none-some}
