@@ -1,7 +1,7 @@
 -- Lemmas on when a note is found, on the bits on which it depends, and that what it names can be cleared.
-use Rattle.std.proofs.Common.{ℕ, ◌≡◌, ◌≢◌, ◌↔◌, ◌⊎◌, ◌^◌, ◌*◌, ◌==◌, ◌&&◌, ◌||◌, if◌then◌else◌, inl, inr, Bool, true, false}
-use Rattle.std.proofs.Common.{Option, None, Some, IsTrue, List, [], ◌∷◌, refl, sym, subst, ap, ◌∙◌, arith, bit_and}
-use Rattle.std.proofs.Common.{bit_or, zero, suc}
+use Rattle.std.proofs.Common.{ℕ, ◌≡◌, ◌≢◌, ◌↔◌, ◌⊎◌, ◌^◌, ◌*◌, ◌==◌, ◌&&◌, ◌||◌, if◌then◌else◌, inl, inr, Bool, true}
+use Rattle.std.proofs.Common.{false, Option, None, Some, IsTrue, List, [], ◌∷◌, refl, sym, subst, ap, ◌∙◌, arith}
+use Rattle.std.proofs.Common.{bit_and, bit_or, zero, suc}
 use Rattle.std.proofs.Math.Bool.{and-false}
 use Rattle.std.specs.Prelude.{Contains}
 use Rattle.std.specs.Bool.{then_some}
@@ -28,8 +28,8 @@ use Rattle.lexical_flags.proofs.CaseLemmas.{differ_apart}
 use Rattle.lexical_util.specs.Additions.ByteRoles.{role_set}
 use Rattle.lexical_util.specs.Additions.EditMasks.{mask_of_setter}
 use Rattle.lexical_util.specs.Additions.Reasons.{value_of, mask_of_byte, EachReason, Breaks, Blames}
-use Rattle.lexical_util.specs.Additions.Notes.{mask_of_note, idle_mask, IsSetCaseFlag, IsIdle, AreNotes, AreReasons, Clears}
-use Rattle.lexical_util.specs.Additions.Notes.{SameRules, ChangeNothing}
+use Rattle.lexical_util.specs.Additions.Notes.{mask_of_note, idle_mask, IsSetCaseFlag, IsIdle, AreNotes, AreReasons}
+use Rattle.lexical_util.specs.Additions.Notes.{Clears, SameRules, ChangeNothing}
 use Rattle.lexical_util.specs.Private.{named, is_cased, separator_note, case_note, unless_blamed, blamed}
 use Rattle.lexical_util.specs.declared.edits.setters.FlagSetter.{FlagSetter}
 use Rattle.lexical_util.specs.declared.edits.setters.FlagSetter.TheVariants as setters
@@ -72,9 +72,7 @@ unless_is : (mask : ℕ) (o : Option Note) (note : Note)
     → (unless_blamed mask o ≡ Some note) ↔ ((o ≡ Some note) × (bit_and mask (mask_of_note note) ≡ 0))
 unless_is mask None note = (λ is. absurd (none-some note is), λ both. both.0)
 unless_is mask (Some own) note = (
-  λ is.
-      let both = then_some_is _ own note is in
-      (ap Some both.1, subst (λ n. bit_and mask (mask_of_note n) ≡ 0) both.1 (eqb-true _ 0 both.0)),
+  λ is. grind (arith, nat_tests),
   λ both. let same = same_Some own note both.0 in grind (arith, nat_tests),
 )
 
@@ -195,9 +193,8 @@ no_case c d n same = λ i b. at c d b i where
 -- An absent byte plays no role.
 apart_from_absent : (a c : Bool) (m n : ℕ) → n ≡ 0 → Disjoint (cased a m) (cased c n)
 apart_from_absent a c m n absent =
-    subst (λ n. Disjoint (cased a m) (cased c n)) (sym absent) (differ_apart a m c 0 (λ some. (some, other m some))) where
-      other : (m : ℕ) → m ≢ 0 → 0 ≢ other_case m
-      other m some = grind (arith, nat_tests)
+    subst (λ n. Disjoint (cased a m) (cased c n)) (sym absent)
+    (differ_apart a m c 0 (λ some. (some, grind (arith, nat_tests))))
 
 -- `AreAlike r s` holds if `r` and `s` have the same roles, except that `s` may have no digit separator.
 record AreAlike (r s : Record) : Type 0 where
