@@ -374,7 +374,8 @@ clear_idle v w idle without clears reasons explains free = record {
   rules = λ q. (met q, broken v w _ clears reasons explains free q);
   roles = alike.roles;
   options = alike_options v w alike;
-  no_more_options = λ same. alike_options w v (record { roles = λ e p role. sym (alike.roles e p role); separators = inl (sym same) });
+  no_more_options = λ same.
+      alike_options w v (record { roles = λ e p role. sym (alike.roles e p role); separators = inl (sym same) });
 } where
   whole : (b : layout.Byte) (idle : Idle) → (bit_and (mask_at idle) (byte_mask b) == byte_mask b) ≡ false
       → bit_and (byte_mask b) (mask_at idle) ≡ 0
@@ -414,11 +415,13 @@ change_nothing word r t fields reasons found explains are note there other clear
     let idle = (are note).0 there in
     let own = idle_without r t note idle.0 in
     let rest = own.1 in
-    clear_idle word other own.0 (subst (λ s. Without s own.0) (sym fields) rest.1) (subst (λ m. Clears m word other) rest.0 clears) reasons explains
+    clear_idle word other own.0 (subst (λ s. Without s own.0) (sym fields) rest.1)
+    (subst (λ m. Clears m word other) rest.0 clears) reasons explains
     (weaken (λ reason. bit_and reason.mask (mask_of_note note) ≡ 0) (λ reason. bit_and reason.mask (mask_at own.0) ≡ 0)
     (λ reason none. subst (λ m. bit_and reason.mask m ≡ 0) rest.0 (idle_part reason.mask note none)) reasons idle.1)
 
 pub idle_in_word : (word : ℕ) (reasons : List (Option Reason)) (found : List (Option Note)) → AreReasons word reasons
     → AreNotes (raw word) reasons found → ChangeNothing word found
 idle_in_word word reasons found explains are =
-    change_nothing word (raw word) true (record_same _ _ (λ f. refl) (bytes_same _ _ refl refl refl refl refl refl)) reasons found explains are
+    change_nothing word (raw word) true (record_same _ _ (λ f. refl) (bytes_same _ _ refl refl refl refl refl refl))
+    reasons found explains are
