@@ -334,10 +334,11 @@ module _ (v w mask : ℕ) (clears : Clears mask v w) where
       ∙ and_or_apart m w (bit_and v mask)
       (and_assoc m v mask ∙ ap (bit_and v) (and_comm mask m ∙ apart) ∙ and_comm v 0 ∙ and_zero_l v)
 
-  -- A part of the words that is under `mask`, and one that is beside it.
+  -- Under `mask`, `w` has the bits of the word 0.
   none : SameUnder mask w 0
   none = clears.cleared ∙ sym (and_zero_l mask)
 
+  -- If no byte is partly under `mask`, then `w` has the fields of `v` except those under `mask`.
   fields : ((b : layout.Byte) → (bit_and mask (byte_mask b) == byte_mask b) ≡ false → bit_and (byte_mask b) mask ≡ 0)
       → raw w ≡ cleared mask (raw v)
   fields whole = record_same _ _ (λ f. flag_is f _ refl) (λ b. byte_is b _ refl) where
