@@ -1,12 +1,12 @@
 -- Lemmas on when a note is found, on the bits on which it depends, and that what it names can be cleared.
-use Rattle.std.proofs.Common.{ℕ, ◌≡◌, ◌≢◌, ◌↔◌, ◌⊎◌, ◌^◌, ◌*◌, ◌==◌, ◌&&◌, ◌||◌, not, if◌then◌else◌, inl, inr, Bool, true, false}
-use Rattle.std.proofs.Common.{Option, None, Some, unwrap_or, IsTrue, List, [], ◌∷◌, refl, sym, subst, ap, ◌∙◌, arith, bit_and}
-use Rattle.std.proofs.Common.{bit_or, zero, suc}
+use Rattle.std.proofs.Common.{ℕ, ◌≡◌, ◌≢◌, ◌↔◌, ◌⊎◌, ◌^◌, ◌*◌, ◌==◌, ◌&&◌, ◌||◌, if◌then◌else◌, inl, inr, Bool, true}
+use Rattle.std.proofs.Common.{false, Option, None, Some, IsTrue, List, [], ◌∷◌, refl, sym, subst, ap, ◌∙◌, arith}
+use Rattle.std.proofs.Common.{bit_and, bit_or, zero, suc}
 use Rattle.std.proofs.Math.Bool.{and-false}
 use Rattle.std.specs.Prelude.{Contains}
 use Rattle.std.specs.Bool.{then_some}
 use Rattle.std.specs.List.{AllByRecursion, list_any}
-use Rattle.std.proofs.lemmas.Bool.{true≢false, eqb-true, eq-eqb, and_parts, and_left, ne_eqb, not-false}
+use Rattle.std.proofs.lemmas.Bool.{true≢false, eqb-true, eq-eqb, and_parts, and_left, not-false}
 use Rattle.std.proofs.lemmas.Bool.Decides.{nat_tests}
 use Rattle.std.proofs.lemmas.Option.{same_Some, none-some}
 use Rattle.std.proofs.lemmas.Nat.{and_assoc, and_comm, and_or_apart}
@@ -14,7 +14,7 @@ use Rattle.std.proofs.lemmas.Nat.Bits.{and_pow}
 use lib.Bits.{and_self, and_zero_l}
 use Rattle.lexical_flags.specs.Layout as layout
 use Rattle.lexical_flags.specs.Layout.{Flag, bit, digit_separator_flags}
-use Rattle.lexical_flags.specs.Record.{Record, raw, set_byte, trim, separator_allowed}
+use Rattle.lexical_flags.specs.Record.{Record, raw, set_byte, separator_allowed}
 use Rattle.lexical_flags.specs.Roles.{Disjoint, AreDisjoint, cased, other_case, separator, point, format_roles}
 use Rattle.lexical_flags.specs.Rules.{IsPunctuation, Holds, shape_of}
 use Rattle.lexical_flags.specs.Options.{OptionsFit}
@@ -28,8 +28,8 @@ use Rattle.lexical_flags.proofs.CaseLemmas.{differ_apart}
 use Rattle.lexical_util.specs.Additions.ByteRoles.{role_set}
 use Rattle.lexical_util.specs.Additions.EditMasks.{mask_of_setter}
 use Rattle.lexical_util.specs.Additions.Reasons.{value_of, mask_of_byte, EachReason, Breaks, Blames}
-use Rattle.lexical_util.specs.Additions.Notes.{mask_of_note, idle_mask, IsSetCaseFlag, IsIdle, AreNotes, AreReasons, Clears}
-use Rattle.lexical_util.specs.Additions.Notes.{SameRules, ChangeNothing}
+use Rattle.lexical_util.specs.Additions.Notes.{mask_of_note, idle_mask, IsSetCaseFlag, IsIdle, AreNotes, AreReasons}
+use Rattle.lexical_util.specs.Additions.Notes.{Clears, SameRules, ChangeNothing}
 use Rattle.lexical_util.specs.Private.{named, is_cased, separator_note, case_note, unless_blamed, blamed}
 use Rattle.lexical_util.specs.declared.edits.setters.FlagSetter.{FlagSetter}
 use Rattle.lexical_util.specs.declared.edits.setters.FlagSetter.TheVariants as setters
@@ -72,9 +72,7 @@ unless_is : (mask : ℕ) (o : Option Note) (note : Note)
     → (unless_blamed mask o ≡ Some note) ↔ ((o ≡ Some note) × (bit_and mask (mask_of_note note) ≡ 0))
 unless_is mask None note = (λ is. absurd (none-some note is), λ both. both.0)
 unless_is mask (Some own) note = (
-  λ is.
-      let both = then_some_is _ own note is in
-      (ap Some both.1, subst (λ n. bit_and mask (mask_of_note n) ≡ 0) both.1 (eqb-true _ 0 both.0)),
+  λ is. grind (arith, nat_tests),
   λ both. let same = same_Some own note both.0 in grind (arith, nat_tests),
 )
 
@@ -195,9 +193,8 @@ no_case c d n same = λ i b. at c d b i where
 -- An absent byte plays no role.
 apart_from_absent : (a c : Bool) (m n : ℕ) → n ≡ 0 → Disjoint (cased a m) (cased c n)
 apart_from_absent a c m n absent =
-    subst (λ n. Disjoint (cased a m) (cased c n)) (sym absent) (differ_apart a m c 0 (λ some. (some, other m some))) where
-      other : (m : ℕ) → m ≢ 0 → 0 ≢ other_case m
-      other m some = grind (arith, nat_tests)
+    subst (λ n. Disjoint (cased a m) (cased c n)) (sym absent)
+    (differ_apart a m c 0 (λ some. (some, grind (arith, nat_tests))))
 
 -- `AreAlike r s` holds if `r` and `s` have the same roles, except that `s` may have no digit separator.
 record AreAlike (r s : Record) : Type 0 where
@@ -337,10 +334,11 @@ module _ (v w mask : ℕ) (clears : Clears mask v w) where
       ∙ and_or_apart m w (bit_and v mask)
       (and_assoc m v mask ∙ ap (bit_and v) (and_comm mask m ∙ apart) ∙ and_comm v 0 ∙ and_zero_l v)
 
-  -- A part of the words that is under `mask`, and one that is beside it.
+  -- Under `mask`, `w` has the bits of the word 0.
   none : SameUnder mask w 0
   none = clears.cleared ∙ sym (and_zero_l mask)
 
+  -- If no byte is partly under `mask`, then `w` has the fields of `v` except those under `mask`.
   fields : ((b : layout.Byte) → (bit_and mask (byte_mask b) == byte_mask b) ≡ false → bit_and (byte_mask b) mask ≡ 0)
       → raw w ≡ cleared mask (raw v)
   fields whole = record_same _ _ (λ f. flag_is f _ refl) (λ b. byte_is b _ refl) where
@@ -377,7 +375,8 @@ clear_idle v w idle without clears reasons explains free = record {
   rules = λ q. (met q, broken v w _ clears reasons explains free q);
   roles = alike.roles;
   options = alike_options v w alike;
-  no_more_options = λ same. alike_options w v (record { roles = λ e p role. sym (alike.roles e p role); separators = inl (sym same) });
+  no_more_options = λ same.
+      alike_options w v (record { roles = λ e p role. sym (alike.roles e p role); separators = inl (sym same) });
 } where
   whole : (b : layout.Byte) (idle : Idle) → (bit_and (mask_at idle) (byte_mask b) == byte_mask b) ≡ false
       → bit_and (byte_mask b) (mask_at idle) ≡ 0
@@ -417,11 +416,13 @@ change_nothing word r t fields reasons found explains are note there other clear
     let idle = (are note).0 there in
     let own = idle_without r t note idle.0 in
     let rest = own.1 in
-    clear_idle word other own.0 (subst (λ s. Without s own.0) (sym fields) rest.1) (subst (λ m. Clears m word other) rest.0 clears) reasons explains
+    clear_idle word other own.0 (subst (λ s. Without s own.0) (sym fields) rest.1)
+    (subst (λ m. Clears m word other) rest.0 clears) reasons explains
     (weaken (λ reason. bit_and reason.mask (mask_of_note note) ≡ 0) (λ reason. bit_and reason.mask (mask_at own.0) ≡ 0)
     (λ reason none. subst (λ m. bit_and reason.mask m ≡ 0) rest.0 (idle_part reason.mask note none)) reasons idle.1)
 
 pub idle_in_word : (word : ℕ) (reasons : List (Option Reason)) (found : List (Option Note)) → AreReasons word reasons
     → AreNotes (raw word) reasons found → ChangeNothing word found
 idle_in_word word reasons found explains are =
-    change_nothing word (raw word) true (record_same _ _ (λ f. refl) (bytes_same _ _ refl refl refl refl refl refl)) reasons found explains are
+    change_nothing word (raw word) true (record_same _ _ (λ f. refl) (bytes_same _ _ refl refl refl refl refl refl))
+    reasons found explains are

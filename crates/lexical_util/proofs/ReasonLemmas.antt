@@ -1,14 +1,14 @@
 -- Lemmas that each reason of a word is true of each word with the same bits under its mask, and breaks its rules there,
 -- and that a word without a reason for a rule satisfies it. The same for reasons of options.
 use Rattle.std.proofs.Common.{ℕ, ◌≡◌, ◌≢◌, ◌↔◌, ◌==◌, ◌&&◌, ◌||◌, ◌⊎◌, inl, inr, ◌<◌, bit_and, bit_or, option_map}
-use Rattle.std.proofs.Common.{Option, None, Some, unwrap_or, List, [], ◌∷◌, ◌++◌, map, flat_map, Bool, true, false, IsTrue}
+use Rattle.std.proofs.Common.{Option, None, Some, List, [], ◌∷◌, ◌++◌, map, flat_map, Bool, true, false, IsTrue}
 use Rattle.std.proofs.Common.{not, if◌then◌else◌, refl, ap, sym, subst, ◌∙◌, arith, mod-lt}
 use Rattle.std.proofs.Math.Bool.{or-false}
 use Rattle.std.specs.Prelude.{IfSome, MatchOption}
 use Rattle.std.specs.Option.{option_map_or}
 use Rattle.std.specs.Bool.{then_some}
 use Rattle.std.specs.List.{AllByRecursion}
-use Rattle.std.proofs.lemmas.Bool.{true≢false, cases_eq, eqb-true, eq-eqb, or_left, or_right, and_from, and_parts}
+use Rattle.std.proofs.lemmas.Bool.{true≢false, cases_eq, eqb-true, eq-eqb, and_from, and_parts}
 use Rattle.std.proofs.lemmas.Bool.{not_from_true, not-false}
 use Rattle.std.proofs.lemmas.Bool.Decides.{nat_tests}
 use Rattle.std.proofs.lemmas.Option.{same_Some, none-some}
@@ -417,7 +417,8 @@ shape_settled (not_both a b) word =
     (λ w is d. true≢false (sym (and_from _ _ (sym (set_is w a) ∙ is.0) (sym (set_is w b) ∙ is.1)) ∙ d))
     (λ h. sym (λ i. set_is word a i && set_is word b i) ∙ h))
 shape_settled (position_allowed part) word =
-    alone _ _ _ (settled word (Own (position_allowed part)) _ (causes.NeedsPosition part) (λ h. h) (λ w is d. true≢false (sym is ∙ d)) (λ h. h))
+    alone _ _ _ (settled word (Own (position_allowed part)) _ (causes.NeedsPosition part) (λ h. h)
+    (λ w is d. true≢false (sym is ∙ d)) (λ h. h))
 shape_settled reserved_zero word =
     alone _ _ _ (settled word (Own reserved_zero) _ (causes.ReservedBits (bit_and word reserved_mask)) (λ set. (
       λ none. true≢false (sym set ∙ ap not (eq-eqb _ 0 none)),
@@ -471,8 +472,8 @@ slots word rule = map (option_map (reason_of (raw word) (Some rule))) (causes_of
 abbrev pub reason_slots : ℕ → List (Option Reason)
 reason_slots word = flat_map (slots word) rules_in_order
 
--- If a radix that is absent in `word` follows the mantissa radix, and its rule holds in `other`, which has the same bits
--- under the mask of absent bytes, then the mantissa radix of `other` is in range.
+-- If a radix that is absent in `word` follows the mantissa radix, and its rule holds in `other`, which has the same
+-- bits under the mask of absent bytes, then the mantissa radix of `other` is in range.
 followed : (word other m : ℕ) (b : Byte) (own q : Rule) → (Holds own other → IsRadix (effective (value_of (raw other) 0 0 b) m))
     → then_some (value_of (raw word) 0 0 b == 0) own ≡ Some q → SameUnder (absent_mask (raw word) b) word other → Holds q other
     → IsRadix m
@@ -484,7 +485,7 @@ followed word other m b own q step = test _ refl where
       (step (subst (λ q. Holds q other) (sym (same_Some own q is)) holds))
   test false zero is same holds = absurd (none-some q is)
 
--- `Demanded word rule c other` holds if the rules that follow `rule` hold in `other` only where the demand of `rule` does.
+-- `Demanded word rule c other` holds if rules that follow `rule` hold in `other` only where the demand of `rule` does.
 abbrev Demanded : ℕ → Rule → Cause → ℕ → Type 0
 Demanded word rule c other = SameUnder (mask_of_cause (raw word) c) word other → (q : Rule)
     → let f = followers (raw word) (Some rule) in ((f.0 ≡ Some q) ⊎ (f.1 ≡ Some q)) → Holds q other → Own (shape_of rule) other
