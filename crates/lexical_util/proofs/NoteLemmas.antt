@@ -1,5 +1,5 @@
 -- Lemmas on when a note is found, on the bits on which it depends, and that what it names can be cleared.
-use Rattle.std.proofs.Common.{ℕ, ◌≡◌, ◌≢◌, ◌↔◌, ◌⊎◌, ◌^◌, ◌*◌, ◌==◌, ◌&&◌, ◌||◌, if◌then◌else◌, inl, inr, Bool, true}
+use Rattle.std.proofs.Common.{ℕ, ◌≡◌, ◌↔◌, ◌⊎◌, ◌^◌, ◌*◌, ◌==◌, ◌&&◌, ◌||◌, if◌then◌else◌, inl, inr, Bool, true}
 use Rattle.std.proofs.Common.{false, Option, None, Some, IsTrue, List, [], ◌∷◌, refl, sym, subst, ap, ◌∙◌, arith}
 use Rattle.std.proofs.Common.{bit_and, bit_or, zero, suc}
 use Rattle.std.proofs.Math.Bool.{and-false}
