@@ -5,7 +5,7 @@ ghost use Rattle.lexical_util.specs.Digits.{byte_value};
 ghost use Rattle.lexical_util.specs.Record.{raw};
 ghost use Rattle.lexical_literal.specs.Notation.{notation_of, radix_of, point_of, exponent_character_of};
 ghost use Rattle.lexical_literal.specs.Run.{is_place};
-ghost use Rattle.lexical_literal.specs.Additions.Summary.{IsMove, class_of, role_of, in_part, piece_of, has_digit, is_fresh, may_follow, after_digit, after_separator, after_sign, takes_separator, is_signed, needs_exponent, may_lead, forbids_plus, digits_suffice, may_float, may_scale, may_stop, ends, is_complete, takes, after};
+ghost use Rattle.lexical_literal.specs.Additions.Summary.{IsMove, class_of, role_of, in_part, piece_of, has_digit, is_fresh, may_follow, after_digit, after_mark, gap_fits, is_open, is_signed, needs_exponent, may_lead, forbids_plus, digits_suffice, continues, ends, is_complete, takes, after};
 
 use crate::syntax::Grammar;
 use lexical_util::format::{Part, Role};
@@ -129,46 +129,23 @@ fn is_exponent_character(grammar: Grammar, byte: u8) -> bool
 pub(crate) fn class_of(grammar: Grammar, byte: u8) -> Class
     ensures { result ≡ class_of (notation_of grammar) byte }
 {
-    let mantissa = is_digit(grammar, Part::Integer, byte);
-    let exponent = is_digit(grammar, Part::Exponent, byte);
-    if mantissa && exponent {
-        if byte == b'0' {
-            Class::Zero
-        } else {
-            Class::Digit
-        }
-    } else if mantissa {
-        Class::MantissaDigit
-    } else if exponent {
-        Class::ExponentDigit
-    } else {
-        mark_of(grammar, byte)
-    }
-}
-
-// Returns the class of a `byte` that is not a digit.
-fn mark_of(grammar: Grammar, byte: u8) -> Class
-    requires mantissa { IsFalse ((notation_of grammar).digit Part.Integer byte) }
-    requires exponent { IsFalse ((notation_of grammar).digit Part.Exponent byte) }
-    ensures { result ≡ class_of (notation_of grammar) byte }
-{
     let format = grammar.view();
-    if format.is_separator(byte) {
-        Class::Separator
-    } else if is_point(grammar, byte) {
-        Class::Point
-    } else if is_exponent_character(grammar, byte) {
-        Class::ExponentCharacter
-    } else if format.is_base_suffix(byte) {
-        Class::Suffix
-    } else if byte == b'+' {
-        Class::Plus
-    } else if byte == b'-' {
-        Class::Minus
-    } else if format.is_base_prefix(byte) {
-        Class::Prefix
-    } else {
-        Class::Other
+    match (
+        is_digit(grammar, Part::Integer, byte),
+        is_digit(grammar, Part::Exponent, byte),
+    ) {
+        (true, true) if byte == b'0' => Class::Zero,
+        (true, true) => Class::Digit,
+        (true, false) => Class::MantissaDigit,
+        (false, true) => Class::ExponentDigit,
+        (false, false) if format.is_separator(byte) => Class::Separator,
+        (false, false) if is_point(grammar, byte) => Class::Point,
+        (false, false) if is_exponent_character(grammar, byte) => Class::ExponentCharacter,
+        (false, false) if format.is_base_suffix(byte) => Class::Suffix,
+        (false, false) if byte == b'+' => Class::Plus,
+        (false, false) if byte == b'-' => Class::Minus,
+        (false, false) if format.is_base_prefix(byte) => Class::Prefix,
+        (false, false) => Class::Other,
     }
 }
 
@@ -231,6 +208,13 @@ fn is_place(grammar: Grammar, part: Part, before: bool, after: bool) -> bool
     }
 }
 
+// Returns whether a gap in `part` can be closed, with digits before it, or not, and where another may follow, or not.
+fn is_open(grammar: Grammar, part: Part, digit: bool, next: bool) -> bool
+    ensures { result ≡ is_open (notation_of grammar) part digit next }
+{
+    (is_place(grammar, part, digit, true) && next) || is_place(grammar, part, digit, false)
+}
+
 // Returns whether the part has a digit.
 fn has_digit(stage: Stage) -> bool
     ensures { result ≡ has_digit stage }
@@ -267,16 +251,7 @@ fn may_lead(grammar: Grammar) -> bool
 fn may_follow(grammar: Grammar, stage: Stage) -> bool
     ensures { result ≡ may_follow (notation_of grammar) stage }
 {
-    match stage {
-        Stage::Bare | Stage::Zero => may_lead(grammar),
-        Stage::Start
-        | Stage::Empty
-        | Stage::Led
-        | Stage::Mark
-        | Stage::Lone
-        | Stage::Free
-        | Stage::Digits => true,
-    }
+    !matches!(stage, Stage::Bare | Stage::Zero) || may_lead(grammar)
 }
 
 // Returns the stage after a digit.
@@ -288,66 +263,36 @@ fn after_digit(stage: Stage, gap: bool, zero: bool) -> Stage
         Stage::Start | Stage::Empty if gap => Stage::Zero,
         Stage::Start | Stage::Empty => Stage::Bare,
         Stage::Bare | Stage::Zero | Stage::Led => Stage::Led,
-        Stage::Mark | Stage::Lone | Stage::Free | Stage::Digits => Stage::Digits,
+        _ => Stage::Digits,
     }
 }
 
-// Returns the stage after a sign.
-fn after_sign(stage: Stage) -> Stage
-    ensures { result ≡ after_sign stage }
+// Returns the stage after a separator or a sign.
+fn after_mark(stage: Stage) -> Stage
+    ensures { result ≡ after_mark stage }
 {
     match stage {
         Stage::Start => Stage::Empty,
         Stage::Mark => Stage::Free,
-        Stage::Empty
-        | Stage::Bare
-        | Stage::Zero
-        | Stage::Led
-        | Stage::Lone
-        | Stage::Free
-        | Stage::Digits => stage,
-    }
-}
-
-// Returns the stage after a separator.
-fn after_separator(stage: Stage) -> Stage
-    ensures { result ≡ after_separator stage }
-{
-    match stage {
         Stage::Bare => Stage::Zero,
-        Stage::Start
-        | Stage::Empty
-        | Stage::Zero
-        | Stage::Led
-        | Stage::Mark
-        | Stage::Lone
-        | Stage::Free
-        | Stage::Digits => after_sign(stage),
+        _ => stage,
     }
 }
 
-// Returns whether a separator may follow, so that the gap can be closed.
-fn takes_separator(grammar: Grammar, part: Part, digit: bool, gap: bool, next: bool) -> bool
-    ensures { result ≡ takes_separator (notation_of grammar) part digit gap next }
+// Returns whether there is no gap, or one that fits where a digit follows, or not.
+fn gap_fits(grammar: Grammar, read: Summary, next: bool) -> bool
+    ensures { result ≡ gap_fits (notation_of grammar) read.part (has_digit read.stage) read.gap next }
 {
-    let allowed = grammar.view().separators(part);
-    let is_open = if digit {
-        allowed.trailing || (allowed.internal && next)
-    } else {
-        allowed.leading
-    };
-    (!gap || allowed.consecutive) && is_open
+    !read.gap || is_place(grammar, read.part, has_digit(read.stage), next)
 }
 
 // Returns whether `part` has a sign, or needs none.
 fn is_signed(grammar: Grammar, part: Part, stage: Stage) -> bool
     ensures { result ≡ is_signed (notation_of grammar) part stage }
 {
-    let format = grammar.view();
     let needs_sign = match part {
-        Part::Integer => format.required_mantissa_sign(),
-        Part::Fraction => false,
-        Part::Exponent => format.required_exponent_sign(),
+        Part::Exponent => grammar.view().required_exponent_sign(),
+        _ => grammar.view().required_mantissa_sign(),
     };
     !is_fresh(stage) || !needs_sign
 }
@@ -357,9 +302,8 @@ fn forbids_plus(grammar: Grammar, part: Part) -> bool
     ensures { result ≡ forbids_plus (notation_of grammar) part }
 {
     match part {
-        Part::Integer => grammar.view().no_positive_mantissa_sign(),
-        Part::Fraction => false,
         Part::Exponent => grammar.view().no_positive_exponent_sign(),
+        _ => grammar.view().no_positive_mantissa_sign(),
     }
 }
 
@@ -384,46 +328,32 @@ fn ends(grammar: Grammar, read: Summary) -> bool
     ensures { result ≡ ends (notation_of grammar) read }
 {
     is_signed(grammar, read.part, read.stage)
-        && ((!read.gap || is_place(grammar, read.part, has_digit(read.stage), false))
-            && digits_suffice(grammar, read.part, read.stage))
+        && (gap_fits(grammar, read, false) && digits_suffice(grammar, read.part, read.stage))
 }
 
-// Returns whether a decimal point or an exponent may follow the leading zero, if there is one.
-fn may_float(grammar: Grammar, stage: Stage) -> bool
-    ensures { result ≡ may_float (notation_of grammar) stage }
-{
-    !grammar.view().no_float_leading_zeros() || !matches!(stage, Stage::Led)
-}
-
-// Returns whether an exponent may follow a part that may end.
-fn may_scale(grammar: Grammar, part: Part, stage: Stage) -> bool
-    ensures { result ≡ may_scale (notation_of grammar) part stage }
+// Returns whether a byte with the role `role` may follow a part that may end.
+fn continues(grammar: Grammar, part: Part, stage: Stage, role: Role) -> bool
+    ensures { result ≡ continues (notation_of grammar) part stage role }
 {
     let format = grammar.view();
-    match part {
-        Part::Integer => {
+    let digit = has_digit(stage);
+    let led = matches!(stage, Stage::Led);
+    let may_float = !format.no_float_leading_zeros() || !led;
+    match (part, role) {
+        (Part::Integer, Role::Point) => may_float,
+        (Part::Integer, Role::Exponent) => {
             !format.no_exponent_notation()
-                && (may_float(grammar, stage)
-                    && ((!format.required_mantissa_digits() || has_digit(stage))
+                && (may_float
+                    && ((!format.required_mantissa_digits() || digit)
                         && !format.no_exponent_without_fraction()))
         }
-        Part::Fraction => !format.no_exponent_notation(),
-        Part::Exponent => false,
-    }
-}
-
-// Returns whether a literal may stop after a part that may end.
-fn may_stop(grammar: Grammar, part: Part, stage: Stage) -> bool
-    ensures { result ≡ may_stop (notation_of grammar) part stage }
-{
-    match part {
-        Part::Integer => {
-            !needs_exponent(grammar)
-                && (has_digit(stage)
-                    && (!grammar.view().no_integer_leading_zeros() || !matches!(stage, Stage::Led)))
+        (Part::Integer, Role::Suffix) => {
+            !needs_exponent(grammar) && (digit && (!format.no_integer_leading_zeros() || !led))
         }
-        Part::Fraction => !needs_exponent(grammar),
-        Part::Exponent => true,
+        (Part::Fraction, Role::Exponent) => !format.no_exponent_notation(),
+        (Part::Fraction, Role::Suffix) => !needs_exponent(grammar),
+        (Part::Exponent, Role::Suffix) => true,
+        _ => false,
     }
 }
 
@@ -431,33 +361,27 @@ fn may_stop(grammar: Grammar, part: Part, stage: Stage) -> bool
 pub(crate) fn is_complete(grammar: Grammar, read: Summary) -> bool
     ensures { result ≡ is_complete (notation_of grammar) read }
 {
-    read.ended || (ends(grammar, read) && may_stop(grammar, read.part, read.stage))
+    read.ended || (ends(grammar, read) && continues(grammar, read.part, read.stage, Role::Suffix))
 }
 
 // Returns whether some literal goes on with a byte that has the role `role`, and is a plus sign if `plus` is true.
 fn takes(grammar: Grammar, read: Summary, plus: bool, role: Role) -> bool
     ensures { result ≡ takes (notation_of grammar) read plus role }
 {
-    let digit = has_digit(read.stage);
+    let Summary { part, stage, .. } = read;
     match role {
         Role::Digit => {
-            is_signed(grammar, read.part, read.stage)
-                && ((!read.gap || is_place(grammar, read.part, digit, true))
-                    && may_follow(grammar, read.stage))
+            is_signed(grammar, part, stage)
+                && (gap_fits(grammar, read, true) && may_follow(grammar, stage))
         }
         Role::Separator => {
-            let next = may_follow(grammar, read.stage);
-            is_signed(grammar, read.part, read.stage)
-                && takes_separator(grammar, read.part, digit, read.gap, next)
+            is_signed(grammar, part, stage)
+                && ((!read.gap || grammar.view().separators(part).consecutive)
+                    && is_open(grammar, part, has_digit(stage), may_follow(grammar, stage)))
         }
-        Role::Sign => is_fresh(read.stage) && (!forbids_plus(grammar, read.part) || !plus),
-        Role::Prefix => matches!(read.stage, Stage::Bare),
-        Role::Point => {
-            ends(grammar, read)
-                && (matches!(read.part, Part::Integer) && may_float(grammar, read.stage))
-        }
-        Role::Exponent => ends(grammar, read) && may_scale(grammar, read.part, read.stage),
-        Role::Suffix => ends(grammar, read) && may_stop(grammar, read.part, read.stage),
+        Role::Sign => is_fresh(stage) && (!forbids_plus(grammar, part) || !plus),
+        Role::Prefix => matches!(stage, Stage::Bare),
+        _ => ends(grammar, read) && continues(grammar, part, stage, role),
     }
 }
 
@@ -472,10 +396,10 @@ fn after(read: Summary, zero: bool, role: Role) -> Summary
             next.gap = false;
         }
         Role::Separator => {
-            next.stage = after_separator(read.stage);
+            next.stage = after_mark(read.stage);
             next.gap = true;
         }
-        Role::Sign => next.stage = after_sign(read.stage),
+        Role::Sign => next.stage = after_mark(read.stage),
         Role::Prefix => {
             next.stage = Stage::Free;
             next.gap = false;
