@@ -105,6 +105,7 @@ mod format_error;
 pub mod format_flags;
 mod lawful;
 mod lists;
+pub mod literal;
 mod numeral;
 #[doc(hidden)]
 pub mod reasons;
