@@ -19,16 +19,52 @@ use Rattle.lexical_literal.specs.declared.steps.Stage.{Stage}
 use Rattle.lexical_literal.specs.declared.steps.Stage.TheVariants as stages
 use Rattle.lexical_literal.specs.declared.steps.Summary.{Summary}
 
--- `role_in m part byte` is the role of `byte` after a front that ends in `part`.
-abbrev pub role_in : Notation → Part → ℕ → Option Role
-role_in m part byte =
-    if m.digit part byte then Some roles.Digit
-    else (if m.separator byte then Some roles.Separator
-    else (if m.point byte then Some roles.Point
-    else (if m.exponent_character byte then Some roles.Exponent
-    else (if m.suffix byte then Some roles.Suffix
-    else (if signs byte then Some roles.Sign
-    else (if m.prefix byte then Some roles.Prefix else None))))))
+-- `class_of m byte` is the class of `byte`.
+abbrev pub class_of : Notation → ℕ → Class
+class_of m byte =
+    if m.digit parts.Integer byte then
+    (if m.digit parts.Exponent byte then (if byte == 48 then classes.Zero else classes.Digit) else classes.MantissaDigit)
+    else (if m.digit parts.Exponent byte then classes.ExponentDigit
+    else (if m.separator byte then classes.Separator
+    else (if m.point byte then classes.Point
+    else (if m.exponent_character byte then classes.ExponentCharacter
+    else (if m.suffix byte then classes.Suffix
+    else (if signs byte then (if byte == 43 then classes.Plus else classes.Minus)
+    else (if m.prefix byte then classes.Prefix else classes.Other)))))))
+
+-- `role_of class` is the role of the bytes of `class`.
+abbrev pub role_of : Class → Option Role
+role_of classes.Other = None
+role_of classes.Zero = Some roles.Digit
+role_of classes.Digit = Some roles.Digit
+role_of classes.MantissaDigit = Some roles.Digit
+role_of classes.ExponentDigit = Some roles.Digit
+role_of classes.Separator = Some roles.Separator
+role_of classes.Prefix = Some roles.Prefix
+role_of classes.Suffix = Some roles.Suffix
+role_of classes.Point = Some roles.Point
+role_of classes.ExponentCharacter = Some roles.Exponent
+role_of classes.Plus = Some roles.Sign
+role_of classes.Minus = Some roles.Sign
+
+-- `in_part part class` is the role of a byte of `class` after a front that ends in `part`, where digits are those of the
+-- radix of `part`.
+abbrev pub in_part : Part → Class → Option Role
+in_part part classes.Other = None
+in_part parts.Exponent classes.MantissaDigit = None
+in_part parts.Integer classes.ExponentDigit = None
+in_part parts.Fraction classes.ExponentDigit = None
+in_part part class = role_of class
+
+-- `is_zero class` is true if the bytes of `class` are the digit 0.
+abbrev pub is_zero : Class → Bool
+is_zero classes.Zero = true
+is_zero _ = false
+
+-- `is_plus class` is true if the bytes of `class` are plus signs.
+abbrev pub is_plus : Class → Bool
+is_plus classes.Plus = true
+is_plus _ = false
 
 -- `has_digit stage` is true if the part has a digit.
 abbrev pub has_digit : Stage → Bool
@@ -214,9 +250,9 @@ abbrev pub move : Notation → Summary → Bool → Bool → Option Role → Opt
 move m s plus zero None = None
 move m s plus zero (Some role) = if not s.ended && takes m s plus role then Some (after s zero role) else None
 
--- `step m s byte` is the summary after one more byte, or `None` if no literal begins so.
-abbrev pub step : Notation → Summary → ℕ → Option Summary
-step m s byte = move m s (byte == 43) (byte == 48) (role_in m s.part byte)
+-- `step m s class` is the summary after one more byte of `class`, or `None` if no literal begins so.
+abbrev pub step : Notation → Summary → Class → Option Summary
+step m s class = move m s (is_plus class) (is_zero class) (in_part s.part class)
 
 -- `digits_piece part` is the piece of the digits of `part`, and `sign_piece part` that of a sign before them.
 abbrev pub digits_piece : Part → Piece
@@ -267,68 +303,17 @@ abbrev pub count : Part → Option Role → Cuts → Cuts
 count part None c = c
 count part (Some role) c = add c (piece_of part role)
 
--- `class_of m byte` is the class of `byte`.
-abbrev pub class_of : Notation → ℕ → Class
-class_of m byte =
-    if m.digit parts.Integer byte then
-    (if m.digit parts.Exponent byte then (if byte == 48 then classes.Zero else classes.Digit) else classes.MantissaDigit)
-    else (if m.digit parts.Exponent byte then classes.ExponentDigit
-    else (if m.separator byte then classes.Separator
-    else (if m.point byte then classes.Point
-    else (if m.exponent_character byte then classes.ExponentCharacter
-    else (if m.suffix byte then classes.Suffix
-    else (if signs byte then (if byte == 43 then classes.Plus else classes.Minus)
-    else (if m.prefix byte then classes.Prefix else classes.Other)))))))
-
--- `role_of class` is the role of the bytes of `class`.
-abbrev pub role_of : Class → Option Role
-role_of classes.Other = None
-role_of classes.Zero = Some roles.Digit
-role_of classes.Digit = Some roles.Digit
-role_of classes.MantissaDigit = Some roles.Digit
-role_of classes.ExponentDigit = Some roles.Digit
-role_of classes.Separator = Some roles.Separator
-role_of classes.Prefix = Some roles.Prefix
-role_of classes.Suffix = Some roles.Suffix
-role_of classes.Point = Some roles.Point
-role_of classes.ExponentCharacter = Some roles.Exponent
-role_of classes.Plus = Some roles.Sign
-role_of classes.Minus = Some roles.Sign
-
--- `in_part part class` is the role of a byte of `class` after a front that ends in `part`, where digits are those of the
--- radix of `part`.
-abbrev pub in_part : Part → Class → Option Role
-in_part part classes.Other = None
-in_part parts.Exponent classes.MantissaDigit = None
-in_part parts.Integer classes.ExponentDigit = None
-in_part parts.Fraction classes.ExponentDigit = None
-in_part part class = role_of class
-
--- `is_zero class` is true if the bytes of `class` are the digit 0.
-abbrev pub is_zero : Class → Bool
-is_zero classes.Zero = true
-is_zero _ = false
-
--- `is_plus class` is true if the bytes of `class` are plus signs.
-abbrev pub is_plus : Class → Bool
-is_plus classes.Plus = true
-is_plus _ = false
-
--- `class_step m s class` is the summary after one more byte of `class`, or `None` if no literal begins so.
-abbrev pub class_step : Notation → Summary → Class → Option Summary
-class_step m s class = move m s (is_plus class) (is_zero class) (in_part s.part class)
-
 -- `IsMove m s class o` holds if `o` is what a byte of `class` makes of `s`, or `None` if no literal begins so.
 abbrev pub IsMove : Notation → Summary → Class → Option Move → Type 0
-IsMove m s class None = class_step m s class ≡ None
+IsMove m s class None = step m s class ≡ None
 IsMove m s class (Some next) =
-    (class_step m s class ≡ Some next.summary) × ((c : Cuts) → count s.part (in_part s.part class) c ≡ add c next.piece)
+    (step m s class ≡ Some next.summary) × ((c : Cuts) → count s.part (in_part s.part class) c ≡ add c next.piece)
 
 -- `scan m s text` is the summary after the bytes of `text`.
 abbrev pub scan : Notation → Option Summary → List ℕ → Option Summary
 scan m s [] = s
 scan m None (byte ∷ text) = None
-scan m (Some s) (byte ∷ text) = scan m (step m s byte) text
+scan m (Some s) (byte ∷ text) = scan m (step m s (class_of m byte)) text
 
 -- `is_accepted m s` is true if a text that ends with the summary `s` is a literal.
 abbrev pub is_accepted : Notation → Option Summary → Bool
@@ -343,7 +328,7 @@ start = record { part = parts.Integer; stage = stages.Start; gap = false; ended 
 abbrev pub tally : Notation → Option Summary → Cuts → List ℕ → Cuts
 tally m s c [] = c
 tally m None c (byte ∷ text) = c
-tally m (Some s) c (byte ∷ text) = tally m (step m s byte) (count s.part (role_in m s.part byte) c) text
+tally m (Some s) c (byte ∷ text) = tally m (step m s (class_of m byte)) (count s.part (in_part s.part (class_of m byte)) c) text
 
 -- `no_cuts` counts no bytes.
 abbrev pub no_cuts : Cuts
