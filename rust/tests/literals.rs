@@ -97,6 +97,16 @@ fn questions_have_the_answers_of_the_page() {
     }
 }
 
+#[test]
+fn texts_are_right_as_far_as_the_page_states() {
+    for row in table("Texts and their causes") {
+        let [text, settings, _, valid_up_to, _] = row[..] else { panic!("{row:?}") };
+        let syntax = syntax(word(settings));
+        let error = read(&Reader::new(syntax), syntax, text.as_bytes()).expect_err(text);
+        assert_eq!(error.valid_up_to().to_string(), valid_up_to, "{settings}: {text}");
+    }
+}
+
 /// The parts of the number in the picture of the page, and of the longest front that is a literal.
 #[test]
 fn parts_are_known() {
