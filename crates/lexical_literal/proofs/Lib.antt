@@ -1,7 +1,6 @@
 -- Lemmas.
 mod RunLemmas
 mod ScanLemmas
-mod ClassLemmas
 mod StepLemmas
 mod LiteralLemmas
 mod FrontLemmas

@@ -18,7 +18,7 @@ use lexical_util::laws::flags::role_facts;
 use std::marker::Model;
 
 /// The parts of a literal, in the order of the text. An absent part has no bytes.
-#[derive(Clone, Copy)]
+#[derive(Debug, Clone, Copy, PartialEq, Eq, Hash)]
 pub struct Parts<'a> {
     /// The sign, `+` or `-`.
     pub sign: &'a [u8],
@@ -41,7 +41,7 @@ pub struct Parts<'a> {
 }
 
 /// A leading piece of a text that is a literal.
-#[derive(Clone, Copy)]
+#[derive(Debug, Clone, Copy, PartialEq, Eq, Hash)]
 pub struct Front<'a> {
     /// The parts of the literal.
     pub parts: Parts<'a>,
@@ -50,7 +50,7 @@ pub struct Front<'a> {
 }
 
 /// Why a text is not a literal.
-#[derive(Debug, Clone, Copy, PartialEq, Eq)]
+#[derive(Debug, Clone, Copy, PartialEq, Eq, Hash)]
 pub struct ReadError {
     valid_up_to: usize,
 }
@@ -116,7 +116,7 @@ impl Model for Reader {
 impl Reader {
     /// Returns a reader of the literals of `syntax`.
     #[must_use]
-    pub fn new(syntax: Syntax) -> Reader
+    pub const fn new(syntax: Syntax) -> Reader
         ensures { result ≡ syntax }
     {
         let grammar = syntax.grammar();
@@ -243,7 +243,7 @@ fn cut<'a>(text: &'a [u8], counts: [usize; 9]) -> Parts<'a>
 
 // Reads `text` until no literal begins with what has been read, and looks for fronts that are literals if `fronts` is true.
 #[inline(always)]
-fn scan(grammar: Grammar, tables: Option<&Tables>, text: &[u8], fronts: bool) -> Scanned
+const fn scan(grammar: Grammar, tables: Option<&Tables>, text: &[u8], fronts: bool) -> Scanned
     requires syntax { IsSyntax grammar }
     requires tables { ForSome tables (λ tables. HasTables (notation_of grammar) tables.now) }
     ensures error { IsValidUpTo (notation_of grammar) text.now result.valid_up_to }
@@ -283,7 +283,7 @@ fn scan(grammar: Grammar, tables: Option<&Tables>, text: &[u8], fronts: bool) ->
 
 // Returns what `byte` makes of a row, by the tables if there are any.
 #[inline(always)]
-fn step_by(grammar: Grammar, tables: Option<&Tables>, row: u8, byte: u8) -> Option<Step>
+const fn step_by(grammar: Grammar, tables: Option<&Tables>, row: u8, byte: u8) -> Option<Step>
     requires row { row < 55 }
     requires tables { ForSome tables (λ tables. HasTables (notation_of grammar) tables.now) }
     ensures { IsStep (notation_of grammar) row (class_of (notation_of grammar) byte) result }
@@ -296,7 +296,7 @@ fn step_by(grammar: Grammar, tables: Option<&Tables>, row: u8, byte: u8) -> Opti
 
 // Returns whether a row is that of a literal, by the tables if there are any.
 #[inline(always)]
-fn is_complete_by(grammar: Grammar, tables: Option<&Tables>, row: u8) -> bool
+const fn is_complete_by(grammar: Grammar, tables: Option<&Tables>, row: u8) -> bool
     requires row { row < 55 }
     requires tables { ForSome tables (λ tables. HasTables (notation_of grammar) tables.now) }
     ensures { result ≡ is_complete (notation_of grammar) (summary_at row) }

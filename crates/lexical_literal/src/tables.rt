@@ -112,7 +112,7 @@ const fn summary_at(row: u8) -> Summary
 }
 
 // Returns what a byte of `class` makes of a row, or `None` if no literal begins so.
-pub(crate) fn step_from(grammar: Grammar, from: u8, class: Class) -> Option<Step>
+pub(crate) const fn step_from(grammar: Grammar, from: u8, class: Class) -> Option<Step>
     requires { from < 55 }
     ensures { IsStep (notation_of grammar) from class result }
 {
@@ -126,7 +126,7 @@ pub(crate) fn step_from(grammar: Grammar, from: u8, class: Class) -> Option<Step
 }
 
 // Returns whether a row is that of a literal.
-pub(crate) fn is_complete(grammar: Grammar, row: u8) -> bool
+pub(crate) const fn is_complete(grammar: Grammar, row: u8) -> bool
     requires { row < 55 }
     ensures { result ≡ is_complete (notation_of grammar) (summary_at row) }
 {
@@ -134,7 +134,7 @@ pub(crate) fn is_complete(grammar: Grammar, row: u8) -> bool
 }
 
 // Returns the classes of all bytes.
-fn classes_of(grammar: Grammar) -> [Class; 256]
+const fn classes_of(grammar: Grammar) -> [Class; 256]
     ensures { (byte : ℕ) → byte < 256 → slice_index_or result byte Class.Other ≡ class_of (notation_of grammar) byte }
 {
     let mut classes = [Class::Other; 256];
@@ -147,7 +147,7 @@ fn classes_of(grammar: Grammar) -> [Class; 256]
 }
 
 // Returns what each class makes of each row.
-fn steps_of(grammar: Grammar) -> [Option<Step>; STEPS]
+const fn steps_of(grammar: Grammar) -> [Option<Step>; STEPS]
     ensures { (index : ℕ) → index < 660
         → IsStep (notation_of grammar) (index / 12) (class_at (index % 12)) (slice_index_or result index None) }
 {
@@ -161,7 +161,7 @@ fn steps_of(grammar: Grammar) -> [Option<Step>; STEPS]
 }
 
 // Returns whether each row is that of a literal.
-fn ends_of(grammar: Grammar) -> [bool; ROWS]
+const fn ends_of(grammar: Grammar) -> [bool; ROWS]
     ensures { (row : ℕ) → row < 55 → slice_index_or result row false ≡ is_complete (notation_of grammar) (summary_at row) }
 {
     let mut ends = [false; ROWS];
@@ -175,7 +175,7 @@ fn ends_of(grammar: Grammar) -> [bool; ROWS]
 
 impl Tables {
     // Returns the tables of a grammar.
-    pub(crate) fn new(grammar: Grammar) -> Tables
+    pub(crate) const fn new(grammar: Grammar) -> Tables
         ensures { HasTables (notation_of grammar) result }
     {
         Tables {
