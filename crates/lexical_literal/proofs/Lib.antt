@@ -12,3 +12,4 @@ mod PartLemmas
 mod WriterLemmas
 mod ExampleLemmas
 mod TableLemmas
+mod SpecialLemmas
