@@ -6,7 +6,7 @@ use Rattle.std.specs.List.{AllByRecursion}
 use Rattle.lexical_util.specs.Additions.ByteRoles as bytes
 use Rattle.lexical_util.specs.Ascii.{ByteSet, allowed_ascii}
 use Rattle.lexical_util.specs.Layout as layout
-use Rattle.lexical_util.specs.Record.{Record, raw, effective_exponent_radix}
+use Rattle.lexical_util.specs.Record.{raw, effective_exponent_radix}
 use Rattle.lexical_util.specs.Roles as sets
 use Rattle.lexical_util.specs.Options.{OptionsFit, OptionsHaveOneRole}
 use Rattle.lexical_util.specs.Unfoldable.{cased, Disjoint, Lawful, Holds, byte_value}
