@@ -21,6 +21,7 @@
 #[allow(clippy::needless_lifetimes, reason = "as it is proved")]
 mod read;
 mod sentence;
+#[allow(clippy::redundant_pattern_matching, reason = "as it is proved")]
 mod steps;
 mod syntax;
 #[allow(clippy::needless_range_loop, reason = "as it is proved")]

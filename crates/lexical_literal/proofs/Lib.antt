@@ -11,3 +11,4 @@ mod PartLemmas
 mod WriterLemmas
 mod ExampleLemmas
 mod TableLemmas
+mod SpecialLemmas

@@ -66,7 +66,7 @@ pub(crate) struct Tables {
 
 // Returns the place of a piece in a list of lengths.
 #[inline(always)]
-pub(crate) fn piece_number(piece: Piece) -> usize
+pub(crate) const fn piece_number(piece: Piece) -> usize
     ensures value { result ≡ piece_number piece }
     ensures small { result < 9 }
 {
@@ -75,7 +75,7 @@ pub(crate) fn piece_number(piece: Piece) -> usize
 
 // Returns the column of a class.
 #[inline(always)]
-fn class_number(class: Class) -> usize
+const fn class_number(class: Class) -> usize
     ensures value { result ≡ class_number class }
     ensures small { result < 12 }
 {
@@ -83,7 +83,7 @@ fn class_number(class: Class) -> usize
 }
 
 // Returns the row of a summary.
-fn row(read: Summary) -> u8
+const fn row(read: Summary) -> u8
     ensures value { result ≡ row read }
     ensures small { result < 55 }
 {
@@ -95,7 +95,7 @@ fn row(read: Summary) -> u8
 }
 
 // Returns the summary of a row.
-fn summary_at(row: u8) -> Summary
+const fn summary_at(row: u8) -> Summary
     requires { row < 55 }
     ensures { result ≡ summary_at row }
 {
@@ -112,19 +112,21 @@ fn summary_at(row: u8) -> Summary
 }
 
 // Returns what a byte of `class` makes of a row, or `None` if no literal begins so.
-pub(crate) fn step_from(grammar: Grammar, from: u8, class: Class) -> Option<Step>
+pub(crate) const fn step_from(grammar: Grammar, from: u8, class: Class) -> Option<Step>
     requires { from < 55 }
     ensures { IsStep (notation_of grammar) from class result }
 {
-    let next = steps::step(grammar, summary_at(from), class)?;
-    Some(Step {
-        row: row(next.summary),
-        piece: next.piece,
-    })
+    match steps::step(grammar, summary_at(from), class) {
+        None => None,
+        Some(next) => Some(Step {
+            row: row(next.summary),
+            piece: next.piece,
+        }),
+    }
 }
 
 // Returns whether a row is that of a literal.
-pub(crate) fn is_complete(grammar: Grammar, row: u8) -> bool
+pub(crate) const fn is_complete(grammar: Grammar, row: u8) -> bool
     requires { row < 55 }
     ensures { result ≡ is_complete (notation_of grammar) (summary_at row) }
 {
@@ -132,42 +134,48 @@ pub(crate) fn is_complete(grammar: Grammar, row: u8) -> bool
 }
 
 // Returns the classes of all bytes.
-fn classes_of(grammar: Grammar) -> [Class; 256]
+const fn classes_of(grammar: Grammar) -> [Class; 256]
     ensures { (byte : ℕ) → byte < 256 → slice_index_or result byte Class.Other ≡ class_of (notation_of grammar) byte }
 {
     let mut classes = [Class::Other; 256];
-    for byte in 0..256usize {
+    let mut byte = 0;
+    while byte < 256 {
         classes[byte] = steps::class_of(grammar, byte as u8);
+        byte += 1;
     }
     classes
 }
 
 // Returns what each class makes of each row.
-fn steps_of(grammar: Grammar) -> [Option<Step>; STEPS]
+const fn steps_of(grammar: Grammar) -> [Option<Step>; STEPS]
     ensures { (index : ℕ) → index < 660
         → IsStep (notation_of grammar) (index / 12) (class_at (index % 12)) (slice_index_or result index None) }
 {
     let mut steps = [None; STEPS];
-    for index in 0..STEPS {
+    let mut index = 0;
+    while index < STEPS {
         steps[index] = step_from(grammar, (index / COLUMNS) as u8, CLASSES[index % COLUMNS]);
+        index += 1;
     }
     steps
 }
 
 // Returns whether each row is that of a literal.
-fn ends_of(grammar: Grammar) -> [bool; ROWS]
+const fn ends_of(grammar: Grammar) -> [bool; ROWS]
     ensures { (row : ℕ) → row < 55 → slice_index_or result row false ≡ is_complete (notation_of grammar) (summary_at row) }
 {
     let mut ends = [false; ROWS];
-    for row in 0..ROWS {
+    let mut row = 0;
+    while row < ROWS {
         ends[row] = is_complete(grammar, row as u8);
+        row += 1;
     }
     ends
 }
 
 impl Tables {
     // Returns the tables of a grammar.
-    pub(crate) fn new(grammar: Grammar) -> Tables
+    pub(crate) const fn new(grammar: Grammar) -> Tables
         ensures { HasTables (notation_of grammar) result }
     {
         Tables {
@@ -179,7 +187,7 @@ impl Tables {
 
     // Returns the class of `byte`.
     #[inline(always)]
-    pub(crate) fn class(&self, byte: u8) -> Class
+    pub(crate) const fn class(&self, byte: u8) -> Class
         ensures { (m : Notation) → HasTables m self.now → result ≡ class_of m byte }
     {
         self.classes[byte as usize]
@@ -187,7 +195,7 @@ impl Tables {
 
     // Returns what a byte of `class` makes of a row.
     #[inline(always)]
-    pub(crate) fn step(&self, row: u8, class: Class) -> Option<Step>
+    pub(crate) const fn step(&self, row: u8, class: Class) -> Option<Step>
         requires { row < 55 }
         ensures { (m : Notation) → HasTables m self.now → IsStep m row class result }
     {
@@ -196,7 +204,7 @@ impl Tables {
 
     // Returns whether a row is that of a literal.
     #[inline(always)]
-    pub(crate) fn is_complete(&self, row: u8) -> bool
+    pub(crate) const fn is_complete(&self, row: u8) -> bool
         requires { row < 55 }
         ensures { (m : Notation) → HasTables m self.now → result ≡ is_complete m (summary_at row) }
     {

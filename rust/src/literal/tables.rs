@@ -63,18 +63,18 @@ pub(crate) struct Tables {
 
 // Returns the place of a piece in a list of lengths.
 #[inline(always)]
-pub(crate) fn piece_number(piece: Piece) -> usize {
+pub(crate) const fn piece_number(piece: Piece) -> usize {
     piece as usize
 }
 
 // Returns the column of a class.
 #[inline(always)]
-fn class_number(class: Class) -> usize {
+const fn class_number(class: Class) -> usize {
     class as usize
 }
 
 // Returns the row of a summary.
-fn row(read: Summary) -> u8 {
+const fn row(read: Summary) -> u8 {
     if read.ended {
         54
     } else {
@@ -83,7 +83,7 @@ fn row(read: Summary) -> u8 {
 }
 
 // Returns the summary of a row.
-fn summary_at(row: u8) -> Summary {
+const fn summary_at(row: u8) -> Summary {
     if row == 54 {
         return FINISHED;
     }
@@ -97,49 +97,57 @@ fn summary_at(row: u8) -> Summary {
 }
 
 // Returns what a byte of `class` makes of a row, or `None` if no literal begins so.
-pub(crate) fn step_from(grammar: Grammar, from: u8, class: Class) -> Option<Step> {
-    let next = steps::step(grammar, summary_at(from), class)?;
-    Some(Step {
-        row: row(next.summary),
-        piece: next.piece,
-    })
+pub(crate) const fn step_from(grammar: Grammar, from: u8, class: Class) -> Option<Step> {
+    match steps::step(grammar, summary_at(from), class) {
+        None => None,
+        Some(next) => Some(Step {
+            row: row(next.summary),
+            piece: next.piece,
+        }),
+    }
 }
 
 // Returns whether a row is that of a literal.
-pub(crate) fn is_complete(grammar: Grammar, row: u8) -> bool {
+pub(crate) const fn is_complete(grammar: Grammar, row: u8) -> bool {
     steps::is_complete(grammar, summary_at(row))
 }
 
 // Returns the classes of all bytes.
-fn classes_of(grammar: Grammar) -> [Class; 256] {
+const fn classes_of(grammar: Grammar) -> [Class; 256] {
     let mut classes = [Class::Other; 256];
-    for byte in 0..256usize {
+    let mut byte = 0;
+    while byte < 256 {
         classes[byte] = steps::class_of(grammar, byte as u8);
+        byte += 1;
     }
     classes
 }
 
 // Returns what each class makes of each row.
-fn steps_of(grammar: Grammar) -> [Option<Step>; STEPS] {
+const fn steps_of(grammar: Grammar) -> [Option<Step>; STEPS] {
     let mut steps = [None; STEPS];
-    for index in 0..STEPS {
+    let mut index = 0;
+    while index < STEPS {
         steps[index] = step_from(grammar, (index / COLUMNS) as u8, CLASSES[index % COLUMNS]);
+        index += 1;
     }
     steps
 }
 
 // Returns whether each row is that of a literal.
-fn ends_of(grammar: Grammar) -> [bool; ROWS] {
+const fn ends_of(grammar: Grammar) -> [bool; ROWS] {
     let mut ends = [false; ROWS];
-    for row in 0..ROWS {
+    let mut row = 0;
+    while row < ROWS {
         ends[row] = is_complete(grammar, row as u8);
+        row += 1;
     }
     ends
 }
 
 impl Tables {
     // Returns the tables of a grammar.
-    pub(crate) fn new(grammar: Grammar) -> Tables {
+    pub(crate) const fn new(grammar: Grammar) -> Tables {
         Tables {
             classes: classes_of(grammar),
             steps: steps_of(grammar),
@@ -149,19 +157,19 @@ impl Tables {
 
     // Returns the class of `byte`.
     #[inline(always)]
-    pub(crate) fn class(&self, byte: u8) -> Class {
+    pub(crate) const fn class(&self, byte: u8) -> Class {
         self.classes[byte as usize]
     }
 
     // Returns what a byte of `class` makes of a row.
     #[inline(always)]
-    pub(crate) fn step(&self, row: u8, class: Class) -> Option<Step> {
+    pub(crate) const fn step(&self, row: u8, class: Class) -> Option<Step> {
         self.steps[row as usize * COLUMNS + class_number(class)]
     }
 
     // Returns whether a row is that of a literal.
     #[inline(always)]
-    pub(crate) fn is_complete(&self, row: u8) -> bool {
+    pub(crate) const fn is_complete(&self, row: u8) -> bool {
         self.ends[row as usize]
     }
 }

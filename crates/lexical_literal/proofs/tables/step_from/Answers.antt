@@ -5,13 +5,13 @@ use Rattle.lexical_literal.specs.Additions.Tables.{summary_at}
 use Rattle.lexical_literal.proofs.TableLemmas.{moved_back}
 use Rattle.lexical_literal.proofs.tables.step_from.Goals as goal
 
-pub returns : goal.returns
-returns c =
+pub returns-in-Some : goal.returns-in-Some
+returns-in-Some c =
     let m = notation_of c.args.grammar in
     let k = c.args.class in
-    let next = c.in_ok-next.next.summary in
+    let next = c.in-Some.next.summary in
     let s = c.summary_at.result in
-    let moved = c.in_ok-next.ensures in (
+    let moved = c.in-Some.ensures in (
       ap (λ s. step m s k) (sym c.summary_at.ensures) ∙ moved.0
           ∙ ap Some (sym (moved_back m s (is_plus k) (is_zero k) (in_part s.part k) next moved.0) ∙ ap summary_at (sym c.row.ensures.value)),
       c.row.ensures.small,
