@@ -1,12 +1,13 @@
 -- In a syntax, no byte plays two roles.
-use Rattle.std.proofs.Common.{ℕ, ◌≡◌, ◌<◌, ◌↔◌, Bool, true, false, nat_lt, min, ◌||◌, ◌==◌, ◌&&◌, not, IsTrue, List, [], ◌∷◌, Option, Some, None, refl, ap, ◌∙◌, sym, arith}
+use Rattle.std.proofs.Common.{ℕ, ◌≡◌, ◌<◌, ◌↔◌, Bool, true, false, nat_lt, min, ◌||◌, ◌==◌, ◌&&◌, not}
+use Rattle.std.proofs.Common.{IsTrue, List, [], ◌∷◌, Option, Some, None, refl, ap, ◌∙◌, sym, arith}
 use Rattle.std.proofs.lemmas.Bool.{or_left, lt-ltb, eq-eqb, ne_eqb, and_from, not_from_false, false≢true}
 use Rattle.std.proofs.lemmas.Bool.Decides.{nat_tests}
 use Rattle.std.specs.List.{AllByRecursion}
 use Rattle.lexical_util.specs.Additions.ByteRoles as bytes
 use Rattle.lexical_util.specs.Ascii.{ByteSet, allowed_ascii}
 use Rattle.lexical_util.specs.Layout as layout
-use Rattle.lexical_util.specs.Record.{Record, raw, effective_exponent_radix}
+use Rattle.lexical_util.specs.Record.{raw, effective_exponent_radix}
 use Rattle.lexical_util.specs.Roles as sets
 use Rattle.lexical_util.specs.Options.{OptionsFit, OptionsHaveOneRole}
 use Rattle.lexical_util.specs.Unfoldable.{cased, Disjoint, Lawful, Holds, byte_value}

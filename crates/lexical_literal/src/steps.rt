@@ -319,31 +319,33 @@ const fn takes(grammar: Grammar, read: Summary, plus: bool, role: Role) -> bool
 const fn after(read: Summary, zero: bool, role: Role) -> Summary
     ensures { result ≡ after read zero role }
 {
-    let part = match role {
-        Role::Point => Part::Fraction,
-        Role::Exponent => Part::Exponent,
-        Role::Suffix => return FINISHED,
-        _ => read.part,
+    let Summary {
+        part,
+        gap,
+        ended,
+        ..
+    } = read;
+    let (part, stage) = match (role, read.stage) {
+        (Role::Digit, Stage::Start | Stage::Empty) if zero && gap => (part, Stage::Zero),
+        (Role::Digit, Stage::Start | Stage::Empty) if zero => (part, Stage::Bare),
+        (Role::Digit, Stage::Bare | Stage::Zero | Stage::Led) => (part, Stage::Led),
+        (Role::Digit, _) => (part, Stage::Digits),
+        (Role::Separator | Role::Sign, Stage::Start) => (part, Stage::Empty),
+        (Role::Separator | Role::Sign, Stage::Mark) => (part, Stage::Free),
+        (Role::Separator | Role::Sign, Stage::Bare) => (part, Stage::Zero),
+        (Role::Separator | Role::Sign, stage) => (part, stage),
+        (Role::Prefix, _) => (part, Stage::Free),
+        (Role::Point, stage) if has_digit(stage) => (Part::Fraction, Stage::Free),
+        (Role::Point, _) => (Part::Fraction, Stage::Lone),
+        (Role::Exponent, _) => (Part::Exponent, Stage::Mark),
+        (Role::Suffix, _) => return FINISHED,
     };
-    let stage = match (role, read.stage) {
-        (Role::Digit, Stage::Start | Stage::Empty) if zero && read.gap => Stage::Zero,
-        (Role::Digit, Stage::Start | Stage::Empty) if zero => Stage::Bare,
-        (Role::Digit, Stage::Bare | Stage::Zero | Stage::Led) => Stage::Led,
-        (Role::Digit, _) => Stage::Digits,
-        (Role::Separator | Role::Sign, Stage::Start) => Stage::Empty,
-        (Role::Separator | Role::Sign, Stage::Mark) => Stage::Free,
-        (Role::Separator | Role::Sign, Stage::Bare) => Stage::Zero,
-        (Role::Separator | Role::Sign, stage) => stage,
-        (Role::Point, stage) if !has_digit(stage) => Stage::Lone,
-        (Role::Exponent, _) => Stage::Mark,
-        (Role::Prefix | Role::Point | Role::Suffix, _) => Stage::Free,
-    };
-    let gap = matches!(role, Role::Separator) || (matches!(role, Role::Sign) && read.gap);
+    let gap = matches!(role, Role::Separator) || (matches!(role, Role::Sign) && gap);
     Summary {
         part,
         stage,
         gap,
-        ended: read.ended,
+        ended,
     }
 }
 
