@@ -72,16 +72,7 @@ impl<'a> Specials<'a> {
         ensures first { (special : Special) → IsSpecial (notation_of syntax.now) self.now special text.now
             → IsSomeAnd result (λ found. (found ≡ special) ⊎ IsTrue (is_before found.spelling special.spelling)) }
     {
-        self.first(syntax.grammar(), text)
-    }
-
-    // Returns the special value that `text` is, with the first spelling that matches, or `None` if it is none.
-    const fn first(&self, grammar: Grammar, text: &[u8]) -> Option<Special>
-        requires { IsSyntax grammar }
-        ensures found { ForSome result (λ found. IsSpecial (notation_of grammar) self.now found text.now) }
-        ensures first { (special : Special) → IsSpecial (notation_of grammar) self.now special text.now
-            → IsSomeAnd result (λ found. (found ≡ special) ⊎ IsTrue (is_before found.spelling special.spelling)) }
-    {
+        let grammar = syntax.grammar();
         match self.read_as(grammar, Spelling::Nan, text) {
             Some(special) => Some(special),
             None => match self.read_as(grammar, Spelling::Inf, text) {
@@ -98,24 +89,20 @@ impl<'a> Specials<'a> {
             ↔ ((special.spelling ≡ spelling) × IsSpecial (notation_of grammar) self.now special text.now) }
     {
         role_facts();
-        let bare = Special {
+        let mut special = Special {
             sign: None,
             spelling,
         };
-        let positive = Special {
-            sign: Some(Sign::Plus),
-            spelling,
-        };
-        let negative = Special {
-            sign: Some(Sign::Minus),
-            spelling,
-        };
-        if self.is(grammar, bare, text) {
-            Some(bare)
-        } else if self.is(grammar, positive, text) {
-            Some(positive)
-        } else if self.is(grammar, negative, text) {
-            Some(negative)
+        if self.is(grammar, special, text) {
+            return Some(special);
+        }
+        special.sign = Some(Sign::Plus);
+        if self.is(grammar, special, text) {
+            return Some(special);
+        }
+        special.sign = Some(Sign::Minus);
+        if self.is(grammar, special, text) {
+            Some(special)
         } else {
             None
         }
