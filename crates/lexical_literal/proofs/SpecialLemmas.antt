@@ -1,10 +1,10 @@
 -- How a text is compared with a spelling, and that a special value has one sign.
-use Rattle.std.proofs.Common.{ℕ, ◌≡◌, ◌<◌, ◌≤◌, ◌+◌, ◌-◌, ◌⊎◌, inl, inr, Bool, true, false, not, IsTrue, ◌==◌, ◌&&◌, ◌||◌, if◌then◌else◌, ◌↔◌, Option, Some, None, List, [], ◌∷◌, length, get_or, drop, map, refl, sym, ap, subst, ◌∙◌, arith}
-use Rattle.std.proofs.lemmas.Bool.{false≢true, cases_lt, eqb-true, eq-eqb, ne_eqb, and_parts, false_from_ne_true}
+use Rattle.std.proofs.Common.{ℕ, ◌≡◌, ◌<◌, ◌≤◌, ◌+◌, ◌-◌, ◌⊎◌, inl, inr, true, false, IsTrue, ◌==◌, if◌then◌else◌, ◌↔◌, Option, Some, None, List, [], ◌∷◌, length, get_or, drop, map, refl, sym, ap, subst, ◌∙◌, arith}
+use Rattle.std.proofs.lemmas.Bool.{cases_lt, eqb-true, eq-eqb, and_parts, false_from_ne_true}
 use Rattle.std.proofs.lemmas.Bool.Decides.{nat_tests}
 use Rattle.std.proofs.lemmas.List.{drop_more, drop_all, length-drop}
 use Rattle.lexical_util.specs.Layout as layout
-use Rattle.lexical_util.specs.Record.{raw, separator_allowed}
+use Rattle.lexical_util.specs.Record.{raw}
 use Rattle.lexical_util.specs.Roles.{cased, signs}
 use Rattle.lexical_util.specs.declared.feature_format.roles.Role.TheVariants as roles
 use Rattle.lexical_literal.specs.Notation.{Notation, notation_of}
@@ -15,6 +15,7 @@ use Rattle.lexical_literal.specs.declared.specials.Sign.TheVariants as signs
 use Rattle.lexical_literal.specs.declared.specials.Special.{Special}
 use Rattle.lexical_literal.specs.declared.specials.Specials.{Specials}
 use Rattle.lexical_literal.specs.declared.specials.Spelling.{Spelling}
+use Rattle.lexical_literal.specs.declared.specials.Spelling.TheVariants as spellings
 use Rattle.lexical_literal.proofs.ScanLemmas.{HasRoles}
 
 -- `IsReached m word low high text` holds if `text` is spelled as what is left of `word` behind its first `size` bytes, for
@@ -65,11 +66,10 @@ module _ (m : Notation) where
           let first = first_letter (drop n word) more.0 text c (ap (map (letter_of m)) (sym more.1) ∙ spelled.same) more.2 in
           elim (cases_lt n (length word)) [
             | inl inside ↦
-                let whole : get_or word n 0 ∷ drop (n + 1) word ≡ first.0 ∷ first.1 = sym (drop_more word n 0 inside) ∙ first.2 in
-                let head : get_or word n 0 ≡ first.0 = cc in
+                let whole = sym (drop_more word n 0 inside) ∙ first.2 in
                 let tail : drop (n + 1) word ≡ first.1 = cc in
-                inr (inside, ap (letter_of m) head ∙ first.3, subst (λ w. IsSpelled m w text) (sym tail) first.4)
-            | inr past ↦ let none : [] ≡ first.0 ∷ first.1 = sym (drop_all n word past) ∙ first.2 in cc
+                inr (inside, grind arith, subst (λ w. IsSpelled m w text) (sym tail) first.4)
+            | inr past ↦ let none = sym (drop_all n word past) ∙ first.2 in cc
           ]
     ]
 
@@ -163,24 +163,10 @@ module _ (m : Notation) where
         eq-eqb high (length word) (omega (arith, none, r.below, read.within)),
   )
 
-  -- The beginning of the text.
-  pub nothing_read : (word text : List ℕ) (x : ℕ) → HasRead m word text x 0 0 text
-  nothing_read word text x = record {
-    within = omega arith;
-    letters = λ n above below. absurd (omega arith);
-    there = λ spelled. record { size = 0; above = omega arith; below = omega arith; spelled = spelled };
-    back = λ r. let none : r.size ≡ 0 = omega (arith, r.below) in subst (λ n. IsSpelled m (drop n word) text) none r.spelled;
-  }
-
 -- No other byte is a separator.
 pub one_separator : (g : Grammar) (c : ℕ) → special_separator (notation_of g) c ≡ true → c ≡ (raw g.word).byte layout.digit_separator
 unfolding cased
-one_separator g c is = eqb-true c own (only ((raw g.word).flag layout.special_digit_separator) (separator_allowed (raw g.word)) (not (own == 0)) (c == own) is) where
-  own : ℕ
-  own = (raw g.word).byte layout.digit_separator
-
-  only : (f a z e : Bool) → (f && (a && (z && (e || false)))) ≡ true → e ≡ true
-  only f a z e is = grind arith
+one_separator g c is = grind (arith, nat_tests)
 
 -- THE SIGN
 
@@ -202,11 +188,8 @@ module _ (m : Notation) (has_roles : HasRoles m) (b : ℕ) (sign : IsTrue (signs
 
   count_left : (text kept : List ℕ) → Leaves (special_separator m) text kept → count b text ≡ count b kept
   count_left [] kept left = sym (ap (count b) left)
-  count_left (c ∷ text) kept (inl out) =
-      let differs = ne_eqb c b (λ same. false≢true (sym other ∙ ap (special_separator m) (sym same) ∙ out.0)) in
-      ap (λ t. if t then count b text + 1 else count b text) differs ∙ count_left text kept out.1
-  count_left (c ∷ text) kept (inr more) =
-      ap (λ n. if c == b then n + 1 else n) (count_left text more.0 more.2) ∙ sym (ap (count b) more.1)
+  count_left (c ∷ text) kept (inl out) = let more = count_left text kept out.1 in grind (arith, nat_tests, other)
+  count_left (c ∷ text) kept (inr more) = let same = count_left text more.0 more.2 in let whole = ap (count b) more.1 in grind (arith, nat_tests)
 
   count_spelled : (word text : List ℕ) → IsSpelled m word text → count b text ≡ count b word
   count_spelled word text spelled =
@@ -215,8 +198,7 @@ module _ (m : Notation) (has_roles : HasRoles m) (b : ℕ) (sign : IsTrue (signs
   -- A text and the same text behind a sign are not spelled alike.
   one_sign : (word text : List ℕ) → IsSpelled m word text → IsSpelled m word (b ∷ text) → ⊥
   one_sign word text bare signed =
-      let more : count b (b ∷ text) ≡ count b text + 1 = ap (λ t. if t then count b text + 1 else count b text) (eq-eqb b b refl) in
-      omega (arith, more, count_spelled word text bare, count_spelled word (b ∷ text) signed)
+      let first = count_spelled word text bare in let second = count_spelled word (b ∷ text) signed in grind (arith, nat_tests)
 
 module _ (m : Notation) (specials : Specials) (spelling : Spelling) (text : List ℕ) where
   abbrev pub Is : Option Sign → Type 0
@@ -270,11 +252,7 @@ abbrev pub ReadsAs : Specials → List ℕ → Spelling → Option Special → G
 ReadsAs specials text spelling result g = (special : Special)
     → (result ≡ Some special) ↔ ((special.spelling ≡ spelling) × IsSpecial (notation_of g) specials special text)
 
-module _ (specials : Specials) (text : List ℕ) (g : Grammar) (special : Special) (is : IsSpecial (notation_of g) specials special text) where
-  -- A special value with this spelling is the result.
-  pub is_result : (spelling : Spelling) (found : Special) (result : Option Special) → ReadsAs specials text spelling result g → result ≡ Some found
-      → special.spelling ≡ spelling → found ≡ special
-  is_result spelling found result reads same own = let both = sym same ∙ (reads special).1 (own, is) in cc
-
-  pub not_none : (spelling : Spelling) (result : Option Special) → ReadsAs specials text spelling result g → result ≡ None → special.spelling ≡ spelling → ⊥
-  not_none spelling result reads none own = let both = sym none ∙ (reads special).1 (own, is) in cc
+pub three : (spelling : Spelling) → (spelling ≡ spellings.Nan) ⊎ ((spelling ≡ spellings.Inf) ⊎ (spelling ≡ spellings.Infinity))
+three spellings.Nan = inl refl
+three spellings.Inf = inr (inl refl)
+three spellings.Infinity = inr (inr refl)
