@@ -1,11 +1,10 @@
 -- How a text is compared with a spelling, and that a special value has one sign.
-use Rattle.std.proofs.Common.{ℕ, zero, suc, ◌≡◌, ◌<◌, ◌≤◌, ◌+◌, ◌-◌, ◌⊎◌, inl, inr, Bool, true, false, not, IsTrue, ◌==◌, ◌&&◌, ◌||◌, if◌then◌else◌, ◌↔◌, Option, Some, None, List, [], ◌∷◌, length, get_or, drop, map, refl, sym, ap, subst, ◌∙◌, arith}
-use Rattle.std.proofs.lemmas.Bool.{false≢true, cases_lt, eqb-true, eq-eqb, ne_eqb, and_parts, false_from_ne_true}
+use Rattle.std.proofs.Common.{ℕ, ◌≡◌, ◌<◌, ◌≤◌, ◌+◌, ◌-◌, ◌⊎◌, inl, inr, true, false, IsTrue, ◌==◌, if◌then◌else◌, ◌↔◌, Option, Some, None, List, [], ◌∷◌, length, get_or, drop, map, refl, sym, ap, subst, ◌∙◌, arith}
+use Rattle.std.proofs.lemmas.Bool.{cases_lt, eqb-true, eq-eqb, and_parts, false_from_ne_true}
 use Rattle.std.proofs.lemmas.Bool.Decides.{nat_tests}
 use Rattle.std.proofs.lemmas.List.{drop_more, drop_all, length-drop}
-use Rattle.std.specs.Char.{to_ascii_lowercase}
 use Rattle.lexical_util.specs.Layout as layout
-use Rattle.lexical_util.specs.Record.{raw, separator_allowed}
+use Rattle.lexical_util.specs.Record.{raw}
 use Rattle.lexical_util.specs.Roles.{cased, signs}
 use Rattle.lexical_util.specs.declared.feature_format.roles.Role.TheVariants as roles
 use Rattle.lexical_literal.specs.Notation.{Notation, notation_of}
@@ -16,6 +15,7 @@ use Rattle.lexical_literal.specs.declared.specials.Sign.TheVariants as signs
 use Rattle.lexical_literal.specs.declared.specials.Special.{Special}
 use Rattle.lexical_literal.specs.declared.specials.Specials.{Specials}
 use Rattle.lexical_literal.specs.declared.specials.Spelling.{Spelling}
+use Rattle.lexical_literal.specs.declared.specials.Spelling.TheVariants as spellings
 use Rattle.lexical_literal.proofs.ScanLemmas.{HasRoles}
 
 -- `IsReached m word low high text` holds if `text` is spelled as what is left of `word` behind its first `size` bytes, for
@@ -66,11 +66,10 @@ module _ (m : Notation) where
           let first = first_letter (drop n word) more.0 text c (ap (map (letter_of m)) (sym more.1) ∙ spelled.same) more.2 in
           elim (cases_lt n (length word)) [
             | inl inside ↦
-                let whole : get_or word n 0 ∷ drop (n + 1) word ≡ first.0 ∷ first.1 = sym (drop_more word n 0 inside) ∙ first.2 in
-                let head : get_or word n 0 ≡ first.0 = cc in
+                let whole = sym (drop_more word n 0 inside) ∙ first.2 in
                 let tail : drop (n + 1) word ≡ first.1 = cc in
-                inr (inside, ap (letter_of m) head ∙ first.3, subst (λ w. IsSpelled m w text) (sym tail) first.4)
-            | inr past ↦ let none : [] ≡ first.0 ∷ first.1 = sym (drop_all n word past) ∙ first.2 in cc
+                inr (inside, grind arith, subst (λ w. IsSpelled m w text) (sym tail) first.4)
+            | inr past ↦ let none = sym (drop_all n word past) ∙ first.2 in cc
           ]
     ]
 
@@ -87,44 +86,25 @@ module _ (m : Notation) where
         })
 
   -- One more byte.
-  module _ (word whole : List ℕ) (x : ℕ) (only : (c : ℕ) → special_separator m c ≡ true → c ≡ x) (c : ℕ) (rest : List ℕ)
+  module _ (word whole : List ℕ) (x c : ℕ) (only : special_separator m c ≡ true → letter_of m c ≡ letter_of m x) (rest : List ℕ)
       (low high : ℕ) (order : low ≤ high) (now : HasRead m word whole x low high (c ∷ rest)) (next_low next_high : ℕ)
       (lower : LowMoves m word c low high next_low) (upper : HighMoves m word c high next_high) where
     abbrev Next : Type 0
     Next = IsReached m word next_low next_high rest
 
     grows : high ≤ next_high
-    grows = elim upper [ inl more ↦ omega (arith, more.2) | inr same ↦ omega (arith, same.1) ]
+    grows = grind arith
 
     -- A size that is kept, and one that grows by a letter.
     moves : (n : ℕ) → n ≤ high → n < length word → IsLetter m word c n → n + 1 ≤ next_high
-    moves n below inside is = elim (cases_lt n high) [
-      | inl less ↦ omega (arith, grows)
-      | inr last ↦
-          let same : n ≡ high = omega arith in
-          elim upper [ inl more ↦ omega (arith, more.2) | inr none ↦ absurd (none.0 (subst (λ k. k < length word) same inside) (subst (IsLetter m word c) same is)) ]
-    ]
+    moves n below inside is = grind arith
 
     starts : (n : ℕ) → low ≤ n → n ≤ high → IsLetter m word c n → next_low ≤ n + 1
-    starts n above below is = elim lower [
-      | inl out ↦ omega (arith, out.1)
-      | inr other ↦ elim other.1 [
-        | inl more ↦ omega (arith, more.2)
-        | inr none ↦ elim (cases_lt n high) [
-          | inl less ↦ absurd (none.0 (omega arith) (now.letters low (omega arith) (omega arith) ∙ sym (now.letters n above less) ∙ is))
-          | inr last ↦ omega (arith, none.1)
-        ]
-      ]
-    ]
+    starts n above below is = let first = now.letters low in let own = now.letters n above in grind arith
 
     there : IsReached m word low high (c ∷ rest) → Next
     there r = elim (first_byte word rest r.size c r.spelled) [
-      | inl out ↦ record {
-        size = r.size;
-        above = elim lower [ inl kept ↦ omega (arith, kept.1, r.above) | inr other ↦ absurd (false≢true (sym other.0 ∙ out.0)) ];
-        below = omega (arith, r.below, grows);
-        spelled = out.1;
-      }
+      | inl out ↦ let is = out.0 in record { size = r.size; above = grind (arith, r.above, r.below); below = omega (arith, r.below, grows); spelled = out.1 }
       | inr more ↦ record {
         size = r.size + 1;
         above = starts r.size r.above r.below more.1;
@@ -133,107 +113,60 @@ module _ (m : Notation) where
       }
     ]
 
-    -- Back from a size that grew by a letter.
-    back_by : (n : ℕ) → low ≤ n → n ≤ high → n < length word → IsLetter m word c n → IsSpelled m (drop (n + 1) word) rest
-        → IsReached m word low high (c ∷ rest)
-    back_by n above below inside is spelled = record { size = n; above = above; below = below; spelled = keep word rest n c inside is spelled }
+    -- A size that was kept, or that grew by a letter.
+    came : (n : ℕ) → next_low ≤ n → n ≤ next_high → ((special_separator m c ≡ true) × (low ≤ n) × (n ≤ high))
+        ⊎ ((low < n) × (n ≤ high + 1) × (n ≤ length word) × IsLetter m word c (n - 1))
+    came n above below = let first = now.letters low in let own = now.letters (n - 1) in let within = now.within in grind arith
 
     back : Next → IsReached m word low high (c ∷ rest)
-    back r = elim (cases_lt high r.size) [
-      | inl past ↦ elim upper [
-        | inl more ↦
-            let last : r.size ≡ high + 1 = omega (arith, r.below, more.2) in
-            back_by high order (omega arith) more.0 more.1 (subst (λ n. IsSpelled m (drop n word) rest) last r.spelled)
-        | inr same ↦ absurd (omega (arith, r.below, same.1))
-      ]
-      | inr below ↦ elim lower [
-        | inl kept ↦ record { size = r.size; above = omega (arith, kept.1, r.above); below = below; spelled = leave_out word rest r.size c kept.0 r.spelled }
-        | inr other ↦ elim other.1 [
-          | inl more ↦ before r.size (omega (arith, more.2, r.above)) below (sym more.1) r.spelled
-          | inr none ↦ absurd (omega (arith, none.1, r.above))
-        ]
-      ]
-    ] where
-      before : (n : ℕ) → low < n → n ≤ high → letter_of m c ≡ letter_of m (get_or word low 0) → IsSpelled m (drop n word) rest → IsReached m word low high (c ∷ rest)
-      before zero above below is spelled = elim above [ ]
-      before (suc n) above below is spelled =
-          let same : suc n ≡ n + 1 = omega arith in
-          back_by n (omega arith) (omega arith) (omega (arith, now.within))
-          (now.letters n (omega arith) (omega arith) ∙ sym (now.letters low (omega arith) (omega arith)) ∙ sym is)
-          (subst (λ k. IsSpelled m (drop k word) rest) same spelled)
+    back r = elim (came r.size r.above r.below) [
+      | inl kept ↦ record { size = r.size; above = kept.1; below = kept.2; spelled = leave_out word rest r.size c kept.0 r.spelled }
+      | inr more ↦
+          let same : r.size ≡ r.size - 1 + 1 = omega (arith, more.0) in
+          record {
+            size = r.size - 1;
+            above = omega (arith, more.0);
+            below = omega (arith, more.1);
+            spelled = keep word rest (r.size - 1) c (omega (arith, more.0, more.2)) more.3 (subst (λ n. IsSpelled m (drop n word) rest) same r.spelled);
+          }
+    ]
 
-    letters : (n : ℕ) → next_low ≤ n → n < next_high → letter_of m (get_or word n 0) ≡ letter_of m x
-    letters n above below = elim (cases_lt n high) [
-      | inl less ↦ now.letters n (omega (arith, falls, above)) less
-      | inr past ↦ elim upper [
-        | inl more ↦ let last : high ≡ n = omega (arith, more.2) in subst (λ k. letter_of m (get_or word k 0) ≡ letter_of m x) last (more.1 ∙ is_own (omega (arith, above, last)))
-        | inr same ↦ absurd (omega (arith, same.1))
-      ]
-    ] where
-      falls : low ≤ next_low
-      falls = elim lower [
-        | inl kept ↦ omega (arith, kept.1)
-        | inr other ↦ elim other.1 [ inl more ↦ omega (arith, more.2) | inr none ↦ omega (arith, none.1, order) ]
-      ]
-
-      is_own : next_low ≤ high → letter_of m c ≡ letter_of m x
-      is_own above = elim lower [
-        | inl kept ↦ ap (letter_of m) (only c kept.0)
-        | inr other ↦ elim other.1 [
-          | inl more ↦ sym more.1 ∙ now.letters low (omega arith) (omega (arith, more.0))
-          | inr none ↦ absurd (omega (arith, none.1))
-        ]
-      ]
+    letters : (n : ℕ) → next_low ≤ n → n < next_high → IsLetter m word x n
+    letters n above below = let first = now.letters low in let own = now.letters n in grind arith
 
     pub read_more : HasRead m word whole x next_low next_high rest
     read_more = record {
-      within = elim upper [ inl more ↦ omega (arith, more.0, more.2) | inr same ↦ omega (arith, same.1, now.within) ];
+      within = let within = now.within in grind arith;
       letters = letters;
       there = λ spelled. there (now.there spelled);
       back = λ r. now.back (back r);
     }
 
   -- The end of the text.
-  module _ (word whole : List ℕ) (x low high : ℕ) where
-    pub wrong : (rest : List ℕ) → HasRead m word whole x low high rest → high < low → IsSpelled m word whole → ⊥
-    wrong rest read crossed spelled = let r = read.there spelled in omega (arith, r.above, r.below)
+  no_letters : (w : List ℕ) → IsSpelled m w [] → length w ≡ 0
+  no_letters [] spelled = refl
+  no_letters (b ∷ w) spelled = let e : [] ≡ map (letter_of m) (b ∷ w) = ap (map (letter_of m)) (sym spelled.left) ∙ spelled.same in cc
 
-    no_letters : (w : List ℕ) → IsSpelled m w [] → w ≡ []
-    no_letters [] spelled = refl
-    no_letters (b ∷ w) spelled = let e : [] ≡ map (letter_of m) (b ∷ w) = ap (map (letter_of m)) (sym spelled.left) ∙ spelled.same in cc
-
-    pub at_end : HasRead m word whole x low high [] → IsSpelled m word whole → high ≡ length word
-    at_end read spelled =
-        let r = read.there spelled in
-        let none : length word - r.size ≡ 0 = sym (length-drop r.size word) ∙ ap length (no_letters (drop r.size word) r.spelled) in
-        omega (arith, r.below, read.within)
-
-    pub from_end : low ≤ high → high ≡ length word → HasRead m word whole x low high [] → IsSpelled m word whole
-    from_end order last read = read.back (record {
+  pub at_end : (word whole : List ℕ) (x low high : ℕ) → HasRead m word whole x low high [] → low ≤ high
+      → ((high == length word) ≡ true) ↔ IsSpelled m word whole
+  at_end word whole x low high read order = (
+    λ last. read.back (record {
       size = high;
       above = order;
       below = omega arith;
-      spelled = subst (λ w. IsSpelled m w []) (sym (drop_all high word (omega arith))) (record { kept = []; left = refl; same = refl });
-    })
-
-  -- The beginning of the text.
-  pub nothing_read : (word text : List ℕ) (x : ℕ) → HasRead m word text x 0 0 text
-  nothing_read word text x = record {
-    within = omega arith;
-    letters = λ n above below. absurd (omega arith);
-    there = λ spelled. record { size = 0; above = omega arith; below = omega arith; spelled = spelled };
-    back = λ r. let none : r.size ≡ 0 = omega (arith, r.below) in subst (λ n. IsSpelled m (drop n word) text) none r.spelled;
-  }
+      spelled = subst (λ w. IsSpelled m w []) (sym (drop_all high word (omega (arith, eqb-true high (length word) last))))
+          (record { kept = []; left = refl; same = refl });
+    }),
+    λ spelled.
+        let r = read.there spelled in
+        let none = sym (length-drop r.size word) ∙ no_letters (drop r.size word) r.spelled in
+        eq-eqb high (length word) (omega (arith, none, r.below, read.within)),
+  )
 
 -- No other byte is a separator.
 pub one_separator : (g : Grammar) (c : ℕ) → special_separator (notation_of g) c ≡ true → c ≡ (raw g.word).byte layout.digit_separator
 unfolding cased
-one_separator g c is = eqb-true c own (only ((raw g.word).flag layout.special_digit_separator) (separator_allowed (raw g.word)) (not (own == 0)) (c == own) is) where
-  own : ℕ
-  own = (raw g.word).byte layout.digit_separator
-
-  only : (f a z e : Bool) → (f && (a && (z && (e || false)))) ≡ true → e ≡ true
-  only f a z e is = grind arith
+one_separator g c is = grind (arith, nat_tests)
 
 -- THE SIGN
 
@@ -247,10 +180,7 @@ module _ (m : Notation) (has_roles : HasRoles m) (b : ℕ) (sign : IsTrue (signs
   other = false_from_ne_true _ (λ is. let same = has_roles.one roles.Separator roles.Sign b (and_parts _ (m.separator b) is).1 sign in cc)
 
   own : (c : ℕ) → (letter_of m c == b) ≡ (c == b)
-  own c = go (m.flag layout.case_sensitive_special) where
-    go : (t : Bool) → ((if t then c else to_ascii_lowercase c) == b) ≡ (c == b)
-    go true = refl
-    go false = elim (cases_lt c 65) [ inl less ↦ grind (arith, nat_tests) | inr more ↦ grind (arith, nat_tests) ]
+  own c = grind (arith, nat_tests)
 
   count_letters : (bytes : List ℕ) → count b (map (letter_of m) bytes) ≡ count b bytes
   count_letters [] = refl
@@ -258,11 +188,8 @@ module _ (m : Notation) (has_roles : HasRoles m) (b : ℕ) (sign : IsTrue (signs
 
   count_left : (text kept : List ℕ) → Leaves (special_separator m) text kept → count b text ≡ count b kept
   count_left [] kept left = sym (ap (count b) left)
-  count_left (c ∷ text) kept (inl out) =
-      let differs = ne_eqb c b (λ same. false≢true (sym other ∙ ap (special_separator m) (sym same) ∙ out.0)) in
-      ap (λ t. if t then count b text + 1 else count b text) differs ∙ count_left text kept out.1
-  count_left (c ∷ text) kept (inr more) =
-      ap (λ n. if c == b then n + 1 else n) (count_left text more.0 more.2) ∙ sym (ap (count b) more.1)
+  count_left (c ∷ text) kept (inl out) = let more = count_left text kept out.1 in grind (arith, nat_tests, other)
+  count_left (c ∷ text) kept (inr more) = let same = count_left text more.0 more.2 in let whole = ap (count b) more.1 in grind (arith, nat_tests)
 
   count_spelled : (word text : List ℕ) → IsSpelled m word text → count b text ≡ count b word
   count_spelled word text spelled =
@@ -271,8 +198,7 @@ module _ (m : Notation) (has_roles : HasRoles m) (b : ℕ) (sign : IsTrue (signs
   -- A text and the same text behind a sign are not spelled alike.
   one_sign : (word text : List ℕ) → IsSpelled m word text → IsSpelled m word (b ∷ text) → ⊥
   one_sign word text bare signed =
-      let more : count b (b ∷ text) ≡ count b text + 1 = ap (λ t. if t then count b text + 1 else count b text) (eq-eqb b b refl) in
-      omega (arith, more, count_spelled word text bare, count_spelled word (b ∷ text) signed)
+      let first = count_spelled word text bare in let second = count_spelled word (b ∷ text) signed in grind (arith, nat_tests)
 
 module _ (m : Notation) (specials : Specials) (spelling : Spelling) (text : List ℕ) where
   abbrev pub Is : Option Sign → Type 0
@@ -320,3 +246,13 @@ none m specials spelling text bare positive negative special =
       go None = bare
       go (Some signs.Plus) = positive
       go (Some signs.Minus) = negative
+
+-- `ReadsAs specials text spelling result g` holds if `result` is the special value with `spelling` that `text` is, if any.
+abbrev pub ReadsAs : Specials → List ℕ → Spelling → Option Special → Grammar → Type 0
+ReadsAs specials text spelling result g = (special : Special)
+    → (result ≡ Some special) ↔ ((special.spelling ≡ spelling) × IsSpecial (notation_of g) specials special text)
+
+pub three : (spelling : Spelling) → (spelling ≡ spellings.Nan) ⊎ ((spelling ≡ spellings.Inf) ⊎ (spelling ≡ spellings.Infinity))
+three spellings.Nan = inl refl
+three spellings.Inf = inr (inl refl)
+three spellings.Infinity = inr (inr refl)

@@ -43,23 +43,22 @@ abbrev pub Leaves : ByteSet → List ℕ → List ℕ → Type 0
 Leaves S [] kept = kept ≡ []
 Leaves S (byte ∷ text) kept = (IsTrue (S byte) × Leaves S text kept) ⊎ ((rest : List ℕ) × (kept ≡ byte ∷ rest) × Leaves S text rest)
 
--- `IsSpelled m word text` holds if `text` is `word`, letter case aside unless special values are case-sensitive, when
--- some separators are left out.
+-- `IsSpelled m word text` holds if what is left of `text` when some separators are left out is `word`, letter case aside
+-- unless special values are case-sensitive.
 pub record IsSpelled (m : Notation) (word text : List ℕ) : Type 0 where
   pub kept : List ℕ
   pub left : Leaves (special_separator m) text kept
   pub same : map (letter_of m) kept ≡ map (letter_of m) word
 
--- `allows m sign` is true if the format allows special values, and if it allows them to have `sign`, or no sign if it is
--- absent.
+-- `allows m sign` is true if the format allows special values, and allows them to have `sign`, or no sign if it is absent.
 abbrev pub allows : Notation → Option Sign → Bool
 allows m sign =
     not (m.flag layout.no_special)
     && (not (m.flag layout.no_positive_mantissa_sign) || not (is_plus (sign_bytes sign)))
     && (not (m.flag layout.required_mantissa_sign) || is_present (sign_bytes sign))
 
--- `IsSpecial m specials special text` holds if `text` is the sign of `special`, which has to be allowed, and then a text
--- that is spelled as its spelling in `specials`, which must not be empty.
+-- `IsSpecial m specials special text` holds if `text` is the sign of `special`, if it has one, and then a text that is
+-- spelled as `specials` says for its spelling. The sign has to be allowed, and the spelling not empty.
 pub record IsSpecial (m : Notation) (specials : Specials) (special : Special) (text : List ℕ) : Type 0 where
   pub allowed : IsTrue (allows m special.sign)
   pub has_word : IsTrue (is_present (word_of specials special.spelling))
@@ -67,7 +66,7 @@ pub record IsSpecial (m : Notation) (specials : Specials) (special : Special) (t
   pub whole : text ≡ sign_bytes special.sign ++ rest
   pub spelled : IsSpelled m (word_of specials special.spelling) rest
 
--- `is_before first second` is true if `first` is looked for before `second`: NaN, then inf, then infinity.
+-- `is_before first second` is true if `first` comes before `second` in the order NaN, inf, infinity.
 abbrev pub is_before : Spelling → Spelling → Bool
 is_before spellings.Nan spellings.Nan = false
 is_before spellings.Nan _ = true
