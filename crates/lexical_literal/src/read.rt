@@ -284,7 +284,7 @@ const fn scan(grammar: Grammar, tables: Option<&Tables>, text: &[u8], fronts: bo
 // Returns what `byte` makes of a row, by the tables if there are any.
 #[inline(always)]
 const fn step_by(grammar: Grammar, tables: Option<&Tables>, row: u8, byte: u8) -> Option<Step>
-    requires row { row < 55 }
+    requires row { row < 108 }
     requires tables { ForSome tables (λ tables. HasTables (notation_of grammar) tables.now) }
     ensures { IsStep (notation_of grammar) row (class_of (notation_of grammar) byte) result }
 {
@@ -297,7 +297,7 @@ const fn step_by(grammar: Grammar, tables: Option<&Tables>, row: u8, byte: u8) -
 // Returns whether a row is that of a literal, by the tables if there are any.
 #[inline(always)]
 const fn is_complete_by(grammar: Grammar, tables: Option<&Tables>, row: u8) -> bool
-    requires row { row < 55 }
+    requires row { row < 108 }
     requires tables { ForSome tables (λ tables. HasTables (notation_of grammar) tables.now) }
     ensures { result ≡ is_complete (notation_of grammar) (summary_at row) }
 {

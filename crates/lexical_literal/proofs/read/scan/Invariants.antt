@@ -11,7 +11,7 @@ invariant-loop-index l =
     record {
       read : scan m (Some start) (take l.index l.text) ≡ Some (summary_at l.row);
       within : l.index ≤ length l.text;
-      is_row : l.row < 55;
+      is_row : l.row < 108;
       counted : tally m (Some start) no_cuts (take l.index l.text) ≡ cuts_of l.counts;
       size : length l.counts ≡ 9;
       small : (k : ℕ) → get_or l.counts k 0 ≤ l.index;
