@@ -5,15 +5,12 @@
 use crate::literal::syntax::Grammar;
 use crate::word::{Part, Role};
 
-/// A class of bytes: bytes of one class mean the same in a number.
+// A class of bytes: bytes of one class mean the same in a number.
 #[derive(Clone, Copy)]
 pub(crate) enum Class {
-    // A byte that plays no role.
-    Other,
-    // The digit 0.
-    Zero,
-    // Another digit of the mantissa and of the exponent.
-    Digit,
+    Other, // A byte that plays no role.
+    Zero,  // The digit 0.
+    Digit, // Another digit of the mantissa and of the exponent.
     MantissaDigit,
     ExponentDigit,
     Separator,
@@ -42,36 +39,24 @@ pub(crate) enum Piece {
 // The digits of a part that have been read.
 #[derive(Clone, Copy)]
 pub(crate) enum Stage {
-    // Nothing of the number.
-    Start,
-    // No digits of the integer.
-    Empty,
-    // The digit 0, and no separators.
-    Bare,
-    // The digit 0, and separators.
-    Zero,
-    // A leading zero, and more digits.
-    Led,
-    // Nothing since the exponent character.
-    Mark,
-    // No digits of the fraction, after no digits of the integer.
-    Lone,
-    // No digits, where a zero is not a leading one.
-    Free,
-    // Digits without a leading zero.
-    Digits,
+    Start,  // Nothing of the number.
+    Empty,  // No digits of the integer.
+    Bare,   // The digit 0, and no separators.
+    Zero,   // The digit 0, and separators.
+    Led,    // A leading zero, and more digits.
+    Mark,   // Nothing since the exponent character.
+    Lone,   // No digits of the fraction, after no digits of the integer.
+    Free,   // No digits, where a zero is not a leading one.
+    Digits, // Digits without a leading zero.
 }
 
 // What has been read of a number.
 #[derive(Clone, Copy)]
 pub(crate) struct Summary {
-    // The part that a digit belongs to.
-    pub(crate) part: Part,
+    pub(crate) part: Part, // The part that a digit belongs to.
     pub(crate) stage: Stage,
-    // Whether the last byte is a separator.
-    pub(crate) gap: bool,
-    // Whether the suffix has been read.
-    pub(crate) ended: bool,
+    pub(crate) gap: bool,   // Whether the last byte is a separator.
+    pub(crate) ended: bool, // Whether the suffix has been read.
 }
 
 // A number with a suffix, behind which nothing follows.
