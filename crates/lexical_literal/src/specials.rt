@@ -10,7 +10,7 @@ use crate::syntax::{Grammar, Syntax};
 use lexical_util::laws::flags::role_facts;
 
 /// The spellings of special values. A spelling that is absent or empty matches no text.
-#[derive(Clone, Copy)]
+#[derive(Debug, Clone, Copy, PartialEq, Eq, Hash, Default)]
 pub struct Specials<'a> {
     /// The spelling of NaN, such as `NaN`.
     pub nan: Option<&'a [u8]>,

@@ -5,7 +5,7 @@
 use crate::literal::syntax::{Grammar, Syntax};
 
 /// The spellings of special values. A spelling that is absent or empty matches no text.
-#[derive(Clone, Copy)]
+#[derive(Debug, Clone, Copy, PartialEq, Eq, Hash, Default)]
 pub struct Specials<'a> {
     /// The spelling of NaN, such as `NaN`.
     pub nan: Option<&'a [u8]>,
@@ -45,26 +45,22 @@ pub struct Special {
 }
 
 impl<'a> Specials<'a> {
-    /// Returns the special value that `text` is, or `None` if it is none. If several spellings match, the first of NaN,
-    /// inf and infinity is returned.
+    /// Returns the special value that `text` is, or `None` if `text` is not a special value. If several spellings match,
+    /// the first in the order NaN, inf, infinity is returned.
     ///
-    /// A special value is a sign, which may be absent, and one of the spellings. The format decides what else is
-    /// allowed:
+    /// A special value is an optional sign, and then one of the spellings. The flags of the format decide the rest:
     ///
     /// - With `no_special`, no text is a special value.
-    /// - `no_positive_mantissa_sign` and `required_mantissa_sign` decide which signs are allowed.
+    /// - With `no_positive_mantissa_sign`, the sign is not `+`. With `required_mantissa_sign`, there is a sign.
     /// - The case of ASCII letters does not matter, unless `case_sensitive_special` is set.
-    /// - With `special_digit_separator`, digit separators may be anywhere in the spelling. A separator that is a letter
-    ///   of the spelling may be read as this letter, too: `iINF` is `inf` if the separator is `i`.
+    /// - With `special_digit_separator`, digit separators may be anywhere behind the sign: a text matches if what is left
+    ///   of it, when some separators are left out, is the spelling. So a separator can also be a letter of the spelling.
+    ///   If it is `i`, then `inf` and `iINF` match the spelling `inf`, and `nf` does not.
     ///
-    /// A text can be both a literal and a special value: `inf` is an integer in radix 36.
+    /// A text can be both a literal and a special value, such as `inf` in radix 36.
     #[must_use]
     pub const fn read(&self, syntax: &Syntax, text: &[u8]) -> Option<Special> {
-        self.first(syntax.grammar(), text)
-    }
-
-    // Returns the special value that `text` is, with the first spelling that matches, or `None` if it is none.
-    const fn first(&self, grammar: Grammar, text: &[u8]) -> Option<Special> {
+        let grammar = syntax.grammar();
         match self.read_as(grammar, Spelling::Nan, text) {
             Some(special) => Some(special),
             None => match self.read_as(grammar, Spelling::Inf, text) {
@@ -74,26 +70,22 @@ impl<'a> Specials<'a> {
         }
     }
 
-    // Returns the special value with this spelling that `text` is, or `None` if it is none.
+    // Returns the special value with the spelling `spelling` that `text` is, if it is one.
     const fn read_as(&self, grammar: Grammar, spelling: Spelling, text: &[u8]) -> Option<Special> {
-        let bare = Special {
+        let mut special = Special {
             sign: None,
             spelling,
         };
-        let positive = Special {
-            sign: Some(Sign::Plus),
-            spelling,
-        };
-        let negative = Special {
-            sign: Some(Sign::Minus),
-            spelling,
-        };
-        if self.is(grammar, bare, text) {
-            Some(bare)
-        } else if self.is(grammar, positive, text) {
-            Some(positive)
-        } else if self.is(grammar, negative, text) {
-            Some(negative)
+        if self.is(grammar, special, text) {
+            return Some(special);
+        }
+        special.sign = Some(Sign::Plus);
+        if self.is(grammar, special, text) {
+            return Some(special);
+        }
+        special.sign = Some(Sign::Minus);
+        if self.is(grammar, special, text) {
+            Some(special)
         } else {
             None
         }
@@ -151,8 +143,10 @@ const fn is_behind(grammar: Grammar, first: u8, word: &[u8], text: &[u8]) -> boo
 
 // Returns whether `text` is spelled as `word`.
 //
-// What has been read of `text` may be any front of `word` with at least `low` and at most `high` bytes: a separator that
-// is a letter of `word` may be this letter, or be left out. The bytes of `word` from `low` to `high` are this letter.
+// What has been read may be more than one front of `word`, since a separator that is a letter of `word` may be this letter
+// or be left out. The lengths of these fronts are those from `low` to `high`, and the bytes of `word` from `low` to `high`
+// are this letter, in either case. The letter in its other case cannot be left out, which ends the shortest front. Any
+// other byte ends all fronts but the longest.
 const fn is_spelled(grammar: Grammar, word: &[u8], text: &[u8]) -> bool {
     let mut low = 0;
     let mut high = 0;
