@@ -5,4 +5,5 @@ pub mod Front
 pub mod Parts
 pub mod Readings
 pub mod Syntax
+pub mod Cause
 pub mod Additions

@@ -6,6 +6,7 @@
 
 pub mod laws;
 pub mod read;
+pub mod cause;
 mod steps;
 pub mod syntax;
 mod tables;
