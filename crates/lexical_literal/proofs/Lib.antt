@@ -12,3 +12,5 @@ mod PartLemmas
 mod WriterLemmas
 mod ExampleLemmas
 mod TableLemmas
+mod CauseLemmas
+mod RefusalLemmas

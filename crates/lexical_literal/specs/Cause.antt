@@ -1,5 +1,5 @@
 -- Why a text is not a literal: the cause, the flags that are to blame, and the bytes to show.
-use Rattle.std.specs.Prelude.{ℕ, ◌≡◌, ◌+◌, ◌<◌, ◌==◌, ◌&&◌, ◌↔◌, ◌⊎◌, ◌||◌, not, Bool, true, false, if◌then◌else◌, IsTrue, List, [], ◌∷◌, ◌++◌, length, Option, Some, None}
+use Rattle.std.specs.Prelude.{ℕ, ◌≡◌, ◌+◌, ◌<◌, ◌==◌, ◌&&◌, ◌↔◌, ◌⊎◌, ◌||◌, not, Bool, false, if◌then◌else◌, IsTrue, List, [], ◌∷◌, ◌++◌, length, Option, Some, None}
 use Rattle.std.specs.Int.{w128, trailing_zeros}
 use Rattle.std.specs.List.{list_any}
 use Rattle.lexical_util.specs.Ascii.{ByteSet}
@@ -45,7 +45,7 @@ bare m = with_flags m (λ g. m.flag g && not (is_one_of requirement_flags g))
 
 -- `adding f m` is `m` with the flag `f`, and `without f m` is `m` without it.
 abbrev pub adding : Flag → Notation → Notation
-adding f m = with_flags m (λ g. if bit g == bit f then true else m.flag g)
+adding f m = with_flags m (λ g. (bit g == bit f) || m.flag g)
 
 abbrev pub without : Flag → Notation → Notation
 without f m = with_flags m (λ g. m.flag g && not (bit g == bit f))

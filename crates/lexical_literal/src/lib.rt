@@ -4,9 +4,9 @@
 //! as NaN and infinity, are not literals.
 #![tactic(auto)]
 
+pub mod cause;
 pub mod laws;
 pub mod read;
-pub mod cause;
 mod steps;
 pub mod syntax;
 mod tables;

@@ -95,7 +95,7 @@ pub(crate) struct Move {
 }
 
 // Returns whether `byte` is a digit of `part`.
-fn is_digit(grammar: Grammar, part: Part, byte: u8) -> bool
+pub(crate) fn is_digit(grammar: Grammar, part: Part, byte: u8) -> bool
     ensures { result ≡ nat_lt (byte_value byte) (radix_of (raw grammar.word) part) }
 {
     match part {
@@ -106,7 +106,7 @@ fn is_digit(grammar: Grammar, part: Part, byte: u8) -> bool
 
 // Returns whether `byte` is the decimal point.
 #[tactic(auto, unfolding(lexical_util::specs::Unfoldable::cased))]
-fn is_point(grammar: Grammar, byte: u8) -> bool
+pub(crate) fn is_point(grammar: Grammar, byte: u8) -> bool
     ensures { result ≡ point_of grammar.options byte }
 {
     match grammar.options {
@@ -116,7 +116,7 @@ fn is_point(grammar: Grammar, byte: u8) -> bool
 }
 
 // Returns whether `byte` is the exponent character.
-fn is_exponent_character(grammar: Grammar, byte: u8) -> bool
+pub(crate) fn is_exponent_character(grammar: Grammar, byte: u8) -> bool
     ensures { result ≡ exponent_character_of (raw grammar.word) grammar.options byte }
 {
     match grammar.options {
@@ -232,7 +232,7 @@ fn is_place(grammar: Grammar, part: Part, before: bool, after: bool) -> bool
 }
 
 // Returns whether the part has a digit.
-fn has_digit(stage: Stage) -> bool
+pub(crate) fn has_digit(stage: Stage) -> bool
     ensures { result ≡ has_digit stage }
 {
     matches!(
@@ -249,7 +249,7 @@ fn is_fresh(stage: Stage) -> bool
 }
 
 // Returns whether an exponent is required.
-fn needs_exponent(grammar: Grammar) -> bool
+pub(crate) fn needs_exponent(grammar: Grammar) -> bool
     ensures { result ≡ needs_exponent (notation_of grammar) }
 {
     grammar.view().required_exponent_notation() && grammar.options.is_some()
