@@ -1,4 +1,4 @@
-//! The library for the page, as WebAssembly: calls of the crate `peltzivar` and of the example that reads literals. A
+//! The library for the page, as WebAssembly: calls of the crate `peltzivar`, and of a reader of literals over it. A
 //! call reads a text from `INPUT`, writes its answer to `OUTPUT` as JSON, and returns how many bytes the answer has. A
 //! word has two halves of 64 bits.
 #![no_std]
@@ -10,7 +10,7 @@ use peltzivar::edits::{apply, edit_word, is_built, normal_form};
 use peltzivar::reasons::Byte;
 use peltzivar::{Cause, Edit, Error, FlagSetter, Format, FormatView, NumberFormatBuilder, Rule};
 
-#[path = "../rust/examples/literal/reader.rs"]
+#[path = "../bench/rust/src/reader.rs"]
 mod reader;
 
 const SIZE: usize = 1 << 16;

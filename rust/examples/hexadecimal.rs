@@ -1,32 +1,31 @@
-//! A format as a constant, and a reader of integers in any format.
+//! A format as a constant, and the integers that it reads.
 
 use core::num::NonZeroU8;
 use peltzivar::format::NumberFormatBuilder;
-use peltzivar::{Format, Part};
+use peltzivar::literal::Syntax;
 
-/// Hexadecimal digits with separators, such as `00_ff`. A format that is not lawful does not compile.
+/// Hexadecimal integers with separators, such as `00_ff`. A format that is not lawful does not compile.
 const HEXADECIMAL: u128 = NumberFormatBuilder::new()
     .mantissa_radix(16)
     .digit_separator(NonZeroU8::new(b'_'))
     .internal_digit_separator(true)
     .build_or_panic();
 
-/// Reads digits, with single separators between them if the format allows these.
-fn integer(format: Format, text: &[u8]) -> Option<u64> {
-    let (mut value, mut is_after_digit) = (0u64, false);
-    let (radix, separators) = (format.radix().into(), format.separators(Part::Integer));
-    for &byte in text {
-        match format.mantissa_digit(byte) {
-            Some(digit) => value = value.checked_mul(radix)?.checked_add(digit.into())?,
-            None if is_after_digit && separators.internal && format.is_separator(byte) => {}
-            None => return None,
+/// Returns the value of an integer. Returns `None` if the text is not an integer of the syntax, or if it is too large.
+fn integer(syntax: &Syntax, text: &[u8]) -> Option<i64> {
+    let (format, parts) = (syntax.format(), syntax.read(text).ok()?);
+    let (mut value, radix) = (0i64, format.radix().into());
+    for &byte in parts.integer {
+        // A separator has no value.
+        if let Some(digit) = format.mantissa_digit(byte) {
+            value = value.checked_mul(radix)?.checked_add(digit.into())?;
         }
-        is_after_digit = !format.is_separator(byte);
     }
-    is_after_digit.then_some(value)
+    Some(if parts.sign == b"-" { -value } else { value })
 }
 
-fn main() {
-    let format = Format::of::<HEXADECIMAL>();
-    assert_eq!(integer(format, b"00_ff"), Some(255));
+fn main() -> Result<(), peltzivar::Error> {
+    let syntax = Syntax::integers(HEXADECIMAL)?;
+    assert_eq!(integer(&syntax, b"00_ff"), Some(255));
+    Ok(())
 }

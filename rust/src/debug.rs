@@ -1,4 +1,4 @@
-//! `Debug` for builders, views and formats. It prints the format word, each field that differs from a new builder's, any
+//! `Debug` for builders, views, formats, syntaxes and readers. It prints the format word, each field that differs from a new builder's, any
 //! reserved bits, and any broken rules.
 
 use core::fmt;
@@ -8,6 +8,7 @@ use crate::feature_format::NumberFormat;
 use crate::format_builder::NumberFormatBuilder;
 use crate::format_flags::{Rule, DIGIT_SEPARATOR_SHIFT};
 use crate::lawful::Format;
+use crate::literal::{Reader, Syntax};
 use crate::view::FormatView;
 
 /// Writes a struct with `word` and those fields of the format word `fields` that differ from a new builder's. A
@@ -81,5 +82,21 @@ impl fmt::Debug for Format {
 impl<const FORMAT: u128> fmt::Debug for NumberFormat<FORMAT> {
     fn fmt(&self, f: &mut fmt::Formatter<'_>) -> fmt::Result {
         write(f, "NumberFormat", FORMAT, FORMAT)
+    }
+}
+
+/// Writes the view of the format, and the options.
+impl fmt::Debug for Syntax {
+    fn fmt(&self, f: &mut fmt::Formatter<'_>) -> fmt::Result {
+        f.debug_struct("Syntax")
+            .field("format", &self.format())
+            .field("options", &self.options())
+            .finish()
+    }
+}
+
+impl fmt::Debug for Reader {
+    fn fmt(&self, f: &mut fmt::Formatter<'_>) -> fmt::Result {
+        f.debug_struct("Reader").finish_non_exhaustive()
     }
 }

@@ -1,6 +1,7 @@
 //! A number format states how numbers may be written: their radix, prefix, signs and digit separators. Here, a format
 //! is a `u128` that holds flags and six bytes. This crate is for code that parses, writes or checks numbers. It
-//! builds, reads, checks and edits formats, and explains why a format is not lawful. It does not parse numbers.
+//! builds, reads, checks and edits formats, explains why a format is not lawful, and finds the parts of numbers. It does
+//! not compute their values.
 //!
 //! The [`u128`] is called the *format word*. It can be a const generic argument. The word is *lawful* if it satisfies
 //! every [`Rule`]: each radix is between 2 and 36, no two flags contradict each other, each character is allowed ASCII
@@ -9,41 +10,32 @@
 //! ```
 //! use core::num::NonZeroU8;
 //! use peltzivar::format::NumberFormatBuilder;
-//! use peltzivar::{Format, Part};
+//! use peltzivar::literal::Syntax;
 //!
-//! /// Hexadecimal numbers such as `00_ff`. A format that is not lawful does not compile.
+//! /// Hexadecimal integers with separators, such as `00_ff`. A format that is not lawful does not compile.
 //! const HEXADECIMAL: u128 = NumberFormatBuilder::new()
 //!     .mantissa_radix(16)
 //!     .digit_separator(NonZeroU8::new(b'_'))
 //!     .internal_digit_separator(true)
 //!     .build_or_panic();
 //!
-//! /// Reads an integer without a sign. One digit separator is skipped between two digits, if the format allows it there.
-//! fn integer(format: Format, text: &[u8]) -> Option<u64> {
-//!     let (mut value, mut is_after_digit) = (0u64, false);
-//!     for &byte in text {
+//! /// Returns the value of an integer. Returns `None` if the text is not an integer of the syntax, or if it is too large.
+//! fn integer(syntax: &Syntax, text: &[u8]) -> Option<i64> {
+//!     let (format, parts) = (syntax.format(), syntax.read(text).ok()?);
+//!     let (mut value, radix) = (0i64, format.radix().into());
+//!     for &byte in parts.integer {
+//!         // A separator has no value.
 //!         if let Some(digit) = format.mantissa_digit(byte) {
-//!             value = value.checked_mul(format.mantissa_radix().into())?.checked_add(digit.into())?;
-//!             is_after_digit = true;
-//!         } else if is_after_digit && format.separators(Part::Integer).internal && format.is_separator(byte) {
-//!             is_after_digit = false;
-//!         } else {
-//!             return None;
+//!             value = value.checked_mul(radix)?.checked_add(digit.into())?;
 //!         }
 //!     }
-//!     is_after_digit.then_some(value)
+//!     Some(if parts.sign == b"-" { -value } else { value })
 //! }
-//! assert_eq!(integer(Format::of::<HEXADECIMAL>(), b"00_ff"), Some(255));
 //!
-//! // The exponent radix is 10, but the mantissa radix is 2. A separator is allowed only in the fraction. There is none.
-//! let [binary, fraction, plain] = [
-//!     0x0A020200_00000000_00000000_0000000C,
-//!     0x0A0A0A00_0000005F_00000002_0000000C,
-//!     0x0A0A0A00_00000000_00000000_0000000C,
-//! ].map(|word| Format::new(word).unwrap());
-//! assert_eq!(integer(binary, b"19"), None);
-//! assert_eq!(integer(fraction, b"1_2"), None);
-//! assert_eq!(integer(plain, b"1\x002"), None);
+//! let syntax = Syntax::integers(HEXADECIMAL)?;
+//! assert_eq!(integer(&syntax, b"00_ff"), Some(255));
+//! assert_eq!(integer(&syntax, b"00__ff"), None);
+//! # Ok::<(), peltzivar::Error>(())
 //! ```
 //!
 //! # Where to begin
@@ -52,7 +44,8 @@
 //! |---|---|
 //! | write a format as a constant | [`NumberFormatBuilder`] and its [`build_or_panic`][NumberFormatBuilder::build_or_panic] |
 //! | take a checked format as an argument | [`Format`] |
-//! | read numbers | [`FormatView::mantissa_digit`], [`is_separator`][FormatView::is_separator], [`separators`][FormatView::separators], [`role_of`][FormatView::role_of] |
+//! | read numbers | [`Syntax`][literal::Syntax], or a [`Reader`][literal::Reader] for many texts; [`FormatView::mantissa_digit`] for the value of a digit |
+//! | write a reader of your own | [`FormatView::is_separator`], [`separators`][FormatView::separators], [`role_of`][FormatView::role_of] |
 //! | read the fields of any word, lawful or not | [`FormatView`]; [`NumberFormat`] for a word that is known at compile time |
 //! | parse settings | `str::parse` for each [`Edit`], or [`Edit::flag`] and [`Edit::byte`]; [`collect`][Iterator::collect] to turn edits into a builder, and [`build_format`][NumberFormatBuilder::build_format] to check it |
 //! | report the problems with a word | [`FormatError`], [`FormatView::reasons`], [`Reason::mask`], [`FormatView::notes`] |
@@ -72,7 +65,7 @@
 //!   case-sensitive. A word in which a reserved bit is set is not lawful.
 //! - The prebuilt formats of `lexical-util`, such as `JSON`, are not included. To copy one, see `examples/recipes.rs`.
 //!
-//! [`Format`], [`FormatView`], [`FormatError`], [`edits`], [`Reason`], [`Note`] and [`source`] are new.
+//! [`Format`], [`FormatView`], [`FormatError`], [`edits`], [`literal`], [`Reason`], [`Note`] and [`source`] are new.
 //!
 //! # What is proved
 //!
@@ -105,6 +98,7 @@ mod format_error;
 pub mod format_flags;
 mod lawful;
 mod lists;
+pub mod literal;
 mod numeral;
 #[doc(hidden)]
 pub mod reasons;

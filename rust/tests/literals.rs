@@ -1,15 +1,12 @@
-//! The reader of the example `literal`, over the tables of docs/FORMAT.md and the grammars of languages.
+//! The reader of literals, over the tables of docs/FORMAT.md and the grammars of languages.
 
-#[rustfmt::skip]
-#[path = "../examples/literal/reader.rs"]
-mod reader;
 #[rustfmt::skip]
 #[allow(dead_code, reason = "its main")]
 #[path = "../examples/recipes.rs"]
 mod recipes;
 
-use peltzivar::{Edit, FlagSetter, Format, FormatView, NumberFormatBuilder};
-use reader::{Options, Parts, Refusal};
+use peltzivar::literal::{Parts, ReadError, Reader, Syntax};
+use peltzivar::{Edit, FlagSetter, FormatView, NumberFormatBuilder};
 use recipes::RECIPES;
 
 const PAGE: &str = include_str!("../../docs/FORMAT.md");
@@ -27,48 +24,61 @@ fn texts(cell: &'static str) -> impl Iterator<Item = &'static str> {
     cell.split("` `")
 }
 
-/// Returns the format that settings describe.
-fn format(settings: &str) -> Format {
+/// Returns the word that settings describe.
+fn word(settings: &str) -> u128 {
     let edits = settings.split_whitespace().map(str::parse::<Edit>);
     let builder: Result<NumberFormatBuilder, _> = edits.collect();
-    builder.unwrap().build_format().expect(settings)
+    builder.unwrap().build_format().expect(settings).word()
 }
 
-const OPTIONS: Options = Options { exponent: b'e', point: b'.', specials: &[b"NaN", b"inf"] };
+/// Returns the syntax of a word, with the exponent character and the decimal point of the page.
+fn syntax(word: u128) -> Syntax {
+    Syntax::new(word, b'e', b'.').unwrap()
+}
 
-/// Reads a text. The parts are in order, and no byte is between them. Those of a literal end with the text.
-fn read(format: Format, options: Option<&Options>, text: &[u8]) -> Result<Parts, Refusal> {
-    let result = reader::read(format, options, text);
-    let (parts, mut end) = (reader::scan(format, options, text).0, 0);
-    for part in parts.iter().filter(|part| !part.is_empty()) {
-        assert_eq!(part.start, end, "{text:?}: {parts:?}");
-        end = part.end;
+/// Returns the parts that are present, one after another.
+fn present<'a>(parts: &Parts<'a>) -> Vec<&'a [u8]> {
+    let exponent = [parts.exponent_character, parts.exponent_sign, parts.exponent, parts.suffix];
+    let parts = [parts.sign, parts.prefix, parts.integer, parts.point, parts.fraction].into_iter().chain(exponent);
+    parts.filter(|part| !part.is_empty()).collect()
+}
+
+/// Reads a text. The calls agree, and the parts of a literal are the text.
+fn read<'a>(reader: &Reader, syntax: Syntax, text: &'a [u8]) -> Result<Parts<'a>, ReadError> {
+    let (result, prefix) = (reader.read(text), reader.read_prefix(text));
+    assert_eq!((result, prefix), (syntax.read(text), syntax.read_prefix(text)), "{text:?}");
+    let longest = prefix.map_or(0, |front| front.size);
+    if let Ok(front) = prefix {
+        assert_eq!(present(&front.parts).concat(), text[..longest], "{text:?}");
     }
-    match &result {
-        Ok(read) => assert_eq!((read, end), (&parts, text.len()), "{text:?}"),
-        Err(refusal) => assert!(refusal.error.index() <= Some(&text.len()), "{refusal:?}"),
+    match result {
+        Ok(parts) => assert_eq!((Ok(parts), longest), (prefix.map(|front| front.parts), text.len())),
+        Err(error) => assert!(longest <= error.valid_up_to() && error.valid_up_to() <= text.len(), "{text:?}"),
     }
     result
 }
 
-/// Each flag, by the texts in its row: with the flag, without it, and that a refusal blames the flag. A flag that allows
-/// digit separators changes the texts that it accepts, and any other flag those that it rejects.
+/// Returns whether a text is a special value, which is not a literal.
+fn is_special(text: &str) -> bool {
+    let letters = text.trim_start_matches(['+', '-']).replace('_', "").to_lowercase();
+    matches!(letters.as_str(), "nan" | "inf" | "infinity")
+}
+
+/// Each flag, by the texts in its row, with the flag and without it. A flag that allows digit separators changes the texts
+/// that it accepts, and any other flag those that it rejects.
 #[test]
 fn flags_accept_and_reject_the_texts_of_the_page() {
     for row in table("The flags") {
         let [_, name, _, with, accepted, rejected] = row[..] else { panic!("{row:?}") };
-        let flag: FlagSetter = name.parse().unwrap();
-        let mask = Edit::Flag(flag, true).mask();
-        let set = format(&format!("{with} {name}=true"));
-        let not_set = Format::new(set.word() & !mask).unwrap();
+        let mask = Edit::Flag(name.parse::<FlagSetter>().unwrap(), true).mask();
+        let set = word(&format!("{with} {name}=true"));
         let texts = texts(accepted).map(|text| (text, true)).chain(texts(rejected).map(|text| (text, false)));
-        for (text, is_accepted) in texts {
+        for (text, is_accepted) in texts.filter(|(text, _)| !is_special(text)) {
             let changes = is_accepted == (mask >> 32 != 0);
-            for (format, flips, wanted) in [(set, false, is_accepted), (not_set, true, is_accepted != changes)] {
-                let result = read(format, Some(&OPTIONS), text.as_bytes());
-                assert_eq!(result.is_ok(), wanted, "{name}={}: {text}: {result:?}", !flips);
-                let blamed = result.map_or_else(|refusal| refusal.edit, |_| None);
-                assert!(wanted || !changes || blamed == Some(Edit::Flag(flag, flips)), "{text}: {blamed:?}");
+            for (word, wanted) in [(set, is_accepted), (set & !mask, is_accepted != changes)] {
+                let syntax = syntax(word);
+                let result = read(&Reader::new(syntax), syntax, text.as_bytes());
+                assert_eq!(result.is_ok(), wanted, "{word:#034X}: {text}: {result:?}");
             }
         }
     }
@@ -78,58 +88,26 @@ fn flags_accept_and_reject_the_texts_of_the_page() {
 fn questions_have_the_answers_of_the_page() {
     for row in table("How a reader applies the flags") {
         let [.., settings, accepted, rejected] = row[..] else { panic!("{row:?}") };
-        let format = format(settings);
-        for text in texts(accepted) {
-            let result = read(format, Some(&OPTIONS), text.as_bytes());
-            assert!(result.is_ok(), "{settings}: {text}: {result:?}");
-        }
-        for (text, error) in texts(rejected).step_by(2).zip(texts(rejected).skip(1).step_by(2)) {
-            let found = read(format, Some(&OPTIONS), text.as_bytes()).map_err(|it| format!("{:?}", it.error));
-            assert_eq!(found, Err(error.into()), "{settings}: {text}");
+        let syntax = syntax(word(settings));
+        let rejected = texts(rejected).step_by(2).map(|text| (text, false));
+        for (text, wanted) in texts(accepted).map(|text| (text, true)).chain(rejected) {
+            let result = read(&Reader::new(syntax), syntax, text.as_bytes());
+            assert_eq!(result.is_ok(), wanted, "{settings}: {text}: {result:?}");
         }
     }
 }
-
-/// Settings, a text that is read as a number or as an integer, its error, and the edit that blames a flag or a radix.
-/// Among them are a digit of the other radix, a separator of another part, and a byte that equals an absent one.
-const ERRORS: &str = "\
-required_integer_digits=true | -.5 | number | EmptyInteger(1) | required_integer_digits=false
-required_fraction_digits=true | 1.e5 | number | EmptyFraction(2) | required_fraction_digits=false
-required_exponent_digits=true | 1e+ | number | EmptyExponent(3) | required_exponent_digits=false
-required_mantissa_digits=true | -. | number | EmptyMantissa(2) | required_mantissa_digits=false
-no_positive_mantissa_sign=true | +1 | number | InvalidPositiveMantissaSign(0) | no_positive_mantissa_sign=false
-required_mantissa_sign=true | 1 | number | MissingMantissaSign(0) | required_mantissa_sign=false
-no_exponent_notation=true | 1.5e3 | number | InvalidExponent(3) | no_exponent_notation=false
-no_positive_exponent_sign=true | 1e+3 | number | InvalidPositiveExponentSign(2) | no_positive_exponent_sign=false
-required_exponent_sign=true | 1e3 | number | MissingExponentSign(2) | required_exponent_sign=false
-no_exponent_without_fraction=true | 12e3 | number | ExponentWithoutFraction(2) | no_exponent_without_fraction=false
-no_special=true | -inf | number | InvalidDigit(1) | no_special=false
-mantissa_radix=10 | +-1 | number | InvalidDigit(1) | none
-mantissa_radix=2 exponent_radix=10 | 19 | number | InvalidDigit(1) | mantissa_radix=10
-mantissa_radix=10 exponent_radix=2 | 1e12 | number | InvalidDigit(3) | exponent_radix=3
-digit_separator=95 fraction_digit_separator_flags=true | 1_2 | number | InvalidDigit(1) | integer_internal_digit_separator=true
-internal_digit_separator=true | 1\0 | number | InvalidDigit(1) | none
-mantissa_radix=16 | 1 | number | InvalidExponentSymbol | none
-no_positive_mantissa_sign=true | +1 | integer | InvalidPositiveSign(0) | no_positive_mantissa_sign=false
-required_mantissa_sign=true | 1 | integer | MissingSign(0) | required_mantissa_sign=false
-mantissa_radix=10 | 1.5 | integer | InvalidDigit(1) | none
-mantissa_radix=10 | 1e5 | integer | InvalidDigit(1) | mantissa_radix=15";
 
 #[test]
-fn errors_are_those_of_the_rows() {
-    for row in ERRORS.lines() {
-        let [settings, text, kind, error, edit] = row.split(" | ").collect::<Vec<_>>()[..] else { panic!("{row}") };
-        let options = (kind == "number").then_some(&OPTIONS);
-        let refusal = read(format(settings), options, text.as_bytes()).expect_err(row);
-        assert_eq!(format!("{:?}", refusal.error), error, "{row}");
-        let blamed = refusal.edit.map_or("none".into(), |edit| edit.to_string());
-        assert_eq!(blamed, edit, "{row}");
+fn texts_are_right_as_far_as_the_page_states() {
+    for row in table("Texts and their causes") {
+        let [text, settings, _, valid_up_to, _] = row[..] else { panic!("{row:?}") };
+        let syntax = syntax(word(settings));
+        let error = read(&Reader::new(syntax), syntax, text.as_bytes()).expect_err(text);
+        assert_eq!(error.valid_up_to().to_string(), valid_up_to, "{settings}: {text}");
     }
-    let exponential = format("required_exponent_notation=true");
-    assert!(read(exponential, None, b"1").is_ok(), "an integer has no exponent");
 }
 
-/// The parts of the number in the picture of the page, and parts before an error.
+/// The parts of the number in the picture of the page, and of the longest front that is a literal.
 #[test]
 fn parts_are_known() {
     #[rustfmt::skip]
@@ -137,22 +115,22 @@ fn parts_are_known() {
         ("digit_separator=95 internal_digit_separator=true base_prefix=120 base_suffix=104", "-0x1_000.5e+12h", "- 0x 1_000 . 5 e + 12 h"),
         ("no_exponent_notation=true", "-12.5e3", "- 12 . 5"),
         ("digit_separator=95 special_digit_separator=true", "12_3.4", "12"),
-        ("no_special=true", "+inf", "+"),
+        ("base_prefix=120", "0x", "0"),
     ];
     for (settings, text, wanted) in rows {
-        let (parts, result) = reader::scan(format(settings), Some(&OPTIONS), text.as_bytes());
-        let present = parts.into_iter().filter(|part| !part.is_empty());
-        assert!(present.map(|part| &text[part]).eq(wanted.split(' ')), "{text}");
+        let syntax = syntax(word(settings));
+        let result = read(&Reader::new(syntax), syntax, text.as_bytes());
+        let front = syntax.read_prefix(text.as_bytes()).unwrap();
+        assert!(present(&front.parts).into_iter().eq(wanted.split(' ').map(str::as_bytes)), "{text}: {front:?}");
         assert_eq!(result.is_ok(), text == wanted.replace(' ', ""), "{text}");
     }
 }
 
-/// Returns the format of a recipe, and its options unless it is a format of integers.
-fn recipe(name: &str) -> (Format, Option<Options<'static>>) {
-    let found = RECIPES.into_iter().find(|recipe| recipe.0 == name);
-    let (_, word, exponent) = found.expect(name);
-    let options = Options { exponent, point: b'.', specials: &[b"nan", b"inf"] };
-    (Format::new(word).unwrap(), (!name.ends_with("_INTEGER")).then_some(options))
+/// Returns the syntax of a recipe. A recipe whose name ends in `_INTEGER` has integers alone.
+fn recipe(name: &str) -> Syntax {
+    let (_, word, exponent) = RECIPES.into_iter().find(|recipe| recipe.0 == name).expect(name);
+    let is_integer = name.ends_with("_INTEGER");
+    if is_integer { Syntax::integers(word) } else { Syntax::new(word, exponent, b'.') }.unwrap()
 }
 
 #[test]
@@ -161,12 +139,12 @@ fn recipes_accept_and_reject_what_their_grammars_do() {
     for row in rows.filter(|row| !row.is_empty() && !row.starts_with('#')) {
         let [name, mark, text] = [0, 1, 2].map(|column| row.split_whitespace().nth(column).expect(row));
         let wanted = match mark {
-            "+" | "-!" => true,
+            "+" | "-!" => !is_special(text),
             "-" | "+!" => false,
             _ => panic!("{row}"),
         };
-        let (format, options) = recipe(name);
-        let result = read(format, options.as_ref(), text.as_bytes());
+        let syntax = recipe(name);
+        let result = read(&Reader::new(syntax), syntax, text.as_bytes());
         assert_eq!(result.is_ok(), wanted, "{row}: {result:?}");
     }
 }
@@ -191,9 +169,9 @@ fn any_bytes_are_read() {
         texts = longer.chain([vec![]]).collect();
     }
     for (name, ..) in RECIPES {
-        let (format, options) = recipe(name);
+        let (syntax, reader) = (recipe(name), Reader::new(recipe(name)));
         for text in &texts {
-            let _ = read(format, options.as_ref(), text);
+            let _ = read(&reader, syntax, text);
         }
     }
 }

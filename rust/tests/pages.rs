@@ -4,13 +4,18 @@
 use std::path::Path;
 use std::process::{Command, Output};
 
-/// Runs cargo in the top folder, and returns whether it succeeds and what it prints.
-fn cargo(arguments: &str) -> (bool, String) {
-    let mut words = arguments.split(' ');
+/// Runs `cargo run` in the top folder, and returns its status and what it prints.
+fn cargo_run(arguments: &[&str]) -> (Option<i32>, String) {
     let mut command = Command::new(env!("CARGO"));
-    let command = command.current_dir(Path::new(env!("CARGO_MANIFEST_DIR")).parent().unwrap()).args(words.next());
-    let Output { status, stdout, stderr } = command.args(["--quiet", "--offline"]).args(words).output().expect("cargo");
-    (status.success(), String::from_utf8([stdout, stderr].concat()).unwrap())
+    let command = command.current_dir(Path::new(env!("CARGO_MANIFEST_DIR")).parent().unwrap());
+    let command = command.args(["run", "--quiet", "--offline"]).args(arguments);
+    let Output { status, stdout, stderr } = command.output().expect("cargo");
+    (status.code(), String::from_utf8([stdout, stderr].concat()).unwrap())
+}
+
+/// Returns the words of a command.
+fn words(command: &str) -> Vec<&str> {
+    command.split(' ').collect()
 }
 
 /// The commands `$ cargo run ..` and `$ numfmt ..` of a page, with the lines below them.
@@ -25,7 +30,7 @@ fn commands_print_what_pages_show() {
             let Some(arguments) = command.strip_prefix("    $ cargo run ") else { continue };
             let is_shown = |line: &&str| line.starts_with("    ") && !line.starts_with("    $");
             let shown: Vec<&str> = std::iter::from_fn(|| lines.next_if(is_shown)).map(|line| &line[4..]).collect();
-            let (_, printed) = cargo(&format!("run {arguments}"));
+            let (_, printed) = cargo_run(&words(arguments));
             assert_eq!(printed, shown.join("\n") + "\n", "{name}: {line}");
             count += 1;
         }
@@ -37,13 +42,47 @@ fn commands_print_what_pages_show() {
 fn examples_end_as_their_comments_state() {
     #[rustfmt::skip]
     let rows = [
-        ("face_program", true, ""),
-        ("literal -- 0x000A10007800005F000000010000000C 0x1_F", true, "0x1_F: prefix `0x` integer `1_F`\n"),
-        ("settings -- rust/examples/settings.txt", true, "    word: 0x000A10007800005F000000010000000C,"),
-        ("settings", false, "\"\": No such file or directory (os error 2)\n"),
+        ("face_program", 0, ""),
+        ("settings -- rust/examples/settings.txt", 0, "    word: 0x000A10007800005F000000010000000C,"),
+        ("settings", 1, "\"\": No such file or directory (os error 2)\n"),
     ];
-    for (example, is_success, part) in rows {
-        let (succeeds, printed) = cargo(&format!("run --example {example}"));
-        assert!(succeeds == is_success && printed.contains(part), "{example}: {printed}");
+    for (example, wanted, part) in rows {
+        let (status, printed) = cargo_run(&[&["--example"], &words(example)[..]].concat());
+        assert!(status == Some(wanted) && printed.contains(part), "{example}: {printed}");
+    }
+}
+
+/// A word of decimal numbers, and one of hexadecimal numbers with decimal exponents.
+const DECIMAL: &str = "0x00000A0000000000000000000000000C";
+const HEXADECIMAL: &str = "0x000A10007800005F000000010000000C";
+
+#[test]
+fn the_example_prints_the_parts_of_literals() {
+    const MALFORMED: &str = "literal: the arguments are not WORD E P TEXT\n";
+    #[rustfmt::skip]
+    let rows: [(&[&str], i32, &str); 17] = [
+        (&[HEXADECIMAL, "112", "46", "0x1_F"], 0, "prefix 0x\ninteger 1_F\n"),
+        (&[HEXADECIMAL, "112", "046", "-F.8P+3"], 0,
+            "sign -\ninteger F\npoint .\nfraction 8\nexponent_character P\nexponent_sign +\nexponent 3\n"),
+        (&["0xA6800000000000000000000000C", "101", "46", "1H"], 0, "integer 1\nsuffix H\n"),
+        (&[HEXADECIMAL, "none", "none", "0x1_F"], 0, "prefix 0x\ninteger 1_F\n"),
+        (&[HEXADECIMAL, "none", "none", "0x1.8"], 1, "3: "),
+        (&[DECIMAL, "101", "46", ""], 1, "0: "),
+        (&[DECIMAL, "101", "46", "1 2"], 1, "1: "),
+        (&[DECIMAL, "101", "46", "1e"], 1, "2: "),
+        (&[HEXADECIMAL, "101", "46", "1"], 1,
+            "lexical number format error: 'invalid exponent symbol: must be ASCII and not a digit or a `+/-` sign'\n"),
+        (&["0x0", "none", "none", "1"], 1, "lexical number format error: 'invalid radix for mantissa digits'\n"),
+        (&[DECIMAL, "none", "46", "1"], 2, MALFORMED),
+        (&[DECIMAL, "101", "none", "1"], 2, MALFORMED),
+        (&[DECIMAL, "101", "256", "1"], 2, MALFORMED),
+        (&[DECIMAL, "e", "46", "1"], 2, MALFORMED),
+        (&["12", "101", "46", "1"], 2, MALFORMED),
+        (&[DECIMAL, "101", "46"], 2, MALFORMED),
+        (&[DECIMAL, "101", "46", "1", "2"], 2, MALFORMED),
+    ];
+    for (arguments, wanted, text) in rows {
+        let (status, printed) = cargo_run(&[&["--example", "literal", "--"], arguments].concat());
+        assert!(status == Some(wanted) && printed.starts_with(text), "{arguments:?}: {printed}");
     }
 }

@@ -3,6 +3,7 @@
 
 use peltzivar::edits::edits_of;
 use peltzivar::format::{self, NumberFormatBuilder, STANDARD};
+use peltzivar::literal::{Front, Options, Parts, ReadError, Reader, Syntax};
 use peltzivar::{
     with_setters, word, Edit, Error, FlagSetter, Format, FormatError, FormatView, Note, NumberFormat, Part, Reason,
     Rule, Setter, SettingError, SettingErrorKind,
@@ -17,11 +18,14 @@ use std::sync::atomic::{AtomicU32, Ordering};
 const _: () = {
     const fn are_values<T: Copy + Debug + Eq + Hash + Send + Sync + Unpin>() {}
     const fn are_ordered<T: Ord>() {}
-    const fn are_errors<A: StdError, B: StdError, C: StdError, D: StdError>() {}
+    const fn are_errors<A: StdError, B: StdError, C: StdError, D: StdError, E: StdError>() {}
+    const fn is_shared<T: Clone + Debug + Send + Sync + Unpin>() {}
     are_values::<(Edit, Error, FlagSetter, Format, FormatError, FormatView, Note, NumberFormat<STANDARD>)>();
     are_values::<(NumberFormatBuilder, Reason, Rule, SettingError, SettingErrorKind)>();
+    are_values::<(Front<'_>, Options, Parts<'_>, ReadError, Syntax)>();
+    is_shared::<Reader>();
     are_ordered::<(Edit, Error, FlagSetter, Format, FormatView, Rule)>();
-    are_errors::<Error, FormatError, Reason, SettingError>();
+    are_errors::<Error, FormatError, ReadError, Reason, SettingError>();
 };
 
 macro_rules! constants {

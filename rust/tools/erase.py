@@ -24,14 +24,16 @@ CRATES = RUST.parent / "crates"
 # The beginning of each generated file.
 MADE = "// Made by rust/tools/erase.py"
 
-# For each crate, the folder of its files in plain Rust, the root of their paths, and the standard library that they use.
-LIBRARY = ("src", "crate", "core")
+# For each crate, the folder of its files in plain Rust, the path of the libraries below it, its own, and the standard
+# library that it uses.
+LIBRARY = ("src", "crate", "crate", "core")
 PLACES = {
     "lexical_base": LIBRARY,
     "lexical_flags": LIBRARY,
     "lexical_builder": LIBRARY,
     "lexical_util": LIBRARY,
-    "numfmt": ("numfmt/src", "peltzivar", "std"),
+    "lexical_literal": ("src/literal", "crate", "crate::literal", "core"),
+    "numfmt": ("numfmt/src", "peltzivar", "crate", "std"),
 }
 
 # Files whose counterpart is written by hand, because plain Rust does the same in another way: by loops that the compiler
@@ -82,7 +84,7 @@ EVERYWHERE = [
 # Types that may grow. In plain Rust, a match outside the crate has to have an arm for what they lack today.
 GROWS = {
     "enum": "ArgumentKind Byte Cause Class Edit Error FlagSetter Note Part Radixes Role Rule Setter SettingErrorKind",
-    "struct": "NamedByte Separators",
+    "struct": "Front<'a> NamedByte Options Parts<'a> Separators",
 }
 for kind, types in GROWS.items():
     items = [f"pub {kind} {name} {{" for name in types.split()]
@@ -97,6 +99,8 @@ ATTRIBUTES = [
     ("format_builder.rt", "pub const fn build(&self)", f"{DEPRECATED} pub const fn build(&self)"),
     ("feature_format.rt", "#[derive(Clone, Copy)]", f"#[derive({COMPARED})]"),
     ("short_text.rt", "#[derive(Drop)]", "#[derive(Clone, Copy)]"),
+    ("read.rt", "#[derive(Drop)]", "#[derive(Clone)]"),
+    ("tables.rt", "#[derive(Drop)]", "#[derive(Clone)]"),
 ]
 
 # Words that plain Rust must not contain. If one is left, a ghost form was not removed.
@@ -248,8 +252,9 @@ def source_of(path):
     return Source(path, text)
 
 
-def renamed(text, root, std):
+def renamed(text, root, own, std):
     """Returns the text with the paths and names of plain Rust."""
+    text = re.sub(r"\bcrate::", f"{own}::", text)
     text = re.sub(r"\blexical_(base|flags|builder|util)\b(?=::)", root, text)
     text = re.sub(r"\bstd::", f"{std}::", text)
     text = re.sub(rf"\b{root}::({'|'.join(MODULES)})\b", lambda m: f"{root}::{MODULES[m[1]]}", text)
@@ -263,7 +268,7 @@ def laid_out(text, folder):
 def made_files():
     """Returns each generated file with its text."""
     files, sources, read = {}, "", []
-    for crate, (folder, root, std) in PLACES.items():
+    for crate, (folder, *names) in PLACES.items():
         top = CRATES / crate / "src"
         for path in sorted(top.rglob("*.rt")):
             name = path.relative_to(top)
@@ -273,7 +278,7 @@ def made_files():
                 sources += path.read_text()
                 read.append(path)
                 head = f"{MADE} from crates/{crate}/src/{name}: change that file.\n\n"
-                text = head + renamed(source_of(path).erase(), root, std)
+                text = head + renamed(source_of(path).erase(), *names)
                 files[RUST.joinpath(folder, stem, *others).with_suffix(".rs")] = laid_out(text, folder)
     for pattern, folder in COPIED.items():
         for path in sorted(it for it in CRATES.glob(pattern) if it.name not in NOT_COPIED):
@@ -281,7 +286,7 @@ def made_files():
             for old, new in TEST_FORMS:
                 text = text.replace(old, new)
             text = re.sub(r"format!\(in rt\.alloc\(\); ([^)]*)\)\?", r"format!(\1)", text)
-            files[RUST.joinpath(folder, path.stem).with_suffix(".rs")] = laid_out(renamed(text, "peltzivar", "std"), folder)
+            files[RUST.joinpath(folder, path.stem).with_suffix(".rs")] = laid_out(renamed(text, "peltzivar", "crate", "std"), folder)
     unused = [old for file, old, _ in REPLACED + ATTRIBUTES if not any(path.match(file) for path in read)]
     unused += [old for old, _ in EVERYWHERE if old not in sources]
     if unused:
@@ -295,8 +300,8 @@ def main():
     except Refused as refused:
         sys.exit(f"rust/tools/erase.py: {refused}")
     stale = [path for path, text in files.items() if not path.exists() or path.read_text() != text]
-    folders = {folder for folder, _, _ in PLACES.values()} | set(COPIED.values())
-    sources = [it for folder in folders for it in (RUST / folder).rglob("*.rs")]
+    folders = {folder for folder, *_ in PLACES.values()} | set(COPIED.values())
+    sources = {it for folder in folders for it in (RUST / folder).rglob("*.rs")}
     gone = [it for it in sources if it not in files and it.read_text().startswith(MADE)]
     names = " ".join(str(path.relative_to(RUST)) for path in stale + gone)
     if "--check" in sys.argv[1:]:

@@ -160,3 +160,10 @@ module _ (A : ByteSet) where
   pub first_append : (x y : List ℕ) → first_in A x ≡ length x → first_in A (x ++ y) ≡ length x + first_in A y
   first_append [] y none = omega arith
   first_append (b ∷ x) y none = pass (A b) (first_in A x) (first_in A (x ++ y)) (length x) (first_in A y) none (first_append x y)
+
+  pub first_before : (x y : List ℕ) → first_in A x < length x → first_in A (x ++ y) ≡ first_in A x
+  first_before [] y some = absurd (omega arith)
+  first_before (b ∷ x) y some = earlier (A b) (first_in A x) (first_in A (x ++ y)) (length x) some (first_before x y) where
+    earlier : (t : Bool) (n k l : ℕ) → (if t then 0 else 1 + n) < suc l → (n < l → k ≡ n) → (if t then 0 else 1 + k) ≡ (if t then 0 else 1 + n)
+    earlier true n k l some more = refl
+    earlier false n k l some more = omega (arith, more (omega arith))

@@ -1,5 +1,5 @@
 -- What has been read without an error can be completed to a literal.
-use Rattle.std.proofs.Common.{ℕ, ◌≡◌, Bool, true, false, not, ◌==◌, ◌&&◌, ◌||◌, ◌⊎◌, if◌then◌else◌, inl, inr, List, [], ◌∷◌, ◌++◌, Option, Some, None, refl, sym, ap, subst, ◌∙◌, arith}
+use Rattle.std.proofs.Common.{ℕ, ◌≡◌, Bool, true, false, not, ◌==◌, ◌&&◌, ◌||◌, ◌⊎◌, inl, inr, List, [], ◌∷◌, ◌++◌, Some, None, refl, sym, ap, subst, ◌∙◌, arith}
 use Rattle.std.proofs.lemmas.Bool.{false≢true, and_parts, and_from, or_cases, cases_Bool, false_from_ne_true}
 use Rattle.lexical_util.specs.Layout as layout
 use Rattle.lexical_util.specs.declared.feature_format.roles.Role.{Role}
@@ -9,12 +9,11 @@ use Rattle.lexical_util.specs.declared.format_flags.Part.TheVariants as parts
 use Rattle.lexical_literal.specs.Notation.{Notation}
 use Rattle.lexical_literal.specs.Run.{is_place}
 use Rattle.lexical_literal.specs.Front.{IsFront}
-use Rattle.lexical_literal.specs.Additions.Summary.{role_in, implies, has_digit, is_lone, is_led, first_digit, after_sign, after_point, may_lead, needs_exponent, may_follow, may_stop, may_end, digits_suffice, ends, after_digit, after_separator, takes_digit, is_open, is_signed, forbids_plus, takes, after, move, scan, is_accepted, start}
+use Rattle.lexical_literal.specs.Additions.Summary.{implies, has_digit, is_lone, is_led, after_digit, after_mark, after_point, may_lead, needs_exponent, may_follow, continues, gap_fits, digits_suffice, ends, is_open, is_signed, forbids_plus, takes, after, scan, is_accepted, start, no_cuts}
 use Rattle.lexical_literal.specs.declared.steps.Stage.{Stage}
 use Rattle.lexical_literal.specs.declared.steps.Stage.TheVariants as stages
 use Rattle.lexical_literal.specs.declared.steps.Summary.{Summary}
-use Rattle.lexical_literal.proofs.ClassLemmas.{is_role}
-use Rattle.lexical_literal.proofs.ScanLemmas.{IsReady, Accepts, scan_none, scan_append, accepts_byte, digit_role}
+use Rattle.lexical_literal.proofs.ScanLemmas.{HasRoles, IsReady, Accepts, role_in, scan_none, scan_append, took, arrives_byte, digit_role, is_role}
 use Rattle.lexical_literal.proofs.StepLemmas.{reading, digit_seen, digit_settles, settled}
 use Rattle.lexical_literal.proofs.LiteralLemmas.{literal_from, literal_arrives}
 
@@ -28,7 +27,7 @@ record CanGoOn (m : Notation) (s : Summary) : Type 0 where
   led : is_led s.stage ≡ true → may_lead m ≡ true
 
 -- The first digit is no leading zero yet.
-first : (zero gap : Bool) → is_led (first_digit gap zero) ≡ true → ⊥
+first : (zero gap : Bool) → is_led (after_digit stages.Empty gap zero) ≡ true → ⊥
 first zero gap is = grind arith
 
 module _ (m : Notation) where
@@ -42,20 +41,16 @@ module _ (m : Notation) where
   led_next _ gap zero may led is = absurd (false≢true is)
 
   open_next : (part : Part) (stage : Stage) → is_open m part (has_digit stage) (may_follow m stage) ≡ true
-      → is_open m part (has_digit (after_separator stage)) (may_follow m (after_separator stage)) ≡ true
+      → is_open m part (has_digit (after_mark stage)) (may_follow m (after_mark stage)) ≡ true
   open_next part stages.Start is = is
   open_next part _ is = is
 
-  led_kept : (stage : Stage) → is_led (after_separator stage) ≡ true → is_led stage ≡ true
+  led_kept : (stage : Stage) → is_led (after_mark stage) ≡ true → is_led stage ≡ true
   led_kept stages.Start is = is
   led_kept _ is = is
 
-  can_sign : (s : Summary) → CanGoOn m s → CanGoOn m (record s { stage = after_sign s.stage })
-  can_sign s can = go s.stage refl where
-    go : (stage : Stage) → s.stage ≡ stage → CanGoOn m (record s { stage = after_sign stage })
-    go stages.Start is = record { closes = subst (λ t. IsOpen m s.part (has_digit t) s.gap (may_follow m t)) is can.closes; led = λ led. absurd (false≢true led) }
-    go stages.Mark is = record { closes = subst (λ t. IsOpen m s.part (has_digit t) s.gap (may_follow m t)) is can.closes; led = λ led. absurd (false≢true led) }
-    go stage is = subst (λ t. CanGoOn m (record s { stage = t })) is can
+  can_sign : (s : Summary) → CanGoOn m s → CanGoOn m (record s { stage = after_mark s.stage })
+  can_sign s can = record { closes = λ gap. open_next s.part s.stage (can.closes gap); led = λ led. can.led (led_kept s.stage led) }
 
   point_unled : (digit : Bool) → is_led (after_point digit) ≡ true → ⊥
   point_unled digit is = grind arith
@@ -63,7 +58,7 @@ module _ (m : Notation) where
   -- What can go on does so after each byte that is taken.
   goes_on : (s : Summary) (plus zero : Bool) (r : Role) → CanGoOn m s → takes m s plus r ≡ true → CanGoOn m (after s zero r)
   goes_on s plus zero roles.Digit can is =
-      let may = and_parts (takes_digit m s.part (has_digit s.stage) s.gap) (may_follow m s.stage) (and_parts (is_signed m s.part s.stage) _ is).1 in
+      let may = and_parts (gap_fits m s.part (has_digit s.stage) s.gap true) (may_follow m s.stage) (and_parts (is_signed m s.part s.stage) _ is).1 in
       record { closes = λ gap. absurd (false≢true gap); led = led_next s.stage s.gap zero may.1 can.led }
   goes_on s plus zero roles.Separator can is =
       let is_closed = and_parts _ (is_open m s.part (has_digit s.stage) (may_follow m s.stage)) (and_parts (is_signed m s.part s.stage) _ is).1 in
@@ -74,24 +69,11 @@ module _ (m : Notation) where
   goes_on s plus zero roles.Exponent can is = record { closes = λ gap. absurd (false≢true gap); led = λ led. absurd (false≢true led) }
   goes_on s plus zero roles.Suffix can is = record { closes = λ gap. absurd (false≢true gap); led = λ led. absurd (false≢true led) }
 
-  all_go_on : (s : Summary) (text : List ℕ) (last : Summary) → CanGoOn m s → scan m (Some s) text ≡ Some last → CanGoOn m last
-  all_go_on s [] last can is = let same : s ≡ last = cc in subst (CanGoOn m) same can
-  all_go_on s (b ∷ text) last can is = go (λ s. all_go_on s text last) (role_in m s.part b) (not s.ended) is where
-    none : (text : List ℕ) → scan m None text ≡ Some last → ⊥
-    none [] is = cc
-    none (c ∷ text) is = cc
-
-    take : (r : Role) (x y : Bool) → (takes m s (b == 43) r ≡ true → CanGoOn m (after s (b == 48) r)) → takes m s (b == 43) r ≡ y
-        → ((s : Summary) → CanGoOn m s → scan m (Some s) text ≡ Some last → CanGoOn m last)
-        → scan m (if x && y then Some (after s (b == 48) r) else None) text ≡ Some last → CanGoOn m last
-    take r true true next took more is = more (after s (b == 48) r) (next took) is
-    take r true false next took more is = absurd (none text is)
-    take r false y next took more is = absurd (none text is)
-
-    go : ((s : Summary) → CanGoOn m s → scan m (Some s) text ≡ Some last → CanGoOn m last) → (o : Option Role) → (x : Bool)
-        → scan m (move m s (b == 43) (b == 48) o) text ≡ Some last → CanGoOn m last
-    go more None x is = absurd (none text is)
-    go more (Some r) x is = take r (not s.ended) (takes m s (b == 43) r) (goes_on s (b == 43) (b == 48) r can) refl more is
+  all_go_on : HasRoles m → (s : Summary) (text : List ℕ) (last : Summary) → CanGoOn m s → scan m (Some s) text ≡ Some last → CanGoOn m last
+  all_go_on h s [] last can is = let same : s ≡ last = cc in subst (CanGoOn m) same can
+  all_go_on h s (b ∷ text) last can is =
+      let t = took m h s b (λ o. scan m o text ≡ Some last) (λ is. let none = sym (scan_none m text) ∙ is in cc) is in
+      all_go_on h (after s (b == 48) t.role) text last (goes_on s (b == 43) (b == 48) t.role can t.taken) t.rest
 
   -- WAYS TO GO ON
 
@@ -100,7 +82,7 @@ module _ (m : Notation) where
 
   module _ (ready : IsReady m) where
     then_byte : (s : Summary) (b : ℕ) (r : Role) → s.ended ≡ false → role_in m s.part b ≡ Some r → takes m s (b == 43) r ≡ true → Completed (after s (b == 48) r) → Completed s
-    then_byte s b r going role is more = (b ∷ more.0, accepts_byte m s b r more.0 going role is more.1)
+    then_byte s b r going role is more = (b ∷ more.0, (arrives_byte m ready.roles s b r no_cuts more.0 _ going role is (more.1, refl)).0)
 
     met : (f : Bool) → implies f true ≡ true
     met f = grind arith
@@ -131,23 +113,26 @@ module _ (m : Notation) where
       | inl here ↦ ended stage gap here.0 (ends_here stage gap signed here.0 here.1) can.led
       | inr more ↦
           let may = follow stage more.1 in
-          then_byte (reading part stage gap) 48 roles.Digit refl (digit_role m part 48 (ready.roles.zero_is_digit part))
+          then_byte (reading part stage gap) 48 roles.Digit refl (digit_role m ready.roles part 48 (ready.roles.zero_is_digit part))
           (and_from _ _ signed (and_from _ _ more.0 may))
           (ended (after_digit stage gap true) false (digit_seen stage gap true)
           (ends_here (after_digit stage gap true) false (settled m part (after_digit stage gap true) (digit_settles stage gap true)) (digit_seen stage gap true) refl)
           (led_next stage gap true may can.led))
     ] where
+      seen : (digit : Bool) → is_place m part digit false ≡ true → digit ≡ true
+      seen true trailing = refl
+      seen false trailing = absurd (false≢true trailing)
+
       closes : (digit gap next : Bool) → IsOpen m part digit gap next
-          → ((digit ≡ true) × (may_end m part digit gap ≡ true)) ⊎ ((takes_digit m part digit gap ≡ true) × (digit ≡ true → next ≡ true))
+          → ((digit ≡ true) × (gap_fits m part digit gap false ≡ true)) ⊎ ((gap_fits m part digit gap true ≡ true) × (digit ≡ true → next ≡ true))
       closes true false next can = inl (refl, refl)
       closes false false next can = inr (refl, λ none. absurd (false≢true none))
-      closes false true next can = inr (can refl, λ none. absurd (false≢true none))
-      closes true true next can = elim (or_cases (is_place m part true false) _ (can refl)) [
-        | inl trailing ↦ inl (refl, trailing)
-        | inr both ↦ let each = and_parts (is_place m part true true) next both in inr (each.0, λ _. each.1)
+      closes digit true next can = elim (or_cases (is_place m part digit true && next) _ (can refl)) [
+        | inl both ↦ let each = and_parts (is_place m part digit true) next both in inr (each.0, λ _. each.1)
+        | inr trailing ↦ inl (seen digit trailing, trailing)
       ]
 
-      ends_here : (last : Stage) (gap : Bool) → is_signed m part last ≡ true → has_digit last ≡ true → may_end m part (has_digit last) gap ≡ true
+      ends_here : (last : Stage) (gap : Bool) → is_signed m part last ≡ true → has_digit last ≡ true → gap_fits m part (has_digit last) gap false ≡ true
           → ends m (reading part last gap) ≡ true
       ends_here last gap signed digit end = and_from _ _ signed (and_from _ _ end (digits_met part last digit))
 
@@ -231,15 +216,15 @@ module _ (m : Notation) where
       open_is parts.Exponent same = exponent_completed s.stage s.gap (moved parts.Exponent same)
 
       go : (e : Bool) → s.ended ≡ e → Completed s
-      go true over = ([], ap (λ t. t || (ends m s && may_stop m s.part s.stage)) over)
+      go true over = ([], ap (λ t. t || (ends m s && continues m s.part s.stage roles.Suffix)) over)
       go false going = subst (λ e. Completed (record s { ended = e })) (sym going) (open_is s.part refl)
 
     -- What has been read is a front of a literal.
     pub front_from : (text : List ℕ) (s : Summary) → scan m (Some start) text ≡ Some s → IsFront m text
     front_from text s is =
         let can : CanGoOn m start = record { closes = λ gap. absurd (false≢true gap); led = λ led. absurd (false≢true led) } in
-        let more = completed s (all_go_on start text s can is) in
-        let found = literal_from m (text ++ more.0) (subst (λ o. is_accepted m o ≡ true) (sym (scan_append m (Some start) text more.0 ∙ ap (λ o. scan m o more.0) is)) more.1) in
+        let more = completed s (all_go_on ready.roles start text s can is) in
+        let found = literal_from m ready.roles (text ++ more.0) (subst (λ o. is_accepted m o ≡ true) (sym (scan_append m (Some start) text more.0 ∙ ap (λ o. scan m o more.0) is)) more.1) in
         record { more = more.0; literal = found.0; reads = found.1 }
 
     -- A front of a literal is read.

@@ -1,7 +1,6 @@
 -- Lemmas.
 mod RunLemmas
 mod ScanLemmas
-mod ClassLemmas
 mod StepLemmas
 mod LiteralLemmas
 mod FrontLemmas
@@ -14,3 +13,4 @@ mod ExampleLemmas
 mod TableLemmas
 mod CauseLemmas
 mod RefusalLemmas
+mod JointLemmas

@@ -4,7 +4,7 @@ use Rattle.std.proofs.lemmas.Bool.{false≢true, cases_lt, and_parts}
 use Rattle.std.proofs.lemmas.List.{take-take, take_more, take_all}
 use Rattle.lexical_literal.specs.Notation.{Notation}
 use Rattle.lexical_literal.specs.Literal.{Literal, IsLiteral, Reads, is_none_or_prefix}
-use Rattle.lexical_literal.specs.Additions.Summary.{Cuts, role_in, scan, step, is_accepted, is_complete, needs_exponent, ends, tally, count, start, no_cuts, HasLengths}
+use Rattle.lexical_literal.specs.Additions.Summary.{Cuts, class_of, in_part, scan, step, is_accepted, is_complete, needs_exponent, ends, tally, count, start, no_cuts, HasLengths}
 use Rattle.lexical_literal.specs.Front.{IsFront, IsValidUpTo, NoLiteral}
 use Rattle.lexical_literal.specs.Additions.Longest.{IsLongest}
 use Rattle.lexical_literal.specs.declared.steps.Summary.{Summary}
@@ -69,16 +69,16 @@ pub record IsLatest (m : Notation) (text : List ℕ) (end n : ℕ) : Type 0 wher
 module _ (m : Notation) (ready : IsReady m) (text : List ℕ) where
   -- One more byte.
   module _ (i : ℕ) (s : Summary) (inside : i < length text) (read : scan m (Some start) (take i text) ≡ Some s) where
-    pub next_scan : scan m (Some start) (take (i + 1) text) ≡ step m s (get_or text i 0)
+    pub next_scan : scan m (Some start) (take (i + 1) text) ≡ step m s (class_of m (get_or text i 0))
     next_scan = ap (scan m (Some start)) (take_more text i 0 inside) ∙ scan_append m (Some start) (take i text) (get_or text i 0 ∷ [])
         ∙ ap (λ o. scan m o (get_or text i 0 ∷ [])) read
 
     pub next_tally : (c : Cuts) → tally m (Some start) no_cuts (take i text) ≡ c
-        → tally m (Some start) no_cuts (take (i + 1) text) ≡ count s.part (role_in m s.part (get_or text i 0)) c
+        → tally m (Some start) no_cuts (take (i + 1) text) ≡ count s.part (in_part s.part (class_of m (get_or text i 0))) c
     next_tally c counted = ap (tally m (Some start) no_cuts) (take_more text i 0 inside) ∙ tally_append m (Some start) no_cuts (take i text) (get_or text i 0 ∷ [])
         ∙ (λ j. tally m (read j) (counted j) (get_or text i 0 ∷ []))
 
-    pub wrong_at : step m s (get_or text i 0) ≡ None → IsValidUpTo m text i
+    pub wrong_at : step m s (class_of m (get_or text i 0)) ≡ None → IsValidUpTo m text i
     wrong_at none = record {
       within = omega arith;
       front = front_from m ready (take i text) s read;
@@ -133,7 +133,7 @@ module _ (m : Notation) (ready : IsReady m) (text : List ℕ) where
   pub longest_from : (end n : ℕ) → IsValidUpTo m text n → IsLatest m text end n → IsLongest m text end
   longest_from end n wrong latest = record {
     within = omega (arith, latest.within, wrong.within);
-    found = λ some. literal_from m (take end text) (latest.found some);
+    found = λ some. literal_from m ready.roles (take end text) (latest.found some);
     no_longer = λ more over below l reads. elim (cases_lt n more) [
       | inl past ↦ dead n wrong more past below l reads
       | inr old ↦ latest.no_later more over old (accepted more l reads)
@@ -151,7 +151,7 @@ module _ (m : Notation) (ready : IsReady m) (text : List ℕ) where
   module _ (s : Summary) (read : scan m (Some start) (take (length text) text) ≡ Some s) where
     pub whole_literal : is_complete m s ≡ true → (l : Literal) × Reads m l text
     whole_literal complete = subst (λ t. (l : Literal) × Reads m l t) (take_all (length text) text (omega arith))
-        (literal_from m (take (length text) text) (ap (is_accepted m) read ∙ complete))
+        (literal_from m ready.roles (take (length text) text) (ap (is_accepted m) read ∙ complete))
 
     pub whole_counted : (c : Cuts) → tally m (Some start) no_cuts (take (length text) text) ≡ c → (l : Literal) → Reads m l text
         → (is_complete m s ≡ true) × HasLengths l c

@@ -13,11 +13,10 @@ use Rattle.lexical_literal.specs.Run.{is_place, is_fit, are_fit}
 use Rattle.lexical_literal.specs.Literal.{Literal, IsLiteral, requirement}
 use Rattle.lexical_literal.specs.Front.{IsFront}
 use Rattle.lexical_literal.specs.Cause.{Allows, is_one_of, requirement_flags, separator_flags, with_flags}
-use Rattle.lexical_literal.specs.Additions.Causes.{IsWeaker, allows}
-use Rattle.lexical_literal.specs.Additions.Summary.{role_in, takes, after, move, scan, class_of, class_step, is_accepted, start}
+use Rattle.lexical_literal.specs.Additions.Causes.{class_of_next, IsWeaker, allows}
+use Rattle.lexical_literal.specs.Additions.Summary.{is_plus, is_zero, in_part, takes, after, move, scan, class_of, step, is_accepted, start}
 use Rattle.lexical_literal.specs.declared.steps.Class.{Class}
 use Rattle.lexical_literal.specs.declared.steps.Summary.{Summary}
-use Rattle.lexical_literal.proofs.ClassLemmas.{step_as}
 use Rattle.lexical_literal.proofs.ScanLemmas.{HasRoles, IsReady, scan_none, scan_append}
 use Rattle.lexical_literal.proofs.LiteralLemmas.{literal_from, literal_arrives}
 use Rattle.lexical_literal.proofs.FrontLemmas.{front_from, front_is_read}
@@ -160,7 +159,7 @@ module _ (m : Notation) (A : Flag → Bool) where
 
   same_last : (t : Summary) (text : List ℕ) (s r : Summary) → scan m (Some t) text ≡ Some s → scan n (Some t) text ≡ Some r → s ≡ r
   same_last t [] s r is_s is_r = cc
-  same_last t (b ∷ text) s r is_s is_r = go (λ t. same_last t text s r) (role_in m t.part b) is_s is_r where
+  same_last t (b ∷ text) s r is_s is_r = go (λ t. same_last t text s r) (in_part t.part (class_of m b)) is_s is_r where
     gone : (k : Notation) (u : Summary) → scan k None text ≡ Some u → ⊥
     gone k u is = let none = scan_none k text in cc
 
@@ -171,10 +170,10 @@ module _ (m : Notation) (A : Flag → Bool) where
     taken false y u more is_s is_r = absurd (gone m s is_s)
 
     go : ((t : Summary) → scan m (Some t) text ≡ Some s → scan n (Some t) text ≡ Some r → s ≡ r) → (o : Option Role)
-        → scan m (move m t (b == 43) (b == 48) o) text ≡ Some s → scan n (move n t (b == 43) (b == 48) o) text ≡ Some r → s ≡ r
+        → scan m (move m t (is_plus (class_of m b)) (is_zero (class_of m b)) o) text ≡ Some s → scan n (move n t (is_plus (class_of m b)) (is_zero (class_of m b)) o) text ≡ Some r → s ≡ r
     go more None is_s is_r = absurd (gone m s is_s)
-    go more (Some role) is_s is_r = taken (not t.ended && takes m t (b == 43) role) (not t.ended && takes n t (b == 43) role) (after t (b == 48) role)
-        (more (after t (b == 48) role)) is_s is_r
+    go more (Some role) is_s is_r = taken (not t.ended && takes m t (is_plus (class_of m b)) role) (not t.ended && takes n t (is_plus (class_of m b)) role) (after t (is_zero (class_of m b)) role)
+        (more (after t (is_zero (class_of m b)) role)) is_s is_r
 
   some_of : (o : Option Summary) → (o ≡ None → ⊥) → (u : Summary) × (o ≡ Some u)
   some_of None some = absurd (some refl)
@@ -187,13 +186,8 @@ module _ (m : Notation) (A : Flag → Bool) where
         let some = some_of (scan n (Some start) front) (front_is_read n (other_ready weaker ready) front front_is) in
         some.1 ∙ ap Some (sym (same_last start front s some.0 read some.1))
 
-    one_more : (b : ℕ) → scan n (Some start) (front ++ b ∷ []) ≡ class_step n s (class_of m b)
+    one_more : (b : ℕ) → scan n (Some start) (front ++ b ∷ []) ≡ step n s (class_of m b)
     one_more b = scan_append n (Some start) front (b ∷ []) ∙ ap (λ o. scan n o (b ∷ [])) read_too
-        ∙ step_as n (other_roles ready.roles) b s (class_of n b) _ refl refl
-
-    abbrev pub class_of_next : Option ℕ → Option Class
-    class_of_next None = None
-    class_of_next (Some b) = Some (class_of m b)
 
     is_some_of : (o : Option Summary) → is_some o ≡ true → (u : Summary) × (o ≡ Some u)
     is_some_of None is = absurd (false≢true is)
@@ -203,13 +197,13 @@ module _ (m : Notation) (A : Flag → Bool) where
     not_none None some = absurd (some refl)
     not_none (Some u) some = refl
 
-    pub decided : (next : Option ℕ) → (allows n s (class_of_next next) ≡ true) ↔ Allows n front next
+    pub decided : (next : Option ℕ) → (allows n s (class_of_next m next) ≡ true) ↔ Allows n front next
     decided None = (
-      λ is. literal_from n front (ap (is_accepted n) read_too ∙ is),
+      λ is. literal_from n (other_roles ready.roles) front (ap (is_accepted n) read_too ∙ is),
       λ l. sym (ap (is_accepted n) read_too) ∙ ap (λ t. is_accepted n (scan n (Some start) t)) l.1.whole ∙ (literal_arrives n (other_roles ready.roles) l.0 l.1.literal).0,
     )
     decided (Some b) = (
-      λ is. let some = is_some_of (class_step n s (class_of m b)) is in
+      λ is. let some = is_some_of (step n s (class_of m b)) is in
           front_from n (other_ready weaker ready) (front ++ b ∷ []) some.0 (one_more b ∙ some.1),
-      λ front_is. not_none (class_step n s (class_of m b)) (λ none. front_is_read n (other_ready weaker ready) (front ++ b ∷ []) front_is (one_more b ∙ none)),
+      λ front_is. not_none (step n s (class_of m b)) (λ none. front_is_read n (other_ready weaker ready) (front ++ b ∷ []) front_is (one_more b ∙ none)),
     )

@@ -1,6 +1,6 @@
 -- The automaton that recognises digit runs accepts exactly the digit runs.
 use Rattle.std.proofs.Common.{ℕ, ◌≡◌, Bool, true, false, not, ◌&&◌, ◌||◌, inl, inr, if◌then◌else◌, List, [], ◌∷◌, ◌++◌, refl, sym, ap, ◌∙◌, arith}
-use Rattle.std.proofs.lemmas.Bool.{cases_Bool}
+use Rattle.std.proofs.lemmas.Bool.{cases_Bool, or_right}
 use Rattle.std.proofs.lemmas.List.Folds.{list_any-append}
 use Rattle.std.specs.List.{list_any}
 use Rattle.lexical_util.specs.Ascii.{ByteSet}
@@ -9,7 +9,7 @@ use Rattle.lexical_util.specs.declared.format_flags.Part.{Part}
 use Rattle.lexical_literal.specs.Notation.{Notation}
 use Rattle.lexical_literal.specs.Literal.{is_present}
 use Rattle.lexical_literal.specs.Run.{ends_with, is_place, are_fit}
-use Rattle.lexical_literal.specs.Additions.Summary.{takes_digit, is_open}
+use Rattle.lexical_literal.specs.Additions.Summary.{gap_fits, is_open}
 
 -- `run_from m part has_digit in_gap bytes` is true if the automaton accepts `bytes` after bytes of which one is a digit
 -- if `has_digit`, and the last is a separator if `in_gap`. It tests a separator when the next digit or the end comes.
@@ -100,14 +100,14 @@ abbrev pub is_rest : Notation → Part → Bool → Bool → List ℕ → Bool
 is_rest m part h g run = run_from m part h g run
 
 module _ (m : Notation) (part : Part) (h g : Bool) (b : ℕ) (u : List ℕ) where
-  pub run_with_digit : m.digit part b ≡ true → takes_digit m part h g ≡ true → is_rest m part true false u ≡ true → is_rest m part h g (b ∷ u) ≡ true
+  pub run_with_digit : m.digit part b ≡ true → gap_fits m part h g true ≡ true → is_rest m part true false u ≡ true → is_rest m part h g (b ∷ u) ≡ true
   run_with_digit digit fits rest = grind arith
 
   pub run_with_separator : m.digit part b ≡ false → m.separator b ≡ true → (not g || m.flag (separators_in part).consecutive) ≡ true
       → is_rest m part h true u ≡ true → is_rest m part h g (b ∷ u) ≡ true
   run_with_separator other separator fits rest = grind arith
 
-  pub digit_fits : m.digit part b ≡ true → is_rest m part h g (b ∷ u) ≡ true → takes_digit m part h g ≡ true
+  pub digit_fits : m.digit part b ≡ true → is_rest m part h g (b ∷ u) ≡ true → gap_fits m part h g true ≡ true
   digit_fits digit is = grind arith
 
   pub after_run_digit : m.digit part b ≡ true → is_rest m part h g (b ∷ u) ≡ true → is_rest m part true false u ≡ true
@@ -123,11 +123,8 @@ module _ (m : Notation) (part : Part) (h g : Bool) (b : ℕ) (u : List ℕ) wher
   after_run_separator other is = grind arith
 
 -- After a separator, a digit follows or the run may end.
-pub gap_closes : (m : Notation) (part : Part) (h : Bool) (u : List ℕ) → is_rest m part h true u ≡ true
-    → ((is_place m part h true && list_any (m.digit part) u) || is_place m part h false) ≡ true
-gap_closes m part h [] is = ends (is_place m part h true) (is_place m part h false) is where
-  ends : (x y : Bool) → y ≡ true → ((x && false) || y) ≡ true
-  ends x y is = grind arith
+gap_closes : (m : Notation) (part : Part) (h : Bool) (u : List ℕ) → is_rest m part h true u ≡ true → is_open m part h (list_any (m.digit part) u) ≡ true
+gap_closes m part h [] is = or_right (is_place m part h true && false) _ is
 gap_closes m part h (b ∷ u) is = elim (cases_Bool (m.digit part b)) [
   | inl digit ↦ closed (is_place m part h true) (m.digit part b) (list_any (m.digit part) u) (is_place m part h false)
       digit (digit_fits m part h true b u digit is)
@@ -143,11 +140,9 @@ gap_closes m part h (b ∷ u) is = elim (cases_Bool (m.digit part b)) [
 -- A gap that is closed later may be opened.
 pub opens : (m : Notation) (part : Part) (h next : Bool) (u : List ℕ) → is_rest m part h true u ≡ true
     → (list_any (m.digit part) u ≡ true → next ≡ true) → is_open m part h next ≡ true
-opens m part h next u is more = go h (list_any (m.digit part) u) (gap_closes m part h u is) more where
-  go : (h y : Bool) → ((is_place m part h true && y) || is_place m part h false) ≡ true
-      → (y ≡ true → next ≡ true) → is_open m part h next ≡ true
-  go true y is more = grind arith
-  go false y is more = grind arith
+opens m part h next u is more = go (is_place m part h true) (list_any (m.digit part) u) (is_place m part h false) (gap_closes m part h u is) more where
+  go : (x y z : Bool) → ((x && y) || z) ≡ true → (y ≡ true → next ≡ true) → ((x && next) || z) ≡ true
+  go x y z is more = grind arith
 
 -- A digit run that is present has a digit.
 pub digits_present : (m : Notation) (part : Part) (run : List ℕ) → is_rest m part false false run ≡ true → list_any (m.digit part) run ≡ is_present run

@@ -1,16 +1,19 @@
 -- How a text is read, byte by byte.
 use Rattle.std.proofs.Common.{ℕ, ◌≡◌, Bool, true, false, not, IsTrue, ◌==◌, ◌&&◌, ◌+◌, if◌then◌else◌, List, [], ◌∷◌, ◌++◌, Option, Some, None, refl, sym, ap, subst, ◌∙◌, arith}
-use Rattle.std.proofs.lemmas.Bool.{false≢true}
+use Rattle.std.proofs.lemmas.Bool.{false≢true, false_from_ne_true, or_left, eqb-true}
 use Rattle.lexical_util.specs.Layout as layout
 use Rattle.lexical_util.specs.declared.feature_format.roles.Role.{Role}
 use Rattle.lexical_util.specs.declared.feature_format.roles.Role.TheVariants as roles
 use Rattle.lexical_util.specs.declared.format_flags.Part.{Part}
 use Rattle.lexical_util.specs.declared.format_flags.Part.TheVariants as parts
-use Rattle.lexical_literal.specs.Notation.{Notation, role_set}
-use Rattle.lexical_literal.specs.Additions.Summary.{Cuts, role_in, takes, after, move, scan, step, is_accepted, count, tally}
+use Rattle.lexical_literal.specs.Notation.{Notation, role_set, IsOnlyRole}
+use Rattle.lexical_literal.specs.Additions.Summary.{Cuts, class_of, role_of, in_part, is_plus, is_zero, takes, after, move, scan, step, is_accepted, count, tally}
+use Rattle.lexical_literal.specs.declared.steps.Class.{Class}
+use Rattle.lexical_literal.specs.declared.steps.Class.TheVariants as classes
 use Rattle.lexical_literal.specs.declared.steps.Summary.{Summary}
 
--- `HasRoles m` holds if no byte plays two roles, 0 is a digit, the mantissa has one radix, and integers have neither a decimal point nor an exponent.
+-- `HasRoles m` holds if no byte plays two roles, 0 is a digit, the mantissa has one radix, and integers have neither a
+-- decimal point nor an exponent.
 pub record HasRoles (m : Notation) : Type 0 where
   pub one : (a b : Role) (byte : ℕ) → IsTrue (role_set m a byte) → IsTrue (role_set m b byte) → a ≡ b
   pub zero_is_digit : (part : Part) → m.digit part 48 ≡ true
@@ -38,16 +41,9 @@ abbrev pub plus : List ℕ → ℕ → ℕ
 plus [] n = n
 plus (b ∷ bytes) n = plus bytes (n + 1)
 
--- The tests of `role_in`, in order.
-abbrev pub tests : Bool → Bool → Bool → Bool → Bool → Bool → Bool → Option Role
-tests digit separator point exponent suffix sign prefix =
-    if digit then Some roles.Digit
-    else (if separator then Some roles.Separator
-    else (if point then Some roles.Point
-    else (if exponent then Some roles.Exponent
-    else (if suffix then Some roles.Suffix
-    else (if sign then Some roles.Sign
-    else (if prefix then Some roles.Prefix else None))))))
+-- `role_in m part b` is the role of `b` after a front that ends in `part`.
+abbrev pub role_in : Notation → Part → ℕ → Option Role
+role_in m part b = in_part part (class_of m b)
 
 module _ (m : Notation) where
   pub scan_none : (text : List ℕ) → scan m None text ≡ None
@@ -57,7 +53,7 @@ module _ (m : Notation) where
   pub scan_append : (o : Option Summary) (x y : List ℕ) → scan m o (x ++ y) ≡ scan m (scan m o x) y
   scan_append o [] y = refl
   scan_append None (b ∷ x) y = sym (scan_none y)
-  scan_append (Some s) (b ∷ x) y = scan_append (step m s b) x y
+  scan_append (Some s) (b ∷ x) y = scan_append (step m s (class_of m b)) x y
 
   pub tally_append : (o : Option Summary) (c : Cuts) (x y : List ℕ) → tally m o c (x ++ y) ≡ tally m (scan m o x) (tally m o c x) y
   tally_append o c [] y = refl
@@ -65,52 +61,91 @@ module _ (m : Notation) where
     none : (y : List ℕ) → tally m None c y ≡ c
     none [] = refl
     none (a ∷ y) = refl
-  tally_append (Some s) c (b ∷ x) y = tally_append (step m s b) (count s.part (role_in m s.part b) c) x y
+  tally_append (Some s) c (b ∷ x) y = tally_append (step m s (class_of m b)) (count s.part (role_in m s.part b) c) x y
 
   pub none_accepts : (text : List ℕ) → Accepts m None text → ⊥
   none_accepts text is = false≢true (sym (ap (is_accepted m) (scan_none text)) ∙ is)
 
-  -- A byte that is accepted was taken.
-  pub kept : (s : Summary) (b : ℕ) (r : Role) (text : List ℕ) → Accepts m (move m s (b == 43) (b == 48) (Some r)) text
-      → (not s.ended ≡ true) × (takes m s (b == 43) r ≡ true) × Accepts m (Some (after s (b == 48) r)) text
-  kept s b r text is = go (not s.ended) (takes m s (b == 43) r) is where
-    go : (x y : Bool) → Accepts m (if x && y then Some (after s (b == 48) r) else None) text → (x ≡ true) × (y ≡ true) × Accepts m (Some (after s (b == 48) r)) text
-    go true true is = (refl, refl, is)
-    go true false is = absurd (none_accepts text is)
-    go false y is = absurd (none_accepts text is)
+-- `Took m s b P` holds if `b` is taken after `s`, and `P` holds of what it makes of `s`.
+pub record Took (m : Notation) (s : Summary) (b : ℕ) (P : Option Summary → Type 0) : Type 0 where
+  pub role : Role
+  pub plays : role_in m s.part b ≡ Some role
+  pub going : s.ended ≡ false
+  pub taken : takes m s (b == 43) role ≡ true
+  pub rest : P (Some (after s (b == 48) role))
 
-  taken : (s : Summary) (b : ℕ) (r : Role) → s.ended ≡ false → takes m s (b == 43) r ≡ true → move m s (b == 43) (b == 48) (Some r) ≡ Some (after s (b == 48) r)
-  taken s b r open_is is = λ j. if not (open_is j) && is j then Some (after s (b == 48) r) else None
+module _ (m : Notation) (h : HasRoles m) where
+  -- A byte plays the role of its class, or none if its class has none.
+  played : (b : ℕ) (r : Role) → role_of (class_of m b) ≡ Some r → role_set m r b ≡ true
+  played b roles.Digit is = grind arith
+  played b _ is = grind arith
 
-  pub accepts_byte : (s : Summary) (b : ℕ) (r : Role) (text : List ℕ) → s.ended ≡ false → role_in m s.part b ≡ Some r → takes m s (b == 43) r ≡ true
-      → Accepts m (Some (after s (b == 48) r)) text → Accepts m (Some s) (b ∷ text)
-  accepts_byte s b r text open_is role is more = subst (λ o. Accepts m o text) (sym (ap (move m s (b == 43) (b == 48)) role ∙ taken s b r open_is is)) more
+  unplayed : (b : ℕ) (r : Role) → role_of (class_of m b) ≡ None → m.digit parts.Fraction b ≡ m.digit parts.Integer b → role_set m r b ≡ false
+  unplayed b roles.Digit is same = grind arith
+  unplayed b _ is same = grind arith
+
+  -- The role of its class is the only one of a byte.
+  pub only_role : (b : ℕ) → IsOnlyRole m b (role_of (class_of m b))
+  only_role b r = (go (role_of (class_of m b)) refl, played b r) where
+    go : (o : Option Role) → role_of (class_of m b) ≡ o → IsTrue (role_set m r b) → o ≡ Some r
+    go None none is = absurd (false≢true (sym (unplayed b r none (h.one_mantissa b)) ∙ is))
+    go (Some found) some is = ap Some (h.one found r b (played b found some) is)
+
+  class_plus : (b : ℕ) → is_plus (class_of m b) ≡ (b == 43)
+  class_plus b = go (λ plus. (only_role b roles.Sign).0 (or_left _ (b == 45) plus)) where
+    go : ((b == 43) ≡ true → role_of (class_of m b) ≡ Some roles.Sign) → is_plus (class_of m b) ≡ (b == 43)
+    go sign = grind arith
+
+  class_zero : (b : ℕ) → is_zero (class_of m b) ≡ (b == 48)
+  class_zero b = go (digit parts.Integer) (digit parts.Exponent) where
+    digit : (part : Part) → (b == 48) ≡ true → m.digit part b ≡ true
+    digit part zero = ap (m.digit part) (eqb-true b 48 zero) ∙ h.zero_is_digit part
+
+    go : ((b == 48) ≡ true → m.digit parts.Integer b ≡ true) → ((b == 48) ≡ true → m.digit parts.Exponent b ≡ true) → is_zero (class_of m b) ≡ (b == 48)
+    go integer exponent = grind arith
+
+  -- What a role says of a byte.
+  pub as_digit : (part : Part) (b : ℕ) → role_in m part b ≡ Some roles.Digit → m.digit part b ≡ true
+  as_digit parts.Fraction b role = let same = h.one_mantissa b in grind arith
+  as_digit _ b role = grind arith
+
+  pub digit_role : (part : Part) (b : ℕ) → m.digit part b ≡ true → role_in m part b ≡ Some roles.Digit
+  digit_role parts.Fraction b is = let same = h.one_mantissa b in grind arith
+  digit_role _ b is = grind arith
+
+  pub no_digit : (part : Part) (b : ℕ) → role_in m part b ≡ Some roles.Separator → m.digit part b ≡ false
+  no_digit part b role = false_from_ne_true _ (λ is. let same = sym role ∙ digit_role part b is in cc)
+
+  pub as_role : (part : Part) (r : Role) (b : ℕ) → role_in m part b ≡ Some r → role_set m r b ≡ true
+  as_role part r b role = played b r (go part (class_of m b) role) where
+    go : (part : Part) (class : Class) → in_part part class ≡ Some r → role_of class ≡ Some r
+    go parts.Integer class is = grind arith
+    go _ class is = grind arith
+
+  pub is_role : (part : Part) (r : Role) (b : ℕ) → (roles.Digit ≡ r → ⊥) → role_set m r b ≡ true → role_in m part b ≡ Some r
+  is_role part r b other is = go part (class_of m b) ((only_role b r).0 is) where
+    go : (part : Part) (class : Class) → role_of class ≡ Some r → in_part part class ≡ Some r
+    go part classes.MantissaDigit role = absurd (other cc)
+    go part classes.ExponentDigit role = absurd (other cc)
+    go part _ role = role
+
+  -- What a byte makes of a summary.
+  moved : (s : Summary) (b : ℕ) (o : Option Role) → role_in m s.part b ≡ o → step m s (class_of m b) ≡ move m s (b == 43) (b == 48) o
+  moved s b o role = λ j. move m s (class_plus b j) (class_zero b j) (role j)
+
+  pub took : (s : Summary) (b : ℕ) (P : Option Summary → Type 0) → (P None → ⊥) → P (step m s (class_of m b)) → Took m s b P
+  took s b P none is = go (role_in m s.part b) refl (subst P (moved s b _ refl) is) where
+    go : (o : Option Role) → role_in m s.part b ≡ o → P (move m s (b == 43) (b == 48) o) → Took m s b P
+    go None plays is = absurd (none is)
+    go (Some r) plays is = take s.ended (takes m s (b == 43) r) refl refl is where
+      take : (e t : Bool) → s.ended ≡ e → takes m s (b == 43) r ≡ t → P (if not e && t then Some (after s (b == 48) r) else None) → Took m s b P
+      take false true going taken is = record { role = r; plays = plays; going = going; taken = taken; rest = is }
+      take _ _ going taken is = absurd (none is)
 
   pub arrives_byte : (s : Summary) (b : ℕ) (r : Role) (c : Cuts) (text : List ℕ) (d : Cuts) → s.ended ≡ false → role_in m s.part b ≡ Some r
       → takes m s (b == 43) r ≡ true → Arrives m (Some (after s (b == 48) r)) (count s.part (Some r) c) text d → Arrives m (Some s) c (b ∷ text) d
-  arrives_byte s b r c text d open_is role is more =
-      subst (λ r. Arrives m (move m s (b == 43) (b == 48) r) (count s.part r c) text d) (sym role)
-      (subst (λ o. Arrives m o (count s.part (Some r) c) text d) (sym (taken s b r open_is is)) more)
-
-  -- What a role says of a byte.
-  module _ (part : Part) (b : ℕ) where
-    pub as_digit : role_in m part b ≡ Some roles.Digit → m.digit part b ≡ true
-    as_digit role = grind arith
-
-    pub no_digit : role_in m part b ≡ Some roles.Separator → m.digit part b ≡ false
-    no_digit role = grind arith
-
-    pub as_role : (r : Role) → (roles.Digit ≡ r → ⊥) → role_in m part b ≡ Some r → role_set m r b ≡ true
-    as_role roles.Digit other role = absurd (other refl)
-    as_role roles.Separator other role = grind arith
-    as_role roles.Point other role = grind arith
-    as_role roles.Exponent other role = grind arith
-    as_role roles.Suffix other role = grind arith
-    as_role roles.Sign other role = grind arith
-    as_role roles.Prefix other role = grind arith
-
-    pub digit_role : m.digit part b ≡ true → role_in m part b ≡ Some roles.Digit
-    digit_role is = grind arith
-
-    pub separator_role : m.digit part b ≡ false → m.separator b ≡ true → role_in m part b ≡ Some roles.Separator
-    separator_role other is = grind arith
+  arrives_byte s b r c text d going role taken more =
+      subst (λ r. Arrives m (step m s (class_of m b)) (count s.part r c) text d) (sym role)
+      (subst (λ o. Arrives m o (count s.part (Some r) c) text d) (sym (moved s b (Some r) role ∙ is)) more) where
+        is : move m s (b == 43) (b == 48) (Some r) ≡ Some (after s (b == 48) r)
+        is = λ j. if not (going j) && taken j then Some (after s (b == 48) r) else None

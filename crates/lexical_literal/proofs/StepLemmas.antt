@@ -1,5 +1,5 @@
 -- The digits of a part, and what follows them.
-use Rattle.std.proofs.Common.{ℕ, ◌≡◌, Bool, true, false, not, ◌==◌, ◌&&◌, ◌||◌, ◌⊎◌, inl, inr, if◌then◌else◌, List, [], ◌∷◌, ◌++◌, Option, Some, None, refl, sym, ap, subst, ◌∙◌, arith}
+use Rattle.std.proofs.Common.{ℕ, ◌≡◌, Bool, true, false, not, ◌==◌, ◌&&◌, ◌||◌, ◌⊎◌, inl, inr, if◌then◌else◌, List, [], ◌∷◌, ◌++◌, Some, refl, sym, ap, subst, ◌∙◌, arith}
 use Rattle.std.proofs.lemmas.Bool.{false≢true, and_parts, and_from, cases_Bool, eqb-true, or_left, or_right}
 use Rattle.std.specs.List.{list_any}
 use Rattle.lexical_util.specs.Ascii.{ByteSet}
@@ -9,13 +9,12 @@ use Rattle.lexical_util.specs.declared.format_flags.Part.{Part}
 use Rattle.lexical_util.specs.declared.format_flags.Part.TheVariants as parts
 use Rattle.lexical_literal.specs.Notation.{Notation, role_set}
 use Rattle.lexical_literal.specs.Literal.{is_none_or_one, has_leading_zero}
-use Rattle.lexical_literal.specs.Additions.Summary.{Cuts, role_in, has_digit, is_fresh, is_lone, is_led, is_bare, first_digit, needs_sign, may_lead, may_follow, after_digit, after_separator, may_end, takes_digit, is_open, is_signed, ends, may_stop, takes, after, move, add, digits_piece}
+use Rattle.lexical_literal.specs.Additions.Summary.{Cuts, has_digit, is_fresh, is_lone, is_led, is_bare, after_digit, needs_sign, may_lead, may_follow, after_mark, gap_fits, is_open, is_signed, ends, continues, takes, after, add, digits_piece}
 use Rattle.lexical_literal.specs.declared.steps.Stage.{Stage}
 use Rattle.lexical_literal.specs.declared.steps.Stage.TheVariants as stages
 use Rattle.lexical_literal.specs.declared.steps.Summary.{Summary}
 use Rattle.lexical_literal.proofs.RunLemmas.{is_rest, run_with_digit, run_with_separator, digit_fits, after_run_digit, is_run_separator, separator_fits, after_run_separator, opens}
-use Rattle.lexical_literal.proofs.ClassLemmas.{is_role}
-use Rattle.lexical_literal.proofs.ScanLemmas.{HasRoles, Accepts, Arrives, plus, kept, none_accepts, arrives_byte, as_digit, no_digit, as_role, digit_role, separator_role}
+use Rattle.lexical_literal.proofs.ScanLemmas.{HasRoles, Accepts, Arrives, plus, role_in, took, none_accepts, arrives_byte, as_digit, no_digit, as_role, is_role, digit_role}
 
 abbrev pub reading : Part → Stage → Bool → Summary
 reading part stage gap = record { part = part; stage = stage; gap = gap; ended = false }
@@ -36,16 +35,13 @@ Taken m s r text = (b : ℕ) × (rest : List ℕ) × (text ≡ b ∷ rest) × (r
 -- `Follows m s text` holds if `text` may follow the digits of a part.
 abbrev pub Follows : Notation → Summary → List ℕ → Type 0
 Follows m s text =
-    ((ends m s && may_stop m s.part s.stage) ≡ true) × (is_none_or_one m.suffix text ≡ true)
+    ((ends m s && continues m s.part s.stage roles.Suffix) ≡ true) × (is_none_or_one m.suffix text ≡ true)
     ⊎ (Taken m s roles.Point text ⊎ (Taken m s roles.Exponent text ⊎ (Taken m s roles.Sign text ⊎ Taken m s roles.Prefix text)))
 
 -- Nothing follows the suffix.
-ended : (m : Notation) (s : Summary) (text : List ℕ) → s.ended ≡ true → Accepts m (Some s) text → text ≡ []
-ended m s [] over is = refl
-ended m s (b ∷ text) over is = absurd (go (role_in m s.part b) is) where
-  go : (o : Option Role) → Accepts m (move m s (b == 43) (b == 48) o) text → ⊥
-  go None is = none_accepts m text is
-  go (Some r) is = false≢true (sym (ap not over) ∙ (kept m s b r text is).0)
+ended : (m : Notation) → HasRoles m → (s : Summary) (text : List ℕ) → s.ended ≡ true → Accepts m (Some s) text → text ≡ []
+ended m h s [] over is = refl
+ended m h s (b ∷ text) over is = absurd (false≢true (sym (took m h s b (λ o. Accepts m o text) (none_accepts m text) is).going ∙ over))
 
 module _ (D : ByteSet) where
   pub led_nothing : (stage : Stage) → is_led stage ≡ led_after D stage []
@@ -59,9 +55,9 @@ module _ (D : ByteSet) where
   or_other : (d y : Bool) → d ≡ false → y ≡ (d || y)
   or_other d y is = grind arith
 
-  led_first : (gap : Bool) (b : ℕ) (run : List ℕ) → D b ≡ true → led_after D (first_digit gap (b == 48)) run ≡ has_leading_zero D (b ∷ run)
+  led_first : (gap : Bool) (b : ℕ) (run : List ℕ) → D b ≡ true → led_after D (after_digit stages.Empty gap (b == 48)) run ≡ has_leading_zero D (b ∷ run)
   led_first gap b run is = go (b == 48) gap ∙ ap (λ t. if t then (b == 48) && list_any D run else has_leading_zero D run) (sym is) where
-    go : (t gap : Bool) → led_after D (first_digit gap t) run ≡ (t && list_any D run)
+    go : (t gap : Bool) → led_after D (after_digit stages.Empty gap t) run ≡ (t && list_any D run)
     go true true = refl
     go true false = refl
     go false gap = refl
@@ -73,7 +69,7 @@ module _ (D : ByteSet) where
   led_digit stages.Zero gap b run is = or_seen (D b) (list_any D run) is
   led_digit _ gap b run is = refl
 
-  led_separator : (stage : Stage) (b : ℕ) (run : List ℕ) → D b ≡ false → led_after D (after_separator stage) run ≡ led_after D stage (b ∷ run)
+  led_separator : (stage : Stage) (b : ℕ) (run : List ℕ) → D b ≡ false → led_after D (after_mark stage) run ≡ led_after D stage (b ∷ run)
   led_separator stages.Start b run is = ap (λ t. if t then (b == 48) && list_any D run else has_leading_zero D run) (sym is)
   led_separator stages.Empty b run is = ap (λ t. if t then (b == 48) && list_any D run else has_leading_zero D run) (sym is)
   led_separator stages.Bare b run is = or_other (D b) (list_any D run) is
@@ -84,7 +80,7 @@ pub digit_seen : (stage : Stage) (gap zero : Bool) → has_digit (after_digit st
 digit_seen stages.Start gap zero = grind arith
 digit_seen _ gap zero = grind arith
 
-pub same_seen : (stage : Stage) → has_digit (after_separator stage) ≡ has_digit stage
+pub same_seen : (stage : Stage) → has_digit (after_mark stage) ≡ has_digit stage
 same_seen stages.Start = refl
 same_seen _ = refl
 
@@ -93,7 +89,7 @@ digit_counts : (stage : Stage) (gap zero : Bool) → is_lone (after_digit stage 
 digit_counts stages.Start gap zero = grind arith
 digit_counts _ gap zero = grind arith
 
-same_counts : (stage : Stage) → is_lone (after_separator stage) ≡ is_lone stage
+same_counts : (stage : Stage) → is_lone (after_mark stage) ≡ is_lone stage
 same_counts stages.Start = refl
 same_counts _ = refl
 
@@ -102,7 +98,7 @@ pub digit_settles : (stage : Stage) (gap zero : Bool) → is_fresh (after_digit 
 digit_settles stages.Start gap zero = grind arith
 digit_settles _ gap zero = grind arith
 
-separator_settles : (stage : Stage) → is_fresh (after_separator stage) ≡ false
+separator_settles : (stage : Stage) → is_fresh (after_mark stage) ≡ false
 separator_settles stages.Start = refl
 separator_settles _ = refl
 
@@ -112,7 +108,7 @@ begins stages.Start = true
 begins stages.Empty = true
 begins _ = false
 
-bare_first : (zero gap : Bool) → is_bare (first_digit gap zero) ≡ true → (zero ≡ true) × (gap ≡ false)
+bare_first : (zero gap : Bool) → is_bare (after_digit stages.Empty gap zero) ≡ true → (zero ≡ true) × (gap ≡ false)
 bare_first zero gap is = grind arith
 
 -- Only a digit 0 that is first is bare.
@@ -126,7 +122,7 @@ begins_without : (stage : Stage) → has_digit stage ≡ true → begins stage �
 begins_without stages.Start digit is = grind arith
 begins_without _ digit is = grind arith
 
-bare_separator : (stage : Stage) → is_bare (after_separator stage) ≡ true → ⊥
+bare_separator : (stage : Stage) → is_bare (after_mark stage) ≡ true → ⊥
 bare_separator stages.Start is = grind arith
 bare_separator _ is = grind arith
 
@@ -139,7 +135,7 @@ pub record Run (m : Notation) (part : Part) (stage : Stage) (gap : Bool) (text :
   pub whole : text ≡ run ++ rest
   pub seen : has_digit last ≡ (list_any (m.digit part) run || has_digit stage)
   pub led : is_led last ≡ led_after (m.digit part) stage run
-  pub fit : may_end m part (has_digit last) last_gap ≡ true → is_rest m part (has_digit stage) gap run ≡ true
+  pub fit : gap_fits m part (has_digit last) last_gap false ≡ true → is_rest m part (has_digit stage) gap run ≡ true
   pub counts : not (is_lone last) ≡ (list_any (m.digit part) run || not (is_lone stage))
   pub signed : is_signed m part last ≡ true → is_signed m part stage ≡ true
   pub fresh_is : is_fresh last ≡ true → (is_fresh stage ≡ true) × (run ≡ []) × (last ≡ stage) × (last_gap ≡ gap)
@@ -165,12 +161,12 @@ module _ (m : Notation) (part : Part) where
   counts_digit stage gap b run is = any_digit (D b) (list_any D run) _ (not (is_lone stage)) is (ap not (digit_counts stage gap (b == 48)))
 
   counts_separator : (stage : Stage) (b : ℕ) (run : List ℕ) → D b ≡ false
-      → (list_any D run || not (is_lone (after_separator stage))) ≡ (list_any D (b ∷ run) || not (is_lone stage))
+      → (list_any D run || not (is_lone (after_mark stage))) ≡ (list_any D (b ∷ run) || not (is_lone stage))
   counts_separator stage b run is = any_other (D b) (list_any D run) _ (not (is_lone stage)) is (ap not (same_counts stage))
 
   seen_separator : (stage : Stage) (b : ℕ) (run : List ℕ) → D b ≡ false
-      → (list_any D run || has_digit (after_separator stage)) ≡ (list_any D (b ∷ run) || has_digit stage)
-  seen_separator stage b run is = any_other (D b) (list_any D run) (has_digit (after_separator stage)) (has_digit stage) is (same_seen stage)
+      → (list_any D run || has_digit (after_mark stage)) ≡ (list_any D (b ∷ run) || has_digit stage)
+  seen_separator stage b run is = any_other (D b) (list_any D run) (has_digit (after_mark stage)) (has_digit stage) is (same_seen stage)
 
   abbrev Goal : Stage → Bool → List ℕ → Type 0
   Goal stage gap text = Accepts m (Some (reading part stage gap)) text → Run m part stage gap text
@@ -191,88 +187,6 @@ module _ (m : Notation) (part : Part) where
     bare_is = λ is. inl (is, refl);
     follows = follows;
   }
-
-  -- What is accepted begins with digits of the part.
-  pub run_of : (stage : Stage) (gap : Bool) (text : List ℕ) → Goal stage gap text
-  run_of stage gap [] is = here stage gap [] (inl (is, refl))
-  run_of stage gap (b ∷ text) is = go (λ stage gap. run_of stage gap text) (role_in m part b) refl is where
-    s : Summary
-    s = reading part stage gap
-
-    go : ((stage : Stage) (gap : Bool) → Goal stage gap text) → (o : Option Role) → role_in m part b ≡ o
-        → Accepts m (move m (reading part stage gap) (b == 43) (b == 48) o) text → Run m part stage gap (b ∷ text)
-    go more None role is = absurd (none_accepts m text is)
-    go more (Some roles.Digit) role is =
-        let took = kept m (reading part stage gap) b roles.Digit text is in
-        let both = and_parts (is_signed m part stage) _ took.1 in
-        let fits = and_parts (takes_digit m part (has_digit stage) gap) (may_follow m stage) both.1 in
-        let digit = as_digit m part b role in
-        let r = more (after_digit stage gap (b == 48)) false took.2 in
-        record {
-          run = b ∷ r.run;
-          rest = r.rest;
-          last = r.last;
-          last_gap = r.last_gap;
-          whole = ap (λ t. b ∷ t) r.whole;
-          seen = r.seen ∙ seen_digit stage gap b r.run digit;
-          led = r.led ∙ led_digit D stage gap b r.run digit;
-          counts = r.counts ∙ counts_digit stage gap b r.run digit;
-          fit = λ end. run_with_digit m part (has_digit stage) gap b r.run digit fits.0
-              (subst (λ t. is_rest m part t false r.run ≡ true) (digit_seen stage gap (b == 48)) (r.fit end));
-          signed = λ _. both.0;
-          fresh_is = λ is. absurd (false≢true (sym (digit_settles stage gap (b == 48)) ∙ (r.fresh_is is).0));
-          bare_is = λ is. elim (r.bare_is is) [
-            | inl first ↦ let zero = bare_digit stage gap b first.0 in inr ((λ j. zero.0 j ∷ first.1 j), zero.1, zero.2)
-            | inr other ↦ absurd (begins_without (after_digit stage gap (b == 48)) (digit_seen stage gap (b == 48)) other.1)
-          ];
-          follows = r.follows;
-        }
-    go more (Some roles.Separator) role is =
-        let took = kept m (reading part stage gap) b roles.Separator text is in
-        let both = and_parts (is_signed m part stage) _ took.1 in
-        let fits = and_parts _ (is_open m part (has_digit stage) (may_follow m stage)) both.1 in
-        let other = no_digit m part b role in
-        let r = more (after_separator stage) true took.2 in
-        record {
-          run = b ∷ r.run;
-          rest = r.rest;
-          last = r.last;
-          last_gap = r.last_gap;
-          whole = ap (λ t. b ∷ t) r.whole;
-          seen = r.seen ∙ seen_separator stage b r.run other;
-          led = r.led ∙ led_separator D stage b r.run other;
-          counts = r.counts ∙ counts_separator stage b r.run other;
-          fit = λ end. run_with_separator m part (has_digit stage) gap b r.run other (as_role m part b roles.Separator (λ e. cc) role) fits.0
-              (subst (λ t. is_rest m part t true r.run ≡ true) (same_seen stage) (r.fit end));
-          signed = λ _. both.0;
-          fresh_is = λ is. absurd (false≢true (sym (separator_settles stage) ∙ (r.fresh_is is).0));
-          bare_is = λ is. elim (r.bare_is is) [
-            | inl first ↦ absurd (bare_separator stage first.0)
-            | inr zero ↦ absurd (false≢true (sym zero.2))
-          ];
-          follows = r.follows;
-        }
-    go more (Some roles.Suffix) role is =
-        let took = kept m (reading part stage gap) b roles.Suffix text is in
-        here stage gap (b ∷ text) (inl (
-          took.1,
-          subst (λ t. is_none_or_one m.suffix (b ∷ t) ≡ true) (sym (ended m _ text refl took.2))
-              (as_role m part b roles.Suffix (λ e. cc) role),
-        ))
-    go more (Some roles.Point) role is =
-        let took = kept m (reading part stage gap) b roles.Point text is in
-        here stage gap (b ∷ text) (inr (inl (b, text, refl, as_role m part b roles.Point (λ e. cc) role, took.1, took.2)))
-    go more (Some roles.Exponent) role is =
-        let took = kept m (reading part stage gap) b roles.Exponent text is in
-        here stage gap (b ∷ text) (inr (inr (inl (b, text, refl, as_role m part b roles.Exponent (λ e. cc) role, took.1, took.2))))
-    go more (Some roles.Sign) role is =
-        let took = kept m (reading part stage gap) b roles.Sign text is in
-        here stage gap (b ∷ text) (inr (inr (inr (inl (b, text, refl, as_role m part b roles.Sign (λ e. cc) role, took.1, took.2)))))
-    go more (Some roles.Prefix) role is =
-        let took = kept m (reading part stage gap) b roles.Prefix text is in
-        here stage gap (b ∷ text) (inr (inr (inr (inr (b, text, refl, as_role m part b roles.Prefix (λ e. cc) role, took.1, took.2)))))
-
-  -- DIGITS THAT ARE TAKEN
 
   follow : (stage : Stage) (run : List ℕ) → (led_after D stage run ≡ true → may_lead m ≡ true) → list_any D run ≡ true → may_follow m stage ≡ true
   follow stages.Bare run may is = may is
@@ -301,39 +215,107 @@ module _ (m : Notation) (part : Part) where
   -- `Goes stage run rest c d` holds if the rest arrives after each stage that `run` may lead to.
   abbrev Goes : Stage → List ℕ → List ℕ → Cuts → Cuts → Type 0
   Goes stage run rest c d = (last : Stage) (gap : Bool) → has_digit last ≡ (list_any D run || has_digit stage) → is_led last ≡ led_after D stage run
-      → not (is_lone last) ≡ (list_any D run || not (is_lone stage)) → may_end m part (has_digit last) gap ≡ true → is_signed m part last ≡ true
+      → not (is_lone last) ≡ (list_any D run || not (is_lone stage)) → gap_fits m part (has_digit last) gap false ≡ true → is_signed m part last ≡ true
       → Arrives m (Some (reading part last gap)) (add_run part run c) rest d
 
-  pub run_arrives : (stage : Stage) (gap : Bool) (run rest : List ℕ) (c d : Cuts) → is_signed m part stage ≡ true
-      → is_rest m part (has_digit stage) gap run ≡ true → (led_after D stage run ≡ true → may_lead m ≡ true) → Goes stage run rest c d
-      → Arrives m (Some (reading part stage gap)) c (run ++ rest) d
-  run_arrives stage gap [] rest c d signed fit may goes =
-      subst (λ c. Arrives m (Some (reading part stage gap)) c rest d) (sym (add_none part c)) (goes stage gap refl (led_nothing D stage) refl fit signed)
-  run_arrives stage gap (b ∷ run) rest c d signed fit may goes = elim (cases_Bool (D b)) [
-    | inl digit ↦ arrives_byte m (reading part stage gap) b roles.Digit c (run ++ rest) d refl (digit_role m part b digit)
-        (and_from _ _ signed (and_from _ _ (digit_fits m part (has_digit stage) gap b run digit fit) (follow stage (b ∷ run) may (or_left _ _ digit))))
-        (run_arrives (after_digit stage gap (b == 48)) false run rest (add c (digits_piece part)) d (settled _ (digit_settles stage gap (b == 48)))
-        (subst (λ t. is_rest m part t false run ≡ true) (sym (digit_seen stage gap (b == 48))) (after_run_digit m part (has_digit stage) gap b run digit fit))
-        (λ led. may (sym (led_digit D stage gap b run digit) ∙ led))
-        (λ last gap' seen led counts end signed. subst (λ c. Arrives m (Some (reading part last gap')) c rest d) (sym (add_more part b run c))
-        (goes last gap' (seen ∙ seen_digit stage gap b run digit) (led ∙ led_digit D stage gap b run digit) (counts ∙ counts_digit stage gap b run digit) end signed)))
-    | inr other ↦
-        let more = after_run_separator m part (has_digit stage) gap b run other fit in
-        arrives_byte m (reading part stage gap) b roles.Separator c (run ++ rest) d refl
-        (separator_role m part b other (is_run_separator m part (has_digit stage) gap b run other fit))
-        (and_from _ _ signed (and_from _ _ (separator_fits m part (has_digit stage) gap b run other fit)
-        (opens m part (has_digit stage) (may_follow m stage) run more (λ some. follow stage (b ∷ run) may (or_right (D b) _ some)))))
-        (run_arrives (after_separator stage) true run rest (add c (digits_piece part)) d (settled _ (separator_settles stage))
-        (subst (λ t. is_rest m part t true run ≡ true) (sym (same_seen stage)) more)
-        (λ led. may (sym (led_separator D stage b run other) ∙ led))
-        (λ last gap' seen led counts end signed. subst (λ c. Arrives m (Some (reading part last gap')) c rest d) (sym (add_more part b run c))
-        (goes last gap' (seen ∙ seen_separator stage b run other) (led ∙ led_separator D stage b run other) (counts ∙ counts_separator stage b run other) end signed)))
-  ]
+  module _ (h : HasRoles m) where
+    -- What is accepted begins with digits of the part.
+    pub run_of : (stage : Stage) (gap : Bool) (text : List ℕ) → Goal stage gap text
+    run_of stage gap [] is = here stage gap [] (inl (is, refl))
+    run_of stage gap (b ∷ text) is =
+        let t = took m h (reading part stage gap) b (λ o. Accepts m o text) (none_accepts m text) is in
+        go (λ stage gap. run_of stage gap text) t.role t.plays t.taken t.rest where
+          go : ((stage : Stage) (gap : Bool) → Goal stage gap text) → (r : Role) → role_in m part b ≡ Some r
+              → takes m (reading part stage gap) (b == 43) r ≡ true → Accepts m (Some (after (reading part stage gap) (b == 48) r)) text
+              → Run m part stage gap (b ∷ text)
+          go more roles.Digit role taken is =
+              let both = and_parts (is_signed m part stage) _ taken in
+              let fits = and_parts (gap_fits m part (has_digit stage) gap true) (may_follow m stage) both.1 in
+              let digit = as_digit m h part b role in
+              let r = more (after_digit stage gap (b == 48)) false is in
+              record {
+                run = b ∷ r.run;
+                rest = r.rest;
+                last = r.last;
+                last_gap = r.last_gap;
+                whole = ap (λ t. b ∷ t) r.whole;
+                seen = r.seen ∙ seen_digit stage gap b r.run digit;
+                led = r.led ∙ led_digit D stage gap b r.run digit;
+                counts = r.counts ∙ counts_digit stage gap b r.run digit;
+                fit = λ end. run_with_digit m part (has_digit stage) gap b r.run digit fits.0
+                    (subst (λ t. is_rest m part t false r.run ≡ true) (digit_seen stage gap (b == 48)) (r.fit end));
+                signed = λ _. both.0;
+                fresh_is = λ is. absurd (false≢true (sym (digit_settles stage gap (b == 48)) ∙ (r.fresh_is is).0));
+                bare_is = λ is. elim (r.bare_is is) [
+                  | inl first ↦ let zero = bare_digit stage gap b first.0 in inr ((λ j. zero.0 j ∷ first.1 j), zero.1, zero.2)
+                  | inr other ↦ absurd (begins_without (after_digit stage gap (b == 48)) (digit_seen stage gap (b == 48)) other.1)
+                ];
+                follows = r.follows;
+              }
+          go more roles.Separator role taken is =
+              let both = and_parts (is_signed m part stage) _ taken in
+              let fits = and_parts _ (is_open m part (has_digit stage) (may_follow m stage)) both.1 in
+              let other = no_digit m h part b role in
+              let r = more (after_mark stage) true is in
+              record {
+                run = b ∷ r.run;
+                rest = r.rest;
+                last = r.last;
+                last_gap = r.last_gap;
+                whole = ap (λ t. b ∷ t) r.whole;
+                seen = r.seen ∙ seen_separator stage b r.run other;
+                led = r.led ∙ led_separator D stage b r.run other;
+                counts = r.counts ∙ counts_separator stage b r.run other;
+                fit = λ end. run_with_separator m part (has_digit stage) gap b r.run other (as_role m h part roles.Separator b role) fits.0
+                    (subst (λ t. is_rest m part t true r.run ≡ true) (same_seen stage) (r.fit end));
+                signed = λ _. both.0;
+                fresh_is = λ is. absurd (false≢true (sym (separator_settles stage) ∙ (r.fresh_is is).0));
+                bare_is = λ is. elim (r.bare_is is) [
+                  | inl first ↦ absurd (bare_separator stage first.0)
+                  | inr zero ↦ absurd (false≢true (sym zero.2))
+                ];
+                follows = r.follows;
+              }
+          go more roles.Suffix role taken is = here stage gap (b ∷ text) (inl (
+            taken,
+            subst (λ t. is_none_or_one m.suffix (b ∷ t) ≡ true) (sym (ended m h _ text refl is)) (as_role m h part roles.Suffix b role),
+          ))
+          go more roles.Point role taken is = here stage gap (b ∷ text) (inr (inl (b, text, refl, as_role m h part roles.Point b role, taken, is)))
+          go more roles.Exponent role taken is = here stage gap (b ∷ text) (inr (inr (inl (b, text, refl, as_role m h part roles.Exponent b role, taken, is))))
+          go more roles.Sign role taken is = here stage gap (b ∷ text) (inr (inr (inr (inl (b, text, refl, as_role m h part roles.Sign b role, taken, is)))))
+          go more roles.Prefix role taken is = here stage gap (b ∷ text) (inr (inr (inr (inr (b, text, refl, as_role m h part roles.Prefix b role, taken, is)))))
+
+    -- Digits of the part are taken.
+    pub run_arrives : (stage : Stage) (gap : Bool) (run rest : List ℕ) (c d : Cuts) → is_signed m part stage ≡ true
+        → is_rest m part (has_digit stage) gap run ≡ true → (led_after D stage run ≡ true → may_lead m ≡ true) → Goes stage run rest c d
+        → Arrives m (Some (reading part stage gap)) c (run ++ rest) d
+    run_arrives stage gap [] rest c d signed fit may goes =
+        subst (λ c. Arrives m (Some (reading part stage gap)) c rest d) (sym (add_none part c)) (goes stage gap refl (led_nothing D stage) refl fit signed)
+    run_arrives stage gap (b ∷ run) rest c d signed fit may goes = elim (cases_Bool (D b)) [
+      | inl digit ↦ arrives_byte m h (reading part stage gap) b roles.Digit c (run ++ rest) d refl (digit_role m h part b digit)
+          (and_from _ _ signed (and_from _ _ (digit_fits m part (has_digit stage) gap b run digit fit) (follow stage (b ∷ run) may (or_left _ _ digit))))
+          (run_arrives (after_digit stage gap (b == 48)) false run rest (add c (digits_piece part)) d (settled _ (digit_settles stage gap (b == 48)))
+          (subst (λ t. is_rest m part t false run ≡ true) (sym (digit_seen stage gap (b == 48))) (after_run_digit m part (has_digit stage) gap b run digit fit))
+          (λ led. may (sym (led_digit D stage gap b run digit) ∙ led))
+          (λ last gap' seen led counts end signed. subst (λ c. Arrives m (Some (reading part last gap')) c rest d) (sym (add_more part b run c))
+          (goes last gap' (seen ∙ seen_digit stage gap b run digit) (led ∙ led_digit D stage gap b run digit) (counts ∙ counts_digit stage gap b run digit) end signed)))
+      | inr other ↦
+          let more = after_run_separator m part (has_digit stage) gap b run other fit in
+          arrives_byte m h (reading part stage gap) b roles.Separator c (run ++ rest) d refl
+          (is_role m h part roles.Separator b (λ e. cc) (is_run_separator m part (has_digit stage) gap b run other fit))
+          (and_from _ _ signed (and_from _ _ (separator_fits m part (has_digit stage) gap b run other fit)
+          (opens m part (has_digit stage) (may_follow m stage) run more (λ some. follow stage (b ∷ run) may (or_right (D b) _ some)))))
+          (run_arrives (after_mark stage) true run rest (add c (digits_piece part)) d (settled _ (separator_settles stage))
+          (subst (λ t. is_rest m part t true run ≡ true) (sym (same_seen stage)) more)
+          (λ led. may (sym (led_separator D stage b run other) ∙ led))
+          (λ last gap' seen led counts end signed. subst (λ c. Arrives m (Some (reading part last gap')) c rest d) (sym (add_more part b run c))
+          (goes last gap' (seen ∙ seen_separator stage b run other) (led ∙ led_separator D stage b run other) (counts ∙ counts_separator stage b run other) end signed)))
+    ]
 
 -- The suffix, or nothing.
-pub stop_arrives : (m : Notation) → HasRoles m → (s : Summary) (c : Cuts) (suffix : List ℕ) → s.ended ≡ false → (ends m s && may_stop m s.part s.stage) ≡ true
+pub stop_arrives : (m : Notation) → HasRoles m → (s : Summary) (c : Cuts) (suffix : List ℕ) → s.ended ≡ false → (ends m s && continues m s.part s.stage roles.Suffix) ≡ true
     → is_none_or_one m.suffix suffix ≡ true → Arrives m (Some s) c suffix c
 stop_arrives m h s c [] open_is is one = (or_right s.ended _ is, refl)
 stop_arrives m h s c (b ∷ []) open_is is one =
-    arrives_byte m s b roles.Suffix c [] c open_is (is_role m h s.part roles.Suffix b (λ e. cc) one) is (refl, refl)
+    arrives_byte m h s b roles.Suffix c [] c open_is (is_role m h s.part roles.Suffix b (λ e. cc) one) is (refl, refl)
 stop_arrives m h s c (b ∷ x ∷ suffix) open_is is one = absurd (false≢true one)

@@ -173,35 +173,30 @@ abbrev pub first_in : ByteSet → List ℕ → ℕ
 first_in A [] = 0
 first_in A (byte ∷ text) = if A byte then 0 else 1 + first_in A text
 
--- `stop front next` is `front` and the byte `next`, if there is one.
-abbrev pub stop : List ℕ → Option ℕ → List ℕ
-stop front None = front
-stop front (Some byte) = front ++ byte ∷ []
-
 -- `lowest mask` is the number of the lowest flag of `mask`.
 abbrev pub lowest : ℕ → ℕ
 lowest mask = trailing_zeros w128 mask
 
--- `requirement_span m front next number` has the first index and the end of the bytes to show for the flag with the number
+-- `requirement_span m front stop number` has the first index and the end of the bytes to show for the flag with the number
 -- `number`: the exponent without digits, the integer digits, the sign or the exponent character, or none.
-abbrev pub requirement_span : Notation → List ℕ → Option ℕ → ℕ → ℕ × ℕ
-requirement_span m front next number =
+abbrev pub requirement_span : Notation → List ℕ → List ℕ → ℕ → ℕ × ℕ
+requirement_span m front stop number =
     if number == 2 then (behind m.exponent_character front, length front)
     else (if (number == 12) || (number == 13) then (
-      first_in (m.digit parts.Integer) (stop front next),
-      behind (m.digit parts.Integer) (stop front next),
+      first_in (m.digit parts.Integer) stop,
+      behind (m.digit parts.Integer) stop,
     )
     else (if (number == 4) || ((number == 6) || ((number == 7) || (number == 9))) then (length front, length front + 1)
     else (length front, length front)))
 
--- `span_of m front next cause number` has the first index and the end of the bytes to show for `cause` and its lowest flag.
-abbrev pub span_of : Notation → List ℕ → Option ℕ → Cause → ℕ → ℕ × ℕ
-span_of m front next causes.Requirement number = requirement_span m front next number
-span_of m front next (causes.Separator part places.Consecutive) number = (length front, length front + 1)
-span_of m front next (causes.Separator part place) number =
-    (behind (λ byte. not (m.separator byte)) front, behind m.separator (stop front next))
-span_of m front next (causes.Missing part) number = (length front, length front)
-span_of m front next _ number = (length front, length front + 1)
+-- `span_of m front stop cause number` has the first index and the end of the bytes to show for `cause` and its lowest flag.
+abbrev pub span_of : Notation → List ℕ → List ℕ → Cause → ℕ → ℕ × ℕ
+span_of m front stop causes.Requirement number = requirement_span m front stop number
+span_of m front stop (causes.Separator part places.Consecutive) number = (length front, length front + 1)
+span_of m front stop (causes.Separator part place) number =
+    (behind (λ byte. not (m.separator byte)) front, behind m.separator stop)
+span_of m front stop (causes.Missing part) number = (length front, length front)
+span_of m front stop _ number = (length front, length front + 1)
 
 -- `requirement_error m number start size` is the error for the flag with the number `number`.
 abbrev pub requirement_error : Notation → ℕ → ℕ → ℕ → Error

@@ -1,12 +1,12 @@
 //! Why a text is not a literal.
 
-ghost use Rattle.std.specs.Prelude.{◌≡◌, ◌≢◌, ◌<◌, ◌^◌, ◌≤◌, ◌&&◌, ℕ, true, false, length};
+ghost use Rattle.std.specs.Prelude.{◌≡◌, ◌≢◌, ◌<◌, ◌^◌, ◌≤◌, ◌&&◌, ℕ, true, false, length, take, slice_get};
 ghost use Rattle.std.specs.Bool.{beq};
 ghost use Rattle.lexical_util.specs.Layout.{Flag, part};
 ghost use Rattle.lexical_util.specs.Record.{raw};
 ghost use Rattle.lexical_util.specs.Roles.{other_case};
-ghost use Rattle.lexical_literal.specs.Additions.Causes.{IsLowestBit, allows, kind_set, without_bit};
-ghost use Rattle.lexical_literal.specs.Cause.{adding, bare, behind, binds, first_in, with_flags};
+ghost use Rattle.lexical_literal.specs.Additions.Causes.{IsLowestBit, allows, class_of_next, kind_set, without_bit};
+ghost use Rattle.lexical_literal.specs.Cause.{adding, bare, behind, binds, error_of, first_in, requirement_error, requirement_span, span_of, with_flags};
 ghost use Rattle.lexical_literal.specs.Notation.{notation_of};
 
 use crate::steps::{
@@ -133,7 +133,7 @@ struct Stop {
 
 impl Stop {
     // Returns whether the text could go on if the flags of the format were `mask`.
-    fn allows(self, mask: u128) -> bool
+    const fn allows(self, mask: u128) -> bool
         ensures { result ≡ allows (with_flags (notation_of self.grammar) (raw mask).flag) self.read self.next }
     {
         let other = Grammar {
@@ -142,12 +142,12 @@ impl Stop {
         };
         match self.next {
             None => steps::is_complete(other, self.read),
-            Some(class) => steps::step(other, self.read, class).is_some(),
+            Some(class) => matches!(steps::step(other, self.read, class), Some(_)),
         }
     }
 
     // Returns those of `candidates` that allow the text to go on, or do not, with the flags of `mask`.
-    fn flags_that(self, allow: bool, candidates: u128, mask: u128) -> u128
+    const fn flags_that(self, allow: bool, candidates: u128, mask: u128) -> u128
         requires { candidates < 2 ^ 44 }
         ensures { (f : Flag) → (raw result).flag f ≡ ((raw candidates).flag f
             && beq (allows (adding f (with_flags (notation_of self.grammar) (raw mask).flag)) self.read self.next) allow) }
@@ -165,7 +165,7 @@ impl Stop {
     }
 
     // Returns the lowest of `candidates` without which the text can go on, or 0.
-    fn lowest_without(self, candidates: u128) -> u128
+    const fn lowest_without(self, candidates: u128) -> u128
         ensures found { result ≢ 0 → (k : ℕ) × (result ≡ 2 ^ k) × IsLowestBit (notation_of self.grammar) self.read self.next candidates k }
         ensures none { result ≡ 0 → (k : ℕ) → k < 15 → part candidates k 1 ≡ 1
             → allows (without_bit k (notation_of self.grammar)) self.read self.next ≡ false }
@@ -182,7 +182,7 @@ impl Stop {
     }
 
     // Returns the flags that are set and require something.
-    fn binding(self) -> u128
+    const fn binding(self) -> u128
         ensures flags { (f : Flag) → (raw result).flag f ≡ binds (notation_of self.grammar) f }
         ensures small { result < 2 ^ 44 }
     {
@@ -194,14 +194,14 @@ impl Stop {
     }
 
     // Returns the flags without requirements.
-    fn bare(self) -> u128
+    const fn bare(self) -> u128
         ensures { (f : Flag) → (raw result).flag f ≡ (bare (notation_of self.grammar)).flag f }
     {
         self.grammar.word & !REQUIREMENTS
     }
 
     // Returns the flags to blame for a requirement.
-    fn requirements(self) -> u128 {
+    const fn requirements(self) -> u128 {
         let alone = self.flags_that(false, self.binding(), self.bare());
         if alone == 0 {
             self.lowest_without(self.grammar.word & REQUIREMENTS)
@@ -211,7 +211,7 @@ impl Stop {
     }
 
     // Returns the flags each of which would allow a separator that is not allowed.
-    fn separators(self) -> u128 {
+    const fn separators(self) -> u128 {
         if self.allows(self.bare() | SEPARATORS) {
             self.flags_that(true, SEPARATORS, self.bare())
         } else {
@@ -220,7 +220,7 @@ impl Stop {
     }
 
     // Returns the flag by which the case of a letter counts that may stand here in the class of its other case.
-    fn case_flag(self) -> u128 {
+    const fn case_flag(self) -> u128 {
         if !self.allows(self.bare()) {
             return 0;
         }
@@ -233,7 +233,7 @@ impl Stop {
     }
 
     // Returns where a separator is not allowed.
-    fn place(self) -> Place {
+    const fn place(self) -> Place {
         if self.read.gap && matches!(self.next, Some(Class::Separator)) {
             Place::Consecutive
         } else if has_digit(self.read.stage) {
@@ -244,7 +244,7 @@ impl Stop {
     }
 
     // Returns why `byte` cannot follow, if no requirement is the cause.
-    fn wrong(self, byte: u8) -> Blame {
+    const fn wrong(self, byte: u8) -> Blame {
         let separators = self.separators();
         if separators != 0 {
             let cause = Cause::Separator(self.read.part, self.place());
@@ -261,7 +261,7 @@ impl Stop {
     }
 
     // Returns the cause.
-    fn blame(self, byte: Option<u8>) -> Blame {
+    const fn blame(self, byte: Option<u8>) -> Blame {
         if self.allows(self.bare()) {
             return Blame {
                 cause: Cause::Requirement,
@@ -279,7 +279,7 @@ impl Stop {
 }
 
 // Returns the other case of a letter, or the byte itself if it is not a letter.
-fn other_case(byte: u8) -> u8
+const fn other_case(byte: u8) -> u8
     ensures { result ≡ other_case byte }
 {
     match byte {
@@ -301,7 +301,7 @@ enum Kind {
 }
 
 // Returns whether `byte` is of a kind.
-fn is_kind(grammar: Grammar, kind: Kind, byte: u8) -> bool
+const fn is_kind(grammar: Grammar, kind: Kind, byte: u8) -> bool
     ensures { result ≡ kind_set (notation_of grammar) kind byte }
 {
     let separator = grammar.view().is_separator(byte);
@@ -316,27 +316,29 @@ fn is_kind(grammar: Grammar, kind: Kind, byte: u8) -> bool
     }
 }
 
-// Returns the index behind the last byte of a kind, or 0 if there is none.
-fn behind(grammar: Grammar, kind: Kind, text: &[u8]) -> usize
-    ensures { result ≡ behind (kind_set (notation_of grammar) kind) text.now }
+// Returns the index behind the last byte of a kind among the first `end`, or 0 if there is none.
+const fn behind(grammar: Grammar, kind: Kind, text: &[u8], end: usize) -> usize
+    requires { end ≤ length text.now }
+    ensures { result ≡ behind (kind_set (notation_of grammar) kind) (take end text.now) }
 {
-    let mut end = 0;
+    let mut found = 0;
     let mut index = 0;
-    while index < text.len() {
+    while index < end {
         if is_kind(grammar, kind, text[index]) {
-            end = index + 1;
+            found = index + 1;
         }
         index += 1;
     }
-    end
+    found
 }
 
-// Returns the index of the first byte of a kind, or the length of the text if there is none.
-fn first(grammar: Grammar, kind: Kind, text: &[u8]) -> usize
-    ensures { result ≡ first_in (kind_set (notation_of grammar) kind) text.now }
+// Returns the index of the first byte of a kind among the first `end`, or `end` if there is none.
+const fn first(grammar: Grammar, kind: Kind, text: &[u8], end: usize) -> usize
+    requires { end ≤ length text.now }
+    ensures { result ≡ first_in (kind_set (notation_of grammar) kind) (take end text.now) }
 {
     let mut index = 0;
-    while index < text.len() {
+    while index < end {
         if is_kind(grammar, kind, text[index]) {
             return index;
         }
@@ -345,14 +347,25 @@ fn first(grammar: Grammar, kind: Kind, text: &[u8]) -> usize
     index
 }
 
+// The bytes that are right, which are the first `size`, and one more, if there is one, which are the first `end`.
+#[derive(Clone, Copy)]
+struct Limits {
+    size: usize,
+    end: usize,
+}
+
 // Returns the first index and the end of the bytes to show for the flag with the number `number`.
-fn requirement_span(grammar: Grammar, front: &[u8], stop: &[u8], number: u32) -> (usize, usize) {
-    let size = front.len();
+const fn requirement_span(grammar: Grammar, text: &[u8], limits: Limits, number: u32) -> (usize, usize)
+    requires size { limits.size ≤ length text.now }
+    requires end { limits.end ≤ length text.now }
+    ensures { result ≡ requirement_span (notation_of grammar) (take limits.size text.now) (take limits.end text.now) number }
+{
+    let Limits { size, end } = limits;
     match number {
-        2 => (behind(grammar, Kind::ExponentCharacter, front), size),
+        2 => (behind(grammar, Kind::ExponentCharacter, text, size), size),
         12 | 13 => (
-            first(grammar, Kind::Digit, stop),
-            behind(grammar, Kind::Digit, stop),
+            first(grammar, Kind::Digit, text, end),
+            behind(grammar, Kind::Digit, text, end),
         ),
         4 | 6 | 7 | 9 => (size, size + 1),
         _ => (size, size),
@@ -360,21 +373,28 @@ fn requirement_span(grammar: Grammar, front: &[u8], stop: &[u8], number: u32) ->
 }
 
 // Returns the first index and the end of the bytes to show for a cause and its lowest flag.
-fn span(grammar: Grammar, front: &[u8], stop: &[u8], cause: Cause, number: u32) -> (usize, usize) {
-    let size = front.len();
+const fn span(grammar: Grammar, text: &[u8], limits: Limits, cause: Cause, number: u32) -> (usize, usize)
+    requires size { limits.size ≤ length text.now }
+    requires end { limits.end ≤ length text.now }
+    ensures { result ≡ span_of (notation_of grammar) (take limits.size text.now) (take limits.end text.now) cause number }
+{
+    let Limits { size, end } = limits;
     match cause {
-        Cause::Requirement => requirement_span(grammar, front, stop, number),
+        Cause::Requirement => requirement_span(grammar, text, limits, number),
         Cause::Separator(_, Place::Consecutive) | Cause::Case | Cause::Byte => (size, size + 1),
         Cause::Separator(_, _) => (
-            behind(grammar, Kind::NotSeparator, front),
-            behind(grammar, Kind::Separator, stop),
+            behind(grammar, Kind::NotSeparator, text, size),
+            behind(grammar, Kind::Separator, text, end),
         ),
         Cause::Missing(_) => (size, size),
     }
 }
 
 // Returns the error for the flag with the number `number`.
-fn requirement_code(integers: bool, number: u32, start: usize, size: usize) -> Error {
+const fn requirement_error(grammar: Grammar, number: u32, start: usize, size: usize) -> Error
+    ensures { result ≡ requirement_error (notation_of grammar) number start size }
+{
+    let integers = matches!(grammar.options, None);
     match number {
         0 => Error::EmptyInteger(start),
         1 => Error::EmptyFraction(start),
@@ -393,46 +413,62 @@ fn requirement_code(integers: bool, number: u32, start: usize, size: usize) -> E
     }
 }
 
-// Returns the error for a cause and its lowest flag.
-fn code(grammar: Grammar, front: &[u8], cause: Cause, number: u32, start: usize) -> Error {
+// Returns the error for a cause and its lowest flag, where the bytes to show begin at `start`.
+const fn error(grammar: Grammar, text: &[u8], size: usize, cause: Cause, number: u32, start: usize) -> Error
+    requires { size ≤ length text.now }
+    ensures { result ≡ error_of (notation_of grammar) (take size text.now) cause number start }
+{
     match cause {
         Cause::Requirement => {
-            requirement_code(grammar.options.is_none(), number, start, front.len())
+            requirement_error(grammar, number, start, size)
         }
-        Cause::Missing(_) if behind(grammar, Kind::Mark, front) == 0 => Error::Empty(start),
+        Cause::Missing(_) if behind(grammar, Kind::Mark, text, size) == 0 => Error::Empty(start),
         _ => Error::InvalidDigit(start),
+    }
+}
+
+// Returns the byte behind the first `size`, if there is one.
+const fn byte_at(text: &[u8], size: usize) -> Option<u8>
+    ensures { result ≡ slice_get text.now size }
+{
+    if size < text.len() {
+        Some(text[size])
+    } else {
+        None
+    }
+}
+
+// Returns the class of the next byte, if there is one.
+const fn class_of_next(grammar: Grammar, next: Option<u8>) -> Option<Class>
+    ensures { result ≡ class_of_next (notation_of grammar) next }
+{
+    match next {
+        None => None,
+        Some(byte) => Some(class_of(grammar, byte)),
     }
 }
 
 // Returns why `text` is not a literal, of which `size` bytes can be read, which makes `read` of them.
 #[cold]
-pub(crate) fn refusal(grammar: Grammar, text: &[u8], size: usize, read: Summary) -> ReadError
+pub(crate) const fn refusal(grammar: Grammar, text: &[u8], size: usize, read: Summary) -> ReadError
     requires { size ≤ length text.now }
 {
-    let (byte, end) = if size < text.len() {
-        (Some(text[size]), size + 1)
-    } else {
-        (None, size)
-    };
-    let next = match byte {
-        None => None,
-        Some(byte) => Some(class_of(grammar, byte)),
-    };
-    let blame = Stop {
+    let byte = byte_at(text, size);
+    let stop = Stop {
         grammar,
         read,
-        next,
-    }
-    .blame(byte);
-    let number = blame.mask.trailing_zeros();
-    let front = &text[..size];
-    let (start, end) = span(grammar, front, &text[..end], blame.cause, number);
+        next: class_of_next(grammar, byte),
+    };
+    let Blame { cause, mask } = stop.blame(byte);
+    let number = mask.trailing_zeros();
+    let end = if size < text.len() { size + 1 } else { size };
+    let (start, end) = span(grammar, text, Limits { size, end }, cause, number);
     ReadError {
         valid_up_to: size,
-        cause: blame.cause,
-        mask: blame.mask,
+        cause,
+        mask,
         start,
         end,
-        code: code(grammar, front, blame.cause, number, start),
+        code: error(grammar, text, size, cause, number, start),
     }
 }

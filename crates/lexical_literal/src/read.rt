@@ -18,7 +18,7 @@ use lexical_util::laws::flags::role_facts;
 use std::marker::Model;
 
 /// The parts of a literal, in the order of the text. An absent part has no bytes.
-#[derive(Clone, Copy)]
+#[derive(Debug, Clone, Copy, PartialEq, Eq, Hash)]
 pub struct Parts<'a> {
     /// The sign, `+` or `-`.
     pub sign: &'a [u8],
@@ -41,7 +41,7 @@ pub struct Parts<'a> {
 }
 
 /// A leading piece of a text that is a literal.
-#[derive(Clone, Copy)]
+#[derive(Debug, Clone, Copy, PartialEq, Eq, Hash)]
 pub struct Front<'a> {
     /// The parts of the literal.
     pub parts: Parts<'a>,
@@ -50,7 +50,7 @@ pub struct Front<'a> {
 }
 
 /// Why a text is not a literal.
-#[derive(Debug, Clone, Copy, PartialEq, Eq)]
+#[derive(Debug, Clone, Copy, PartialEq, Eq, Hash)]
 pub struct ReadError {
     valid_up_to: usize,
 }

@@ -17,7 +17,7 @@ use lexical_util::laws::flags::role_facts;
 use std::marker::Model;
 
 /// The bytes of numbers that a format does not define.
-#[derive(Clone, Copy)]
+#[derive(Debug, Clone, Copy, PartialEq, Eq, Hash)]
 pub struct Options {
     /// The exponent character.
     pub exponent: u8,
@@ -26,7 +26,7 @@ pub struct Options {
 }
 
 // Any format, with any options. Without options, literals are integers alone.
-#[derive(Clone, Copy)]
+#[derive(Clone, Copy, PartialEq, Eq, Hash)]
 pub struct Grammar {
     pub(crate) word: u128,
     pub(crate) options: Option<Options>,
@@ -43,7 +43,7 @@ impl Grammar {
 
 /// What a literal is read by: a lawful format, with an exponent character and a decimal point that fit it, or without
 /// both. Without both, literals are integers.
-#[derive(Clone, Copy)]
+#[derive(Clone, Copy, PartialEq, Eq, Hash)]
 pub struct Syntax {
     grammar: Grammar,
 }

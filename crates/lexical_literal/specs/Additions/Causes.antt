@@ -5,7 +5,7 @@ use Rattle.lexical_util.specs.Layout.{Flag, bit, part}
 use Rattle.lexical_util.specs.declared.format_flags.Part.TheVariants as parts
 use Rattle.lexical_literal.specs.Cause.{Allows, is_mark, is_one_of, requirement_flags, with_flags}
 use Rattle.lexical_literal.specs.Notation.{Notation}
-use Rattle.lexical_literal.specs.Additions.Summary.{class_step, is_complete}
+use Rattle.lexical_literal.specs.Additions.Summary.{class_of, is_complete, step}
 use Rattle.lexical_literal.specs.declared.cause.Kind.{Kind}
 use Rattle.lexical_literal.specs.declared.cause.Kind.TheVariants as kinds
 use Rattle.lexical_literal.specs.declared.steps.Class.{Class}
@@ -14,7 +14,7 @@ use Rattle.lexical_literal.specs.declared.steps.Summary.{Summary}
 -- `allows m s next` is true if a byte of the class `next` may follow, or if a literal has been read, where `next` is `None`.
 abbrev pub allows : Notation → Summary → Option Class → Bool
 allows m s None = is_complete m s
-allows m s (Some class) = is_some (class_step m s class)
+allows m s (Some class) = is_some (step m s class)
 
 -- `with_bit k m` is `m` with the flag at the bit `k`, and `without_bit k m` is `m` without it.
 abbrev pub with_bit : ℕ → Notation → Notation
@@ -46,3 +46,8 @@ pub record IsWeaker (m : Notation) (A : Flag → Bool) : Type 0 where
 -- requirements too.
 abbrev pub Decides : Notation → Summary → Option Class → List ℕ → Option ℕ → Type 0
 Decides m s class front next = (A : Flag → Bool) → IsWeaker m A → (allows (with_flags m A) s class ≡ true) ↔ Allows (with_flags m A) front next
+
+-- `class_of_next m next` is the class of the byte `next`, if there is one.
+abbrev pub class_of_next : Notation → Option ℕ → Option Class
+class_of_next m None = None
+class_of_next m (Some byte) = Some (class_of m byte)

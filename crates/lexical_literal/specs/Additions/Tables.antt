@@ -3,7 +3,7 @@ use Rattle.std.specs.Prelude.{ℕ, ◌≡◌, ◌+◌, ◌*◌, ◌/◌, ◌%◌
 use Rattle.lexical_util.specs.declared.format_flags.Part.{Part}
 use Rattle.lexical_util.specs.declared.format_flags.Part.TheVariants as parts
 use Rattle.lexical_literal.specs.Notation.{Notation}
-use Rattle.lexical_literal.specs.Additions.Summary.{Cuts, class_of, class_step, in_part, count, add, finished, is_complete}
+use Rattle.lexical_literal.specs.Additions.Summary.{Cuts, class_of, step, in_part, count, add, finished, is_complete}
 use Rattle.lexical_literal.specs.declared.steps.Class.{Class}
 use Rattle.lexical_literal.specs.declared.steps.Class.TheVariants as classes
 use Rattle.lexical_literal.specs.declared.steps.Stage.{Stage}
@@ -71,9 +71,9 @@ summary_at n =
 -- `IsStep m n class o` holds if `o` is what a byte of `class` makes of the summary of the row `n`, or `None` if no literal
 -- begins so.
 abbrev pub IsStep : Notation → ℕ → Class → Option Step → Type 0
-IsStep m n class None = class_step m (summary_at n) class ≡ None
+IsStep m n class None = step m (summary_at n) class ≡ None
 IsStep m n class (Some next) =
-    (class_step m (summary_at n) class ≡ Some (summary_at next.row)) × (next.row < 55)
+    (step m (summary_at n) class ≡ Some (summary_at next.row)) × (next.row < 55)
     × ((c : Cuts) → count (summary_at n).part (in_part (summary_at n).part class) c ≡ add c next.piece)
 
 -- `HasTables m t` holds if `t` has the classes and steps of `m`.

@@ -1,4 +1,4 @@
-use Rattle.std.proofs.Common.{length, ◌-◌, ◌≡◌, ◌≤◌, take}
+use Rattle.std.proofs.Common.{◌-◌, ◌≡◌, ◌≤◌, take}
 use Rattle.lexical_literal.specs.Additions.Causes.{kind_set}
 use Rattle.lexical_literal.specs.Cause.{behind}
 use Rattle.lexical_literal.specs.Notation.{notation_of}
@@ -6,9 +6,9 @@ use Rattle.lexical_literal.proofs.cause.behind.Given as goal
 
 abbrev pub invariant-loop-index : goal.invariant-loop-index
 invariant-loop-index l = record {
-  within : l.index ≤ length l.text;
-  last : l.end ≡ behind (kind_set (notation_of l.grammar) l.kind) (take l.index l.text);
+  within : l.index ≤ l.end;
+  last : l.found ≡ behind (kind_set (notation_of l.grammar) l.kind) (take l.index l.text);
 }
 
 abbrev pub decreases-loop-index : goal.decreases-loop-index
-decreases-loop-index l = length l.text - l.index
+decreases-loop-index l = l.end - l.index

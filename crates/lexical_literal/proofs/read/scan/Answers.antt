@@ -1,10 +1,9 @@
 -- The loop reads the text, and is left at the first wrong byte.
-use Rattle.std.proofs.Common.{◌≡◌, ◌<◌, ◌+◌, length, length-set, take, get_or, set, Some, None, sym, ap, refl, ◌∙◌, arith, rules, subst}
+use Rattle.std.proofs.Common.{◌≡◌, ◌<◌, ◌+◌, length, length-set, take, get_or, set, Some, sym, ap, refl, ◌∙◌, arith, rules, subst}
 use Rattle.std.proofs.lemmas.Bool.{false≢true}
 use Rattle.lexical_literal.specs.Notation.{notation_of}
-use Rattle.lexical_literal.specs.Additions.Summary.{scan, start, tally, no_cuts, class_of}
+use Rattle.lexical_literal.specs.Additions.Summary.{scan, start, tally, no_cuts}
 use Rattle.lexical_literal.specs.Additions.Tables.{summary_at, cuts_of}
-use Rattle.lexical_literal.proofs.ClassLemmas.{step_as, count_as}
 use Rattle.lexical_literal.proofs.RoleLemmas.{ready}
 use Rattle.lexical_literal.proofs.TableLemmas.{count_one, small_more}
 use Rattle.lexical_literal.proofs.LongestLemmas.{IsLatest, latest_init, latest_more, latest_kept, longest_from, at_end, next_scan, next_tally, wrong_at, wrong_at_end, wrong_none, whole_literal, whole_counted}
@@ -30,15 +29,13 @@ loop-index-preserved c =
     let is_ready = ready c.role_facts.ensures.disjoint c.role_facts.ensures.five c.role_facts.ensures.lawful c.args.grammar c.requires.syntax in
     let now = c.loop-index.invariant in
     let next = c.in-Some.ensures in
-    let byte = get_or text i 0 in
     let inside : c.piece_number.result < length counts = omega (arith, c.piece_number.ensures.small, now.size) in
     let t = summary_at c.in-Some.next.row in
-    let read = next_scan m is_ready text i s c.loop-index-test.true now.read ∙ step_as m is_ready.roles byte s (class_of m byte) (Some t) refl next.0 in
+    let read = next_scan m is_ready text i s c.loop-index-test.true now.read ∙ next.0 in
     record {
       read = read;
       is_row = next.1;
       counted = next_tally m is_ready text i s c.loop-index-test.true now.read (cuts_of counts) now.counted
-          ∙ count_as m is_ready.roles byte s.part (class_of m byte) (cuts_of counts) refl
           ∙ next.2 (cuts_of counts) ∙ count_one counts now.size c.in-Some.next.piece
           ∙ ap (λ k. cuts_of (set counts k (get_or counts k 0 + 1))) (sym c.piece_number.ensures.value);
       size = length-set counts c.piece_number.result (get_or counts c.piece_number.result 0 + 1) ∙ now.size;
@@ -58,10 +55,7 @@ pub returns-in_default-clause-error : goal.returns-in_default-clause-error
 returns-in_default-clause-error c =
     let m = notation_of c.args.grammar in
     let is_ready = ready c.role_facts.ensures.disjoint c.role_facts.ensures.five c.role_facts.ensures.lawful c.args.grammar c.requires.syntax in
-    let byte = get_or c.args.text.now c.loop-index.index 0 in
-    let s = summary_at c.loop-index.row in
-    wrong_at m is_ready c.args.text.now c.loop-index.index s c.loop-index-test.true c.loop-index.invariant.read
-    (step_as m is_ready.roles byte s (class_of m byte) None refl c.in_default.ensures)
+    wrong_at m is_ready c.args.text.now c.loop-index.index (summary_at c.loop-index.row) c.loop-index-test.true c.loop-index.invariant.read c.in_default.ensures
 
 pub returns-in_default-clause-counted : goal.returns-in_default-clause-counted
 returns-in_default-clause-counted c l reads =

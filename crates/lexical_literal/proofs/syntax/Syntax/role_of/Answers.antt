@@ -2,7 +2,7 @@ use Rattle.std.proofs.Common.{sym, ap, subst, ◌∙◌}
 use Rattle.lexical_literal.specs.Additions.Summary.{class_of, role_of}
 use Rattle.lexical_literal.specs.Notation.{IsOnlyRole, notation_of}
 use Rattle.lexical_literal.specs.declared.syntax.Grammar.{Grammar}
-use Rattle.lexical_literal.proofs.ClassLemmas.{only_role}
+use Rattle.lexical_literal.proofs.ScanLemmas.{only_role}
 use Rattle.lexical_literal.proofs.RoleLemmas.{ready}
 use Rattle.lexical_literal.proofs.syntax.Syntax.role_of.Goals as goal
 

@@ -1,0 +1,69 @@
+//! Prints the parts of a literal, one a line, or where a text stops being one, and why.
+//!
+//!     cargo run --example literal -- WORD E P TEXT
+//!
+//! WORD is a format word. E and P are the exponent character and the decimal point as decimal numbers, such as 101 and
+//! 46, or both are `none` if literals are integers. The status is 1 if TEXT is not a literal, if WORD is not lawful or if
+//! E and P do not fit it, and 2 if the arguments are malformed.
+
+use peltzivar::edits::byte_from_decimal;
+use peltzivar::literal::Syntax;
+use peltzivar::{Error, FormatView};
+use std::ffi::OsString;
+use std::io::{self, Write};
+use std::process::ExitCode;
+
+fn main() -> io::Result<ExitCode> {
+    let arguments: Vec<OsString> = std::env::args_os().skip(1).collect();
+    let Some((syntax, text)) = parse(&arguments) else {
+        eprintln!("literal: the arguments are not WORD E P TEXT");
+        return Ok(ExitCode::from(2));
+    };
+    let mut out = io::stdout().lock();
+    let syntax = match syntax {
+        Ok(syntax) => syntax,
+        Err(error) => {
+            writeln!(out, "{error}")?;
+            return Ok(ExitCode::FAILURE);
+        }
+    };
+    let parts = match syntax.read(text) {
+        Ok(parts) => parts,
+        Err(error) => {
+            writeln!(out, "{}: {error}", error.valid_up_to())?;
+            return Ok(ExitCode::FAILURE);
+        }
+    };
+    let named = [
+        ("sign", parts.sign),
+        ("prefix", parts.prefix),
+        ("integer", parts.integer),
+        ("point", parts.point),
+        ("fraction", parts.fraction),
+        ("exponent_character", parts.exponent_character),
+        ("exponent_sign", parts.exponent_sign),
+        ("exponent", parts.exponent),
+        ("suffix", parts.suffix),
+    ];
+    for (name, bytes) in named.into_iter().filter(|(_, bytes)| !bytes.is_empty()) {
+        out.write_all(&[name.as_bytes(), b" ", bytes, b"\n"].concat())?;
+    }
+    Ok(ExitCode::SUCCESS)
+}
+
+/// Returns the syntax, or the error of its word or options, and the text. Returns `None` if an argument is malformed.
+fn parse(arguments: &[OsString]) -> Option<(Result<Syntax, Error>, &[u8])> {
+    let [word, exponent, point, text] = arguments else {
+        return None;
+    };
+    let word = word.to_str()?.parse::<FormatView>().ok()?.word();
+    let syntax = match (exponent.to_str()?, point.to_str()?) {
+        ("none", "none") => Syntax::integers(word),
+        (exponent, point) => Syntax::new(
+            word,
+            byte_from_decimal(exponent)?,
+            byte_from_decimal(point)?,
+        ),
+    };
+    Some((syntax, text.as_encoded_bytes()))
+}

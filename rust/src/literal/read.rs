@@ -1,0 +1,239 @@
+// Made by rust/tools/erase.py from crates/lexical_literal/src/read.rt: change that file.
+
+//! Calls that read literals, and the parts that they find.
+
+use crate::literal::steps::class_of;
+use crate::literal::syntax::{Grammar, Syntax};
+use crate::literal::tables::{is_complete, piece_number, step_from, Step, Tables, START};
+
+/// The parts of a literal, in the order of the text. An absent part has no bytes.
+#[derive(Debug, Clone, Copy, PartialEq, Eq, Hash)]
+#[non_exhaustive]
+pub struct Parts<'a> {
+    /// The sign, `+` or `-`.
+    pub sign: &'a [u8],
+    /// The base prefix, with the zero before it.
+    pub prefix: &'a [u8],
+    /// The integer digits, with their separators.
+    pub integer: &'a [u8],
+    /// The decimal point.
+    pub point: &'a [u8],
+    /// The fraction digits, with their separators.
+    pub fraction: &'a [u8],
+    /// The exponent character.
+    pub exponent_character: &'a [u8],
+    /// The sign of the exponent, `+` or `-`.
+    pub exponent_sign: &'a [u8],
+    /// The exponent digits, with their separators.
+    pub exponent: &'a [u8],
+    /// The base suffix.
+    pub suffix: &'a [u8],
+}
+
+/// A leading piece of a text that is a literal.
+#[derive(Debug, Clone, Copy, PartialEq, Eq, Hash)]
+#[non_exhaustive]
+pub struct Front<'a> {
+    /// The parts of the literal.
+    pub parts: Parts<'a>,
+    /// The number of bytes of the literal.
+    pub size: usize,
+}
+
+/// Why a text is not a literal.
+#[derive(Debug, Clone, Copy, PartialEq, Eq, Hash)]
+pub struct ReadError {
+    valid_up_to: usize,
+}
+
+impl ReadError {
+    /// Returns the length of the longest front of the text that some literal begins with: the index of the first byte
+    /// that cannot follow the bytes before it, or the length of the text if bytes are missing.
+    #[must_use]
+    pub const fn valid_up_to(&self) -> usize {
+        self.valid_up_to
+    }
+}
+
+impl Syntax {
+    /// Returns the parts of the literal `text`.
+    ///
+    /// # Errors
+    ///
+    /// If `text` is not a literal, returns how far it is right.
+    pub fn read<'a>(&self, text: &'a [u8]) -> Result<Parts<'a>, ReadError> {
+        read(self.grammar(), None, text)
+    }
+
+    /// Returns the longest front of `text` that is a literal. What follows it may be anything. No byte behind the first
+    /// that no literal can have is looked at.
+    ///
+    /// # Errors
+    ///
+    /// If no front of `text` is a literal, returns the error of [`read`][Self::read].
+    pub fn read_prefix<'a>(&self, text: &'a [u8]) -> Result<Front<'a>, ReadError> {
+        read_prefix(self.grammar(), None, text)
+    }
+}
+
+/// A syntax with tables of all its steps. It reads literals in less time than [`Syntax::read`], and is worth its making
+/// where many texts are read.
+#[derive(Clone)]
+pub struct Reader {
+    grammar: Grammar,
+    tables: Tables,
+}
+
+impl Reader {
+    /// Returns a reader of the literals of `syntax`.
+    #[must_use]
+    pub fn new(syntax: Syntax) -> Reader {
+        let grammar = syntax.grammar();
+        Reader {
+            grammar,
+            tables: Tables::new(grammar),
+        }
+    }
+
+    /// Returns the parts of the literal `text`, as [`Syntax::read`] does.
+    ///
+    /// # Errors
+    ///
+    /// If `text` is not a literal, returns how far it is right.
+    pub fn read<'a>(&self, text: &'a [u8]) -> Result<Parts<'a>, ReadError> {
+        read(self.grammar, Some(&self.tables), text)
+    }
+
+    /// Returns the longest front of `text` that is a literal. What follows it may be anything. No byte behind the first
+    /// that no literal can have is looked at.
+    ///
+    /// # Errors
+    ///
+    /// If no front of `text` is a literal, returns the error of [`read`][Self::read].
+    pub fn read_prefix<'a>(&self, text: &'a [u8]) -> Result<Front<'a>, ReadError> {
+        read_prefix(self.grammar, Some(&self.tables), text)
+    }
+}
+
+// The length of the longest front that some literal begins with, the lengths of its parts, and whether the whole text is
+// a literal; if they are looked for, also the length of the longest front that is a literal, or 0 if none is.
+#[derive(Clone, Copy)]
+struct Scanned {
+    valid_up_to: usize,
+    counts: [usize; 9],
+    is_literal: bool,
+    literal: usize,
+}
+
+// Returns the parts of the literal `text`, or how far it is right.
+#[inline(always)]
+fn read<'a>(
+    grammar: Grammar,
+    tables: Option<&Tables>,
+    text: &'a [u8],
+) -> Result<Parts<'a>, ReadError> {
+    let scanned = scan(grammar, tables, text, false);
+    if scanned.is_literal {
+        Ok(cut(text, scanned.counts))
+    } else {
+        Err(ReadError {
+            valid_up_to: scanned.valid_up_to,
+        })
+    }
+}
+
+// Returns the longest front of `text` that is a literal, or how far it is right.
+#[inline(always)]
+fn read_prefix<'a>(
+    grammar: Grammar,
+    tables: Option<&Tables>,
+    text: &'a [u8],
+) -> Result<Front<'a>, ReadError> {
+    let fronts = scan(grammar, tables, text, true);
+    if fronts.literal == 0 {
+        Err(ReadError {
+            valid_up_to: fronts.valid_up_to,
+        })
+    } else {
+        let front = &text[..fronts.literal];
+        Ok(Front {
+            parts: cut(front, scan(grammar, tables, front, false).counts),
+            size: fronts.literal,
+        })
+    }
+}
+
+// Splits off the first `size` bytes.
+fn split_front<'a>(text: &'a [u8], size: usize) -> (&'a [u8], &'a [u8]) {
+    text.split_at(size)
+}
+
+// Splits `text` into parts with the lengths `counts`. The zero of a prefix is counted as a digit of the integer.
+fn cut<'a>(text: &'a [u8], counts: [usize; 9]) -> Parts<'a> {
+    let (sign, after_sign) = split_front(text, counts[0]);
+    let (prefix, after_prefix) = split_front(after_sign, counts[1] + counts[1]);
+    let (integer, after_integer) = split_front(after_prefix, counts[2] - counts[1]);
+    let (point, after_point) = split_front(after_integer, counts[3]);
+    let (fraction, after_fraction) = split_front(after_point, counts[4]);
+    let (exponent_character, after_character) = split_front(after_fraction, counts[5]);
+    let (exponent_sign, after_exponent_sign) = split_front(after_character, counts[6]);
+    let (exponent, suffix) = split_front(after_exponent_sign, counts[7]);
+    Parts {
+        sign,
+        prefix,
+        integer,
+        point,
+        fraction,
+        exponent_character,
+        exponent_sign,
+        exponent,
+        suffix,
+    }
+}
+
+// Reads `text` until no literal begins with what has been read, and looks for fronts that are literals if `fronts` is true.
+#[inline(always)]
+fn scan(grammar: Grammar, tables: Option<&Tables>, text: &[u8], fronts: bool) -> Scanned {
+    let mut row = START;
+    let mut counts = [0; 9];
+    let mut literal = 0;
+    for (index, byte) in text.iter().enumerate() {
+        let Some(next) = step_by(grammar, tables, row, *byte) else {
+            return Scanned {
+                valid_up_to: index,
+                counts,
+                is_literal: false,
+                literal,
+            };
+        };
+        row = next.row;
+        counts[piece_number(next.piece)] += 1;
+        if fronts && is_complete_by(grammar, tables, row) {
+            literal = index + 1;
+        }
+    }
+    Scanned {
+        valid_up_to: text.len(),
+        counts,
+        is_literal: is_complete_by(grammar, tables, row),
+        literal,
+    }
+}
+
+// Returns what `byte` makes of a row, by the tables if there are any.
+#[inline(always)]
+fn step_by(grammar: Grammar, tables: Option<&Tables>, row: u8, byte: u8) -> Option<Step> {
+    match tables {
+        None => step_from(grammar, row, class_of(grammar, byte)),
+        Some(tables) => tables.step(row, tables.class(byte)),
+    }
+}
+
+// Returns whether a row is that of a literal, by the tables if there are any.
+#[inline(always)]
+fn is_complete_by(grammar: Grammar, tables: Option<&Tables>, row: u8) -> bool {
+    match tables {
+        None => is_complete(grammar, row),
+        Some(tables) => tables.is_complete(row),
+    }
+}
