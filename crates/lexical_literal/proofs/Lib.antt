@@ -12,3 +12,6 @@ mod WriterLemmas
 mod ExampleLemmas
 mod TableLemmas
 mod SpecialLemmas
+mod CauseLemmas
+mod RefusalLemmas
+mod JointLemmas

@@ -6,4 +6,5 @@ pub mod Parts
 pub mod Readings
 pub mod Syntax
 pub mod Specials
+pub mod Cause
 pub mod Additions

@@ -4,6 +4,7 @@
 //! as NaN and infinity, are not literals.
 #![tactic(auto)]
 
+pub mod cause;
 pub mod laws;
 pub mod read;
 pub mod specials;

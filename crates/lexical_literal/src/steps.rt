@@ -81,7 +81,7 @@ pub(crate) struct Move {
 }
 
 // Returns whether `byte` is a digit of `part`.
-const fn is_digit(grammar: Grammar, part: Part, byte: u8) -> bool
+pub(crate) const fn is_digit(grammar: Grammar, part: Part, byte: u8) -> bool
     ensures { result ≡ nat_lt (byte_value byte) (radix_of (raw grammar.word) part) }
 {
     match part {
@@ -92,7 +92,7 @@ const fn is_digit(grammar: Grammar, part: Part, byte: u8) -> bool
 
 // Returns whether `byte` is the decimal point.
 #[tactic(auto, unfolding(lexical_util::specs::Unfoldable::cased))]
-const fn is_point(grammar: Grammar, byte: u8) -> bool
+pub(crate) const fn is_point(grammar: Grammar, byte: u8) -> bool
     ensures { result ≡ point_of grammar.options byte }
 {
     match grammar.options {
@@ -102,7 +102,7 @@ const fn is_point(grammar: Grammar, byte: u8) -> bool
 }
 
 // Returns whether `byte` is the exponent character.
-const fn is_exponent_character(grammar: Grammar, byte: u8) -> bool
+pub(crate) const fn is_exponent_character(grammar: Grammar, byte: u8) -> bool
     ensures { result ≡ exponent_character_of (raw grammar.word) grammar.options byte }
 {
     match grammar.options {
@@ -179,7 +179,7 @@ const fn piece_of(part: Part, role: Role) -> Piece
 }
 
 // Returns whether the part has a digit.
-const fn has_digit(stage: Stage) -> bool
+pub(crate) const fn has_digit(stage: Stage) -> bool
     ensures { result ≡ has_digit stage }
 {
     matches!(
@@ -202,7 +202,7 @@ const fn is_place(grammar: Grammar, part: Part, before: bool, after: bool) -> bo
 }
 
 // Returns whether an exponent is required.
-const fn needs_exponent(grammar: Grammar) -> bool
+pub(crate) const fn needs_exponent(grammar: Grammar) -> bool
     ensures { result ≡ needs_exponent (notation_of grammar) }
 {
     grammar.view().required_exponent_notation() && matches!(grammar.options, Some(_))
