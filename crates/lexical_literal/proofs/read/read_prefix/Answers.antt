@@ -1,56 +1,40 @@
 -- The longest front that is a literal, and its parts.
-use Rattle.std.proofs.Common.{◌≡◌, ◌<◌, take, drop, take-append-drop, inl, inr, refl, sym, subst, arith, ◌∙◌}
-use Rattle.std.proofs.lemmas.Bool.{cases_lt, false≢true}
+use Rattle.std.proofs.Common.{◌≡◌, ◌<◌, take, drop, take-append-drop, sym, subst}
+use Rattle.std.proofs.lemmas.Bool.{false≢true}
 use Rattle.std.proofs.lemmas.List.{length-take-le}
-use Rattle.lexical_literal.specs.Front.{NoLiteral}
 use Rattle.lexical_literal.specs.Literal.{Reads}
 use Rattle.lexical_literal.specs.Notation.{notation_of}
+use Rattle.lexical_literal.specs.Parts.{literal_of}
 use Rattle.lexical_literal.proofs.read.read_prefix.Goals as goal
 
 pub split_front-requires : goal.split_front-requires
 split_front-requires c =
-    let end = c.scan-fronts.result.literal in
+    let size = c.in-Some.size in
     let text = c.args.text.now in
-    (take end text, drop end text, sym (take-append-drop end text), length-take-le end text (c.scan-fronts.ensures.longest refl).within)
+    (take size text, drop size text, sym (take-append-drop size text), length-take-le size text (c.scan-scanned.ensures.longest.found size c.in-Some.is).0)
 
-pub cut-requires : goal.cut-requires
-cut-requires c =
-    let end = c.scan-fronts.result.literal in
+pub returns-in-Ok : goal.returns-in-Ok
+returns-in-Ok c =
+    let size = c.in-Some.size in
     let text = c.args.text.now in
-    let longest = c.scan-fronts.ensures.longest refl in
-    let some : 0 < end = omega arith in
-    let found = longest.found some in
-    let is = (c.split_front.ensures (take end text) (drop end text) (sym (take-append-drop end text)) (length-take-le end text longest.within)).0 in
-    let whole = is ∙ found.1.whole in
-    (found.0, whole, (c.scan.ensures.counted found.0 (record { whole = whole; literal = found.1.literal })).1)
-
-pub returns-then-fronts-eq0 : goal.returns-then-fronts-eq0
-returns-then-fronts-eq0 c = record {
-  found = tt;
-  none = λ err size below. elim (cases_lt c.scan-fronts.result.literal size) [
-    | inl past ↦ (c.scan-fronts.ensures.longest refl).no_longer size past below
-    | inr none ↦ let zero : 0 ≡ size = omega arith in
-        subst (λ n. NoLiteral (notation_of c.args.grammar) (take n c.args.text.now)) zero (c.scan-fronts.ensures.longest refl).not_empty
-  ];
-  error = c.scan-fronts.ensures.error;
-}
-
-pub returns-else-fronts-eq0 : goal.returns-else-fronts-eq0
-returns-else-fronts-eq0 c =
-    let end = c.scan-fronts.result.literal in
-    let text = c.args.text.now in
-    let longest = c.scan-fronts.ensures.longest refl in
-    let some : 0 < end = omega arith in
-    let found = longest.found some in
-    let is = (c.split_front.ensures (take end text) (drop end text) (sym (take-append-drop end text)) (length-take-le end text longest.within)).0 in
-    let whole = is ∙ found.1.whole in
+    let longest = c.scan-scanned.ensures.longest in
+    let within = (longest.found size c.in-Some.is).0 in
     record {
       found = record {
-        within = longest.within;
-        reads = subst (λ l. Reads (notation_of c.args.grammar) l (take end text))
-            (sym (c.cut.ensures found.0 whole (c.scan.ensures.counted found.0 (record { whole = whole; literal = found.1.literal })).1)) found.1;
-        no_longer = longest.no_longer;
+        within = within;
+        reads = subst (Reads (notation_of c.args.grammar) (literal_of c.in-Ok.parts))
+            (c.split_front.ensures (take size text) (drop size text) (sym (take-append-drop size text)) (length-take-le size text within)).0
+            c.in-Ok.ensures.found;
+        no_longer = λ more past below. longest.no_longer more below (λ other is. let same : size ≡ other = cc in subst (λ n. n < more) same past);
       };
       none = λ err. absurd (false≢true err);
       error = tt;
     }
+
+pub returns-in-Err : goal.returns-in-Err
+returns-in-Err c =
+    let size = c.in-Some.size in
+    let text = c.args.text.now in
+    let found = c.scan-scanned.ensures.longest.found size c.in-Some.is in
+    absurd (c.in-Err.ensures.only found.1 (subst (Reads (notation_of c.args.grammar) found.1)
+    (sym (c.split_front.ensures (take size text) (drop size text) (sym (take-append-drop size text)) (length-take-le size text found.0)).0) found.2))
