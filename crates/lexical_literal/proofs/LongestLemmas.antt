@@ -1,5 +1,5 @@
 -- Fronts of a text, and where the loop is left.
-use Rattle.std.proofs.Common.{ℕ, Bool, Option, if◌then◌else◌, ◌≡◌, ◌<◌, ◌≤◌, ◌+◌, suc, inl, inr, true, false, not, List, [], ◌∷◌, ◌++◌, length, get_or, take, drop, Some, None, refl, sym, ap, subst, append_assoc, append-nil, take-append-drop, ◌∙◌, arith}
+use Rattle.std.proofs.Common.{ℕ, Bool, Option, if◌then◌else◌, ◌≡◌, ◌<◌, ◌≤◌, ◌+◌, suc, inl, inr, true, false, not, List, [], ◌∷◌, ◌++◌, length, get_or, take, drop, Some, None, Ok, refl, sym, ap, subst, append_assoc, append-nil, take-append-drop, ◌∙◌, arith}
 use Rattle.std.proofs.lemmas.Bool.{false≢true, cases_lt, and_parts}
 use Rattle.std.proofs.lemmas.List.{take-take, take_more, take_all}
 use Rattle.lexical_literal.specs.Notation.{Notation}
@@ -8,6 +8,8 @@ use Rattle.lexical_literal.specs.Additions.Summary.{Cuts, class_of, in_part, sca
 use Rattle.lexical_literal.specs.Front.{IsFront, IsValidUpTo, NoLiteral}
 use Rattle.lexical_literal.specs.Additions.Longest.{IsLongest, IsScanned}
 use Rattle.lexical_literal.specs.Additions.Tables as tables
+use Rattle.lexical_literal.specs.Parts.{IsReadPrefix, literal_of}
+use Rattle.lexical_literal.specs.declared.read.Parts.{Parts}
 use Rattle.lexical_literal.specs.declared.read.Scanned.{Scanned}
 use Rattle.lexical_literal.specs.declared.steps.Summary.{Summary}
 use Rattle.lexical_literal.proofs.ScanLemmas.{HasRoles, IsReady, plus, scan_append, tally_append}
@@ -80,6 +82,23 @@ module _ (m : Notation) (text : List ℕ) where
   ]
 
   module _ (scanned : Scanned) (is : IsScanned m text scanned) where
+    -- Where a literal ends at the first wrong byte, its parts have been counted.
+    pub right_front : (size : ℕ) → scanned.literal ≡ Some size → size ≡ scanned.error.valid_up_to
+        → (l : Literal) × Reads m l (take size text) × HasLengths l (tables.cuts_of scanned.counts)
+    right_front size found right = let l = is.longest.found size found in (l.1, l.2, is.counted l.1 (subst (λ n. Reads m l.1 (take n text)) right l.2))
+
+    pub prefix_read : (size : ℕ) → scanned.literal ≡ Some size → (parts : Parts) → Reads m (literal_of parts) (take size text)
+        → IsReadPrefix m text (Ok (record { parts = parts; size = size }))
+    prefix_read size found parts reads = record {
+      found = record {
+        within = (is.longest.found size found).0;
+        reads = reads;
+        no_longer = λ more past below. is.longest.no_longer more below (λ other same. let equal : size ≡ other = cc in subst (λ n. n < more) equal past);
+      };
+      none = λ err. absurd (false≢true err);
+      error = tt;
+    }
+
     pub whole_literal : (size : ℕ) → scanned.literal ≡ Some size → length text ≤ size → (l : Literal) × Reads m l text
     whole_literal size found all = let l = is.longest.found size found in (l.1, subst (Reads m l.1) (take_all size text all) l.2)
 

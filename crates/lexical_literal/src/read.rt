@@ -1,6 +1,6 @@
 //! Calls that read literals, and the parts that they find.
 
-ghost use Rattle.std.specs.Prelude.{◌≡◌, ◌++◌, ◌<◌, ℕ, List, length};
+ghost use Rattle.std.specs.Prelude.{◌≡◌, ◌++◌, ◌<◌, ◌≤◌, ℕ, List, length, take};
 ghost use Rattle.lexical_literal.specs.Additions.Summary.{HasLengths, class_of, is_complete};
 ghost use Rattle.lexical_literal.specs.Additions.Tables.{HasTables, IsStep, cuts_of, summary_at};
 ghost use Rattle.std.specs.Option.{ForSome};
@@ -191,14 +191,30 @@ fn read_prefix<'a>(
     let Some(size) = scanned.literal else {
         return Err(scanned.error);
     };
-    let (front, _) = split_front(text, size);
+    let front = front_of(text, size);
+    if size == scanned.error.valid_up_to {
+        return Ok(Front {
+            parts: cut(front, scanned.counts),
+            size,
+        });
+    }
     match read(grammar, tables, front) {
         Ok(parts) => Ok(Front { parts, size }),
         Err(error) => Err(error),
     }
 }
 
+// Returns the first `size` bytes.
+#[inline(always)]
+fn front_of<'a>(text: &'a [u8], size: usize) -> &'a [u8]
+    requires { size ≤ length text.now }
+    ensures { result.now ≡ take size text.now }
+{
+    text.split_at(size).0
+}
+
 // Splits off the first `size` bytes.
+#[inline(always)]
 fn split_front<'a>(text: &'a [u8], size: usize) -> (&'a [u8], &'a [u8])
     requires { (x : List ℕ) × (rest : List ℕ) × (text.now ≡ x ++ rest) × (length x ≡ size) }
     ensures { (x rest : List ℕ) → text.now ≡ x ++ rest → length x ≡ size
@@ -208,6 +224,7 @@ fn split_front<'a>(text: &'a [u8], size: usize) -> (&'a [u8], &'a [u8])
 }
 
 // Splits `text` into parts with the lengths `counts`. The zero of a prefix is counted as a digit of the integer.
+#[inline(always)]
 fn cut<'a>(text: &'a [u8], counts: [usize; 9]) -> Parts<'a>
     requires { (l : Literal) × (text.now ≡ text_of l) × HasLengths l (cuts_of counts) }
     ensures { (l : Literal) → text.now ≡ text_of l → HasLengths l (cuts_of counts) → literal_of result ≡ l }

@@ -149,19 +149,33 @@ const fn read_prefix<'a>(
     let Some(size) = scanned.literal else {
         return Err(scanned.error);
     };
-    let (front, _) = split_front(text, size);
+    let front = front_of(text, size);
+    if size == scanned.error.valid_up_to {
+        return Ok(Front {
+            parts: cut(front, scanned.counts),
+            size,
+        });
+    }
     match read(grammar, tables, front) {
         Ok(parts) => Ok(Front { parts, size }),
         Err(error) => Err(error),
     }
 }
 
+// Returns the first `size` bytes.
+#[inline(always)]
+const fn front_of<'a>(text: &'a [u8], size: usize) -> &'a [u8] {
+    text.split_at(size).0
+}
+
 // Splits off the first `size` bytes.
+#[inline(always)]
 const fn split_front<'a>(text: &'a [u8], size: usize) -> (&'a [u8], &'a [u8]) {
     text.split_at(size)
 }
 
 // Splits `text` into parts with the lengths `counts`. The zero of a prefix is counted as a digit of the integer.
+#[inline(always)]
 const fn cut<'a>(text: &'a [u8], counts: [usize; 9]) -> Parts<'a> {
     let (sign, after_sign) = split_front(text, counts[0]);
     let (prefix, after_prefix) = split_front(after_sign, counts[1] + counts[1]);

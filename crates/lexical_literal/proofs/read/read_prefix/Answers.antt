@@ -1,40 +1,33 @@
 -- The longest front that is a literal, and its parts.
-use Rattle.std.proofs.Common.{◌≡◌, ◌<◌, take, drop, take-append-drop, sym, subst}
+use Rattle.std.proofs.Common.{◌≡◌, ◌<◌, take, sym, subst, ◌∙◌}
 use Rattle.std.proofs.lemmas.Bool.{false≢true}
-use Rattle.std.proofs.lemmas.List.{length-take-le}
 use Rattle.lexical_literal.specs.Literal.{Reads}
 use Rattle.lexical_literal.specs.Notation.{notation_of}
 use Rattle.lexical_literal.specs.Parts.{literal_of}
+use Rattle.lexical_literal.proofs.LongestLemmas.{right_front, prefix_read}
 use Rattle.lexical_literal.proofs.read.read_prefix.Goals as goal
 
-pub split_front-requires : goal.split_front-requires
-split_front-requires c =
-    let size = c.in-Some.size in
-    let text = c.args.text.now in
-    (take size text, drop size text, sym (take-append-drop size text), length-take-le size text (c.scan-scanned.ensures.longest.found size c.in-Some.is).0)
+pub front_of-front-requires : goal.front_of-front-requires
+front_of-front-requires c = (c.scan-scanned.ensures.longest.found c.in-Some.size c.in-Some.is).0
+
+pub cut-requires : goal.cut-requires
+cut-requires c =
+    let found = right_front _ _ _ c.scan-scanned.ensures c.in-Some.size c.in-Some.is c.if-size-scanned.true in
+    (found.0, c.front_of-front.ensures ∙ found.1.whole, found.2)
+
+pub returns-then-size-scanned : goal.returns-then-size-scanned
+returns-then-size-scanned c =
+    let is = c.scan-scanned.ensures in
+    let found = right_front _ _ _ is c.in-Some.size c.in-Some.is c.if-size-scanned.true in
+    prefix_read _ _ _ is c.in-Some.size c.in-Some.is c.cut.result
+    (subst (λ l. Reads (notation_of c.args.grammar) l (take c.in-Some.size c.args.text.now)) (sym (c.cut.ensures found.0 (c.front_of-front.ensures ∙ found.1.whole) found.2)) found.1)
 
 pub returns-in-Ok : goal.returns-in-Ok
 returns-in-Ok c =
-    let size = c.in-Some.size in
-    let text = c.args.text.now in
-    let longest = c.scan-scanned.ensures.longest in
-    let within = (longest.found size c.in-Some.is).0 in
-    record {
-      found = record {
-        within = within;
-        reads = subst (Reads (notation_of c.args.grammar) (literal_of c.in-Ok.parts))
-            (c.split_front.ensures (take size text) (drop size text) (sym (take-append-drop size text)) (length-take-le size text within)).0
-            c.in-Ok.ensures.found;
-        no_longer = λ more past below. longest.no_longer more below (λ other is. let same : size ≡ other = cc in subst (λ n. n < more) same past);
-      };
-      none = λ err. absurd (false≢true err);
-      error = tt;
-    }
+    prefix_read _ _ _ c.scan-scanned.ensures c.in-Some.size c.in-Some.is c.in-Ok.parts
+    (subst (Reads (notation_of c.args.grammar) (literal_of c.in-Ok.parts)) c.front_of-front.ensures c.in-Ok.ensures.found)
 
 pub returns-in-Err : goal.returns-in-Err
 returns-in-Err c =
-    let size = c.in-Some.size in
-    let text = c.args.text.now in
-    let found = c.scan-scanned.ensures.longest.found size c.in-Some.is in
-    absurd (c.in-Err.ensures.only found.1 (subst (Reads (notation_of c.args.grammar) found.1)
-    (sym (c.split_front.ensures (take size text) (drop size text) (sym (take-append-drop size text)) (length-take-le size text found.0)).0) found.2))
+    let found = c.scan-scanned.ensures.longest.found c.in-Some.size c.in-Some.is in
+    absurd (c.in-Err.ensures.only found.1 (subst (Reads (notation_of c.args.grammar) found.1) (sym c.front_of-front.ensures) found.2))
