@@ -2,9 +2,12 @@
 
 //! Calls that read literals, and the parts that they find.
 
+use crate::literal::cause::{refusal, ReadError};
 use crate::literal::steps::class_of;
 use crate::literal::syntax::{Grammar, Syntax};
-use crate::literal::tables::{is_complete, piece_number, step_from, Step, Tables, START};
+use crate::literal::tables::{
+    is_complete, piece_number, step_from, summary_at, Step, Tables, START,
+};
 
 /// The parts of a literal, in the order of the text. An absent part has no bytes.
 #[derive(Debug, Clone, Copy, PartialEq, Eq, Hash)]
@@ -38,21 +41,6 @@ pub struct Front<'a> {
     pub parts: Parts<'a>,
     /// The number of bytes of the literal.
     pub size: usize,
-}
-
-/// Why a text is not a literal.
-#[derive(Debug, Clone, Copy, PartialEq, Eq, Hash)]
-pub struct ReadError {
-    valid_up_to: usize,
-}
-
-impl ReadError {
-    /// Returns the length of the longest front of the text that some literal begins with: the index of the first byte
-    /// that cannot follow the bytes before it, or the length of the text if bytes are missing.
-    #[must_use]
-    pub const fn valid_up_to(&self) -> usize {
-        self.valid_up_to
-    }
 }
 
 impl Syntax {
@@ -115,11 +103,12 @@ impl Reader {
     }
 }
 
-// Where a text is wrong if it is not a literal, the length of its longest front that is a literal, and the lengths of the parts
-// of what has been read.
+// The length of the longest front of a text that some literal begins with, its row, the length of the longest front that is
+// a literal, and the lengths of the parts of what has been read.
 #[derive(Clone, Copy)]
 struct Scanned {
-    error: ReadError,
+    valid_up_to: usize,
+    row: u8,
     literal: Option<usize>,
     counts: [usize; 9],
 }
@@ -134,7 +123,7 @@ const fn read<'a>(
     let scanned = scan(grammar, tables, text);
     match scanned.literal {
         Some(size) if size == text.len() => Ok(cut(text, scanned.counts)),
-        _ => Err(scanned.error),
+        _ => Err(refuse(grammar, text, scanned)),
     }
 }
 
@@ -147,10 +136,10 @@ const fn read_prefix<'a>(
 ) -> Result<Front<'a>, ReadError> {
     let scanned = scan(grammar, tables, text);
     let Some(size) = scanned.literal else {
-        return Err(scanned.error);
+        return Err(refuse(grammar, text, scanned));
     };
     let front = front_of(text, size);
-    if size == scanned.error.valid_up_to {
+    if size == scanned.valid_up_to {
         return Ok(Front {
             parts: cut(front, scanned.counts),
             size,
@@ -160,6 +149,12 @@ const fn read_prefix<'a>(
         Ok(parts) => Ok(Front { parts, size }),
         Err(error) => Err(error),
     }
+}
+
+// Returns why `text` is not a literal.
+const fn refuse(grammar: Grammar, text: &[u8], scanned: Scanned) -> ReadError {
+    let read = summary_at(scanned.row);
+    refusal(grammar, text, scanned.valid_up_to, read)
 }
 
 // Returns the first `size` bytes.
@@ -208,7 +203,8 @@ const fn scan(grammar: Grammar, tables: Option<&Tables>, text: &[u8]) -> Scanned
     while index < text.len() {
         let Some(next) = step_by(grammar, tables, row, text[index]) else {
             return Scanned {
-                error: ReadError { valid_up_to: index },
+                valid_up_to: index,
+                row,
                 literal,
                 counts,
             };
@@ -221,7 +217,8 @@ const fn scan(grammar: Grammar, tables: Option<&Tables>, text: &[u8]) -> Scanned
         index += 1;
     }
     Scanned {
-        error: ReadError { valid_up_to: index },
+        valid_up_to: index,
+        row,
         literal,
         counts,
     }
