@@ -1,6 +1,5 @@
 -- The longest front that is a literal, and its parts.
-use Rattle.std.proofs.Common.{◌≡◌, ◌<◌, take, sym, subst, ◌∙◌}
-use Rattle.std.proofs.lemmas.Bool.{false≢true}
+use Rattle.std.proofs.Common.{take, sym, subst, ◌∙◌}
 use Rattle.lexical_literal.specs.Front.{IsValidUpTo}
 use Rattle.lexical_literal.specs.Literal.{Reads}
 use Rattle.lexical_literal.specs.Notation.{notation_of}
