@@ -67,7 +67,7 @@ module _ (m : Notation) where
   goes_on s plus zero roles.Prefix can is = record { closes = λ gap. absurd (false≢true gap); led = λ led. absurd (false≢true led) }
   goes_on s plus zero roles.Point can is = record { closes = λ gap. absurd (false≢true gap); led = λ led. absurd (point_unled (has_digit s.stage) led) }
   goes_on s plus zero roles.Exponent can is = record { closes = λ gap. absurd (false≢true gap); led = λ led. absurd (false≢true led) }
-  goes_on s plus zero roles.Suffix can is = record { closes = λ gap. absurd (false≢true gap); led = λ led. absurd (false≢true led) }
+  goes_on s plus zero roles.Suffix can is = record { closes = can.closes; led = can.led }
 
   all_go_on : HasRoles m → (s : Summary) (text : List ℕ) (last : Summary) → CanGoOn m s → scan m (Some s) text ≡ Some last → CanGoOn m last
   all_go_on h s [] last can is = let same : s ≡ last = cc in subst (CanGoOn m) same can

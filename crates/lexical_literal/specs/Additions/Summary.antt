@@ -199,10 +199,6 @@ takes m s plus role = ends m s && continues m s.part s.stage role
 abbrev pub after_point : Bool → Stage
 after_point digit = if digit then stages.Free else stages.Lone
 
--- `finished` is the summary of a number with a suffix, behind which nothing follows.
-abbrev pub finished : Summary
-finished = record { part = parts.Exponent; stage = stages.Digits; gap = false; ended = true }
-
 -- `after s zero role` is the summary after a byte that has the role `role`, and is the digit 0 if `zero` is true.
 abbrev pub after : Summary → Bool → Role → Summary
 after s zero roles.Digit = record s { stage = after_digit s.stage s.gap zero; gap = false }
@@ -211,7 +207,7 @@ after s zero roles.Sign = record s { stage = after_mark s.stage }
 after s zero roles.Prefix = record s { stage = stages.Free; gap = false }
 after s zero roles.Point = record s { part = parts.Fraction; stage = after_point (has_digit s.stage); gap = false }
 after s zero roles.Exponent = record s { part = parts.Exponent; stage = stages.Mark; gap = false }
-after s zero roles.Suffix = finished
+after s zero roles.Suffix = record s { ended = true }
 
 -- `move m s plus zero role` is the summary after a byte with this role, or `None` if no literal begins so.
 abbrev pub move : Notation → Summary → Bool → Bool → Option Role → Option Summary
