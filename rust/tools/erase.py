@@ -90,7 +90,7 @@ EVERYWHERE = [
 
 # Types that may grow. In plain Rust, a match outside the crate has to have an arm for what they lack today.
 GROWS = {
-    "enum": "ArgumentKind Byte Cause Class Edit Error FlagSetter Note Part Radixes Role Rule Setter SettingErrorKind",
+    "enum": "ArgumentKind Byte Cause Class Edit Error FlagSetter Note Part Place Radixes Role Rule Setter SettingErrorKind",
     "struct": "Front<'a> NamedByte Options Parts<'a> Separators",
 }
 for kind, types in GROWS.items():

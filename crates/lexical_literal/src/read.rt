@@ -11,9 +11,10 @@ ghost use Rattle.lexical_literal.specs.Notation.{notation_of};
 ghost use Rattle.lexical_literal.specs.Parts.{IsRead, IsReadPrefix, literal_of};
 ghost use Rattle.lexical_literal.specs.Syntax.{IsSyntax};
 
+use crate::cause::{ReadError, refusal};
 use crate::steps::class_of;
 use crate::syntax::{Grammar, Syntax};
-use crate::tables::{START, Step, Tables, is_complete, piece_number, step_from};
+use crate::tables::{START, Step, Tables, is_complete, piece_number, step_from, summary_at};
 use lexical_util::laws::flags::role_facts;
 use std::marker::Model;
 
@@ -47,23 +48,6 @@ pub struct Front<'a> {
     pub parts: Parts<'a>,
     /// The number of bytes of the literal.
     pub size: usize,
-}
-
-/// Why a text is not a literal.
-#[derive(Debug, Clone, Copy, PartialEq, Eq, Hash)]
-pub struct ReadError {
-    valid_up_to: usize,
-}
-
-impl ReadError {
-    /// Returns the length of the longest front of the text that some literal begins with: the index of the first byte
-    /// that cannot follow the bytes before it, or the length of the text if bytes are missing.
-    #[must_use]
-    pub const fn valid_up_to(&self) -> usize
-        ensures { result ≡ self.now.valid_up_to }
-    {
-        self.valid_up_to
-    }
 }
 
 impl Syntax {
@@ -150,11 +134,12 @@ impl Reader {
     }
 }
 
-// The length of the longest front that some literal begins with, the lengths of its parts, and whether the whole text is
-// a literal; if they are looked for, also the length of the longest front that is a literal, or 0 if none is.
+// The length of the longest front that some literal begins with, its row, the lengths of its parts, and whether the whole
+// text is a literal; if they are looked for, also the length of the longest front that is a literal, or 0 if none is.
 #[derive(Clone, Copy)]
 struct Scanned {
     valid_up_to: usize,
+    row: u8,
     counts: [usize; 9],
     is_literal: bool,
     literal: usize,
@@ -175,9 +160,8 @@ fn read<'a>(
     if scanned.is_literal {
         Ok(cut(text, scanned.counts))
     } else {
-        Err(ReadError {
-            valid_up_to: scanned.valid_up_to,
-        })
+        let read = summary_at(scanned.row);
+        Err(refusal(grammar, text, scanned.valid_up_to, read))
     }
 }
 
@@ -194,9 +178,8 @@ fn read_prefix<'a>(
 {
     let fronts = scan(grammar, tables, text, true);
     if fronts.literal == 0 {
-        Err(ReadError {
-            valid_up_to: fronts.valid_up_to,
-        })
+        let read = summary_at(fronts.row);
+        Err(refusal(grammar, text, fronts.valid_up_to, read))
     } else {
         let (front, _) = split_front(text, fronts.literal);
         Ok(Front {
@@ -247,6 +230,7 @@ const fn scan(grammar: Grammar, tables: Option<&Tables>, text: &[u8], fronts: bo
     requires syntax { IsSyntax grammar }
     requires tables { ForSome tables (λ tables. HasTables (notation_of grammar) tables.now) }
     ensures error { IsValidUpTo (notation_of grammar) text.now result.valid_up_to }
+    ensures row { result.row < 108 }
     ensures literal { IsTrue result.is_literal → (l : Literal) × Reads (notation_of grammar) l text.now }
     ensures counted { (l : Literal) → Reads (notation_of grammar) l text.now
         → IsTrue result.is_literal × HasLengths l (cuts_of result.counts) }
@@ -261,6 +245,7 @@ const fn scan(grammar: Grammar, tables: Option<&Tables>, text: &[u8], fronts: bo
         let Some(next) = step_by(grammar, tables, row, text[index]) else {
             return Scanned {
                 valid_up_to: index,
+                row,
                 counts,
                 is_literal: false,
                 literal,
@@ -275,6 +260,7 @@ const fn scan(grammar: Grammar, tables: Option<&Tables>, text: &[u8], fronts: bo
     }
     Scanned {
         valid_up_to: text.len(),
+        row,
         counts,
         is_literal: is_complete_by(grammar, tables, row),
         literal,

@@ -75,7 +75,7 @@ pub(crate) struct Move {
 }
 
 // Returns whether `byte` is a digit of `part`.
-const fn is_digit(grammar: Grammar, part: Part, byte: u8) -> bool {
+pub(crate) const fn is_digit(grammar: Grammar, part: Part, byte: u8) -> bool {
     match part {
         Part::Exponent => matches!(grammar.view().exponent_digit(byte), Some(_)),
         _ => matches!(grammar.view().mantissa_digit(byte), Some(_)),
@@ -83,7 +83,7 @@ const fn is_digit(grammar: Grammar, part: Part, byte: u8) -> bool {
 }
 
 // Returns whether `byte` is the decimal point.
-const fn is_point(grammar: Grammar, byte: u8) -> bool {
+pub(crate) const fn is_point(grammar: Grammar, byte: u8) -> bool {
     match grammar.options {
         None => false,
         Some(options) => options.point != 0 && byte == options.point,
@@ -91,7 +91,7 @@ const fn is_point(grammar: Grammar, byte: u8) -> bool {
 }
 
 // Returns whether `byte` is the exponent character.
-const fn is_exponent_character(grammar: Grammar, byte: u8) -> bool {
+pub(crate) const fn is_exponent_character(grammar: Grammar, byte: u8) -> bool {
     match grammar.options {
         None => false,
         Some(options) => grammar.view().is_exponent_character(options.exponent, byte),
@@ -158,7 +158,7 @@ const fn piece_of(part: Part, role: Role) -> Piece {
 }
 
 // Returns whether the part has a digit.
-const fn has_digit(stage: Stage) -> bool {
+pub(crate) const fn has_digit(stage: Stage) -> bool {
     matches!(
         stage,
         Stage::Bare | Stage::Zero | Stage::Led | Stage::Digits
@@ -177,7 +177,7 @@ const fn is_place(grammar: Grammar, part: Part, before: bool, after: bool) -> bo
 }
 
 // Returns whether an exponent is required.
-const fn needs_exponent(grammar: Grammar) -> bool {
+pub(crate) const fn needs_exponent(grammar: Grammar) -> bool {
     grammar.view().required_exponent_notation() && matches!(grammar.options, Some(_))
 }
 

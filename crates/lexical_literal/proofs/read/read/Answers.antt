@@ -1,5 +1,7 @@
 -- The lengths that were counted are those of the parts.
-use Rattle.std.proofs.Common.{sym, subst}
+use Rattle.std.proofs.Common.{sym, subst, ◌∙◌}
+use Rattle.std.proofs.lemmas.Bool.{false≢true}
+use Rattle.lexical_literal.specs.Front.{IsValidUpTo}
 use Rattle.lexical_literal.specs.Literal.{Reads}
 use Rattle.lexical_literal.specs.Notation.{notation_of}
 use Rattle.lexical_literal.proofs.read.read.Goals as goal
@@ -18,3 +20,10 @@ returns-then-scanned c =
       only = λ l reads. c.cut.ensures l reads.whole (c.scan-scanned.ensures.counted l reads).1;
       error = tt;
     }
+
+pub returns-else-scanned : goal.returns-else-scanned
+returns-else-scanned c = record {
+  found = tt;
+  only = λ l reads. false≢true (sym c.if-scanned.false ∙ (c.scan-scanned.ensures.counted l reads).0);
+  error = subst (IsValidUpTo (notation_of c.args.grammar) c.args.text.now) (sym c.refusal.ensures) c.scan-scanned.ensures.error;
+}

@@ -2,7 +2,7 @@
 use Rattle.std.proofs.Common.{◌≡◌, ◌<◌, take, drop, take-append-drop, inl, inr, refl, sym, subst, arith, ◌∙◌}
 use Rattle.std.proofs.lemmas.Bool.{cases_lt, false≢true}
 use Rattle.std.proofs.lemmas.List.{length-take-le}
-use Rattle.lexical_literal.specs.Front.{NoLiteral}
+use Rattle.lexical_literal.specs.Front.{IsValidUpTo, NoLiteral}
 use Rattle.lexical_literal.specs.Literal.{Reads}
 use Rattle.lexical_literal.specs.Notation.{notation_of}
 use Rattle.lexical_literal.proofs.read.read_prefix.Goals as goal
@@ -32,7 +32,7 @@ returns-then-fronts-eq0 c = record {
     | inr none ↦ let zero : 0 ≡ size = omega arith in
         subst (λ n. NoLiteral (notation_of c.args.grammar) (take n c.args.text.now)) zero (c.scan-fronts.ensures.longest refl).not_empty
   ];
-  error = c.scan-fronts.ensures.error;
+  error = subst (IsValidUpTo (notation_of c.args.grammar) c.args.text.now) (sym c.refusal.ensures) c.scan-fronts.ensures.error;
 }
 
 pub returns-else-fronts-eq0 : goal.returns-else-fronts-eq0
