@@ -311,12 +311,7 @@ const fn takes(grammar: Grammar, read: Summary, plus: bool, role: Role) -> bool
 const fn after(read: Summary, zero: bool, role: Role) -> Summary
     ensures { result ≡ after read zero role }
 {
-    let Summary {
-        part,
-        gap,
-        ended,
-        ..
-    } = read;
+    let part = read.part;
     let (part, stage) = match (role, read.stage) {
         (Role::Digit, Stage::Start | Stage::Empty) if zero && read.gap => (part, Stage::Zero),
         (Role::Digit, Stage::Start | Stage::Empty) if zero => (part, Stage::Bare),
@@ -336,12 +331,11 @@ const fn after(read: Summary, zero: bool, role: Role) -> Summary
         Role::Sign | Role::Suffix => read.gap,
         _ => false,
     };
-    let ended = read.ended || matches!(role, Role::Suffix);
     Summary {
         part,
         stage,
         gap,
-        ended,
+        ended: read.ended || matches!(role, Role::Suffix),
     }
 }
 
