@@ -116,7 +116,7 @@ module _ (m : Notation) where
           then_byte (reading part stage gap) 48 roles.Digit refl (digit_role m ready.roles part 48 (ready.roles.zero_is_digit part))
           (and_from _ _ signed (and_from _ _ more.0 may))
           (ended (after_digit stage gap true) false (digit_seen stage gap true)
-          (ends_here (after_digit stage gap true) false (settled m part (after_digit stage gap true) (digit_settles stage gap true)) (digit_seen stage gap true) refl)
+          (ends_here (after_digit stage gap true) false (settled (after_digit stage gap true) m part (digit_settles stage gap true)) (digit_seen stage gap true) refl)
           (led_next stage gap true may can.led))
     ] where
       seen : (digit : Bool) → is_place m part digit false ≡ true → digit ≡ true
