@@ -15,7 +15,7 @@ use Rattle.lexical_literal.specs.Literal.{Literal, IsLiteral, Reads, text_of, re
 use Rattle.lexical_literal.specs.Additions.Summary.{Cuts, implies, has_digit, is_fresh, is_lone, is_led, after_digit, after_mark, after_point, may_follow, may_lead, is_signed, forbids_plus, gap_fits, digits_suffice, ends, continues, may_float, add, count, digits_piece, start, no_cuts}
 use Rattle.lexical_literal.specs.declared.steps.Stage.{Stage}
 use Rattle.lexical_literal.specs.declared.steps.Stage.TheVariants as stages
-use Rattle.lexical_literal.proofs.RunLemmas.{is_rest, run_from_start, digits_present, digit_fits, after_run_digit, is_run_separator, separator_fits, after_run_separator, opens}
+use Rattle.lexical_literal.proofs.RunLemmas.{is_rest, rest_of_none, digits_present, digit_fits, after_run_digit, is_run_separator, separator_fits, after_run_separator, opens}
 use Rattle.lexical_literal.proofs.ScanLemmas.{HasRoles, Accepts, Arrives, plus, arrives_byte, digit_role, is_role}
 use Rattle.lexical_literal.proofs.StepLemmas.{reading, begins, led_after, stage_after, after_byte, passed, digit_seen, digit_settles, mark_seen, mark_settles, settled, either, stage_at, sign_fits, prefix_fits, digits_fit, ends_exponent, ends_mantissa, fraction_fits, stops, scales, ends_part, text_after}
 use Rattle.lexical_literal.proofs.CutLemmas.{cut_of}
@@ -143,7 +143,7 @@ absent P (b ∷ bytes) is = refl
 
 module _ (m : Notation) where
   pub as_run : (part : Part) (run : List ℕ) → is_rest m part false false run ≡ is_run m part run
-  as_run part run = run_from_start m part run
+  as_run part run = rest_of_none m part run
 
   -- Digits that are present have a digit.
   has_bytes : (part : Part) (stage : Stage) (run : List ℕ) → has_digit stage ≡ false → is_rest m part false false run ≡ true

@@ -9,8 +9,12 @@ cut-requires c =
     let found = c.scan-scanned.ensures.literal c.if-scanned.true in
     (found.0, found.1.whole, (c.scan-scanned.ensures.counted found.0 found.1).1)
 
-pub returns-then-scanned-clause-found : goal.returns-then-scanned-clause-found
-returns-then-scanned-clause-found c =
+pub returns-then-scanned : goal.returns-then-scanned
+returns-then-scanned c =
     let found = c.scan-scanned.ensures.literal c.if-scanned.true in
-    subst (λ l. Reads (notation_of c.args.grammar) l c.args.text.now)
-    (sym (c.cut.ensures found.0 found.1.whole (c.scan-scanned.ensures.counted found.0 found.1).1)) found.1
+    record {
+      found = subst (λ l. Reads (notation_of c.args.grammar) l c.args.text.now)
+          (sym (c.cut.ensures found.0 found.1.whole (c.scan-scanned.ensures.counted found.0 found.1).1)) found.1;
+      only = λ l reads. c.cut.ensures l reads.whole (c.scan-scanned.ensures.counted l reads).1;
+      error = tt;
+    }
