@@ -122,7 +122,7 @@ module _ (any led p one_p f fits_f k : Bool) (flag : Flag → Bool) (only : Bool
       end_facts stop scale seen counted =
           let same_digit : digit ≡ not f = seen has_fraction in let same_lone : lone ≡ not (not f || any) = counted has_fraction in grind arith
 
-holds : (a d : Bool) → implies a d ≡ true → a ≡ true → d ≡ true
+pub holds : (a d : Bool) → implies a d ≡ true → a ≡ true → d ≡ true
 holds a d is set = grind arith
 
 implied : (a d : Bool) → (a ≡ true → d ≡ true) → implies a d ≡ true
@@ -132,7 +132,7 @@ implied false d is = refl
 or_false : (a : Bool) → (a || false) ≡ a
 or_false a = grind arith
 
-absent_is : (bytes : List ℕ) → is_absent bytes ≡ true → bytes ≡ []
+pub absent_is : (bytes : List ℕ) → is_absent bytes ≡ true → bytes ≡ []
 absent_is [] is = refl
 absent_is (b ∷ bytes) is = absurd (false≢true is)
 
