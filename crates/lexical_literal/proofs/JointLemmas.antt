@@ -173,11 +173,8 @@ module _ (m : Notation) where
       ∙ (left (λ n. gap_fits n s.part (has_digit s.stage) s.gap true) (λ n. may_follow n s.stage) rest).free in
       elim (follows s.stage (right (λ n. gap_fits n s.part (has_digit s.stage) s.gap true) (λ n. may_follow n s.stage) rest)) [
         | inl is ↦ inl (and_from _ _ sign (and_from _ _ gap is))
-        | inr both ↦ inr (
-          both.0,
-          and_from _ _ (signed_less s.part s.stage sign)
-              (and_from _ _ (if_more (not s.gap) _ _ (place_less s.part (has_digit s.stage) true) gap) both.1),
-        )
+        | inr both ↦ inr (both.0, and_from _ _ (signed_less s.part s.stage sign)
+            (and_from _ _ (if_more (not s.gap) _ _ (place_less s.part (has_digit s.stage) true) gap) both.1))
       ]
 
   drop_false : (a b : Bool) → b ≡ false → (a || b) ≡ true → a ≡ true
@@ -225,11 +222,8 @@ module _ (m : Notation) where
             } in
             elim (follows s.stage follow) [
               | inl is ↦ inl (and_from _ _ sign (and_from _ _ gap (open_next (is_place m s.part digit true) (is_place m s.part digit false) _ some is)))
-              | inr both ↦ inr (
-                both.0,
-                and_from _ _ (signed_less s.part s.stage sign) (and_from _ _ less_gap
-                    (open_next (is_place less s.part digit true) (is_place less s.part digit false) _ (or_left _ _ (place_less s.part digit true inside)) both.1)),
-              )
+              | inr both ↦ inr (both.0, and_from _ _ (signed_less s.part s.stage sign) (and_from _ _ less_gap
+                  (open_next (is_place less s.part digit true) (is_place less s.part digit false) _ (or_left _ _ (place_less s.part digit true inside)) both.1)))
             ]
       ]
 

@@ -355,12 +355,7 @@ struct Limits {
 }
 
 // Returns the first index and the end of the bytes to show for the flag with the number `number`.
-const fn requirement_span(
-    grammar: Grammar,
-    text: &[u8],
-    limits: Limits,
-    number: u32,
-) -> (usize, usize)
+const fn requirement_span(grammar: Grammar, text: &[u8], limits: Limits, number: u32) -> (usize, usize)
     requires size { limits.size ≤ length text.now }
     requires end { limits.end ≤ length text.now }
     ensures { result ≡ requirement_span (notation_of grammar) (take limits.size text.now) (take limits.end text.now) number }
@@ -378,13 +373,7 @@ const fn requirement_span(
 }
 
 // Returns the first index and the end of the bytes to show for a cause and its lowest flag.
-const fn span(
-    grammar: Grammar,
-    text: &[u8],
-    limits: Limits,
-    cause: Cause,
-    number: u32,
-) -> (usize, usize)
+const fn span(grammar: Grammar, text: &[u8], limits: Limits, cause: Cause, number: u32) -> (usize, usize)
     requires size { limits.size ≤ length text.now }
     requires end { limits.end ≤ length text.now }
     ensures { result ≡ span_of (notation_of grammar) (take limits.size text.now) (take limits.end text.now) cause number }
@@ -425,19 +414,14 @@ const fn requirement_error(grammar: Grammar, number: u32, start: usize, size: us
 }
 
 // Returns the error for a cause and its lowest flag, where the bytes to show begin at `start`.
-const fn error(
-    grammar: Grammar,
-    text: &[u8],
-    size: usize,
-    cause: Cause,
-    number: u32,
-    start: usize,
-) -> Error
+const fn error(grammar: Grammar, text: &[u8], size: usize, cause: Cause, number: u32, start: usize) -> Error
     requires { size ≤ length text.now }
     ensures { result ≡ error_of (notation_of grammar) (take size text.now) cause number start }
 {
     match cause {
-        Cause::Requirement => { requirement_error(grammar, number, start, size) }
+        Cause::Requirement => {
+            requirement_error(grammar, number, start, size)
+        }
         Cause::Missing(_) if behind(grammar, Kind::Mark, text, size) == 0 => Error::Empty(start),
         _ => Error::InvalidDigit(start),
     }
