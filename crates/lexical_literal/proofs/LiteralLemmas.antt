@@ -197,8 +197,8 @@ module _ (m : Notation) where
     fraction_counts : (any : Bool) → is_rest m parts.Fraction false false l.fraction ≡ true → is_lone (fraction_last any) ≡ not (is_present l.fraction || any)
     fraction_counts any fit = counted _ _ (is_present l.fraction) any (passed (m.digit parts.Fraction) (after_point any) false l.fraction).counts
         (digits_present m parts.Fraction l.fraction fit) where
-      counted : (lone some present any : Bool) → not lone ≡ (some || not (is_lone (after_point any))) → some ≡ present → lone ≡ not (present || any)
-      counted lone some present any is same = grind arith
+          counted : (lone some present any : Bool) → not lone ≡ (some || not (is_lone (after_point any))) → some ≡ present → lone ≡ not (present || any)
+          counted lone some present any is same = grind arith
 
     exponent_seen : is_rest m parts.Exponent false false l.exponent ≡ true → has_digit exponent_last ≡ is_present l.exponent
     exponent_seen fit = has_bytes parts.Exponent (stage_at stages.Mark l.exponent_sign []) l.exponent
@@ -226,6 +226,7 @@ module _ (m : Notation) where
         let point = and_parts (is_none_or_one m.point l.point) _ digits.1 in
         let fraction = and_parts (fraction_fits m l integer_last) _ point.1 in
         let tail = tail_of (stops m l integer_last) (scales m l integer_last) fraction.1 in
+        let signed = signed (m.flag layout.required_mantissa_sign) (is_absent l.sign) no_plus.1 in
         let end = subst (λ t. End t (is_zero_led m l)) (integer_seen run)
         (subst (λ t. End (has_digit integer_last) t) integer_led (end_of integer_last tail digits.0 point.0 fraction.0)) in
         record {
@@ -241,7 +242,7 @@ module _ (m : Notation) where
           after_point = λ none. absent_is l.fraction (holds _ _ end.after_point none);
           after_character = λ none. (absent_is l.exponent_sign (holds _ _ tail.sign_after none), absent_is l.exponent (holds _ _ tail.exponent_after none));
           some_number = end.some;
-          requirements = meets end tail no_plus.0 (signed (m.flag layout.required_mantissa_sign) (is_absent l.sign) no_plus.1);
+          requirements = λ f set. grind arith;
         } where
           signed : (f x : Bool) → (if x then not f else true) ≡ true → implies f (not x) ≡ true
           signed f x is = grind arith
@@ -250,24 +251,6 @@ module _ (m : Notation) where
           prefix_one [] is = refl
           prefix_one (x ∷ []) is = is
           prefix_one (z ∷ x ∷ more) is = is
-
-          meets : End (is_present l.integer) (is_zero_led m l) → Tail (stops m l integer_last) (scales m l integer_last)
-              → implies (m.flag layout.no_positive_mantissa_sign) (not (is_plus l.sign)) ≡ true
-              → implies (m.flag layout.required_mantissa_sign) (is_present l.sign) ≡ true → (f : Flag) → IsTrue (m.flag f) → IsTrue (requirement f m l)
-          meets end tail no_plus signed layout.required_integer_digits = holds _ _ end.integer_digits
-          meets end tail no_plus signed layout.required_fraction_digits = holds _ _ end.fraction_digits
-          meets end tail no_plus signed layout.required_exponent_digits = holds _ _ tail.digits
-          meets end tail no_plus signed layout.required_mantissa_digits = holds _ _ end.mantissa_digits
-          meets end tail no_plus signed layout.no_positive_mantissa_sign = holds _ _ no_plus
-          meets end tail no_plus signed layout.required_mantissa_sign = holds _ _ signed
-          meets end tail no_plus signed layout.no_exponent_notation = holds _ _ end.notation
-          meets end tail no_plus signed layout.no_positive_exponent_sign = holds _ _ tail.no_plus_sign
-          meets end tail no_plus signed layout.required_exponent_sign = holds _ _ tail.signed
-          meets end tail no_plus signed layout.no_exponent_without_fraction = holds _ _ end.with_fraction
-          meets end tail no_plus signed layout.no_integer_leading_zeros = holds _ _ end.whole_led
-          meets end tail no_plus signed layout.no_float_leading_zeros = holds _ _ end.float_led
-          meets end tail no_plus signed layout.required_exponent_notation = holds _ _ end.needed
-          meets end tail no_plus signed _ = λ set. refl
 
 module _ (m : Notation) (h : HasRoles m) where
   -- What is accepted is a literal.
