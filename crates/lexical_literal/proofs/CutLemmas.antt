@@ -32,19 +32,9 @@ pub record Cut (m : Notation) (part : Part) (stage : Stage) (gap : Bool) (text :
   pub prefix : List ℕ
   pub found : Found m part stage gap sign prefix text
 
--- A number that only has a suffix.
-abbrev only : List ℕ → Literal
-only suffix = record {
-  sign = [];
-  prefix = [];
-  integer = [];
-  point = [];
-  fraction = [];
-  exponent_character = [];
-  exponent_sign = [];
-  exponent = [];
-  suffix = suffix;
-}
+-- `only x` is a number that only has the suffix `x`.
+abbrev pub only : List ℕ → Literal
+only x = record { sign = []; prefix = []; integer = []; point = []; fraction = []; exponent_character = []; exponent_sign = []; exponent = []; suffix = x }
 
 module _ (m : Notation) where
   -- After a digit, a separator or a sign, no sign follows.

@@ -11,6 +11,7 @@ use Rattle.lexical_literal.specs.Literal.{Literal, IsLiteral, text_of, requireme
 use Rattle.lexical_literal.specs.Readings.{HasTwoReadings}
 use Rattle.lexical_literal.specs.Run.{is_run}
 use Rattle.lexical_literal.specs.Additions.Summary.{implies}
+use Rattle.lexical_literal.proofs.CutLemmas.{only}
 use Rattle.lexical_literal.proofs.LiteralLemmas.{absent_is, holds}
 
 -- The tests of the spelling of each part of `l`, and of the parts that go together.
@@ -73,14 +74,5 @@ two m text l k none first second is_l is_k differ = record {
 
 -- `a_literal sign prefix integer point character exponent suffix` has these parts, and no others.
 abbrev pub a_literal : List ℕ → List ℕ → List ℕ → List ℕ → List ℕ → List ℕ → List ℕ → Literal
-a_literal sign prefix integer point character exponent suffix = record {
-  sign = sign;
-  prefix = prefix;
-  integer = integer;
-  point = point;
-  fraction = [];
-  exponent_character = character;
-  exponent_sign = [];
-  exponent = exponent;
-  suffix = suffix;
-}
+a_literal sign prefix integer point character exponent suffix =
+    record (only suffix) { sign = sign; prefix = prefix; integer = integer; point = point; exponent_character = character; exponent = exponent }

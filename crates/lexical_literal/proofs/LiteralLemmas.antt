@@ -57,7 +57,8 @@ module _ (k one_k s one_s plus e fits_e one_x no_plus sign_required digits_requi
 
   abbrev tail_fits : Bool → Bool → Bool → Bool
   tail_fits stop scale digit = one_k && (if k then stop && ((s && e) && one_x)
-      else scale && ((one_s && (implies no_plus (not plus) && (if s then not sign_required else true))) && (fits_e && (implies digits_required digit && one_x))))
+      else scale && ((one_s && (implies no_plus (not plus) && (if s then not sign_required else true)))
+      && (fits_e && (implies digits_required digit && one_x))))
 
   module _ (stop scale digit : Bool) where
     tail_if : digit ≡ not e → TailFacts stop scale → tail_fits stop scale digit ≡ true
@@ -118,7 +119,8 @@ module _ (any led p one_p f fits_f k : Bool) (flag : Flag → Bool) (only : Bool
       has_fraction : fits_f ≡ true
       has_fraction = grind arith
 
-      end_facts : implies k stops_so ≡ true → implies (not k) scales_so ≡ true → (fits_f ≡ true → digit ≡ not f) → (fits_f ≡ true → lone ≡ not (not f || any)) → EndFacts
+      end_facts : implies k stops_so ≡ true → implies (not k) scales_so ≡ true
+          → (fits_f ≡ true → digit ≡ not f) → (fits_f ≡ true → lone ≡ not (not f || any)) → EndFacts
       end_facts stop scale seen counted =
           let same_digit : digit ≡ not f = seen has_fraction in let same_lone : lone ≡ not (not f || any) = counted has_fraction in grind arith
 
@@ -128,9 +130,6 @@ holds a d is set = grind arith
 implied : (a d : Bool) → (a ≡ true → d ≡ true) → implies a d ≡ true
 implied true d is = is refl
 implied false d is = refl
-
-or_false : (a : Bool) → (a || false) ≡ a
-or_false a = grind arith
 
 pub absent_is : (bytes : List ℕ) → is_absent bytes ≡ true → bytes ≡ []
 absent_is [] is = refl
@@ -148,8 +147,9 @@ module _ (m : Notation) where
   -- Digits that are present have a digit.
   has_bytes : (part : Part) (stage : Stage) (run : List ℕ) → has_digit stage ≡ false → is_rest m part false false run ≡ true
       → has_digit (stage_after (m.digit part) stage false run) ≡ is_present run
-  has_bytes part stage run none fit = (passed (m.digit part) stage false run).seen ∙ ap (λ t. list_any (m.digit part) run || t) none
-      ∙ or_false (list_any (m.digit part) run) ∙ digits_present m part run fit
+  has_bytes part stage run none fit = same _ _ _ _ (passed (m.digit part) stage false run).seen none (digits_present m part run fit) where
+    same : (last some before present : Bool) → last ≡ (some || before) → before ≡ false → some ≡ present → last ≡ present
+    same last some before present seen none is = grind arith
 
   -- The stage before the integer digits.
   first_seen : (sign prefix : List ℕ) → has_digit (stage_at stages.Start sign prefix) ≡ false
@@ -162,15 +162,14 @@ module _ (m : Notation) where
   first_led sign prefix run = first (is_absent prefix) (is_absent sign) where
     first : (x y : Bool) → led_after (m.digit parts.Integer) (if x then (if y then stages.Start else stages.Empty) else stages.Free) run
         ≡ (x && has_leading_zero (m.digit parts.Integer) run)
-    first true true = refl
-    first true false = refl
-    first false y = refl
+    first x y = grind arith
 
   module _ (l : Literal) where
     abbrev Tail : Bool → Bool → Type 0
     Tail = TailFacts (is_absent l.exponent_character) (is_none_or_one m.exponent_character l.exponent_character) (is_absent l.exponent_sign)
         (is_none_or_one signs l.exponent_sign) (is_plus l.exponent_sign) (is_absent l.exponent) (is_rest m parts.Exponent false false l.exponent)
-        (is_none_or_one m.suffix l.suffix) (m.flag layout.no_positive_exponent_sign) (m.flag layout.required_exponent_sign) (m.flag layout.required_exponent_digits)
+        (is_none_or_one m.suffix l.suffix) (m.flag layout.no_positive_exponent_sign) (m.flag layout.required_exponent_sign)
+        (m.flag layout.required_exponent_digits)
 
     abbrev End : Bool → Bool → Type 0
     End any led = EndFacts any led (is_absent l.point) (is_none_or_one m.point l.point) (is_absent l.fraction) (is_rest m parts.Fraction false false l.fraction)
@@ -196,10 +195,10 @@ module _ (m : Notation) where
     fraction_seen any fit = has_bytes parts.Fraction (after_point any) l.fraction (either has_digit any stages.Free stages.Lone refl refl) fit
 
     fraction_counts : (any : Bool) → is_rest m parts.Fraction false false l.fraction ≡ true → is_lone (fraction_last any) ≡ not (is_present l.fraction || any)
-    fraction_counts any fit = counted (is_lone (fraction_last any)) (is_present l.fraction) any ((passed (m.digit parts.Fraction) (after_point any) false l.fraction).counts
-        ∙ ap (λ t. t || not (is_lone (after_point any))) (digits_present m parts.Fraction l.fraction fit)) where
-          counted : (lone f any : Bool) → not lone ≡ (f || not (is_lone (after_point any))) → lone ≡ not (f || any)
-          counted lone f any is = grind arith
+    fraction_counts any fit = counted _ _ (is_present l.fraction) any (passed (m.digit parts.Fraction) (after_point any) false l.fraction).counts
+        (digits_present m parts.Fraction l.fraction fit) where
+          counted : (lone some present any : Bool) → not lone ≡ (some || not (is_lone (after_point any))) → some ≡ present → lone ≡ not (present || any)
+          counted lone some present any is same = grind arith
 
     exponent_seen : is_rest m parts.Exponent false false l.exponent ≡ true → has_digit exponent_last ≡ is_present l.exponent
     exponent_seen fit = has_bytes parts.Exponent (stage_at stages.Mark l.exponent_sign []) l.exponent
@@ -208,16 +207,18 @@ module _ (m : Notation) where
     -- WHAT IS ACCEPTED IS A LITERAL
 
     tail_of : (stop scale : Bool) → ends_mantissa m l stop scale ≡ true → Tail stop scale
-    tail_of stop scale is = tail_facts _ _ _ _ _ _ _ _ _ _ _ stop scale (has_digit exponent_last) (absent (λ x. is_none_or_one signs x && not (is_plus x)) l.exponent_sign refl)
-        (absent (is_rest m parts.Exponent false false) l.exponent refl) is exponent_seen
+    tail_of stop scale is = tail_facts _ _ _ _ _ _ _ _ _ _ _ stop scale (has_digit exponent_last)
+        (absent (λ x. is_none_or_one signs x && not (is_plus x)) l.exponent_sign refl) (absent (is_rest m parts.Exponent false false) l.exponent refl) is exponent_seen
 
-    end_of : (last : Stage) → (tail : Tail (stops m l last) (scales m l last)) → digits_suffice m parts.Integer last ≡ true → is_none_or_one m.point l.point ≡ true
+    end_of : (last : Stage) → Tail (stops m l last) (scales m l last) → digits_suffice m parts.Integer last ≡ true → is_none_or_one m.point l.point ≡ true
         → fraction_fits m l last ≡ true → End (has_digit last) (is_led last)
-    end_of last tail digits point fraction = end_facts _ _ _ _ _ _ _ _ _ (has_digit (fraction_last (has_digit last))) (is_lone (fraction_last (has_digit last)))
-        (absent (is_rest m parts.Fraction false false) l.fraction refl) point digits fraction tail.stop tail.scale (fraction_seen (has_digit last)) (fraction_counts (has_digit last))
+    end_of last tail digits point fraction =
+        let any = has_digit last in
+        end_facts _ _ _ _ _ _ _ _ _ (has_digit (fraction_last any)) (is_lone (fraction_last any)) (absent (is_rest m parts.Fraction false false) l.fraction refl)
+        point digits fraction tail.stop tail.scale (fraction_seen any) (fraction_counts any)
 
-    literal_if : sign_fits m parts.Integer stages.Start l.sign ≡ true → prefix_fits m stages.Start false l.prefix ≡ true → is_rest m parts.Integer false false l.integer ≡ true
-        → ends_part m parts.Integer l integer_last ≡ true → IsLiteral m l
+    literal_if : sign_fits m parts.Integer stages.Start l.sign ≡ true → prefix_fits m stages.Start false l.prefix ≡ true
+        → is_rest m parts.Integer false false l.integer ≡ true → ends_part m parts.Integer l integer_last ≡ true → IsLiteral m l
     literal_if sign prefix run is =
         let one = and_parts (is_none_or_one signs l.sign) _ sign in
         let no_plus = and_parts (implies (m.flag layout.no_positive_mantissa_sign) (not (is_plus l.sign))) _ one.1 in
@@ -225,6 +226,7 @@ module _ (m : Notation) where
         let point = and_parts (is_none_or_one m.point l.point) _ digits.1 in
         let fraction = and_parts (fraction_fits m l integer_last) _ point.1 in
         let tail = tail_of (stops m l integer_last) (scales m l integer_last) fraction.1 in
+        let signed = signed (m.flag layout.required_mantissa_sign) (is_absent l.sign) no_plus.1 in
         let end = subst (λ t. End t (is_zero_led m l)) (integer_seen run)
         (subst (λ t. End (has_digit integer_last) t) integer_led (end_of integer_last tail digits.0 point.0 fraction.0)) in
         record {
@@ -240,7 +242,7 @@ module _ (m : Notation) where
           after_point = λ none. absent_is l.fraction (holds _ _ end.after_point none);
           after_character = λ none. (absent_is l.exponent_sign (holds _ _ tail.sign_after none), absent_is l.exponent (holds _ _ tail.exponent_after none));
           some_number = end.some;
-          requirements = meets end tail no_plus.0 (signed (m.flag layout.required_mantissa_sign) (is_absent l.sign) no_plus.1);
+          requirements = λ f set. grind arith;
         } where
           signed : (f x : Bool) → (if x then not f else true) ≡ true → implies f (not x) ≡ true
           signed f x is = grind arith
@@ -250,24 +252,6 @@ module _ (m : Notation) where
           prefix_one (x ∷ []) is = is
           prefix_one (z ∷ x ∷ more) is = is
 
-          meets : End (is_present l.integer) (is_zero_led m l) → Tail (stops m l integer_last) (scales m l integer_last)
-              → implies (m.flag layout.no_positive_mantissa_sign) (not (is_plus l.sign)) ≡ true → implies (m.flag layout.required_mantissa_sign) (is_present l.sign) ≡ true
-              → (f : Flag) → IsTrue (m.flag f) → IsTrue (requirement f m l)
-          meets end tail no_plus signed layout.required_integer_digits = holds _ _ end.integer_digits
-          meets end tail no_plus signed layout.required_fraction_digits = holds _ _ end.fraction_digits
-          meets end tail no_plus signed layout.required_exponent_digits = holds _ _ tail.digits
-          meets end tail no_plus signed layout.required_mantissa_digits = holds _ _ end.mantissa_digits
-          meets end tail no_plus signed layout.no_positive_mantissa_sign = holds _ _ no_plus
-          meets end tail no_plus signed layout.required_mantissa_sign = holds _ _ signed
-          meets end tail no_plus signed layout.no_exponent_notation = holds _ _ end.notation
-          meets end tail no_plus signed layout.no_positive_exponent_sign = holds _ _ tail.no_plus_sign
-          meets end tail no_plus signed layout.required_exponent_sign = holds _ _ tail.signed
-          meets end tail no_plus signed layout.no_exponent_without_fraction = holds _ _ end.with_fraction
-          meets end tail no_plus signed layout.no_integer_leading_zeros = holds _ _ end.whole_led
-          meets end tail no_plus signed layout.no_float_leading_zeros = holds _ _ end.float_led
-          meets end tail no_plus signed layout.required_exponent_notation = holds _ _ end.needed
-          meets end tail no_plus signed _ = λ set. refl
-
 module _ (m : Notation) (h : HasRoles m) where
   -- What is accepted is a literal.
   pub literal_from : (text : List ℕ) → Accepts m (Some start) text → (l : Literal) × Reads m l text
@@ -275,10 +259,11 @@ module _ (m : Notation) (h : HasRoles m) where
       let cut = cut_of m h parts.Integer stages.Start false text is in
       let found = cut.found in
       let l : Literal = record found.more { sign = cut.sign; prefix = cut.prefix; integer = found.digits } in
+      let first = stage_at stages.Start cut.sign cut.prefix in
       let no_gap = and_right (is_absent cut.prefix) false refl in
       let run = subst (λ t. is_rest m parts.Integer t false found.digits ≡ true) (first_seen m cut.sign cut.prefix)
-      (subst (λ g. is_rest m parts.Integer (has_digit (stage_at stages.Start cut.sign cut.prefix)) g found.digits ≡ true) no_gap found.run) in
-      let end = subst (λ g. ends_part m parts.Integer found.more (stage_after (m.digit parts.Integer) (stage_at stages.Start cut.sign cut.prefix) g found.digits) ≡ true) no_gap found.end in
+      (subst (λ g. is_rest m parts.Integer (has_digit first) g found.digits ≡ true) no_gap found.run) in
+      let end = subst (λ g. ends_part m parts.Integer found.more (stage_after (m.digit parts.Integer) first g found.digits) ≡ true) no_gap found.end in
       (l, record { whole = found.whole; literal = literal_if m l found.signed found.prefixed run end })
 
   -- A LITERAL IS ACCEPTED
@@ -286,7 +271,8 @@ module _ (m : Notation) (h : HasRoles m) where
   -- `Goes part last c rest d` holds if `rest` arrives where the digits of `part` end at the stage `last`.
   record Goes (part : Part) (last : Stage) (c : Cuts) (rest : List ℕ) (d : Cuts) : Type 0 where
     leads : is_led last ≡ true → may_lead m ≡ true
-    arrives : (gap : Bool) → gap_fits m part (has_digit last) gap false ≡ true → is_signed m part last ≡ true → Arrives m (Some (reading part last gap)) c rest d
+    arrives : (gap : Bool) → gap_fits m part (has_digit last) gap false ≡ true → is_signed m part last ≡ true
+        → Arrives m (Some (reading part last gap)) c rest d
 
   -- `add_run part run c` counts the bytes of `run`.
   abbrev add_run : Part → List ℕ → Cuts → Cuts
@@ -316,31 +302,32 @@ module _ (m : Notation) (h : HasRoles m) where
   run_arrives part stage gap [] rest c d signed fit goes =
       subst (λ c. Arrives m (Some (reading part stage gap)) c rest d) (add_none part c) (goes.arrives gap fit signed)
   run_arrives part stage gap (b ∷ run) rest c d signed fit goes =
-      let next : (t : Bool) → m.digit part b ≡ t → Goes part (after_byte (m.digit part) stage gap b run t) (add_run part run (add c (digits_piece part))) rest d =
-      λ t is. subst (λ t. Goes part (after_byte (m.digit part) stage gap b run t) (add_run part run (add c (digits_piece part))) rest d) is
+      let more = add c (digits_piece part) in
+      let next : (t : Bool) → m.digit part b ≡ t → Goes part (after_byte (m.digit part) stage gap b run t) (add_run part run more) rest d =
+      λ t is. subst (λ t. Goes part (after_byte (m.digit part) stage gap b run t) (add_run part run more) rest d) is
       (subst (λ c. Goes part (stage_after (m.digit part) stage gap (b ∷ run)) c rest d) (add_more part b run c) goes) in
       elim (cases_Bool (m.digit part b)) [
         | inl digit ↦ arrives_byte m h (reading part stage gap) b roles.Digit c (run ++ rest) d refl (digit_role m h part b digit)
             (and_from _ _ signed (and_from _ _ (digit_fits m part (has_digit stage) gap b run digit fit)
             (follow (m.digit part) stage gap (b ∷ run) goes.leads (or_left _ _ digit))))
-            (run_arrives part (after_digit stage gap (b == 48)) false run rest (add c (digits_piece part)) d (settled _ m part (digit_settles stage gap (b == 48)))
-            (subst (λ t. is_rest m part t false run ≡ true) (sym (digit_seen stage gap (b == 48))) (after_run_digit m part (has_digit stage) gap b run digit fit))
-            (next true digit))
+            (run_arrives part (after_digit stage gap (b == 48)) false run rest more d (settled _ m part (digit_settles stage gap (b == 48)))
+            (subst (λ t. is_rest m part t false run ≡ true) (sym (digit_seen stage gap (b == 48)))
+            (after_run_digit m part (has_digit stage) gap b run digit fit)) (next true digit))
         | inr other ↦
-            let more = after_run_separator m part (has_digit stage) gap b run other fit in
+            let fits = after_run_separator m part (has_digit stage) gap b run other fit in
             arrives_byte m h (reading part stage gap) b roles.Separator c (run ++ rest) d refl
             (is_role m h part roles.Separator b (λ e. cc) (is_run_separator m part (has_digit stage) gap b run other fit))
-            (and_from _ _ signed (and_from _ _ (separator_fits m part (has_digit stage) gap b run other fit)
-            (opens m part (has_digit stage) (may_follow m stage) run more (λ some. follow (m.digit part) stage gap (b ∷ run) goes.leads (or_right (m.digit part b) _ some)))))
-            (run_arrives part (after_mark stage) true run rest (add c (digits_piece part)) d (settled _ m part (mark_settles stage))
-            (subst (λ t. is_rest m part t true run ≡ true) (sym (mark_seen stage)) more) (next false other))
+            (and_from _ _ signed (and_from _ _ (separator_fits m part (has_digit stage) gap b run other fit) (opens m part (has_digit stage) (may_follow m stage) run fits
+            (λ some. follow (m.digit part) stage gap (b ∷ run) goes.leads (or_right (m.digit part b) _ some)))))
+            (run_arrives part (after_mark stage) true run rest more d (settled _ m part (mark_settles stage))
+            (subst (λ t. is_rest m part t true run ≡ true) (sym (mark_seen stage)) fits) (next false other))
       ]
 
   -- Digits of a part without a leading zero.
   unled_arrives : (part : Part) (stage : Stage) (run rest : List ℕ) (c d : Cuts) → is_signed m part stage ≡ true → has_digit stage ≡ false
       → led_after (m.digit part) stage run ≡ false → is_rest m part false false run ≡ true
-      → ((gap : Bool) → gap_fits m part (has_digit (stage_after (m.digit part) stage false run)) gap false ≡ true → is_signed m part (stage_after (m.digit part) stage false run) ≡ true
-      → Arrives m (Some (reading part (stage_after (m.digit part) stage false run) gap)) (add_run part run c) rest d)
+      → let last = stage_after (m.digit part) stage false run in
+      ((gap : Bool) → gap_fits m part (has_digit last) gap false ≡ true → is_signed m part last ≡ true → Arrives m (Some (reading part last gap)) (add_run part run c) rest d)
       → Arrives m (Some (reading part stage false)) c (run ++ rest) d
   unled_arrives part stage run rest c d signed none unled fit goes =
       run_arrives part stage false run rest c d signed (subst (λ t. is_rest m part t false run ≡ true) (sym none) fit)
@@ -355,13 +342,13 @@ module _ (m : Notation) (h : HasRoles m) where
   sign_arrives part stage gap (b ∷ []) rest cuts d fits one more =
       let both = and_parts (signs b) _ fits in
       let taken = and_parts (implies (forbids_plus m part) (not (b == 43))) (is_fresh stage) both.1 in
-      arrives_byte m h (reading part stage gap) b roles.Sign (cuts []) rest d refl (is_role m h part roles.Sign b (λ e. cc) both.0) (and_from _ _ taken.1 taken.0)
-      (subst (λ c. Arrives m (Some (reading part (after_mark stage) gap)) c rest d) (one b) (more (settled (after_mark stage) m part (mark_settles stage))))
+      arrives_byte m h (reading part stage gap) b roles.Sign (cuts []) rest d refl (is_role m h part roles.Sign b (λ e. cc) both.0)
+      (and_from _ _ taken.1 taken.0) (subst (λ c. Arrives m (Some (reading part (after_mark stage) gap)) c rest d) (one b) (more (settled (after_mark stage) m part (mark_settles stage))))
   sign_arrives part stage gap (b ∷ x ∷ sign) rest cuts d fits one more = absurd (false≢true fits)
 
   -- The suffix, or nothing.
-  stop_arrives : (part : Part) (stage : Stage) (gap : Bool) (c : Cuts) (suffix : List ℕ) → (ends m (reading part stage gap) && continues m part stage roles.Suffix) ≡ true
-      → is_none_or_one m.suffix suffix ≡ true → Arrives m (Some (reading part stage gap)) c suffix c
+  stop_arrives : (part : Part) (stage : Stage) (gap : Bool) (c : Cuts) (suffix : List ℕ)
+      → (ends m (reading part stage gap) && continues m part stage roles.Suffix) ≡ true → is_none_or_one m.suffix suffix ≡ true → Arrives m (Some (reading part stage gap)) c suffix c
   stop_arrives part stage gap c [] is one = (is, refl)
   stop_arrives part stage gap c (b ∷ []) is one =
       arrives_byte m h (reading part stage gap) b roles.Suffix c [] c refl (is_role m h part roles.Suffix b (λ e. cc) one) is (refl, refl)
@@ -376,11 +363,13 @@ module _ (m : Notation) (h : HasRoles m) where
       let both = and_parts (is_rest m parts.Exponent false false l.exponent) _ fits in
       let end = and_parts (digits_suffice m parts.Exponent (exponent_last m l)) _ both.1 in
       let all : Cuts = record c { exponent_sign = plus l.exponent_sign c.exponent_sign; exponent = plus l.exponent c.exponent } in
-      sign_arrives parts.Exponent stages.Mark false l.exponent_sign (l.exponent ++ l.suffix) (λ x. record c { exponent_sign = plus x c.exponent_sign }) all sign (λ b. refl)
-      (λ signed. unled_arrives parts.Exponent (stage_at stages.Mark l.exponent_sign []) l.exponent l.suffix _ all signed
-      (either has_digit (is_absent l.exponent_sign) stages.Mark stages.Free refl refl)
-      (either (λ s. led_after (m.digit parts.Exponent) s l.exponent) (is_absent l.exponent_sign) stages.Mark stages.Free refl refl) both.0
-      (λ gap closed signed. stop_arrives parts.Exponent (exponent_last m l) gap all l.suffix (and_from _ true (and_from _ _ signed (and_from _ _ closed end.0)) refl) end.1))
+      let first : (P : Stage → Bool) → P stages.Mark ≡ false → P stages.Free ≡ false → P (stage_at stages.Mark l.exponent_sign []) ≡ false =
+      λ P. either P (is_absent l.exponent_sign) stages.Mark stages.Free in
+      sign_arrives parts.Exponent stages.Mark false l.exponent_sign (l.exponent ++ l.suffix) (λ x. record c { exponent_sign = plus x c.exponent_sign }) all
+      sign (λ b. refl) (λ signed. unled_arrives parts.Exponent (stage_at stages.Mark l.exponent_sign []) l.exponent l.suffix _ all signed
+      (first has_digit refl refl) (first (λ s. led_after (m.digit parts.Exponent) s l.exponent) refl refl) both.0
+      (λ gap closed signed. stop_arrives parts.Exponent (exponent_last m l) gap all l.suffix
+      (and_from _ true (and_from _ _ signed (and_from _ _ closed end.0)) refl) end.1))
 
   -- What follows the mantissa.
   tail_arrives : (l : Literal) (part : Part) (stage : Stage) (gap : Bool) (c : Cuts) → ends m (reading part stage gap) ≡ true
@@ -390,7 +379,9 @@ module _ (m : Notation) (h : HasRoles m) where
     go : (character sign exponent : List ℕ) → let l = record l { exponent_character = character; exponent_sign = sign; exponent = exponent } in
         ends_mantissa m l (continues m part stage roles.Suffix) (continues m part stage roles.Exponent) ≡ true
         → Arrives m (Some (reading part stage gap)) c (text_after parts.Fraction l) (tail_cuts l c)
-    go [] [] [] fits = let both = and_parts (continues m part stage roles.Suffix) _ fits in stop_arrives part stage gap c l.suffix (and_from _ _ end both.0) both.1
+    go [] [] [] fits =
+        let both = and_parts (continues m part stage roles.Suffix) _ fits in
+        stop_arrives part stage gap c l.suffix (and_from _ _ end both.0) both.1
     go [] [] (e ∷ exponent) fits = absurd (false≢true (and_parts (continues m part stage roles.Suffix) false fits).1)
     go [] (s ∷ sign) exponent fits = absurd (false≢true (and_parts (continues m part stage roles.Suffix) false fits).1)
     go (b ∷ []) sign exponent fits =
@@ -399,12 +390,13 @@ module _ (m : Notation) (h : HasRoles m) where
         let power = and_parts (sign_fits m parts.Exponent stages.Mark sign) _ scale.1 in
         arrives_byte m h (reading part stage gap) b roles.Exponent c (sign ++ (exponent ++ l.suffix)) _ refl
         (is_role m h part roles.Exponent b (λ e. cc) character.0) (and_from _ _ end scale.0)
-        (power_arrives (record l { exponent_character = b ∷ []; exponent_sign = sign; exponent = exponent }) (record c { exponent_character = c.exponent_character + 1 }) power.0 power.1)
+        (power_arrives (record l { exponent_character = b ∷ []; exponent_sign = sign; exponent = exponent })
+        (record c { exponent_character = c.exponent_character + 1 }) power.0 power.1)
     go (b ∷ x ∷ character) sign exponent fits = absurd (false≢true fits)
 
   -- What follows the integer digits.
-  end_arrives : (l : Literal) (stage : Stage) (gap : Bool) (c : Cuts) → ends m (reading parts.Integer stage gap) ≡ true → ends_part m parts.Integer l stage ≡ true
-      → Arrives m (Some (reading parts.Integer stage gap)) c (text_after parts.Integer l) (end_cuts l c)
+  end_arrives : (l : Literal) (stage : Stage) (gap : Bool) (c : Cuts) → ends m (reading parts.Integer stage gap) ≡ true
+      → ends_part m parts.Integer l stage ≡ true → Arrives m (Some (reading parts.Integer stage gap)) c (text_after parts.Integer l) (end_cuts l c)
   end_arrives l stage gap c end fits = go l.point l.fraction (and_parts (digits_suffice m parts.Integer stage) _ fits).1 where
     go : (point fraction : List ℕ) → let l = record l { point = point; fraction = fraction } in
         (is_none_or_one m.point point && (fraction_fits m l stage && ends_mantissa m l (stops m l stage) (scales m l stage))) ≡ true
@@ -423,7 +415,8 @@ module _ (m : Notation) (h : HasRoles m) where
         arrives_byte m h (reading parts.Integer stage gap) b roles.Point c (fraction ++ text_after parts.Fraction l) (end_cuts l c) refl
         (is_role m h parts.Integer roles.Point b (λ e. cc) point.0) (and_from _ _ end float.0)
         (unled_arrives parts.Fraction (after_point (has_digit stage)) fraction (text_after parts.Fraction l) more (end_cuts l c)
-        (settled _ m parts.Fraction (first is_fresh refl refl)) (first has_digit refl refl) (first (λ s. led_after (m.digit parts.Fraction) s fraction) refl refl) run.0
+        (settled _ m parts.Fraction (first is_fresh refl refl)) (first has_digit refl refl)
+        (first (λ s. led_after (m.digit parts.Fraction) s fraction) refl refl) run.0
         (λ gap closed signed. tail_arrives l parts.Fraction (fraction_last m l (has_digit stage)) gap (record more { fraction = plus fraction c.fraction })
         (and_from _ _ signed (and_from _ _ closed run.1)) both.1))
     go (b ∷ x ∷ point) fraction fits = absurd (false≢true fits)
@@ -442,16 +435,13 @@ module _ (m : Notation) (h : HasRoles m) where
       subst (λ z. Arrives m (Some (reading parts.Integer stage false)) c (z ∷ b ∷ rest) d) (sym (eqb-true z 48 both.0))
       (arrives_byte m h (reading parts.Integer stage false) 48 roles.Digit c (b ∷ rest) d refl (digit_role m h parts.Integer 48 (h.zero_is_digit parts.Integer))
       (and_from _ _ signed (follows stage new)) (subst (λ s. Arrives m (Some (reading parts.Integer s false)) zero (b ∷ rest) d) (sym (bare stage new))
-      (arrives_byte m h (reading parts.Integer stages.Bare false) b roles.Prefix zero rest d refl (is_role m h parts.Integer roles.Prefix b (λ e. cc) both.1) refl (more refl)))) where
+      (arrives_byte m h (reading parts.Integer stages.Bare false) b roles.Prefix zero rest d refl
+      (is_role m h parts.Integer roles.Prefix b (λ e. cc) both.1) refl (more refl)))) where
         follows : (stage : Stage) → begins stage ≡ true → may_follow m stage ≡ true
-        follows stages.Bare new = absurd (false≢true new)
-        follows stages.Zero new = absurd (false≢true new)
-        follows _ new = refl
+        follows stage new = grind arith
 
         bare : (stage : Stage) → begins stage ≡ true → after_digit stage false true ≡ stages.Bare
-        bare stages.Start new = refl
-        bare stages.Empty new = refl
-        bare _ new = absurd (false≢true new)
+        bare stage new = grind arith
   prefix_arrives stage (z ∷ b ∷ x ∷ prefix) rest c d new signed one more = absurd (false≢true one)
 
   module _ (l : Literal) (is : IsLiteral m l) where
@@ -478,7 +468,8 @@ module _ (m : Notation) (h : HasRoles m) where
           needed = flag layout.required_exponent_notation;
         }))
 
-    tail : (stop scale : Bool) → implies (is_absent l.exponent_character) stop ≡ true → implies (is_present l.exponent_character) scale ≡ true → Tail m l stop scale
+    tail : (stop scale : Bool) → implies (is_absent l.exponent_character) stop ≡ true → implies (is_present l.exponent_character) scale ≡ true
+        → Tail m l stop scale
     tail stop scale may_stop may_scale = record {
       character = is.exponent_character;
       sign = is.exponent_sign;
@@ -501,7 +492,8 @@ module _ (m : Notation) (h : HasRoles m) where
         let stop = and_parts (implies (is_absent l.exponent_character) (stops m l last)) _ all in
         let scale = and_parts (implies (is_present l.exponent_character) (scales m l last)) _ stop.1 in
         and_from _ _ end.integer_digits (and_from _ _ end.point (and_from _ _ scale.1 (tail_if _ _ _ _ _ _ _ _ _ _ _ (stops m l last) (scales m l last)
-        (has_digit (exponent_last m l)) (exponent_seen m l (run parts.Exponent l.exponent is.exponent)) (tail (stops m l last) (scales m l last) stop.0 scale.0))))
+        (has_digit (exponent_last m l)) (exponent_seen m l (run parts.Exponent l.exponent is.exponent))
+        (tail (stops m l last) (scales m l last) stop.0 scale.0))))
 
     -- Where integers alone are literals, no literal has a decimal point or an exponent.
     no_float : implies m.integers_only (is_absent l.point && is_absent l.exponent_character) ≡ true
