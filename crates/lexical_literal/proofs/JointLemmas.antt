@@ -155,7 +155,7 @@ module _ (m : Notation) where
   if_more : (g p q : Bool) → (p ≡ true → q ≡ true) → (g || p) ≡ true → (g || q) ≡ true
   if_more g p q more is = grind arith
 
-  same_consecutive : (part : Part) → (bare m).flag (separators_in part).consecutive ≡ m.flag (separators_in part).consecutive
+  pub same_consecutive : (part : Part) → (bare m).flag (separators_in part).consecutive ≡ m.flag (separators_in part).consecutive
   same_consecutive parts.Integer = grind arith
   same_consecutive _ = grind arith
 

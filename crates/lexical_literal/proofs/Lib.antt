@@ -14,3 +14,6 @@ mod TableLemmas
 mod CauseLemmas
 mod RefusalLemmas
 mod JointLemmas
+mod BlameLemmas
+mod PlaceLemmas
+mod PartOfLemmas
