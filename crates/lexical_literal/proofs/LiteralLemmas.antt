@@ -15,7 +15,7 @@ use Rattle.lexical_literal.specs.Additions.Summary.{Cuts, implies, has_digit, is
 use Rattle.lexical_literal.specs.declared.steps.Stage.{Stage}
 use Rattle.lexical_literal.specs.declared.steps.Stage.TheVariants as stages
 use Rattle.lexical_literal.specs.declared.steps.Summary.{Summary}
-use Rattle.lexical_literal.proofs.RunLemmas.{is_rest, run_from_start, digits_present}
+use Rattle.lexical_literal.proofs.RunLemmas.{is_rest, rest_of_none, digits_present}
 use Rattle.lexical_literal.proofs.ScanLemmas.{HasRoles, Accepts, Arrives, plus, arrives_byte, digit_role, is_role}
 use Rattle.lexical_literal.proofs.StepLemmas.{reading, begins, led_after, Taken, Run, run_of, run_arrives, stop_arrives}
 
@@ -389,7 +389,7 @@ module _ (m : Notation) (h : HasRoles m) where
         }
 
   pub as_run : (part : Part) (run : List ℕ) → is_rest m part false false run ≡ is_run m part run
-  as_run part run = run_from_start m part run
+  as_run part run = rest_of_none m part run
 
   -- The parts of a number, after its sign and its prefix.
   build : (sign prefix : List ℕ) (stage : Stage) (text all : List ℕ) → Number stage text → all ≡ sign ++ (prefix ++ text)

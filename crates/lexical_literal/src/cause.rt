@@ -239,7 +239,8 @@ impl Stop {
     const fn place(self) -> Place
         ensures { result ≡ place_of (notation_of self.grammar) self.read self.next }
     {
-        let is_consecutive = self.read.gap && !self.grammar.view().separators(self.read.part).consecutive;
+        let is_consecutive = self.read.gap
+            && !self.grammar.view().separators(self.read.part).consecutive;
         if is_consecutive && matches!(self.next, Some(Class::Separator)) {
             Place::Consecutive
         } else if has_digit(self.read.stage) {
@@ -322,9 +323,16 @@ const fn case_mask(grammar: Grammar, byte: u8) -> u128
     ensures each { (f : Flag) → (raw result).flag f ≡ case_set f (notation_of grammar) byte }
     ensures some { result ≢ 0 → SomeFlag (raw result).flag }
 {
-    flag_if(is_exponent_character(grammar, byte), flags::CASE_SENSITIVE_EXPONENT)
-        | flag_if(grammar.view().is_base_prefix(byte), flags::CASE_SENSITIVE_BASE_PREFIX)
-        | flag_if(grammar.view().is_base_suffix(byte), flags::CASE_SENSITIVE_BASE_SUFFIX)
+    flag_if(
+        is_exponent_character(grammar, byte),
+        flags::CASE_SENSITIVE_EXPONENT,
+    ) | flag_if(
+        grammar.view().is_base_prefix(byte),
+        flags::CASE_SENSITIVE_BASE_PREFIX,
+    ) | flag_if(
+        grammar.view().is_base_suffix(byte),
+        flags::CASE_SENSITIVE_BASE_SUFFIX,
+    )
 }
 
 // Returns the other case of a letter, or the byte itself if it is not a letter.
@@ -404,7 +412,12 @@ struct Limits {
 }
 
 // Returns the first index and the end of the bytes to show for the flag with the number `number`.
-const fn requirement_span(grammar: Grammar, text: &[u8], limits: Limits, number: u32) -> (usize, usize)
+const fn requirement_span(
+    grammar: Grammar,
+    text: &[u8],
+    limits: Limits,
+    number: u32,
+) -> (usize, usize)
     requires size { limits.size ≤ length text.now }
     requires end { limits.end ≤ length text.now }
     ensures { result ≡ requirement_span (notation_of grammar) (take limits.size text.now) (take limits.end text.now) number }
@@ -422,7 +435,13 @@ const fn requirement_span(grammar: Grammar, text: &[u8], limits: Limits, number:
 }
 
 // Returns the first index and the end of the bytes to show for a cause and its lowest flag.
-const fn span(grammar: Grammar, text: &[u8], limits: Limits, cause: Cause, number: u32) -> (usize, usize)
+const fn span(
+    grammar: Grammar,
+    text: &[u8],
+    limits: Limits,
+    cause: Cause,
+    number: u32,
+) -> (usize, usize)
     requires size { limits.size ≤ length text.now }
     requires end { limits.end ≤ length text.now }
     ensures { result ≡ span_of (notation_of grammar) (take limits.size text.now) (take limits.end text.now) cause number }
@@ -463,14 +482,19 @@ const fn requirement_error(grammar: Grammar, number: u32, start: usize, size: us
 }
 
 // Returns the error for a cause and its lowest flag, where the bytes to show begin at `start`.
-const fn error(grammar: Grammar, text: &[u8], size: usize, cause: Cause, number: u32, start: usize) -> Error
+const fn error(
+    grammar: Grammar,
+    text: &[u8],
+    size: usize,
+    cause: Cause,
+    number: u32,
+    start: usize,
+) -> Error
     requires { size ≤ length text.now }
     ensures { result ≡ error_of (notation_of grammar) (take size text.now) cause number start }
 {
     match cause {
-        Cause::Requirement => {
-            requirement_error(grammar, number, start, size)
-        }
+        Cause::Requirement => { requirement_error(grammar, number, start, size) }
         Cause::Missing(_) if behind(grammar, Kind::Mark, text, size) == 0 => Error::Empty(start),
         _ => Error::InvalidDigit(start),
     }

@@ -1,24 +1,22 @@
 //! The steps of a reader: what has been read of a number, changed by the class of one byte.
 
-ghost use Rattle.std.specs.Prelude.{◌≡◌, IsFalse, nat_lt};
+ghost use Rattle.std.specs.Prelude.{◌≡◌, nat_lt};
 ghost use Rattle.lexical_util.specs.Digits.{byte_value};
 ghost use Rattle.lexical_util.specs.Record.{raw};
 ghost use Rattle.lexical_literal.specs.Notation.{notation_of, radix_of, point_of, exponent_character_of};
 ghost use Rattle.lexical_literal.specs.Run.{is_place};
-ghost use Rattle.lexical_literal.specs.Additions.Summary.{IsMove, class_of, role_of, in_part, piece_of, has_digit, is_fresh, may_follow, after_digit, after_mark, gap_fits, is_open, is_signed, needs_exponent, may_lead, forbids_plus, digits_suffice, continues, ends, is_complete, takes, after};
+ghost use Rattle.lexical_literal.specs.Additions.Summary.{class_of, role_of, in_part, piece_of, has_digit, may_follow};
+ghost use Rattle.lexical_literal.specs.Additions.Summary.{gap_fits, is_signed, needs_exponent, continues, ends, is_complete, takes, after, IsMove};
 
 use crate::syntax::Grammar;
 use lexical_util::format::{Part, Role};
 
-/// A class of bytes: bytes of one class mean the same in a number.
+// A class of bytes: bytes of one class mean the same in a number.
 #[derive(Clone, Copy)]
 pub(crate) enum Class {
-    // A byte that plays no role.
-    Other,
-    // The digit 0.
-    Zero,
-    // Another digit of the mantissa and of the exponent.
-    Digit,
+    Other, // A byte that plays no role.
+    Zero, // The digit 0.
+    Digit, // Another digit of the mantissa and of the exponent.
     MantissaDigit,
     ExponentDigit,
     Separator,
@@ -47,36 +45,24 @@ pub(crate) enum Piece {
 // The digits of a part that have been read.
 #[derive(Clone, Copy)]
 pub(crate) enum Stage {
-    // Nothing of the number.
-    Start,
-    // No digits of the integer.
-    Empty,
-    // The digit 0, and no separators.
-    Bare,
-    // The digit 0, and separators.
-    Zero,
-    // A leading zero, and more digits.
-    Led,
-    // Nothing since the exponent character.
-    Mark,
-    // No digits of the fraction, after no digits of the integer.
-    Lone,
-    // No digits, where a zero is not a leading one.
-    Free,
-    // Digits without a leading zero.
-    Digits,
+    Start, // Nothing of the number.
+    Empty, // No digits of the integer.
+    Bare, // The digit 0, and no separators.
+    Zero, // The digit 0, and separators.
+    Led, // A leading zero, and more digits.
+    Mark, // Nothing since the exponent character.
+    Lone, // No digits of the fraction, after no digits of the integer.
+    Free, // No digits, where a zero is not a leading one.
+    Digits, // Digits without a leading zero.
 }
 
 // What has been read of a number.
 #[derive(Clone, Copy)]
 pub(crate) struct Summary {
-    // The part that a digit belongs to.
-    pub(crate) part: Part,
+    pub(crate) part: Part, // The part that a digit belongs to.
     pub(crate) stage: Stage,
-    // Whether the last byte is a separator.
-    pub(crate) gap: bool,
-    // Whether the suffix has been read.
-    pub(crate) ended: bool,
+    pub(crate) gap: bool, // Whether the last byte is a separator.
+    pub(crate) ended: bool, // Whether the suffix has been read.
 }
 
 // A number with a suffix, behind which nothing follows.
@@ -333,31 +319,33 @@ const fn takes(grammar: Grammar, read: Summary, plus: bool, role: Role) -> bool
 const fn after(read: Summary, zero: bool, role: Role) -> Summary
     ensures { result ≡ after read zero role }
 {
-    let part = match role {
-        Role::Point => Part::Fraction,
-        Role::Exponent => Part::Exponent,
-        Role::Suffix => return FINISHED,
-        _ => read.part,
+    let Summary {
+        part,
+        gap,
+        ended,
+        ..
+    } = read;
+    let (part, stage) = match (role, read.stage) {
+        (Role::Digit, Stage::Start | Stage::Empty) if zero && gap => (part, Stage::Zero),
+        (Role::Digit, Stage::Start | Stage::Empty) if zero => (part, Stage::Bare),
+        (Role::Digit, Stage::Bare | Stage::Zero | Stage::Led) => (part, Stage::Led),
+        (Role::Digit, _) => (part, Stage::Digits),
+        (Role::Separator | Role::Sign, Stage::Start) => (part, Stage::Empty),
+        (Role::Separator | Role::Sign, Stage::Mark) => (part, Stage::Free),
+        (Role::Separator | Role::Sign, Stage::Bare) => (part, Stage::Zero),
+        (Role::Separator | Role::Sign, stage) => (part, stage),
+        (Role::Prefix, _) => (part, Stage::Free),
+        (Role::Point, stage) if has_digit(stage) => (Part::Fraction, Stage::Free),
+        (Role::Point, _) => (Part::Fraction, Stage::Lone),
+        (Role::Exponent, _) => (Part::Exponent, Stage::Mark),
+        (Role::Suffix, _) => return FINISHED,
     };
-    let stage = match (role, read.stage) {
-        (Role::Digit, Stage::Start | Stage::Empty) if zero && read.gap => Stage::Zero,
-        (Role::Digit, Stage::Start | Stage::Empty) if zero => Stage::Bare,
-        (Role::Digit, Stage::Bare | Stage::Zero | Stage::Led) => Stage::Led,
-        (Role::Digit, _) => Stage::Digits,
-        (Role::Separator | Role::Sign, Stage::Start) => Stage::Empty,
-        (Role::Separator | Role::Sign, Stage::Mark) => Stage::Free,
-        (Role::Separator | Role::Sign, Stage::Bare) => Stage::Zero,
-        (Role::Separator | Role::Sign, stage) => stage,
-        (Role::Point, stage) if !has_digit(stage) => Stage::Lone,
-        (Role::Exponent, _) => Stage::Mark,
-        (Role::Prefix | Role::Point | Role::Suffix, _) => Stage::Free,
-    };
-    let gap = matches!(role, Role::Separator) || (matches!(role, Role::Sign) && read.gap);
+    let gap = matches!(role, Role::Separator) || (matches!(role, Role::Sign) && gap);
     Summary {
         part,
         stage,
         gap,
-        ended: read.ended,
+        ended,
     }
 }
 

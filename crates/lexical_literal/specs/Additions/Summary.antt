@@ -1,5 +1,6 @@
 -- What has been read of a number, changed by one byte.
-use Rattle.std.specs.Prelude.{ℕ, Bool, true, false, not, ◌==◌, ◌&&◌, ◌||◌, if◌then◌else◌, ◌+◌, ◌≡◌, length, List, [], ◌∷◌, Option, Some, None}
+use Rattle.std.specs.Prelude.{ℕ, Bool, true, false, not, ◌==◌, ◌&&◌, ◌||◌, if◌then◌else◌, ◌+◌, ◌≡◌, length}
+use Rattle.std.specs.Prelude.{List, [], ◌∷◌, Option, Some, None}
 use Rattle.lexical_util.specs.Layout as layout
 use Rattle.lexical_util.specs.Layout.{separators_in}
 use Rattle.lexical_util.specs.Roles.{signs}
@@ -32,13 +33,9 @@ class_of m byte =
     else (if signs byte then (if byte == 43 then classes.Plus else classes.Minus)
     else (if m.prefix byte then classes.Prefix else classes.Other)))))))
 
--- `role_of class` is the role of the bytes of `class`.
+-- `role_of class` is the role of the bytes of `class`. Four classes are of digits.
 abbrev pub role_of : Class → Option Role
 role_of classes.Other = None
-role_of classes.Zero = Some roles.Digit
-role_of classes.Digit = Some roles.Digit
-role_of classes.MantissaDigit = Some roles.Digit
-role_of classes.ExponentDigit = Some roles.Digit
 role_of classes.Separator = Some roles.Separator
 role_of classes.Prefix = Some roles.Prefix
 role_of classes.Suffix = Some roles.Suffix
@@ -46,6 +43,7 @@ role_of classes.Point = Some roles.Point
 role_of classes.ExponentCharacter = Some roles.Exponent
 role_of classes.Plus = Some roles.Sign
 role_of classes.Minus = Some roles.Sign
+role_of _ = Some roles.Digit
 
 -- `in_part part class` is the role of a byte of `class` after a front that ends in `part`, where digits are those of the
 -- radix of `part`.

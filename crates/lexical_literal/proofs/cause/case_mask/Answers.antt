@@ -1,4 +1,4 @@
-use Rattle.std.proofs.Common.{◌≡◌, ◌^◌, if◌then◌else◌, bit_or, sym, ap, ◌∙◌}
+use Rattle.std.proofs.Common.{◌≡◌, ◌^◌, if◌then◌else◌, bit_or, ap, ◌∙◌}
 use Rattle.lexical_util.specs.Record.{raw}
 use Rattle.lexical_util.specs.Roles as sets
 use Rattle.lexical_literal.specs.Notation.{notation_of}

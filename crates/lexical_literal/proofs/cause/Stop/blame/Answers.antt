@@ -1,7 +1,6 @@
 -- A requirement, missing digits, or what is wrong with a byte.
-use Rattle.std.proofs.Common.{ℕ, ◌≡◌, ◌||◌, Bool, true, false, None, Some, refl, sym, ap, subst, ◌∙◌, arith}
+use Rattle.std.proofs.Common.{◌≡◌, ◌||◌, Bool, false, None, sym, ap, subst, ◌∙◌, arith}
 use Rattle.std.proofs.lemmas.Bool.{false≢true}
-use Rattle.lexical_util.specs.Layout.{Flag}
 use Rattle.lexical_literal.specs.Additions.Causes.{Decides, allows, class_of_next}
 use Rattle.lexical_literal.specs.Cause.{IsCause, bare}
 use Rattle.lexical_literal.specs.Notation.{notation_of}

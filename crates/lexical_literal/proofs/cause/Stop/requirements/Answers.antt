@@ -1,5 +1,5 @@
 -- Flags that refuse alone, or the lowest of two that do together.
-use Rattle.std.proofs.Common.{ℕ, ◌≡◌, ◌≢◌, ◌&&◌, false, List, Option, refl, sym, ap, subst, ◌∙◌}
+use Rattle.std.proofs.Common.{◌≡◌, ◌≢◌, ◌&&◌, false, refl, sym, ap, subst, ◌∙◌}
 use Rattle.std.specs.Bool.{beq}
 use Rattle.lexical_util.specs.Layout.{Flag}
 use Rattle.lexical_util.specs.Record.{raw}

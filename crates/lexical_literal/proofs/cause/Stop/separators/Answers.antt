@@ -1,11 +1,9 @@
 -- Each separator flag is tried, unless all together do not allow the byte.
-use Rattle.std.proofs.Common.{ℕ, ◌≡◌, ◌↔◌, ◌&&◌, ◌||◌, true, false, IsTrue, Some, refl, sym, ap, ◌∙◌, arith}
+use Rattle.std.proofs.Common.{◌≡◌, ◌&&◌, ◌||◌, true, false, Some, refl, sym, ◌∙◌, arith}
 use Rattle.std.proofs.lemmas.Bool.{false≢true}
 use Rattle.std.specs.Bool.{beq}
-use Rattle.lexical_util.specs.Layout.{Flag}
-use Rattle.lexical_util.specs.Record.{raw}
 use Rattle.lexical_literal.specs.Additions.Causes.{allows}
-use Rattle.lexical_literal.specs.Cause.{adding, is_one_of, separator_flags, with_flags}
+use Rattle.lexical_literal.specs.Cause.{adding, with_flags}
 use Rattle.lexical_literal.specs.Notation.{notation_of}
 use Rattle.lexical_literal.proofs.BlameLemmas.{as_bare, each_permits, filled, mask_flag, none_permits}
 use Rattle.lexical_literal.proofs.CauseLemmas.{flag_or, flag_zero, separator_mask}

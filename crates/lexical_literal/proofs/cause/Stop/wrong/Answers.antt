@@ -1,12 +1,12 @@
 -- A separator, the case of a letter, or a byte.
-use Rattle.std.proofs.Common.{ℕ, ◌≡◌, ◌↔◌, ◌&&◌, true, false, IsTrue, List, Some, sym, ap, subst, ◌∙◌}
+use Rattle.std.proofs.Common.{ℕ, ◌≡◌, ◌↔◌, ◌&&◌, false, IsTrue, List, Some, sym, ap, subst, ◌∙◌}
 use Rattle.std.proofs.lemmas.Bool.{false≢true, and_parts, and_from}
 use Rattle.lexical_util.specs.Layout.{Flag}
 use Rattle.lexical_util.specs.Record.{raw}
 use Rattle.lexical_util.specs.Roles.{other_case}
-use Rattle.lexical_literal.specs.Additions.Causes.{Decides, IsReadOf, allows, class_of_next, place_of}
+use Rattle.lexical_literal.specs.Additions.Causes.{Decides, IsReadOf, allows, place_of}
 use Rattle.lexical_literal.specs.Additions.Summary.{class_of}
-use Rattle.lexical_literal.specs.Cause.{Allows, IsCaseFlag, adding, bare, case_set, is_at}
+use Rattle.lexical_literal.specs.Cause.{IsCaseFlag, adding, bare, case_set, is_at}
 use Rattle.lexical_literal.specs.Notation.{Notation, notation_of}
 use Rattle.lexical_literal.specs.declared.steps.Summary.{Summary}
 use Rattle.lexical_literal.proofs.BlameLemmas.{bare_weaker, permits_weaker}
