@@ -1,6 +1,6 @@
 -- Fronts of a text, and where the loop is left.
 use Rattle.std.proofs.Common.{ℕ, Bool, Option, if◌then◌else◌, ◌≡◌, ◌<◌, ◌≤◌, ◌+◌, suc, inl, inr, true, false, not, List, [], ◌∷◌, ◌++◌, length, get_or, take, drop, Some, None, Ok, refl, sym, ap, subst, append_assoc, append-nil, take-append-drop, ◌∙◌, arith}
-use Rattle.std.proofs.lemmas.Bool.{false≢true, cases_lt, and_parts}
+use Rattle.std.proofs.lemmas.Bool.{false≢true, false_from_ne_true, cases_lt, and_parts}
 use Rattle.std.proofs.lemmas.List.{take-take, take_more, take_all}
 use Rattle.lexical_literal.specs.Notation.{Notation}
 use Rattle.lexical_literal.specs.Literal.{Literal, IsLiteral, Reads, is_none_or_prefix}
@@ -185,6 +185,16 @@ module _ (m : Notation) (ready : IsReady m) (text : List ℕ) where
       front = front_from m ready (take i text) s has.read;
       no_longer = λ more over within is. absurd (omega arith);
     }
+
+    pub not_complete : length text ≤ i → (longest ≡ Some (length text) → ⊥) → is_complete m s ≡ false
+    not_complete end other = false_from_ne_true _ (λ complete.
+        let l = literal_from m ready.roles (take i text) (ap (is_accepted m) has.read ∙ complete) in
+        has.longest_is.no_longer i (omega arith) (λ size found.
+        let below = (has.longest_is.found size found).0 in
+        elim (cases_lt size i) [
+          | inl small ↦ small
+          | inr large ↦ let same : size ≡ length text = omega (arith, end, has.within) in absurd (other (found ∙ ap Some same))
+        ]) l.0 l.1)
 
     pub longest_from : IsValidUpTo m text i → IsLongest m text (length text) longest
     longest_from wrong = record {
