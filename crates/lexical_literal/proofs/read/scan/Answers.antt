@@ -45,10 +45,20 @@ pub returns-in_default : goal.returns-in_default
 returns-in_default c =
     let has = c.loop-index.invariant.has in
     let wrong = wrong_at _ has.ready _ _ _ _ _ has c.loop-index-test.true c.in_default.ensures in
-    record { error = wrong; row = c.loop-index.invariant.is_row; longest = longest_from _ has.ready _ _ _ _ _ has wrong; counted = counted_from _ has.ready _ _ _ _ _ has }
+    record {
+      error = wrong;
+      row = c.loop-index.invariant.is_row;
+      longest = longest_from _ has.ready _ _ _ _ _ has wrong;
+      counted = counted_from _ has.ready _ _ _ _ _ has;
+    }
 
 pub returns : goal.returns
 returns c =
     let has = c.loop-index.invariant.has in
     let wrong = wrong_at_end _ has.ready _ _ _ _ _ has c.loop-index-test.false in
-    record { error = wrong; row = c.loop-index.invariant.is_row; longest = longest_from _ has.ready _ _ _ _ _ has wrong; counted = counted_from _ has.ready _ _ _ _ _ has }
+    record {
+      error = wrong;
+      row = c.loop-index.invariant.is_row;
+      longest = longest_from _ has.ready _ _ _ _ _ has wrong;
+      counted = counted_from _ has.ready _ _ _ _ _ has;
+    }
