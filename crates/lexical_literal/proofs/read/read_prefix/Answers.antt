@@ -19,7 +19,8 @@ returns-then-size-scanned c =
     let is = c.scan-scanned.ensures in
     let found = right_front _ _ _ is c.in-Some.size c.in-Some.is c.if-size-scanned.true in
     prefix_read _ _ _ is c.in-Some.size c.in-Some.is c.cut.result
-    (subst (λ l. Reads (notation_of c.args.grammar) l (take c.in-Some.size c.args.text.now)) (sym (c.cut.ensures found.0 (c.front_of-front.ensures ∙ found.1.whole) found.2)) found.1)
+    (subst (λ l. Reads (notation_of c.args.grammar) l (take c.in-Some.size c.args.text.now))
+    (sym (c.cut.ensures found.0 (c.front_of-front.ensures ∙ found.1.whole) found.2)) found.1)
 
 pub returns-in-Ok : goal.returns-in-Ok
 returns-in-Ok c =
