@@ -18,3 +18,4 @@ mod JointLemmas
 mod BlameLemmas
 mod PlaceLemmas
 mod PartOfLemmas
+mod OneCauseLemmas
