@@ -19,3 +19,4 @@ mod JointLemmas
 mod BlameLemmas
 mod PlaceLemmas
 mod PartOfLemmas
+mod OneCauseLemmas

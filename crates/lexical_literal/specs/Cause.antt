@@ -235,3 +235,8 @@ pub record IsRefusal (m : Notation) (text : List ℕ) (error : ReadError) : Type
   pub span : (error.start, error.end)
       ≡ span_of m (take error.valid_up_to text) (take (error.valid_up_to + 1) text) error.cause (lowest error.mask)
   pub code : error.code ≡ error_of m (take error.valid_up_to text) error.cause (lowest error.mask) error.start
+
+-- `SameBlame c d a b` holds if the causes `c` and `d` are the same, and `a` and `b` are true of the same flags.
+pub record SameBlame (c d : Cause) (a b : Flag → Bool) : Type 0 where
+  pub cause : c ≡ d
+  pub flags : (f : Flag) → a f ≡ b f
