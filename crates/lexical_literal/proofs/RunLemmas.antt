@@ -19,9 +19,6 @@ is_rest m part h g (b ∷ run) =
     if m.digit part b then gap_fits m part h g true && is_rest m part true false run
     else (m.separator b && (not g || m.flag (separators_in part).consecutive) && is_rest m part h true run)
 
-and_true : (x : Bool) → x ≡ (x && true)
-and_true x = grind arith
-
 or_false : (x : Bool) → (x || false) ≡ x
 or_false x = grind arith
 
@@ -42,14 +39,11 @@ module _ (m : Notation) (part : Part) where
   one_more : (d h g s c y f : Bool) (P R : Bool → Bool → Bool) → R (h || d) (not d) ≡ ((not (not d) || P (h || d) y) && f)
       → (if d then (not g || P h true) && R true false else (s && (not g || c) && R h true))
       ≡ ((not g || P h (d || y)) && ((d || (s && P h y && (c || not g))) && f))
-  one_more true true g s c y f P R more = grind arith
-  one_more true false g s c y f P R more = grind arith
-  one_more false true g s c y f P R more = grind arith
-  one_more false false g s c y f P R more = grind arith
+  one_more d h g s c y f P R more = grind arith
 
   rest_is : (before after : List ℕ) → is_rest m part (list_any D before) (gap before) after
       ≡ (gap_fits m part (list_any D before) (gap before) (list_any D after) && are_fit m part before after)
-  rest_is before [] = and_true _
+  rest_is before [] = grind arith
   rest_is before (b ∷ after) = one_more (D b) (list_any D before) (gap before) (m.separator b) (m.flag (separators_in part).consecutive) (list_any D after)
       (are_fit m part rest after) (is_place m part) (λ h g. is_rest m part h g after)
       ((λ j. is_rest m part (sym seen j) (sym ended j) after) ∙ rest_is rest after
@@ -102,9 +96,7 @@ gap_closes m part h (b ∷ u) is = more (m.digit part b) (m.separator b) (m.flag
 -- A gap that is closed later may be opened.
 pub opens : (m : Notation) (part : Part) (h next : Bool) (u : List ℕ) → is_rest m part h true u ≡ true
     → (list_any (m.digit part) u ≡ true → next ≡ true) → is_open m part h next ≡ true
-opens m part h next u is more = go (is_place m part h true) (list_any (m.digit part) u) (is_place m part h false) (gap_closes m part h u is) more where
-  go : (x y z : Bool) → ((x && y) || z) ≡ true → (y ≡ true → next ≡ true) → ((x && next) || z) ≡ true
-  go x y z is more = grind arith
+opens m part h next u is more = let closes = gap_closes m part h u is in grind arith
 
 -- A digit run that is present has a digit.
 pub digits_present : (m : Notation) (part : Part) (run : List ℕ) → is_rest m part false false run ≡ true → list_any (m.digit part) run ≡ is_present run
