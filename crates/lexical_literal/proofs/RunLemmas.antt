@@ -87,11 +87,7 @@ module _ (m : Notation) (part : Part) (h g : Bool) (b : ℕ) (u : List ℕ) wher
 -- After a separator, a digit follows or the run may end.
 gap_closes : (m : Notation) (part : Part) (h : Bool) (u : List ℕ) → is_rest m part h true u ≡ true → is_open m part h (list_any (m.digit part) u) ≡ true
 gap_closes m part h [] is = or_right (is_place m part h true && false) _ is
-gap_closes m part h (b ∷ u) is = more (m.digit part b) (m.separator b) (m.flag (separators_in part).consecutive) (is_place m part h true)
-    (list_any (m.digit part) u) (is_place m part h false) _ _ is (gap_closes m part h u) where
-      more : (d s c x y z r t : Bool) → (if d then (not true || x) && r else (s && c && t)) ≡ true → (t ≡ true → ((x && y) || z) ≡ true)
-          → ((x && (d || y)) || z) ≡ true
-      more d s c x y z r t is rest = grind arith
+gap_closes m part h (b ∷ u) is = let rest = gap_closes m part h u in grind arith
 
 -- A gap that is closed later may be opened.
 pub opens : (m : Notation) (part : Part) (h next : Bool) (u : List ℕ) → is_rest m part h true u ≡ true
@@ -101,7 +97,4 @@ opens m part h next u is more = let closes = gap_closes m part h u is in grind a
 -- A digit run that is present has a digit.
 pub digits_present : (m : Notation) (part : Part) (run : List ℕ) → is_rest m part false false run ≡ true → list_any (m.digit part) run ≡ is_present run
 digits_present m part [] fit = refl
-digits_present m part (b ∷ u) fit = more (m.digit part b) (m.separator b) true (is_place m part false true) (list_any (m.digit part) u) _ _ fit
-    (gap_closes m part false u) where
-      more : (d s c x y r t : Bool) → (if d then r else (s && c && t)) ≡ true → (t ≡ true → ((x && y) || false) ≡ true) → (d || y) ≡ true
-      more d s c x y r t fit rest = grind arith
+digits_present m part (b ∷ u) fit = let rest = gap_closes m part false u in grind arith
