@@ -35,27 +35,18 @@ module _ (m : Notation) (part : Part) where
   abbrev gap : List ℕ → Bool
   gap before = ends_with (λ other. not (D other)) before
 
-  -- One more byte: a digit if `d`, and else a separator if `s`, before a digit if `y`, where `P` says what may be there.
-  one_more : (d h g s c y f : Bool) (P R : Bool → Bool → Bool) → R (h || d) (not d) ≡ ((not (not d) || P (h || d) y) && f)
-      → (if d then (not g || P h true) && R true false else (s && (not g || c) && R h true))
-      ≡ ((not g || P h (d || y)) && ((d || (s && P h y && (c || not g))) && f))
-  one_more d h g s c y f P R more = grind arith
-
   rest_is : (before after : List ℕ) → is_rest m part (list_any D before) (gap before) after
       ≡ (gap_fits m part (list_any D before) (gap before) (list_any D after) && are_fit m part before after)
   rest_is before [] = grind arith
-  rest_is before (b ∷ after) = one_more (D b) (list_any D before) (gap before) (m.separator b) (m.flag (separators_in part).consecutive) (list_any D after)
-      (are_fit m part rest after) (is_place m part) (λ h g. is_rest m part h g after)
-      ((λ j. is_rest m part (sym seen j) (sym ended j) after) ∙ rest_is rest after
-      ∙ (λ j. gap_fits m part (seen j) (ended j) (list_any D after) && are_fit m part rest after)) where
-        rest : List ℕ
-        rest = before ++ b ∷ []
-
-        seen : list_any D rest ≡ (list_any D before || D b)
-        seen = list_any-append D before (b ∷ []) ∙ ap (λ t. list_any D before || t) (or_false (D b))
-
-        ended : gap rest ≡ not (D b)
-        ended = ends_with_push (λ other. not (D other)) before b
+  rest_is before (b ∷ after) =
+      let rest = before ++ b ∷ [] in
+      let seen : list_any D rest ≡ (list_any D before || D b) = list_any-append D before (b ∷ []) ∙ ap (λ t. list_any D before || t) (or_false (D b)) in
+      let ended : gap rest ≡ not (D b) = ends_with_push (λ other. not (D other)) before b in
+      let more : is_rest m part (list_any D before || D b) (not (D b)) after
+          ≡ (gap_fits m part (list_any D before || D b) (not (D b)) (list_any D after) && are_fit m part rest after)
+          = (λ j. is_rest m part (sym seen j) (sym ended j) after) ∙ rest_is rest after
+          ∙ (λ j. gap_fits m part (seen j) (ended j) (list_any D after) && are_fit m part rest after) in
+      grind arith
 
   -- At the start of a part, what can follow is a digit run.
   pub rest_of_none : (run : List ℕ) → is_rest m part false false run ≡ are_fit m part [] run
