@@ -19,9 +19,6 @@ is_rest m part h g (b ∷ run) =
     if m.digit part b then gap_fits m part h g true && is_rest m part true false run
     else (m.separator b && (not g || m.flag (separators_in part).consecutive) && is_rest m part h true run)
 
-or_false : (x : Bool) → (x || false) ≡ x
-or_false x = grind arith
-
 ends_with_push : (A : ByteSet) (bytes : List ℕ) (byte : ℕ) → ends_with A (bytes ++ byte ∷ []) ≡ A byte
 ends_with_push A [] byte = refl
 ends_with_push A (x ∷ []) byte = refl
@@ -40,12 +37,10 @@ module _ (m : Notation) (part : Part) where
   rest_is before [] = grind arith
   rest_is before (b ∷ after) =
       let rest = before ++ b ∷ [] in
-      let seen : list_any D rest ≡ (list_any D before || D b) = list_any-append D before (b ∷ []) ∙ ap (λ t. list_any D before || t) (or_false (D b)) in
+      let whole = list_any-append D before (b ∷ []) in
+      let seen : list_any D rest ≡ (list_any D before || D b) = grind arith in
       let ended : gap rest ≡ not (D b) = ends_with_push (λ other. not (D other)) before b in
-      let more : is_rest m part (list_any D before || D b) (not (D b)) after
-          ≡ (gap_fits m part (list_any D before || D b) (not (D b)) (list_any D after) && are_fit m part rest after)
-          = (λ j. is_rest m part (sym seen j) (sym ended j) after) ∙ rest_is rest after
-          ∙ (λ j. gap_fits m part (seen j) (ended j) (list_any D after) && are_fit m part rest after) in
+      let more = rw (seen, ended) at (rest_is rest after) in
       grind arith
 
   -- At the start of a part, what can follow is a digit run.
