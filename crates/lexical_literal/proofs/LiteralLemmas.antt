@@ -220,18 +220,15 @@ module _ (m : Notation) where
     literal_if : sign_fits m parts.Integer stages.Start l.sign ≡ true → prefix_fits m stages.Start false l.prefix ≡ true
         → is_rest m parts.Integer false false l.integer ≡ true → ends_part m parts.Integer l integer_last ≡ true → IsLiteral m l
     literal_if sign prefix run is =
-        let one = and_parts (is_none_or_one signs l.sign) _ sign in
-        let no_plus = and_parts (implies (m.flag layout.no_positive_mantissa_sign) (not (is_plus l.sign))) _ one.1 in
         let digits = and_parts (digits_suffice m parts.Integer integer_last) _ is in
         let point = and_parts (is_none_or_one m.point l.point) _ digits.1 in
         let fraction = and_parts (fraction_fits m l integer_last) _ point.1 in
         let tail = tail_of (stops m l integer_last) (scales m l integer_last) fraction.1 in
-        let signed = signed (m.flag layout.required_mantissa_sign) (is_absent l.sign) no_plus.1 in
         let end = subst (λ t. End t (is_zero_led m l)) (integer_seen run)
         (subst (λ t. End (has_digit integer_last) t) integer_led (end_of integer_last tail digits.0 point.0 fraction.0)) in
         record {
-          sign = one.0;
-          prefix = prefix_one l.prefix prefix;
+          sign = grind arith;
+          prefix = grind arith;
           integer = sym (as_run parts.Integer l.integer) ∙ run;
           point = end.point;
           fraction = sym (as_run parts.Fraction l.fraction) ∙ end.fraction;
@@ -239,18 +236,11 @@ module _ (m : Notation) where
           exponent_sign = tail.sign;
           exponent = sym (as_run parts.Exponent l.exponent) ∙ tail.exponent;
           suffix = tail.suffix;
-          after_point = λ none. absent_is l.fraction (holds _ _ end.after_point none);
-          after_character = λ none. (absent_is l.exponent_sign (holds _ _ tail.sign_after none), absent_is l.exponent (holds _ _ tail.exponent_after none));
+          after_point = λ none. grind arith;
+          after_character = λ none. (grind arith, grind arith);
           some_number = end.some;
           requirements = λ f set. grind arith;
-        } where
-          signed : (f x : Bool) → (if x then not f else true) ≡ true → implies f (not x) ≡ true
-          signed f x is = grind arith
-
-          prefix_one : (prefix : List ℕ) → prefix_fits m stages.Start false prefix ≡ true → is_none_or_prefix m.prefix prefix ≡ true
-          prefix_one [] is = refl
-          prefix_one (x ∷ []) is = is
-          prefix_one (z ∷ x ∷ more) is = is
+        }
 
 module _ (m : Notation) (h : HasRoles m) where
   -- What is accepted is a literal.
@@ -453,36 +443,13 @@ module _ (m : Notation) (h : HasRoles m) where
 
     end : End m l (has_digit (integer_last m l)) (is_led (integer_last m l))
     end = subst (λ t. End m l (has_digit (integer_last m l)) t) (sym (integer_led m l))
-        (subst (λ t. End m l t (is_zero_led m l)) (sym (integer_seen m l (run parts.Integer l.integer is.integer))) (record {
-          point = is.point;
-          fraction = run parts.Fraction l.fraction is.fraction;
-          after_point = implied _ _ (λ none. ap is_absent (is.after_point none));
-          some = is.some_number;
-          integer_digits = flag layout.required_integer_digits;
-          fraction_digits = flag layout.required_fraction_digits;
-          mantissa_digits = flag layout.required_mantissa_digits;
-          notation = flag layout.no_exponent_notation;
-          with_fraction = flag layout.no_exponent_without_fraction;
-          whole_led = flag layout.no_integer_leading_zeros;
-          float_led = flag layout.no_float_leading_zeros;
-          needed = flag layout.required_exponent_notation;
-        }))
+        (subst (λ t. End m l t (is_zero_led m l)) (sym (integer_seen m l (run parts.Integer l.integer is.integer))) facts) where
+      facts : End m l (is_present l.integer) (is_zero_led m l)
+      facts = let fits = run parts.Fraction l.fraction is.fraction in grind arith
 
     tail : (stop scale : Bool) → implies (is_absent l.exponent_character) stop ≡ true → implies (is_present l.exponent_character) scale ≡ true
         → Tail m l stop scale
-    tail stop scale may_stop may_scale = record {
-      character = is.exponent_character;
-      sign = is.exponent_sign;
-      exponent = run parts.Exponent l.exponent is.exponent;
-      suffix = is.suffix;
-      sign_after = implied _ _ (λ none. ap is_absent (is.after_character none).0);
-      exponent_after = implied _ _ (λ none. ap is_absent (is.after_character none).1);
-      digits = flag layout.required_exponent_digits;
-      no_plus_sign = flag layout.no_positive_exponent_sign;
-      signed = flag layout.required_exponent_sign;
-      stop = may_stop;
-      scale = may_scale;
-    }
+    tail stop scale may_stop may_scale = let fits = run parts.Exponent l.exponent is.exponent in grind arith
 
     ends_well : ends_part m parts.Integer l (integer_last m l) ≡ true
     ends_well =
@@ -497,18 +464,10 @@ module _ (m : Notation) (h : HasRoles m) where
 
     -- Where integers alone are literals, no literal has a decimal point or an exponent.
     no_float : implies m.integers_only (is_absent l.point && is_absent l.exponent_character) ≡ true
-    no_float = implied _ _ (λ only. and_from _ _ (none m.point l.point (λ b. (h.integers only b).0) is.point)
-        (none m.exponent_character l.exponent_character (λ b. (h.integers only b).1) is.exponent_character)) where
-          none : (A : ByteSet) (bytes : List ℕ) → ((b : ℕ) → A b ≡ false) → is_none_or_one A bytes ≡ true → is_absent bytes ≡ true
-          none A [] lacks one = refl
-          none A (b ∷ []) lacks one = absurd (false≢true (sym (lacks b) ∙ one))
-          none A (b ∷ x ∷ bytes) lacks one = absurd (false≢true one)
+    no_float = grind arith
 
     begins_well : sign_fits m parts.Integer stages.Start l.sign ≡ true
-    begins_well = and_from _ _ is.sign (and_from _ _ (flag layout.no_positive_mantissa_sign)
-        (signed (is_absent l.sign) (m.flag layout.required_mantissa_sign) (flag layout.required_mantissa_sign))) where
-          signed : (x f : Bool) → implies f (not x) ≡ true → (if x then not f else true) ≡ true
-          signed x f is = grind arith
+    begins_well = grind arith
 
     -- A literal is accepted, and its parts are counted.
     pub literal_arrives : Arrives m (Some start) no_cuts (text_of l) (cuts_of l)
