@@ -39,14 +39,11 @@ only x = record { sign = []; prefix = []; integer = []; point = []; fraction = [
 module _ (m : Notation) where
   -- After a digit, a separator or a sign, no sign follows.
   no_sign : (part : Part) (stage : Stage) (sign : List ℕ) → is_fresh stage ≡ false → sign_fits m part stage sign ≡ true → sign ≡ []
-  no_sign part stage [] over is = refl
-  no_sign part stage (s ∷ sign) over is = absurd (false≢true (sym over ∙ (and_parts _ _ (and_parts _ _ is).1).1))
+  no_sign part stage sign over is = grind arith
 
   no_prefix : (stage : Stage) (gap : Bool) (prefix : List ℕ) → is_bare stage ≡ false → (begins stage && not gap) ≡ false → prefix_fits m stage gap prefix ≡ true
       → prefix ≡ []
-  no_prefix stage gap [] bare new is = refl
-  no_prefix stage gap (x ∷ []) bare new is = absurd (false≢true (sym bare ∙ (and_parts _ _ is).0))
-  no_prefix stage gap (z ∷ x ∷ more) bare new is = absurd (false≢true (sym new ∙ (and_parts _ _ is).0))
+  no_prefix stage gap prefix bare new is = grind arith
 
   unsigned : (part : Part) (stage : Stage) (gap : Bool) (text : List ℕ) → is_fresh stage ≡ false → (cut : Cut m part stage gap text)
       → Found m part stage gap [] cut.prefix text
@@ -63,9 +60,7 @@ module _ (m : Notation) where
 
   -- Where no sign follows, none is needed.
   no_sign_fits : (part : Part) (stage : Stage) → is_signed m part stage ≡ true → sign_fits m part stage [] ≡ true
-  no_sign_fits part stage signed = and_from _ _ (met (forbids_plus m part)) signed where
-    met : (f : Bool) → implies f true ≡ true
-    met f = grind arith
+  no_sign_fits part stage signed = grind arith
 
   module _ (part : Part) (stage : Stage) (gap : Bool) (text : List ℕ) where
     cut_at : (sign prefix digits : List ℕ) (more : Literal) → text ≡ sign ++ (prefix ++ (digits ++ text_after part more)) → sign_fits m part stage sign ≡ true
@@ -90,12 +85,10 @@ module _ (m : Notation) where
     stopped is one =
         let both = and_parts _ (continues m part stage roles.Suffix) is in ended_by (only text) (whole part) both.0 (end part both.1) where
           whole : (part : Part) → text ≡ text_after part (only text)
-          whole parts.Integer = refl
-          whole _ = refl
+          whole part = grind arith
 
           end : (part : Part) → continues m part stage roles.Suffix ≡ true → digits_suffice m part stage ≡ true → ends_part m part (only text) stage ≡ true
-          end parts.Exponent stop digits = and_from _ _ digits one
-          end _ stop digits = and_from _ _ digits (and_from _ _ stop one)
+          end part stop digits = grind arith
 
   module _ (part : Part) (stage : Stage) (gap : Bool) (b : ℕ) (text : List ℕ) where
     -- A digit or a separator in front of digits.
@@ -142,9 +135,7 @@ module _ (m : Notation) where
         cut_at part stage gap (b ∷ text) (b ∷ []) cut.prefix found.digits found.more (ap (λ t. b ∷ t) found.whole) (and_from _ _ one (and_from _ _ both.1 both.0))
         (prefixed cut.prefix found.prefixed) found.run found.end where
           prefixed : (prefix : List ℕ) → prefix_fits m (after_mark stage) gap prefix ≡ true → prefix_fits m stage gap prefix ≡ true
-          prefixed [] is = refl
-          prefixed (x ∷ []) is = absurd (false≢true (sym (mark_bare stage) ∙ (and_parts _ _ is).0))
-          prefixed (z ∷ x ∷ more) is = ap (λ t. (t && not gap) && is_none_or_prefix m.prefix (z ∷ x ∷ more)) (sym (mark_begun stage)) ∙ is
+          prefixed prefix is = grind arith
 
     -- A prefix in front, whose zero has been read.
     prefix_first : m.prefix b ≡ true → is_bare stage ≡ true → Cut m part stages.Free false text → Cut m part stage gap (b ∷ text)

@@ -124,17 +124,6 @@ module _ (any led p one_p f fits_f k : Bool) (flag : Flag → Bool) (only : Bool
       end_facts stop scale seen counted =
           let same_digit : digit ≡ not f = seen has_fraction in let same_lone : lone ≡ not (not f || any) = counted has_fraction in grind arith
 
-pub holds : (a d : Bool) → implies a d ≡ true → a ≡ true → d ≡ true
-holds a d is set = grind arith
-
-implied : (a d : Bool) → (a ≡ true → d ≡ true) → implies a d ≡ true
-implied true d is = is refl
-implied false d is = refl
-
-pub absent_is : (bytes : List ℕ) → is_absent bytes ≡ true → bytes ≡ []
-absent_is [] is = refl
-absent_is (b ∷ bytes) is = absurd (false≢true is)
-
 -- What an absent part satisfies.
 absent : (P : List ℕ → Bool) (bytes : List ℕ) → P [] ≡ true → implies (is_absent bytes) (P bytes) ≡ true
 absent P [] is = is
@@ -435,9 +424,6 @@ module _ (m : Notation) (h : HasRoles m) where
   prefix_arrives stage (z ∷ b ∷ x ∷ prefix) rest c d new signed one more = absurd (false≢true one)
 
   module _ (l : Literal) (is : IsLiteral m l) where
-    flag : (f : Flag) → implies (m.flag f) (requirement f m l) ≡ true
-    flag f = implied (m.flag f) (requirement f m l) (is.requirements f)
-
     run : (part : Part) (digits : List ℕ) → is_run m part digits ≡ true → is_rest m part false false digits ≡ true
     run part digits is = as_run m part digits ∙ is
 
