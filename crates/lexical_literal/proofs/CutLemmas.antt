@@ -15,7 +15,7 @@ use Rattle.lexical_literal.specs.declared.steps.Stage.TheVariants as stages
 use Rattle.lexical_literal.specs.declared.steps.Summary.{Summary}
 use Rattle.lexical_literal.proofs.RunLemmas.{is_rest, run_with_digit, run_with_separator}
 use Rattle.lexical_literal.proofs.ScanLemmas.{HasRoles, Accepts, took, none_accepts, role_in, as_digit, no_digit, as_role}
-use Rattle.lexical_literal.proofs.StepLemmas.{reading, begins, stage_after, after_byte, digit_seen, digit_settles, digit_begun, digit_bare, mark_seen, mark_settles, mark_begun, mark_bare, settled, bare_settles, either, stage_at, gap_at, sign_fits, prefix_fits, ends_part, text_after}
+use Rattle.lexical_literal.proofs.StepLemmas.{reading, begins, stage_after, after_byte, digit_seen, digit_settles, digit_begun, mark_seen, mark_settles, mark_begun, mark_bare, settled, bare_settles, either, stage_at, gap_at, sign_fits, prefix_fits, ends_part, text_after}
 
 -- A sign, a prefix, digits, and the parts of `more` behind the digits of `part`.
 pub record Found (m : Notation) (part : Part) (stage : Stage) (gap : Bool) (sign prefix text : List ℕ) : Type 0 where
@@ -104,17 +104,15 @@ module _ (m : Notation) where
     digit_first : m.digit part b ≡ true → is_signed m part stage ≡ true → gap_fits m part (has_digit stage) gap true ≡ true
         → Cut m part (after_digit stage gap (b == 48)) false text → Cut m part stage gap (b ∷ text)
     digit_first digit signed fits cut = go cut.prefix (unsigned part (after_digit stage gap (b == 48)) false text (digit_settles stage gap (b == 48)) cut) where
-      zero : (new z p : Bool) → (new && z) ≡ true → p ≡ true → (new && (z && p)) ≡ true
-      zero new z p is one = grind arith
+      zero : (x : ℕ) → prefix_fits m (after_digit stage gap (b == 48)) false (x ∷ []) ≡ true → prefix_fits m stage gap (b ∷ x ∷ []) ≡ true
+      zero x is = grind arith
 
       go : (prefix : List ℕ) → Found m part (after_digit stage gap (b == 48)) false [] prefix text → Cut m part stage gap (b ∷ text)
       go [] found = longer (after_digit stage gap (b == 48)) false true digit signed
           (λ run is. run_with_digit m part (has_digit stage) gap b run digit fits (subst (λ t. is_rest m part t false run ≡ true) (digit_seen stage gap (b == 48)) is))
           (λ run. refl) found
-      go (x ∷ []) found =
-          let both = and_parts _ _ found.prefixed in
-          cut_at part stage gap (b ∷ text) [] (b ∷ x ∷ []) found.digits found.more (ap (λ t. b ∷ t) found.whole) (no_sign_fits part stage signed)
-          (zero (begins stage && not gap) (b == 48) (m.prefix x) (digit_bare stage gap (b == 48) both.0) both.1) found.run found.end
+      go (x ∷ []) found = cut_at part stage gap (b ∷ text) [] (b ∷ x ∷ []) found.digits found.more (ap (λ t. b ∷ t) found.whole)
+          (no_sign_fits part stage signed) (zero x found.prefixed) found.run found.end
       go (z ∷ x ∷ more) found = absurd (false≢true (sym (digit_begun stage gap (b == 48)) ∙ (and_parts _ _ (and_parts _ _ found.prefixed).0).0))
 
     -- A separator in front.

@@ -142,16 +142,11 @@ module _ (m : Notation) where
 
   -- The stage before the integer digits.
   first_seen : (sign prefix : List ℕ) → has_digit (stage_at stages.Start sign prefix) ≡ false
-  first_seen sign prefix = first (is_absent prefix) (is_absent sign) where
-    first : (x y : Bool) → has_digit (if x then (if y then stages.Start else stages.Empty) else stages.Free) ≡ false
-    first x y = grind arith
+  first_seen sign prefix = grind arith
 
   first_led : (sign prefix run : List ℕ) → led_after (m.digit parts.Integer) (stage_at stages.Start sign prefix) run
       ≡ (is_absent prefix && has_leading_zero (m.digit parts.Integer) run)
-  first_led sign prefix run = first (is_absent prefix) (is_absent sign) where
-    first : (x y : Bool) → led_after (m.digit parts.Integer) (if x then (if y then stages.Start else stages.Empty) else stages.Free) run
-        ≡ (x && has_leading_zero (m.digit parts.Integer) run)
-    first x y = grind arith
+  first_led sign prefix run = grind arith
 
   module _ (l : Literal) where
     abbrev Tail : Bool → Bool → Type 0
@@ -270,9 +265,7 @@ module _ (m : Notation) (h : HasRoles m) where
   -- Where a digit follows, it may.
   follow : (D : ByteSet) (stage : Stage) (gap : Bool) (run : List ℕ) → (is_led (stage_after D stage gap run) ≡ true → may_lead m ≡ true) → list_any D run ≡ true
       → may_follow m stage ≡ true
-  follow D stages.Bare gap run may is = may ((passed D stages.Bare gap run).led ∙ is)
-  follow D stages.Zero gap run may is = may ((passed D stages.Zero gap run).led ∙ is)
-  follow D _ gap run may is = refl
+  follow D stage gap run may is = let led = (passed D stage gap run).led in grind arith
 
   -- The digits of a part.
   run_arrives : (part : Part) (stage : Stage) (gap : Bool) (run rest : List ℕ) (c d : Cuts) → is_signed m part stage ≡ true
@@ -455,18 +448,19 @@ module _ (m : Notation) (h : HasRoles m) where
     begins_well : sign_fits m parts.Integer stages.Start l.sign ≡ true
     begins_well = grind arith
 
+    new : begins (stage_at stages.Start l.sign []) ≡ true
+    new = grind arith
+
     -- A literal is accepted, and its parts are counted.
     pub literal_arrives : Arrives m (Some start) no_cuts (text_of l) (cuts_of l)
     literal_arrives =
         let signs : Cuts = record no_cuts { sign = plus l.sign 0 } in
         let dressed : Cuts = record signs { prefix = plus (is_tail l.prefix) 0; integer = plus (is_tail l.prefix) 0 } in
         sign_arrives parts.Integer stages.Start false l.sign _ (λ x. record no_cuts { sign = plus x 0 }) (cuts_of l) begins_well (λ b. refl)
-        (λ signed. prefix_arrives (stage_at stages.Start l.sign []) l.prefix _ signs (cuts_of l) (new (is_absent l.sign)) signed is.prefix
+        (λ signed. prefix_arrives (stage_at stages.Start l.sign []) l.prefix _ signs (cuts_of l) new signed is.prefix
         (λ signed. run_arrives parts.Integer (stage_at stages.Start l.sign l.prefix) false l.integer _ dressed (cuts_of l) signed
         (subst (λ t. is_rest m parts.Integer t false l.integer ≡ true) (sym (first_seen m l.sign l.prefix)) (run parts.Integer l.integer is.integer)) (record {
           leads = λ led. leads _ _ _ _ _ _ _ _ _ end no_float led;
           arrives = λ gap closed signed. end_arrives l (integer_last m l) gap (record dressed { integer = plus l.integer (plus (is_tail l.prefix) 0) })
               (and_from _ _ signed (and_from _ _ closed end.integer_digits)) ends_well;
-        }))) where
-          new : (x : Bool) → begins (if x then stages.Start else stages.Empty) ≡ true
-          new x = grind arith
+        })))
