@@ -21,6 +21,8 @@
 //! assert_eq!(READER.read_prefix(b"1.25.3").unwrap().size, 4);
 //! ```
 
+#[allow(clippy::redundant_pattern_matching, reason = "as it is proved")]
+mod cause;
 #[allow(clippy::needless_lifetimes, reason = "as it is proved")]
 mod read;
 mod sentence;
@@ -35,6 +37,7 @@ mod steps;
 mod syntax;
 mod tables;
 
-pub use read::{Front, Parts, ReadError, Reader};
+pub use cause::{Cause, Place, ReadError};
+pub use read::{Front, Parts, Reader};
 pub use specials::{Sign, Special, Specials, Spelling};
 pub use syntax::{Options, Syntax};

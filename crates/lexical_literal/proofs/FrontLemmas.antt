@@ -56,6 +56,7 @@ module _ (m : Notation) where
       record { closes = open_next s.part s.stage true open_is.1; led = led_kept s.part s.stage can.led }
   goes_on s plus zero roles.Sign can is = record { closes = open_next s.part s.stage s.gap can.closes; led = led_kept s.part s.stage can.led }
   goes_on s plus zero roles.Point can is = record { closes = refl; led = point_unled (has_digit s.stage) }
+  goes_on s plus zero roles.Suffix can is = record { closes = can.closes; led = can.led }
   goes_on s plus zero _ can is = record { closes = refl; led = refl }
 
   all_go_on : HasRoles m → (s : Summary) (text : List ℕ) (last : Summary) → CanGoOn m s → scan m (Some s) text ≡ Some last → CanGoOn m last

@@ -5,7 +5,7 @@ use Rattle.lexical_literal.specs.Literal.{Literal, Reads}
 use Rattle.lexical_literal.specs.Notation.{Notation}
 use Rattle.lexical_literal.specs.declared.read.Front.{Front}
 use Rattle.lexical_literal.specs.declared.read.Parts.{Parts}
-use Rattle.lexical_literal.specs.declared.read.ReadError.{ReadError}
+use Rattle.lexical_literal.specs.declared.cause.ReadError.{ReadError}
 
 -- `literal_of parts` is the literal with the bytes of the slices `parts`.
 abbrev pub literal_of : Parts → Literal

@@ -452,6 +452,7 @@ const fn class_of_next(grammar: Grammar, next: Option<u8>) -> Option<Class>
 #[cold]
 pub(crate) const fn refusal(grammar: Grammar, text: &[u8], size: usize, read: Summary) -> ReadError
     requires { size ≤ length text.now }
+    ensures { result.valid_up_to ≡ size }
 {
     let byte = byte_at(text, size);
     let stop = Stop {

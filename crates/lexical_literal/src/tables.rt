@@ -112,7 +112,7 @@ const fn row_number(read: Summary) -> u8
 }
 
 // Returns the summary of a row.
-const fn summary_at(row: u8) -> Summary
+pub(crate) const fn summary_at(row: u8) -> Summary
     requires { row < 108 }
     ensures { result ≡ summary_at row }
 {

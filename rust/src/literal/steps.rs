@@ -59,14 +59,6 @@ pub(crate) struct Summary {
     pub(crate) ended: bool, // Whether the suffix has been read.
 }
 
-// A number with a suffix, behind which nothing follows.
-pub(crate) const FINISHED: Summary = Summary {
-    part: Part::Exponent,
-    stage: Stage::Digits,
-    gap: false,
-    ended: true,
-};
-
 // What one byte makes of what has been read.
 #[derive(Clone, Copy)]
 pub(crate) struct Move {
@@ -75,7 +67,7 @@ pub(crate) struct Move {
 }
 
 // Returns whether `byte` is a digit of `part`.
-const fn is_digit(grammar: Grammar, part: Part, byte: u8) -> bool {
+pub(crate) const fn is_digit(grammar: Grammar, part: Part, byte: u8) -> bool {
     match part {
         Part::Exponent => matches!(grammar.view().exponent_digit(byte), Some(_)),
         _ => matches!(grammar.view().mantissa_digit(byte), Some(_)),
@@ -83,7 +75,7 @@ const fn is_digit(grammar: Grammar, part: Part, byte: u8) -> bool {
 }
 
 // Returns whether `byte` is the decimal point.
-const fn is_point(grammar: Grammar, byte: u8) -> bool {
+pub(crate) const fn is_point(grammar: Grammar, byte: u8) -> bool {
     match grammar.options {
         None => false,
         Some(options) => options.point != 0 && byte == options.point,
@@ -91,7 +83,7 @@ const fn is_point(grammar: Grammar, byte: u8) -> bool {
 }
 
 // Returns whether `byte` is the exponent character.
-const fn is_exponent_character(grammar: Grammar, byte: u8) -> bool {
+pub(crate) const fn is_exponent_character(grammar: Grammar, byte: u8) -> bool {
     match grammar.options {
         None => false,
         Some(options) => grammar.view().is_exponent_character(options.exponent, byte),
@@ -158,7 +150,7 @@ const fn piece_of(part: Part, role: Role) -> Piece {
 }
 
 // Returns whether the part has a digit.
-const fn has_digit(stage: Stage) -> bool {
+pub(crate) const fn has_digit(stage: Stage) -> bool {
     matches!(
         stage,
         Stage::Bare | Stage::Zero | Stage::Led | Stage::Digits
@@ -177,7 +169,7 @@ const fn is_place(grammar: Grammar, part: Part, before: bool, after: bool) -> bo
 }
 
 // Returns whether an exponent is required.
-const fn needs_exponent(grammar: Grammar) -> bool {
+pub(crate) const fn needs_exponent(grammar: Grammar) -> bool {
     grammar.view().required_exponent_notation() && matches!(grammar.options, Some(_))
 }
 
@@ -276,30 +268,31 @@ const fn takes(grammar: Grammar, read: Summary, plus: bool, role: Role) -> bool 
 
 // Returns the summary after a byte that has the role `role`, and is the digit 0 if `zero` is true.
 const fn after(read: Summary, zero: bool, role: Role) -> Summary {
-    let Summary {
-        part, gap, ended, ..
-    } = read;
+    let part = read.part;
     let (part, stage) = match (role, read.stage) {
-        (Role::Digit, Stage::Start | Stage::Empty) if zero && gap => (part, Stage::Zero),
+        (Role::Digit, Stage::Start | Stage::Empty) if zero && read.gap => (part, Stage::Zero),
         (Role::Digit, Stage::Start | Stage::Empty) if zero => (part, Stage::Bare),
         (Role::Digit, Stage::Bare | Stage::Zero | Stage::Led) => (part, Stage::Led),
         (Role::Digit, _) => (part, Stage::Digits),
         (Role::Separator | Role::Sign, Stage::Start) => (part, Stage::Empty),
         (Role::Separator | Role::Sign, Stage::Mark) => (part, Stage::Free),
         (Role::Separator | Role::Sign, Stage::Bare) => (part, Stage::Zero),
-        (Role::Separator | Role::Sign, stage) => (part, stage),
+        (Role::Separator | Role::Sign | Role::Suffix, stage) => (part, stage),
         (Role::Prefix, _) => (part, Stage::Free),
         (Role::Point, stage) if has_digit(stage) => (Part::Fraction, Stage::Free),
         (Role::Point, _) => (Part::Fraction, Stage::Lone),
         (Role::Exponent, _) => (Part::Exponent, Stage::Mark),
-        (Role::Suffix, _) => return FINISHED,
     };
-    let gap = matches!(role, Role::Separator) || (matches!(role, Role::Sign) && gap);
+    let gap = match role {
+        Role::Separator => true,
+        Role::Sign | Role::Suffix => read.gap,
+        _ => false,
+    };
     Summary {
         part,
         stage,
         gap,
-        ended,
+        ended: read.ended || matches!(role, Role::Suffix),
     }
 }
 

@@ -22,7 +22,8 @@ loop-index-preserved c =
     let high = c.loop-index.high in
     let byte = get_or text index 0 in
     let x = (raw c.args.grammar.word).byte layout.digit_separator in
-    let now : HasRead m word text x low high (byte ∷ drop (index + 1) text) = subst (HasRead m word text x low high) (drop_more text index 0 c.loop-index-test.true) c.loop-index.invariant in
+    let now : HasRead m word text x low high (byte ∷ drop (index + 1) text) =
+    subst (HasRead m word text x low high) (drop_more text index 0 c.loop-index-test.true) c.loop-index.invariant in
     let lower : LowMoves m word byte low high c.if-not-is_separator.low = elim c.if-not-is_separator.branch [
       | then-not-is_separator+then-low-high-2+then-is_letter w ↦ grind (arith, nat_tests)
       | then-not-is_separator+else-low-high-2 w ↦ elim w.else-low-high-2.branch [
@@ -38,7 +39,8 @@ loop-index-preserved c =
         | else-high-word-via-else-high-word v ↦ grind (arith, nat_tests)
       ]
     ] in
-    read_more m word text x byte (λ is. ap (letter_of m) (one_separator c.args.grammar byte is)) (drop (index + 1) text) low high c.if-low-high.true now c.if-not-is_separator.low c.if-high-word.high lower upper
+    read_more m word text x byte (λ is. ap (letter_of m) (one_separator c.args.grammar byte is)) (drop (index + 1) text)
+    low high c.if-low-high.true now c.if-not-is_separator.low c.if-high-word.high lower upper
 
 pub returns-then-low-high-3 : goal.returns-then-low-high-3
 returns-then-low-high-3 c =
@@ -46,9 +48,13 @@ returns-then-low-high-3 c =
       | then-loop-index-test+else-low-high w ↦ absurd (omega (arith, c.if-low-high-3.true, w.if-low-high.false))
       | else-loop-index-test w ↦ w.loop-index-test.false
     ] in
-    at_end (notation_of c.args.grammar) c.args.word.now c.args.text.now _ c.loop-index.low c.loop-index.high
-    (subst (HasRead (notation_of c.args.grammar) c.args.word.now c.args.text.now _ c.loop-index.low c.loop-index.high) (drop_all c.loop-index.index c.args.text.now past) c.loop-index.invariant)
-    c.if-low-high-3.true
+    let m = notation_of c.args.grammar in
+    let word = c.args.word.now in
+    let text = c.args.text.now in
+    let low = c.loop-index.low in
+    let high = c.loop-index.high in
+    let read = subst (HasRead m word text _ low high) (drop_all c.loop-index.index text past) c.loop-index.invariant in
+    at_end m word text _ low high read c.if-low-high-3.true
 
 pub returns-else-low-high-3 : goal.returns-else-low-high-3
 returns-else-low-high-3 c = (
