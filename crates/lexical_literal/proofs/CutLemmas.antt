@@ -8,14 +8,14 @@ use Rattle.lexical_util.specs.declared.feature_format.roles.Role.TheVariants as 
 use Rattle.lexical_util.specs.declared.format_flags.Part.{Part}
 use Rattle.lexical_util.specs.declared.format_flags.Part.TheVariants as parts
 use Rattle.lexical_literal.specs.Notation.{Notation}
-use Rattle.lexical_literal.specs.Literal.{Literal, is_absent, is_none_or_one, is_none_or_prefix}
+use Rattle.lexical_literal.specs.Literal.{Literal, is_absent, is_none_or_one}
 use Rattle.lexical_literal.specs.Additions.Summary.{implies, has_digit, is_fresh, is_bare, after_digit, after_mark, after_point, is_open, may_follow, is_signed, forbids_plus, gap_fits, digits_suffice, ends, continues, may_float, takes, after}
 use Rattle.lexical_literal.specs.declared.steps.Stage.{Stage}
 use Rattle.lexical_literal.specs.declared.steps.Stage.TheVariants as stages
 use Rattle.lexical_literal.specs.declared.steps.Summary.{Summary}
 use Rattle.lexical_literal.proofs.RunLemmas.{is_rest, run_with_digit, run_with_separator}
 use Rattle.lexical_literal.proofs.ScanLemmas.{HasRoles, Accepts, took, none_accepts, role_in, as_digit, no_digit, as_role}
-use Rattle.lexical_literal.proofs.StepLemmas.{reading, begins, stage_after, after_byte, digit_seen, digit_settles, digit_begun, digit_bare, mark_seen, mark_settles, mark_begun, mark_bare, settled, bare_settles, either, stage_at, gap_at, sign_fits, prefix_fits, ends_part, text_after}
+use Rattle.lexical_literal.proofs.StepLemmas.{reading, begins, stage_after, after_byte, digit_seen, digit_settles, digit_begun, mark_seen, mark_settles, mark_bare, settled, bare_settles, either, stage_at, gap_at, sign_fits, prefix_fits, ends_part, text_after}
 
 -- A sign, a prefix, digits, and the parts of `more` behind the digits of `part`.
 pub record Found (m : Notation) (part : Part) (stage : Stage) (gap : Bool) (sign prefix text : List ℕ) : Type 0 where
@@ -39,14 +39,11 @@ only x = record { sign = []; prefix = []; integer = []; point = []; fraction = [
 module _ (m : Notation) where
   -- After a digit, a separator or a sign, no sign follows.
   no_sign : (part : Part) (stage : Stage) (sign : List ℕ) → is_fresh stage ≡ false → sign_fits m part stage sign ≡ true → sign ≡ []
-  no_sign part stage [] over is = refl
-  no_sign part stage (s ∷ sign) over is = absurd (false≢true (sym over ∙ (and_parts _ _ (and_parts _ _ is).1).1))
+  no_sign part stage sign over is = grind arith
 
   no_prefix : (stage : Stage) (gap : Bool) (prefix : List ℕ) → is_bare stage ≡ false → (begins stage && not gap) ≡ false → prefix_fits m stage gap prefix ≡ true
       → prefix ≡ []
-  no_prefix stage gap [] bare new is = refl
-  no_prefix stage gap (x ∷ []) bare new is = absurd (false≢true (sym bare ∙ (and_parts _ _ is).0))
-  no_prefix stage gap (z ∷ x ∷ more) bare new is = absurd (false≢true (sym new ∙ (and_parts _ _ is).0))
+  no_prefix stage gap prefix bare new is = grind arith
 
   unsigned : (part : Part) (stage : Stage) (gap : Bool) (text : List ℕ) → is_fresh stage ≡ false → (cut : Cut m part stage gap text)
       → Found m part stage gap [] cut.prefix text
@@ -63,9 +60,7 @@ module _ (m : Notation) where
 
   -- Where no sign follows, none is needed.
   no_sign_fits : (part : Part) (stage : Stage) → is_signed m part stage ≡ true → sign_fits m part stage [] ≡ true
-  no_sign_fits part stage signed = and_from _ _ (met (forbids_plus m part)) signed where
-    met : (f : Bool) → implies f true ≡ true
-    met f = grind arith
+  no_sign_fits part stage signed = grind arith
 
   module _ (part : Part) (stage : Stage) (gap : Bool) (text : List ℕ) where
     cut_at : (sign prefix digits : List ℕ) (more : Literal) → text ≡ sign ++ (prefix ++ (digits ++ text_after part more)) → sign_fits m part stage sign ≡ true
@@ -90,12 +85,10 @@ module _ (m : Notation) where
     stopped is one =
         let both = and_parts _ (continues m part stage roles.Suffix) is in ended_by (only text) (whole part) both.0 (end part both.1) where
           whole : (part : Part) → text ≡ text_after part (only text)
-          whole parts.Integer = refl
-          whole _ = refl
+          whole part = grind arith
 
           end : (part : Part) → continues m part stage roles.Suffix ≡ true → digits_suffice m part stage ≡ true → ends_part m part (only text) stage ≡ true
-          end parts.Exponent stop digits = and_from _ _ digits one
-          end _ stop digits = and_from _ _ digits (and_from _ _ stop one)
+          end part stop digits = grind arith
 
   module _ (part : Part) (stage : Stage) (gap : Bool) (b : ℕ) (text : List ℕ) where
     -- A digit or a separator in front of digits.
@@ -111,17 +104,15 @@ module _ (m : Notation) where
     digit_first : m.digit part b ≡ true → is_signed m part stage ≡ true → gap_fits m part (has_digit stage) gap true ≡ true
         → Cut m part (after_digit stage gap (b == 48)) false text → Cut m part stage gap (b ∷ text)
     digit_first digit signed fits cut = go cut.prefix (unsigned part (after_digit stage gap (b == 48)) false text (digit_settles stage gap (b == 48)) cut) where
-      zero : (new z p : Bool) → (new && z) ≡ true → p ≡ true → (new && (z && p)) ≡ true
-      zero new z p is one = grind arith
+      zero : (x : ℕ) → prefix_fits m (after_digit stage gap (b == 48)) false (x ∷ []) ≡ true → prefix_fits m stage gap (b ∷ x ∷ []) ≡ true
+      zero x is = grind arith
 
       go : (prefix : List ℕ) → Found m part (after_digit stage gap (b == 48)) false [] prefix text → Cut m part stage gap (b ∷ text)
       go [] found = longer (after_digit stage gap (b == 48)) false true digit signed
           (λ run is. run_with_digit m part (has_digit stage) gap b run digit fits (subst (λ t. is_rest m part t false run ≡ true) (digit_seen stage gap (b == 48)) is))
           (λ run. refl) found
-      go (x ∷ []) found =
-          let both = and_parts _ _ found.prefixed in
-          cut_at part stage gap (b ∷ text) [] (b ∷ x ∷ []) found.digits found.more (ap (λ t. b ∷ t) found.whole) (no_sign_fits part stage signed)
-          (zero (begins stage && not gap) (b == 48) (m.prefix x) (digit_bare stage gap (b == 48) both.0) both.1) found.run found.end
+      go (x ∷ []) found = cut_at part stage gap (b ∷ text) [] (b ∷ x ∷ []) found.digits found.more (ap (λ t. b ∷ t) found.whole)
+          (no_sign_fits part stage signed) (zero x found.prefixed) found.run found.end
       go (z ∷ x ∷ more) found = absurd (false≢true (sym (digit_begun stage gap (b == 48)) ∙ (and_parts _ _ (and_parts _ _ found.prefixed).0).0))
 
     -- A separator in front.
@@ -142,9 +133,7 @@ module _ (m : Notation) where
         cut_at part stage gap (b ∷ text) (b ∷ []) cut.prefix found.digits found.more (ap (λ t. b ∷ t) found.whole) (and_from _ _ one (and_from _ _ both.1 both.0))
         (prefixed cut.prefix found.prefixed) found.run found.end where
           prefixed : (prefix : List ℕ) → prefix_fits m (after_mark stage) gap prefix ≡ true → prefix_fits m stage gap prefix ≡ true
-          prefixed [] is = refl
-          prefixed (x ∷ []) is = absurd (false≢true (sym (mark_bare stage) ∙ (and_parts _ _ is).0))
-          prefixed (z ∷ x ∷ more) is = ap (λ t. (t && not gap) && is_none_or_prefix m.prefix (z ∷ x ∷ more)) (sym (mark_begun stage)) ∙ is
+          prefixed prefix is = grind arith
 
     -- A prefix in front, whose zero has been read.
     prefix_first : m.prefix b ≡ true → is_bare stage ≡ true → Cut m part stages.Free false text → Cut m part stage gap (b ∷ text)

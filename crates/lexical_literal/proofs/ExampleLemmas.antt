@@ -1,5 +1,5 @@
 -- A test that says whether parts are a literal, for examples.
-use Rattle.std.proofs.Common.{ℕ, ◌≡◌, Bool, true, false, not, ◌||◌, IsTrue, List, [], ◌∷◌, refl, sym, arith}
+use Rattle.std.proofs.Common.{ℕ, ◌≡◌, Bool, true, false, not, ◌&&◌, ◌||◌, IsTrue, List, [], ◌∷◌, refl, sym, arith}
 use Rattle.std.proofs.lemmas.Bool.{false≢true}
 use Rattle.std.specs.List.{list_any, AllByRecursion}
 use Rattle.lexical_util.specs.Layout as layout
@@ -12,7 +12,6 @@ use Rattle.lexical_literal.specs.Readings.{HasTwoReadings}
 use Rattle.lexical_literal.specs.Run.{is_run}
 use Rattle.lexical_literal.specs.Additions.Summary.{implies}
 use Rattle.lexical_literal.proofs.CutLemmas.{only}
-use Rattle.lexical_literal.proofs.LiteralLemmas.{absent_is, holds}
 
 -- The tests of the spelling of each part of `l`, and of the parts that go together.
 abbrev pub tests : Notation → Literal → List Bool
@@ -20,7 +19,7 @@ tests m l =
     is_none_or_one signs l.sign ∷ is_none_or_prefix m.prefix l.prefix ∷ is_run m parts.Integer l.integer ∷ is_none_or_one m.point l.point ∷
     is_run m parts.Fraction l.fraction ∷ is_none_or_one m.exponent_character l.exponent_character ∷ is_none_or_one signs l.exponent_sign ∷
     is_run m parts.Exponent l.exponent ∷ is_none_or_one m.suffix l.suffix ∷ implies (is_absent l.point) (is_absent l.fraction) ∷
-    implies (is_absent l.exponent_character) (is_absent l.exponent_sign) ∷ implies (is_absent l.exponent_character) (is_absent l.exponent) ∷
+    implies (is_absent l.exponent_character) (is_absent l.exponent_sign && is_absent l.exponent) ∷
     (is_present l.integer || is_float l) ∷ []
 
 -- `required_flags` lists the flags that require something of the parts.
@@ -33,8 +32,7 @@ required_flags =
 
 -- Where no flag requires anything, all requirements are met.
 met : (m : Notation) (l : Literal) → list_any m.flag required_flags ≡ false → (f : Flag) → IsTrue (m.flag f) → IsTrue (requirement f m l)
-met m l none layout.required_integer_digits = λ set. grind arith
-met m l none _ = λ set. grind arith
+met m l none f set = grind arith
 
 each : (tests : List Bool) → list_any not tests ≡ false → AllByRecursion (λ test. test ≡ true) tests
 each [] is = tt
@@ -43,23 +41,24 @@ each (false ∷ tests) is = absurd (false≢true (sym is))
 
 -- Parts that pass the tests are a literal.
 literal_if : (m : Notation) (l : Literal) → list_any m.flag required_flags ≡ false → list_any not (tests m l) ≡ false → IsLiteral m l
-literal_if m l none is = go (each (tests m l) is) where
-  go : AllByRecursion (λ test. test ≡ true) (tests m l) → IsLiteral m l
-  go (sign, (prefix, (integer, (point, (fraction, (character, (exponent_sign, (exponent, (suffix, (after_point, (sign_after, (exponent_after, (some, end))))))))))))) = record {
-    sign = sign;
-    prefix = prefix;
-    integer = integer;
-    point = point;
-    fraction = fraction;
-    exponent_character = character;
-    exponent_sign = exponent_sign;
-    exponent = exponent;
-    suffix = suffix;
-    after_point = λ none. absent_is l.fraction (holds _ _ after_point none);
-    after_character = λ none. (absent_is l.exponent_sign (holds _ _ sign_after none), absent_is l.exponent (holds _ _ exponent_after none));
-    some_number = some;
-    requirements = met m l none;
-  }
+literal_if m l none is =
+    let (sign, (prefix, (integer, (point, (fraction, (character, (exponent_sign, (exponent, (suffix, (after_point, (after_character, (some, end)))))))))))) =
+    each (tests m l) is in
+    record {
+      sign = sign;
+      prefix = prefix;
+      integer = integer;
+      point = point;
+      fraction = fraction;
+      exponent_character = character;
+      exponent_sign = exponent_sign;
+      exponent = exponent;
+      suffix = suffix;
+      after_point = λ absent. grind arith;
+      after_character = λ absent. (grind arith, grind arith);
+      some_number = some;
+      requirements = met m l none;
+    }
 
 -- A text has two readings if it is the text of two different lists of parts that pass the test.
 pub two : (m : Notation) (text : List ℕ) (l k : Literal) → list_any m.flag required_flags ≡ false → text ≡ text_of l → text ≡ text_of k

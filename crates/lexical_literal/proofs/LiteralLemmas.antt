@@ -1,5 +1,5 @@
 -- The texts that are accepted are the literals.
-use Rattle.std.proofs.Common.{ℕ, ◌≡◌, Bool, true, false, not, ◌==◌, ◌&&◌, ◌||◌, inl, inr, if◌then◌else◌, IsTrue, List, [], ◌∷◌, ◌++◌, ◌+◌, Some, refl, sym, ap, subst, ◌∙◌, arith}
+use Rattle.std.proofs.Common.{ℕ, ◌≡◌, Bool, true, false, not, ◌==◌, ◌&&◌, ◌||◌, inl, inr, if◌then◌else◌, List, [], ◌∷◌, ◌++◌, ◌+◌, Some, refl, sym, subst, ◌∙◌, arith}
 use Rattle.std.proofs.lemmas.Bool.{false≢true, and_parts, and_from, and_right, cases_Bool, or_left, or_right, eqb-true}
 use Rattle.std.specs.List.{list_any}
 use Rattle.lexical_util.specs.Ascii.{ByteSet}
@@ -11,7 +11,7 @@ use Rattle.lexical_util.specs.declared.format_flags.Part.{Part}
 use Rattle.lexical_util.specs.declared.format_flags.Part.TheVariants as parts
 use Rattle.lexical_literal.specs.Notation.{Notation}
 use Rattle.lexical_literal.specs.Run.{is_run}
-use Rattle.lexical_literal.specs.Literal.{Literal, IsLiteral, Reads, text_of, requirement, is_present, is_absent, is_plus, is_none_or_one, is_none_or_prefix, has_leading_zero, is_zero_led}
+use Rattle.lexical_literal.specs.Literal.{Literal, IsLiteral, Reads, text_of, is_present, is_absent, is_plus, is_none_or_one, is_none_or_prefix, has_leading_zero, is_zero_led}
 use Rattle.lexical_literal.specs.Additions.Summary.{Cuts, implies, has_digit, is_fresh, is_lone, is_led, after_digit, after_mark, after_point, may_follow, may_lead, is_signed, forbids_plus, gap_fits, digits_suffice, ends, continues, may_float, add, count, digits_piece, start, no_cuts}
 use Rattle.lexical_literal.specs.declared.steps.Stage.{Stage}
 use Rattle.lexical_literal.specs.declared.steps.Stage.TheVariants as stages
@@ -124,17 +124,6 @@ module _ (any led p one_p f fits_f k : Bool) (flag : Flag → Bool) (only : Bool
       end_facts stop scale seen counted =
           let same_digit : digit ≡ not f = seen has_fraction in let same_lone : lone ≡ not (not f || any) = counted has_fraction in grind arith
 
-pub holds : (a d : Bool) → implies a d ≡ true → a ≡ true → d ≡ true
-holds a d is set = grind arith
-
-implied : (a d : Bool) → (a ≡ true → d ≡ true) → implies a d ≡ true
-implied true d is = is refl
-implied false d is = refl
-
-pub absent_is : (bytes : List ℕ) → is_absent bytes ≡ true → bytes ≡ []
-absent_is [] is = refl
-absent_is (b ∷ bytes) is = absurd (false≢true is)
-
 -- What an absent part satisfies.
 absent : (P : List ℕ → Bool) (bytes : List ℕ) → P [] ≡ true → implies (is_absent bytes) (P bytes) ≡ true
 absent P [] is = is
@@ -153,16 +142,11 @@ module _ (m : Notation) where
 
   -- The stage before the integer digits.
   first_seen : (sign prefix : List ℕ) → has_digit (stage_at stages.Start sign prefix) ≡ false
-  first_seen sign prefix = first (is_absent prefix) (is_absent sign) where
-    first : (x y : Bool) → has_digit (if x then (if y then stages.Start else stages.Empty) else stages.Free) ≡ false
-    first x y = grind arith
+  first_seen sign prefix = grind arith
 
   first_led : (sign prefix run : List ℕ) → led_after (m.digit parts.Integer) (stage_at stages.Start sign prefix) run
       ≡ (is_absent prefix && has_leading_zero (m.digit parts.Integer) run)
-  first_led sign prefix run = first (is_absent prefix) (is_absent sign) where
-    first : (x y : Bool) → led_after (m.digit parts.Integer) (if x then (if y then stages.Start else stages.Empty) else stages.Free) run
-        ≡ (x && has_leading_zero (m.digit parts.Integer) run)
-    first x y = grind arith
+  first_led sign prefix run = grind arith
 
   module _ (l : Literal) where
     abbrev Tail : Bool → Bool → Type 0
@@ -220,18 +204,15 @@ module _ (m : Notation) where
     literal_if : sign_fits m parts.Integer stages.Start l.sign ≡ true → prefix_fits m stages.Start false l.prefix ≡ true
         → is_rest m parts.Integer false false l.integer ≡ true → ends_part m parts.Integer l integer_last ≡ true → IsLiteral m l
     literal_if sign prefix run is =
-        let one = and_parts (is_none_or_one signs l.sign) _ sign in
-        let no_plus = and_parts (implies (m.flag layout.no_positive_mantissa_sign) (not (is_plus l.sign))) _ one.1 in
         let digits = and_parts (digits_suffice m parts.Integer integer_last) _ is in
         let point = and_parts (is_none_or_one m.point l.point) _ digits.1 in
         let fraction = and_parts (fraction_fits m l integer_last) _ point.1 in
         let tail = tail_of (stops m l integer_last) (scales m l integer_last) fraction.1 in
-        let signed = signed (m.flag layout.required_mantissa_sign) (is_absent l.sign) no_plus.1 in
         let end = subst (λ t. End t (is_zero_led m l)) (integer_seen run)
         (subst (λ t. End (has_digit integer_last) t) integer_led (end_of integer_last tail digits.0 point.0 fraction.0)) in
         record {
-          sign = one.0;
-          prefix = prefix_one l.prefix prefix;
+          sign = grind arith;
+          prefix = grind arith;
           integer = sym (as_run parts.Integer l.integer) ∙ run;
           point = end.point;
           fraction = sym (as_run parts.Fraction l.fraction) ∙ end.fraction;
@@ -239,18 +220,11 @@ module _ (m : Notation) where
           exponent_sign = tail.sign;
           exponent = sym (as_run parts.Exponent l.exponent) ∙ tail.exponent;
           suffix = tail.suffix;
-          after_point = λ none. absent_is l.fraction (holds _ _ end.after_point none);
-          after_character = λ none. (absent_is l.exponent_sign (holds _ _ tail.sign_after none), absent_is l.exponent (holds _ _ tail.exponent_after none));
+          after_point = λ none. grind arith;
+          after_character = λ none. (grind arith, grind arith);
           some_number = end.some;
           requirements = λ f set. grind arith;
-        } where
-          signed : (f x : Bool) → (if x then not f else true) ≡ true → implies f (not x) ≡ true
-          signed f x is = grind arith
-
-          prefix_one : (prefix : List ℕ) → prefix_fits m stages.Start false prefix ≡ true → is_none_or_prefix m.prefix prefix ≡ true
-          prefix_one [] is = refl
-          prefix_one (x ∷ []) is = is
-          prefix_one (z ∷ x ∷ more) is = is
+        }
 
 module _ (m : Notation) (h : HasRoles m) where
   -- What is accepted is a literal.
@@ -291,9 +265,7 @@ module _ (m : Notation) (h : HasRoles m) where
   -- Where a digit follows, it may.
   follow : (D : ByteSet) (stage : Stage) (gap : Bool) (run : List ℕ) → (is_led (stage_after D stage gap run) ≡ true → may_lead m ≡ true) → list_any D run ≡ true
       → may_follow m stage ≡ true
-  follow D stages.Bare gap run may is = may ((passed D stages.Bare gap run).led ∙ is)
-  follow D stages.Zero gap run may is = may ((passed D stages.Zero gap run).led ∙ is)
-  follow D _ gap run may is = refl
+  follow D stage gap run may is = let led = (passed D stage gap run).led in grind arith
 
   -- The digits of a part.
   run_arrives : (part : Part) (stage : Stage) (gap : Bool) (run rest : List ℕ) (c d : Cuts) → is_signed m part stage ≡ true
@@ -445,44 +417,18 @@ module _ (m : Notation) (h : HasRoles m) where
   prefix_arrives stage (z ∷ b ∷ x ∷ prefix) rest c d new signed one more = absurd (false≢true one)
 
   module _ (l : Literal) (is : IsLiteral m l) where
-    flag : (f : Flag) → implies (m.flag f) (requirement f m l) ≡ true
-    flag f = implied (m.flag f) (requirement f m l) (is.requirements f)
-
     run : (part : Part) (digits : List ℕ) → is_run m part digits ≡ true → is_rest m part false false digits ≡ true
     run part digits is = as_run m part digits ∙ is
 
     end : End m l (has_digit (integer_last m l)) (is_led (integer_last m l))
     end = subst (λ t. End m l (has_digit (integer_last m l)) t) (sym (integer_led m l))
-        (subst (λ t. End m l t (is_zero_led m l)) (sym (integer_seen m l (run parts.Integer l.integer is.integer))) (record {
-          point = is.point;
-          fraction = run parts.Fraction l.fraction is.fraction;
-          after_point = implied _ _ (λ none. ap is_absent (is.after_point none));
-          some = is.some_number;
-          integer_digits = flag layout.required_integer_digits;
-          fraction_digits = flag layout.required_fraction_digits;
-          mantissa_digits = flag layout.required_mantissa_digits;
-          notation = flag layout.no_exponent_notation;
-          with_fraction = flag layout.no_exponent_without_fraction;
-          whole_led = flag layout.no_integer_leading_zeros;
-          float_led = flag layout.no_float_leading_zeros;
-          needed = flag layout.required_exponent_notation;
-        }))
+        (subst (λ t. End m l t (is_zero_led m l)) (sym (integer_seen m l (run parts.Integer l.integer is.integer))) facts) where
+      facts : End m l (is_present l.integer) (is_zero_led m l)
+      facts = let fits = run parts.Fraction l.fraction is.fraction in grind arith
 
     tail : (stop scale : Bool) → implies (is_absent l.exponent_character) stop ≡ true → implies (is_present l.exponent_character) scale ≡ true
         → Tail m l stop scale
-    tail stop scale may_stop may_scale = record {
-      character = is.exponent_character;
-      sign = is.exponent_sign;
-      exponent = run parts.Exponent l.exponent is.exponent;
-      suffix = is.suffix;
-      sign_after = implied _ _ (λ none. ap is_absent (is.after_character none).0);
-      exponent_after = implied _ _ (λ none. ap is_absent (is.after_character none).1);
-      digits = flag layout.required_exponent_digits;
-      no_plus_sign = flag layout.no_positive_exponent_sign;
-      signed = flag layout.required_exponent_sign;
-      stop = may_stop;
-      scale = may_scale;
-    }
+    tail stop scale may_stop may_scale = let fits = run parts.Exponent l.exponent is.exponent in grind arith
 
     ends_well : ends_part m parts.Integer l (integer_last m l) ≡ true
     ends_well =
@@ -497,18 +443,13 @@ module _ (m : Notation) (h : HasRoles m) where
 
     -- Where integers alone are literals, no literal has a decimal point or an exponent.
     no_float : implies m.integers_only (is_absent l.point && is_absent l.exponent_character) ≡ true
-    no_float = implied _ _ (λ only. and_from _ _ (none m.point l.point (λ b. (h.integers only b).0) is.point)
-        (none m.exponent_character l.exponent_character (λ b. (h.integers only b).1) is.exponent_character)) where
-          none : (A : ByteSet) (bytes : List ℕ) → ((b : ℕ) → A b ≡ false) → is_none_or_one A bytes ≡ true → is_absent bytes ≡ true
-          none A [] lacks one = refl
-          none A (b ∷ []) lacks one = absurd (false≢true (sym (lacks b) ∙ one))
-          none A (b ∷ x ∷ bytes) lacks one = absurd (false≢true one)
+    no_float = grind arith
 
     begins_well : sign_fits m parts.Integer stages.Start l.sign ≡ true
-    begins_well = and_from _ _ is.sign (and_from _ _ (flag layout.no_positive_mantissa_sign)
-        (signed (is_absent l.sign) (m.flag layout.required_mantissa_sign) (flag layout.required_mantissa_sign))) where
-          signed : (x f : Bool) → implies f (not x) ≡ true → (if x then not f else true) ≡ true
-          signed x f is = grind arith
+    begins_well = grind arith
+
+    new : begins (stage_at stages.Start l.sign []) ≡ true
+    new = grind arith
 
     -- A literal is accepted, and its parts are counted.
     pub literal_arrives : Arrives m (Some start) no_cuts (text_of l) (cuts_of l)
@@ -516,12 +457,10 @@ module _ (m : Notation) (h : HasRoles m) where
         let signs : Cuts = record no_cuts { sign = plus l.sign 0 } in
         let dressed : Cuts = record signs { prefix = plus (is_tail l.prefix) 0; integer = plus (is_tail l.prefix) 0 } in
         sign_arrives parts.Integer stages.Start false l.sign _ (λ x. record no_cuts { sign = plus x 0 }) (cuts_of l) begins_well (λ b. refl)
-        (λ signed. prefix_arrives (stage_at stages.Start l.sign []) l.prefix _ signs (cuts_of l) (new (is_absent l.sign)) signed is.prefix
+        (λ signed. prefix_arrives (stage_at stages.Start l.sign []) l.prefix _ signs (cuts_of l) new signed is.prefix
         (λ signed. run_arrives parts.Integer (stage_at stages.Start l.sign l.prefix) false l.integer _ dressed (cuts_of l) signed
         (subst (λ t. is_rest m parts.Integer t false l.integer ≡ true) (sym (first_seen m l.sign l.prefix)) (run parts.Integer l.integer is.integer)) (record {
           leads = λ led. leads _ _ _ _ _ _ _ _ _ end no_float led;
           arrives = λ gap closed signed. end_arrives l (integer_last m l) gap (record dressed { integer = plus l.integer (plus (is_tail l.prefix) 0) })
               (and_from _ _ signed (and_from _ _ closed end.integer_digits)) ends_well;
-        }))) where
-          new : (x : Bool) → begins (if x then stages.Start else stages.Empty) ≡ true
-          new x = grind arith
+        })))

@@ -79,9 +79,6 @@ module _ (stage : Stage) where
   pub digit_begun : (gap zero : Bool) → begins (after_digit stage gap zero) ≡ false
   digit_begun gap zero = grind arith
 
-  pub digit_bare : (gap zero : Bool) → is_bare (after_digit stage gap zero) ≡ true → ((begins stage && not gap) && zero) ≡ true
-  digit_bare gap zero is = grind arith
-
   pub mark_seen : has_digit (after_mark stage) ≡ has_digit stage
   mark_seen = grind arith
 

@@ -10,7 +10,7 @@ use Rattle.lexical_literal.specs.Readings.{AllIn}
 use Rattle.lexical_literal.specs.Additions.Summary.{class_of, implies, needs_exponent, move, step, scan, is_accepted, start}
 use Rattle.lexical_literal.specs.declared.steps.Stage.{Stage}
 use Rattle.lexical_literal.specs.declared.steps.Stage.TheVariants as stages
-use Rattle.lexical_literal.proofs.ScanLemmas.{HasRoles, Accepts, scan_none, moved, digit_role, is_role}
+use Rattle.lexical_literal.proofs.ScanLemmas.{HasRoles, scan_none, moved, digit_role, is_role}
 use Rattle.lexical_literal.proofs.StepLemmas.{reading}
 use Rattle.lexical_literal.proofs.LiteralLemmas.{literal_from, literal_arrives}
 
