@@ -83,12 +83,8 @@ module _ (m : Notation) where
     -- Nothing but a suffix follows.
     stopped : (ends m (reading part stage gap) && continues m part stage roles.Suffix) ≡ true → is_none_or_one m.suffix text ≡ true → Cut m part stage gap text
     stopped is one =
-        let both = and_parts _ (continues m part stage roles.Suffix) is in ended_by (only text) (whole part) both.0 (end part both.1) where
-          whole : (part : Part) → text ≡ text_after part (only text)
-          whole part = grind arith
-
-          end : (part : Part) → continues m part stage roles.Suffix ≡ true → digits_suffice m part stage ≡ true → ends_part m part (only text) stage ≡ true
-          end part stop digits = grind arith
+        let both = and_parts _ (continues m part stage roles.Suffix) is in
+        ended_by (only text) (grind arith) both.0 (λ digits. let stop = both.1 in grind arith)
 
   module _ (part : Part) (stage : Stage) (gap : Bool) (b : ℕ) (text : List ℕ) where
     -- A digit or a separator in front of digits.

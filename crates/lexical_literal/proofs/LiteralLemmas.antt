@@ -17,7 +17,7 @@ use Rattle.lexical_literal.specs.declared.steps.Stage.{Stage}
 use Rattle.lexical_literal.specs.declared.steps.Stage.TheVariants as stages
 use Rattle.lexical_literal.proofs.RunLemmas.{is_rest, rest_of_none, digits_present, digit_fits, after_run_digit, is_run_separator, separator_fits, after_run_separator, opens}
 use Rattle.lexical_literal.proofs.ScanLemmas.{HasRoles, Accepts, Arrives, plus, arrives_byte, digit_role, is_role}
-use Rattle.lexical_literal.proofs.StepLemmas.{reading, begins, led_after, stage_after, after_byte, passed, digit_seen, digit_settles, mark_seen, mark_settles, settled, either, stage_at, sign_fits, prefix_fits, digits_fit, ends_exponent, ends_mantissa, fraction_fits, stops, scales, ends_part, text_after}
+use Rattle.lexical_literal.proofs.StepLemmas.{reading, led_after, stage_after, after_byte, passed, digit_seen, digit_settles, mark_seen, mark_settles, settled, either, stage_at, sign_fits, prefix_fits, digits_fit, ends_exponent, ends_mantissa, fraction_fits, stops, scales, ends_part, text_after}
 use Rattle.lexical_literal.proofs.CutLemmas.{cut_of}
 
 -- `is_tail bytes` has all of `bytes` but the first.
@@ -130,9 +130,6 @@ absent P [] is = is
 absent P (b ∷ bytes) is = refl
 
 module _ (m : Notation) where
-  pub as_run : (part : Part) (run : List ℕ) → is_rest m part false false run ≡ is_run m part run
-  as_run part run = rest_of_none m part run
-
   -- Digits that are present have a digit.
   has_bytes : (part : Part) (stage : Stage) (run : List ℕ) → has_digit stage ≡ false → is_rest m part false false run ≡ true
       → has_digit (stage_after (m.digit part) stage false run) ≡ is_present run
@@ -213,12 +210,12 @@ module _ (m : Notation) where
         record {
           sign = grind arith;
           prefix = grind arith;
-          integer = sym (as_run parts.Integer l.integer) ∙ run;
+          integer = sym (rest_of_none m parts.Integer l.integer) ∙ run;
           point = end.point;
-          fraction = sym (as_run parts.Fraction l.fraction) ∙ end.fraction;
+          fraction = sym (rest_of_none m parts.Fraction l.fraction) ∙ end.fraction;
           exponent_character = tail.character;
           exponent_sign = tail.sign;
-          exponent = sym (as_run parts.Exponent l.exponent) ∙ tail.exponent;
+          exponent = sym (rest_of_none m parts.Exponent l.exponent) ∙ tail.exponent;
           suffix = tail.suffix;
           after_point = λ none. grind arith;
           after_character = λ none. (grind arith, grind arith);
@@ -354,8 +351,7 @@ module _ (m : Notation) (h : HasRoles m) where
     go [] [] [] fits =
         let both = and_parts (continues m part stage roles.Suffix) _ fits in
         stop_arrives part stage gap c l.suffix (and_from _ _ end both.0) both.1
-    go [] [] (e ∷ exponent) fits = absurd (false≢true (and_parts (continues m part stage roles.Suffix) false fits).1)
-    go [] (s ∷ sign) exponent fits = absurd (false≢true (and_parts (continues m part stage roles.Suffix) false fits).1)
+    go [] sign exponent fits = absurd (false≢true (and_parts (continues m part stage roles.Suffix) false fits).1)
     go (b ∷ []) sign exponent fits =
         let character = and_parts (m.exponent_character b) _ fits in
         let scale = and_parts (continues m part stage roles.Exponent) _ character.1 in
@@ -394,41 +390,33 @@ module _ (m : Notation) (h : HasRoles m) where
     go (b ∷ x ∷ point) fraction fits = absurd (false≢true fits)
 
   -- A prefix, or none.
-  prefix_arrives : (stage : Stage) (prefix rest : List ℕ) (c d : Cuts) → begins stage ≡ true → is_signed m parts.Integer stage ≡ true
-      → is_none_or_prefix m.prefix prefix ≡ true
+  prefix_arrives : (stage : Stage) (prefix rest : List ℕ) (c d : Cuts) → may_follow m stage ≡ true → after_digit stage false true ≡ stages.Bare
+      → is_signed m parts.Integer stage ≡ true → is_none_or_prefix m.prefix prefix ≡ true
       → (is_signed m parts.Integer (stage_at stage [] prefix) ≡ true → Arrives m (Some (reading parts.Integer (stage_at stage [] prefix) false))
       (record c { prefix = plus (is_tail prefix) c.prefix; integer = plus (is_tail prefix) c.integer }) rest d)
       → Arrives m (Some (reading parts.Integer stage false)) c (prefix ++ rest) d
-  prefix_arrives stage [] rest c d new signed one more = more signed
-  prefix_arrives stage (z ∷ []) rest c d new signed one more = absurd (false≢true one)
-  prefix_arrives stage (z ∷ b ∷ []) rest c d new signed one more =
+  prefix_arrives stage [] rest c d follows bare signed one more = more signed
+  prefix_arrives stage (z ∷ []) rest c d follows bare signed one more = absurd (false≢true one)
+  prefix_arrives stage (z ∷ b ∷ []) rest c d follows bare signed one more =
       let both = and_parts (z == 48) _ one in
       let zero : Cuts = record c { integer = c.integer + 1 } in
       subst (λ z. Arrives m (Some (reading parts.Integer stage false)) c (z ∷ b ∷ rest) d) (sym (eqb-true z 48 both.0))
       (arrives_byte m h (reading parts.Integer stage false) 48 roles.Digit c (b ∷ rest) d refl (digit_role m h parts.Integer 48 (h.zero_is_digit parts.Integer))
-      (and_from _ _ signed (follows stage new)) (subst (λ s. Arrives m (Some (reading parts.Integer s false)) zero (b ∷ rest) d) (sym (bare stage new))
+      (and_from _ _ signed follows) (subst (λ s. Arrives m (Some (reading parts.Integer s false)) zero (b ∷ rest) d) (sym bare)
       (arrives_byte m h (reading parts.Integer stages.Bare false) b roles.Prefix zero rest d refl
-      (is_role m h parts.Integer roles.Prefix b (λ e. cc) both.1) refl (more refl)))) where
-        follows : (stage : Stage) → begins stage ≡ true → may_follow m stage ≡ true
-        follows stage new = grind arith
-
-        bare : (stage : Stage) → begins stage ≡ true → after_digit stage false true ≡ stages.Bare
-        bare stage new = grind arith
-  prefix_arrives stage (z ∷ b ∷ x ∷ prefix) rest c d new signed one more = absurd (false≢true one)
+      (is_role m h parts.Integer roles.Prefix b (λ e. cc) both.1) refl (more refl))))
+  prefix_arrives stage (z ∷ b ∷ x ∷ prefix) rest c d follows bare signed one more = absurd (false≢true one)
 
   module _ (l : Literal) (is : IsLiteral m l) where
     run : (part : Part) (digits : List ℕ) → is_run m part digits ≡ true → is_rest m part false false digits ≡ true
-    run part digits is = as_run m part digits ∙ is
+    run part digits is = rest_of_none m part digits ∙ is
 
     end : End m l (has_digit (integer_last m l)) (is_led (integer_last m l))
-    end = subst (λ t. End m l (has_digit (integer_last m l)) t) (sym (integer_led m l))
-        (subst (λ t. End m l t (is_zero_led m l)) (sym (integer_seen m l (run parts.Integer l.integer is.integer))) facts) where
-      facts : End m l (is_present l.integer) (is_zero_led m l)
-      facts = let fits = run parts.Fraction l.fraction is.fraction in grind arith
-
-    tail : (stop scale : Bool) → implies (is_absent l.exponent_character) stop ≡ true → implies (is_present l.exponent_character) scale ≡ true
-        → Tail m l stop scale
-    tail stop scale may_stop may_scale = let fits = run parts.Exponent l.exponent is.exponent in grind arith
+    end =
+        let fits = run parts.Fraction l.fraction is.fraction in
+        let any = integer_seen m l (run parts.Integer l.integer is.integer) in
+        let led = integer_led m l in
+        grind arith
 
     ends_well : ends_part m parts.Integer l (integer_last m l) ≡ true
     ends_well =
@@ -439,28 +427,18 @@ module _ (m : Notation) (h : HasRoles m) where
         let scale = and_parts (implies (is_present l.exponent_character) (scales m l last)) _ stop.1 in
         and_from _ _ end.integer_digits (and_from _ _ end.point (and_from _ _ scale.1 (tail_if _ _ _ _ _ _ _ _ _ _ _ (stops m l last) (scales m l last)
         (has_digit (exponent_last m l)) (exponent_seen m l (run parts.Exponent l.exponent is.exponent))
-        (tail (stops m l last) (scales m l last) stop.0 scale.0))))
-
-    -- Where integers alone are literals, no literal has a decimal point or an exponent.
-    no_float : implies m.integers_only (is_absent l.point && is_absent l.exponent_character) ≡ true
-    no_float = grind arith
-
-    begins_well : sign_fits m parts.Integer stages.Start l.sign ≡ true
-    begins_well = grind arith
-
-    new : begins (stage_at stages.Start l.sign []) ≡ true
-    new = grind arith
+        (let fits = run parts.Exponent l.exponent is.exponent in grind arith))))
 
     -- A literal is accepted, and its parts are counted.
     pub literal_arrives : Arrives m (Some start) no_cuts (text_of l) (cuts_of l)
     literal_arrives =
         let signs : Cuts = record no_cuts { sign = plus l.sign 0 } in
         let dressed : Cuts = record signs { prefix = plus (is_tail l.prefix) 0; integer = plus (is_tail l.prefix) 0 } in
-        sign_arrives parts.Integer stages.Start false l.sign _ (λ x. record no_cuts { sign = plus x 0 }) (cuts_of l) begins_well (λ b. refl)
-        (λ signed. prefix_arrives (stage_at stages.Start l.sign []) l.prefix _ signs (cuts_of l) new signed is.prefix
+        sign_arrives parts.Integer stages.Start false l.sign _ (λ x. record no_cuts { sign = plus x 0 }) (cuts_of l) (grind arith) (λ b. refl)
+        (λ signed. prefix_arrives (stage_at stages.Start l.sign []) l.prefix _ signs (cuts_of l) (grind arith) (grind arith) signed is.prefix
         (λ signed. run_arrives parts.Integer (stage_at stages.Start l.sign l.prefix) false l.integer _ dressed (cuts_of l) signed
         (subst (λ t. is_rest m parts.Integer t false l.integer ≡ true) (sym (first_seen m l.sign l.prefix)) (run parts.Integer l.integer is.integer)) (record {
-          leads = λ led. leads _ _ _ _ _ _ _ _ _ end no_float led;
+          leads = λ led. leads _ _ _ _ _ _ _ _ _ end (grind arith) led;
           arrives = λ gap closed signed. end_arrives l (integer_last m l) gap (record dressed { integer = plus l.integer (plus (is_tail l.prefix) 0) })
               (and_from _ _ signed (and_from _ _ closed end.integer_digits)) ends_well;
         })))
