@@ -2,6 +2,7 @@
 mod RunLemmas
 mod ScanLemmas
 mod StepLemmas
+mod CutLemmas
 mod LiteralLemmas
 mod FrontLemmas
 mod LongestLemmas

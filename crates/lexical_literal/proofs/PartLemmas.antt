@@ -19,11 +19,6 @@ module _ (m : Notation) (part : Part) where
         either : (d s x y : Bool) → (d || (s && x && y)) ≡ true → (d || s) ≡ true
         either d s x y is = grind arith
 
-  -- Digits alone are a digit run.
-  pub digits_fit : (before digits : List ℕ) → AllIn (m.digit part) digits → are_fit m part before digits ≡ true
-  digits_fit before [] all = refl
-  digits_fit before (b ∷ digits) all = and_from _ _ (or_left (m.digit part b) _ all.0) (digits_fit (before ++ b ∷ []) digits all.1)
-
 one_bytes : (A : ByteSet) (bytes : List ℕ) → is_none_or_one A bytes ≡ true → AllIn A bytes
 one_bytes A [] is = tt
 one_bytes A (b ∷ []) is = (is, tt)

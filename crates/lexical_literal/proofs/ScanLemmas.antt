@@ -133,7 +133,7 @@ module _ (m : Notation) (h : HasRoles m) where
     go part _ role = role
 
   -- What a byte makes of a summary.
-  moved : (s : Summary) (b : ℕ) (o : Option Role) → role_in m s.part b ≡ o → step m s (class_of m b) ≡ move m s (b == 43) (b == 48) o
+  pub moved : (s : Summary) (b : ℕ) (o : Option Role) → role_in m s.part b ≡ o → step m s (class_of m b) ≡ move m s (b == 43) (b == 48) o
   moved s b o role = λ j. move m s (class_plus b j) (class_zero b j) (role j)
 
   pub took : (s : Summary) (b : ℕ) (P : Option Summary → Type 0) → (P None → ⊥) → P (step m s (class_of m b)) → Took m s b P
