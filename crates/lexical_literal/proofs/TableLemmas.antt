@@ -1,6 +1,7 @@
 -- Rows and columns of tables.
-use Rattle.std.proofs.Common.{ℕ, ◌≡◌, ◌≢◌, ◌<◌, ◌≤◌, ◌+◌, ◌*◌, ◌/◌, ◌%◌, ◌==◌, inl, inr, Bool, true, false, List, [], ◌∷◌, length, length-set, get_or, set, refl, sym, ap, subst, ◌∙◌, arith, below_more, get_or-set_other, get_or-set_same}
+use Rattle.std.proofs.Common.{ℕ, Bor, Some, ◌≡◌, ◌≢◌, ◌<◌, ◌≤◌, ◌+◌, ◌*◌, ◌/◌, ◌%◌, ◌==◌, inl, inr, Bool, true, false, List, [], ◌∷◌, length, length-set, get_or, set, refl, sym, ap, subst, ◌∙◌, arith, below_more, get_or-set_other, get_or-set_same}
 use mir.Val.{bool_byte}
+use Rattle.std.specs.Option.{ForSome}
 use Rattle.std.proofs.lemmas.Bool.{cases_eq}
 use Rattle.lexical_literal.specs.Additions.Summary.{add}
 use Rattle.lexical_literal.specs.Additions.Tables.{EachIs, piece_number, cuts_of, part_at, stage_at, summary_at}
@@ -54,6 +55,10 @@ number_back s p t part stage small =
 
       ends_of : (p t g e : ℕ) → e < 2 → ((p * 9 + t) * 4 + g * 2 + e) % 2 ≡ e
       ends_of p t g e ended = omega arith
+
+-- What holds of a value holds of what is borrowed of it.
+pub lent : {X : Type 0} (P : X → Type 0) (own : Bor X) → P own.now → ForSome (Some own) (λ borrowed. P borrowed.now)
+lent P own holds borrowed is = let same : own ≡ borrowed = cc in subst (λ b. P b.now) same holds
 
 -- One more byte of a piece.
 pub count_one : (counts : List ℕ) → length counts ≡ 9 → (piece : Piece)
