@@ -23,7 +23,7 @@ use lexical_util::format::Part;
 use lexical_util::laws::flags::role_facts;
 
 /// Where a digit separator is.
-#[derive(Debug, Clone, Copy, PartialEq, Eq)]
+#[derive(Debug, Clone, Copy, PartialEq, Eq, Hash)]
 pub enum Place {
     /// Before the digits of its part.
     BeforeDigits,
@@ -34,7 +34,7 @@ pub enum Place {
 }
 
 /// Why a text is not a literal. Another cause may follow when this one is mended.
-#[derive(Debug, Clone, Copy, PartialEq, Eq)]
+#[derive(Debug, Clone, Copy, PartialEq, Eq, Hash)]
 pub enum Cause {
     /// Flags are set that require something that the text does not have.
     Requirement,
@@ -57,6 +57,7 @@ pub struct ReadError {
     pub(crate) start: usize,
     pub(crate) end: usize,
     pub(crate) code: Error,
+    pub(crate) byte: Option<u8>,
 }
 
 impl ReadError {
@@ -99,6 +100,14 @@ impl ReadError {
         ensures { result ≡ self.now.code }
     {
         self.code
+    }
+
+    /// Returns the byte that cannot follow, or `None` if bytes are missing.
+    #[must_use]
+    pub const fn byte(&self) -> Option<u8>
+        ensures { result ≡ self.now.byte }
+    {
+        self.byte
     }
 }
 
@@ -548,5 +557,6 @@ pub(crate) const fn refusal(grammar: Grammar, text: &[u8], size: usize, read: Su
         start,
         end,
         code: error(grammar, text, size, cause, number, start),
+        byte,
     }
 }
