@@ -18,7 +18,7 @@ use crate::steps::{
 };
 use crate::syntax::Grammar;
 use lexical_util::error::Error;
-use lexical_util::format as flags;
+use lexical_util::format as masks;
 use lexical_util::format::Part;
 use lexical_util::laws::flags::role_facts;
 
@@ -112,22 +112,22 @@ impl ReadError {
 }
 
 // The flags that require something of the parts of a literal.
-const REQUIREMENTS: u128 = flags::REQUIRED_DIGITS
-    | flags::NO_POSITIVE_MANTISSA_SIGN
-    | flags::REQUIRED_MANTISSA_SIGN
-    | flags::NO_EXPONENT_NOTATION
-    | flags::NO_POSITIVE_EXPONENT_SIGN
-    | flags::REQUIRED_EXPONENT_SIGN
-    | flags::NO_EXPONENT_WITHOUT_FRACTION
-    | flags::NO_INTEGER_LEADING_ZEROS
-    | flags::NO_FLOAT_LEADING_ZEROS
-    | flags::REQUIRED_EXPONENT_NOTATION;
+const REQUIREMENTS: u128 = masks::REQUIRED_DIGITS
+    | masks::NO_POSITIVE_MANTISSA_SIGN
+    | masks::REQUIRED_MANTISSA_SIGN
+    | masks::NO_EXPONENT_NOTATION
+    | masks::NO_POSITIVE_EXPONENT_SIGN
+    | masks::REQUIRED_EXPONENT_SIGN
+    | masks::NO_EXPONENT_WITHOUT_FRACTION
+    | masks::NO_INTEGER_LEADING_ZEROS
+    | masks::NO_FLOAT_LEADING_ZEROS
+    | masks::REQUIRED_EXPONENT_NOTATION;
 
 // The flags that allow a digit separator in a number.
-const SEPARATORS: u128 = flags::INTERNAL_DIGIT_SEPARATOR
-    | flags::LEADING_DIGIT_SEPARATOR
-    | flags::TRAILING_DIGIT_SEPARATOR
-    | flags::CONSECUTIVE_DIGIT_SEPARATOR;
+const SEPARATORS: u128 = masks::INTERNAL_DIGIT_SEPARATOR
+    | masks::LEADING_DIGIT_SEPARATOR
+    | masks::TRAILING_DIGIT_SEPARATOR
+    | masks::CONSECUTIVE_DIGIT_SEPARATOR;
 
 // A cause, and the flags that are to blame.
 #[derive(Clone, Copy)]
@@ -210,7 +210,7 @@ impl Stop {
         ensures flags { (k : ℕ) → part result k 1 ≡ 1 → (f : Flag) × (bit f ≡ k) }
     {
         if needs_exponent(self.grammar) {
-            self.grammar.word & (REQUIREMENTS & !flags::NO_INTEGER_LEADING_ZEROS)
+            self.grammar.word & (REQUIREMENTS & !masks::NO_INTEGER_LEADING_ZEROS)
         } else {
             self.grammar.word & REQUIREMENTS
         }
@@ -334,13 +334,13 @@ const fn case_mask(grammar: Grammar, byte: u8) -> u128
 {
     flag_if(
         is_exponent_character(grammar, byte),
-        flags::CASE_SENSITIVE_EXPONENT,
+        masks::CASE_SENSITIVE_EXPONENT,
     ) | flag_if(
         grammar.view().is_base_prefix(byte),
-        flags::CASE_SENSITIVE_BASE_PREFIX,
+        masks::CASE_SENSITIVE_BASE_PREFIX,
     ) | flag_if(
         grammar.view().is_base_suffix(byte),
-        flags::CASE_SENSITIVE_BASE_SUFFIX,
+        masks::CASE_SENSITIVE_BASE_SUFFIX,
     )
 }
 
