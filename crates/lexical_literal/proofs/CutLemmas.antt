@@ -37,22 +37,15 @@ abbrev pub only : List ℕ → Literal
 only x = record { sign = []; prefix = []; integer = []; point = []; fraction = []; exponent_character = []; exponent_sign = []; exponent = []; suffix = x }
 
 module _ (m : Notation) where
-  -- After a digit, a separator or a sign, no sign follows.
-  no_sign : (part : Part) (stage : Stage) (sign : List ℕ) → is_fresh stage ≡ false → sign_fits m part stage sign ≡ true → sign ≡ []
-  no_sign part stage sign over is = grind arith
-
-  no_prefix : (stage : Stage) (gap : Bool) (prefix : List ℕ) → is_bare stage ≡ false → (begins stage && not gap) ≡ false → prefix_fits m stage gap prefix ≡ true
-      → prefix ≡ []
-  no_prefix stage gap prefix bare new is = grind arith
-
+  -- After a digit, a separator or a sign, no sign follows, and after a separator, a decimal point or an exponent character, no prefix.
   unsigned : (part : Part) (stage : Stage) (gap : Bool) (text : List ℕ) → is_fresh stage ≡ false → (cut : Cut m part stage gap text)
       → Found m part stage gap [] cut.prefix text
-  unsigned part stage gap text over cut = subst (λ s. Found m part stage gap s cut.prefix text) (no_sign part stage cut.sign over cut.found.signed) cut.found
+  unsigned part stage gap text over cut = subst (λ s. Found m part stage gap s cut.prefix text) (let signed = cut.found.signed in grind arith) cut.found
 
   unprefixed : (part : Part) (stage : Stage) (gap : Bool) (sign prefix text : List ℕ) → is_bare stage ≡ false → (begins stage && not gap) ≡ false
       → Found m part stage gap sign prefix text → Found m part stage gap sign [] text
   unprefixed part stage gap sign prefix text bare new found =
-      subst (λ x. Found m part stage gap sign x text) (no_prefix stage gap prefix bare new found.prefixed) found
+      subst (λ x. Found m part stage gap sign x text) (let prefixed = found.prefixed in grind arith) found
 
   plain : (part : Part) (stage : Stage) (gap : Bool) (text : List ℕ) → is_fresh stage ≡ false → is_bare stage ≡ false → (begins stage && not gap) ≡ false
       → Cut m part stage gap text → Found m part stage gap [] [] text
@@ -100,16 +93,13 @@ module _ (m : Notation) where
     digit_first : m.digit part b ≡ true → is_signed m part stage ≡ true → gap_fits m part (has_digit stage) gap true ≡ true
         → Cut m part (after_digit stage gap (b == 48)) false text → Cut m part stage gap (b ∷ text)
     digit_first digit signed fits cut = go cut.prefix (unsigned part (after_digit stage gap (b == 48)) false text (digit_settles stage gap (b == 48)) cut) where
-      zero : (x : ℕ) → prefix_fits m (after_digit stage gap (b == 48)) false (x ∷ []) ≡ true → prefix_fits m stage gap (b ∷ x ∷ []) ≡ true
-      zero x is = grind arith
-
       go : (prefix : List ℕ) → Found m part (after_digit stage gap (b == 48)) false [] prefix text → Cut m part stage gap (b ∷ text)
       go [] found = longer (after_digit stage gap (b == 48)) false true digit signed
           (λ run is. run_with_digit m part (has_digit stage) gap b run digit fits (subst (λ t. is_rest m part t false run ≡ true) (digit_seen stage gap (b == 48)) is))
           (λ run. refl) found
       go (x ∷ []) found = cut_at part stage gap (b ∷ text) [] (b ∷ x ∷ []) found.digits found.more (ap (λ t. b ∷ t) found.whole)
-          (no_sign_fits part stage signed) (zero x found.prefixed) found.run found.end
-      go (z ∷ x ∷ more) found = absurd (false≢true (sym (digit_begun stage gap (b == 48)) ∙ (and_parts _ _ (and_parts _ _ found.prefixed).0).0))
+          (no_sign_fits part stage signed) (let prefixed = found.prefixed in grind arith) found.run found.end
+      go (z ∷ x ∷ more) found = absurd (let prefixed = found.prefixed in grind arith)
 
     -- A separator in front.
     separator_first : m.digit part b ≡ false → m.separator b ≡ true → is_signed m part stage ≡ true
@@ -127,16 +117,14 @@ module _ (m : Notation) where
         let both = and_parts (is_fresh stage) _ taken in
         let found = unsigned part (after_mark stage) gap text (mark_settles stage) cut in
         cut_at part stage gap (b ∷ text) (b ∷ []) cut.prefix found.digits found.more (ap (λ t. b ∷ t) found.whole) (and_from _ _ one (and_from _ _ both.1 both.0))
-        (prefixed cut.prefix found.prefixed) found.run found.end where
-          prefixed : (prefix : List ℕ) → prefix_fits m (after_mark stage) gap prefix ≡ true → prefix_fits m stage gap prefix ≡ true
-          prefixed prefix is = grind arith
+        (let prefixed = found.prefixed in grind arith) found.run found.end
 
     -- A prefix in front, whose zero has been read.
     prefix_first : m.prefix b ≡ true → is_bare stage ≡ true → Cut m part stages.Free false text → Cut m part stage gap (b ∷ text)
     prefix_first prefix bare cut =
         let found = plain part stages.Free false text refl refl refl cut in
         cut_at part stage gap (b ∷ text) [] (b ∷ []) found.digits found.more (ap (λ t. b ∷ t) found.whole)
-        (no_sign_fits part stage (settled stage m part (bare_settles stage bare))) (and_from _ _ bare prefix) found.run found.end
+        (grind arith) (and_from _ _ bare prefix) found.run found.end
 
   -- A decimal point in front.
   point_first : (part : Part) (stage : Stage) (gap : Bool) (b : ℕ) (text : List ℕ) → m.point b ≡ true

@@ -124,26 +124,11 @@ module _ (any led p one_p f fits_f k : Bool) (flag : Flag → Bool) (only : Bool
       end_facts stop scale seen counted =
           let same_digit : digit ≡ not f = seen has_fraction in let same_lone : lone ≡ not (not f || any) = counted has_fraction in grind arith
 
--- What an absent part satisfies.
-absent : (P : List ℕ → Bool) (bytes : List ℕ) → P [] ≡ true → implies (is_absent bytes) (P bytes) ≡ true
-absent P [] is = is
-absent P (b ∷ bytes) is = refl
-
 module _ (m : Notation) where
   -- Digits that are present have a digit.
   has_bytes : (part : Part) (stage : Stage) (run : List ℕ) → has_digit stage ≡ false → is_rest m part false false run ≡ true
       → has_digit (stage_after (m.digit part) stage false run) ≡ is_present run
-  has_bytes part stage run none fit = same _ _ _ _ (passed (m.digit part) stage false run).seen none (digits_present m part run fit) where
-    same : (last some before present : Bool) → last ≡ (some || before) → before ≡ false → some ≡ present → last ≡ present
-    same last some before present seen none is = grind arith
-
-  -- The stage before the integer digits.
-  first_seen : (sign prefix : List ℕ) → has_digit (stage_at stages.Start sign prefix) ≡ false
-  first_seen sign prefix = grind arith
-
-  first_led : (sign prefix run : List ℕ) → led_after (m.digit parts.Integer) (stage_at stages.Start sign prefix) run
-      ≡ (is_absent prefix && has_leading_zero (m.digit parts.Integer) run)
-  first_led sign prefix run = grind arith
+  has_bytes part stage run none fit = let seen = (passed (m.digit part) stage false run).seen in let present = digits_present m part run fit in grind arith
 
   module _ (l : Literal) where
     abbrev Tail : Bool → Bool → Type 0
@@ -167,19 +152,19 @@ module _ (m : Notation) where
     exponent_last = stage_after (m.digit parts.Exponent) (stage_at stages.Mark l.exponent_sign []) false l.exponent
 
     integer_seen : is_rest m parts.Integer false false l.integer ≡ true → has_digit integer_last ≡ is_present l.integer
-    integer_seen fit = has_bytes parts.Integer (stage_at stages.Start l.sign l.prefix) l.integer (first_seen l.sign l.prefix) fit
+    integer_seen fit = has_bytes parts.Integer (stage_at stages.Start l.sign l.prefix) l.integer (grind arith) fit
 
     integer_led : is_led integer_last ≡ is_zero_led m l
-    integer_led = (passed (m.digit parts.Integer) (stage_at stages.Start l.sign l.prefix) false l.integer).led ∙ first_led l.sign l.prefix l.integer
+    integer_led = (passed (m.digit parts.Integer) (stage_at stages.Start l.sign l.prefix) false l.integer).led ∙ grind arith
 
     fraction_seen : (any : Bool) → is_rest m parts.Fraction false false l.fraction ≡ true → has_digit (fraction_last any) ≡ is_present l.fraction
     fraction_seen any fit = has_bytes parts.Fraction (after_point any) l.fraction (either has_digit any stages.Free stages.Lone refl refl) fit
 
     fraction_counts : (any : Bool) → is_rest m parts.Fraction false false l.fraction ≡ true → is_lone (fraction_last any) ≡ not (is_present l.fraction || any)
-    fraction_counts any fit = counted _ _ (is_present l.fraction) any (passed (m.digit parts.Fraction) (after_point any) false l.fraction).counts
-        (digits_present m parts.Fraction l.fraction fit) where
-          counted : (lone some present any : Bool) → not lone ≡ (some || not (is_lone (after_point any))) → some ≡ present → lone ≡ not (present || any)
-          counted lone some present any is same = grind arith
+    fraction_counts any fit =
+        let counts = (passed (m.digit parts.Fraction) (after_point any) false l.fraction).counts in
+        let present = digits_present m parts.Fraction l.fraction fit in
+        grind arith
 
     exponent_seen : is_rest m parts.Exponent false false l.exponent ≡ true → has_digit exponent_last ≡ is_present l.exponent
     exponent_seen fit = has_bytes parts.Exponent (stage_at stages.Mark l.exponent_sign []) l.exponent
@@ -189,13 +174,13 @@ module _ (m : Notation) where
 
     tail_of : (stop scale : Bool) → ends_mantissa m l stop scale ≡ true → Tail stop scale
     tail_of stop scale is = tail_facts _ _ _ _ _ _ _ _ _ _ _ stop scale (has_digit exponent_last)
-        (absent (λ x. is_none_or_one signs x && not (is_plus x)) l.exponent_sign refl) (absent (is_rest m parts.Exponent false false) l.exponent refl) is exponent_seen
+        (grind arith) (grind arith) is exponent_seen
 
     end_of : (last : Stage) → Tail (stops m l last) (scales m l last) → digits_suffice m parts.Integer last ≡ true → is_none_or_one m.point l.point ≡ true
         → fraction_fits m l last ≡ true → End (has_digit last) (is_led last)
     end_of last tail digits point fraction =
         let any = has_digit last in
-        end_facts _ _ _ _ _ _ _ _ _ (has_digit (fraction_last any)) (is_lone (fraction_last any)) (absent (is_rest m parts.Fraction false false) l.fraction refl)
+        end_facts _ _ _ _ _ _ _ _ _ (has_digit (fraction_last any)) (is_lone (fraction_last any)) (grind arith)
         point digits fraction tail.stop tail.scale (fraction_seen any) (fraction_counts any)
 
     literal_if : sign_fits m parts.Integer stages.Start l.sign ≡ true → prefix_fits m stages.Start false l.prefix ≡ true
@@ -232,7 +217,7 @@ module _ (m : Notation) (h : HasRoles m) where
       let l : Literal = record found.more { sign = cut.sign; prefix = cut.prefix; integer = found.digits } in
       let first = stage_at stages.Start cut.sign cut.prefix in
       let no_gap = and_right (is_absent cut.prefix) false refl in
-      let run = subst (λ t. is_rest m parts.Integer t false found.digits ≡ true) (first_seen m cut.sign cut.prefix)
+      let run = subst (λ t. is_rest m parts.Integer t false found.digits ≡ true) (grind arith)
       (subst (λ g. is_rest m parts.Integer (has_digit first) g found.digits ≡ true) no_gap found.run) in
       let end = subst (λ g. ends_part m parts.Integer found.more (stage_after (m.digit parts.Integer) first g found.digits) ≡ true) no_gap found.end in
       (l, record { whole = found.whole; literal = literal_if m l found.signed found.prefixed run end })
@@ -437,7 +422,7 @@ module _ (m : Notation) (h : HasRoles m) where
         sign_arrives parts.Integer stages.Start false l.sign _ (λ x. record no_cuts { sign = plus x 0 }) (cuts_of l) (grind arith) (λ b. refl)
         (λ signed. prefix_arrives (stage_at stages.Start l.sign []) l.prefix _ signs (cuts_of l) (grind arith) (grind arith) signed is.prefix
         (λ signed. run_arrives parts.Integer (stage_at stages.Start l.sign l.prefix) false l.integer _ dressed (cuts_of l) signed
-        (subst (λ t. is_rest m parts.Integer t false l.integer ≡ true) (sym (first_seen m l.sign l.prefix)) (run parts.Integer l.integer is.integer)) (record {
+        (subst (λ t. is_rest m parts.Integer t false l.integer ≡ true) (grind arith) (run parts.Integer l.integer is.integer)) (record {
           leads = λ led. leads _ _ _ _ _ _ _ _ _ end (grind arith) led;
           arrives = λ gap closed signed. end_arrives l (integer_last m l) gap (record dressed { integer = plus l.integer (plus (is_tail l.prefix) 0) })
               (and_from _ _ signed (and_from _ _ closed end.integer_digits)) ends_well;
