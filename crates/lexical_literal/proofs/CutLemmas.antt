@@ -15,7 +15,7 @@ use Rattle.lexical_literal.specs.declared.steps.Stage.TheVariants as stages
 use Rattle.lexical_literal.specs.declared.steps.Summary.{Summary}
 use Rattle.lexical_literal.proofs.RunLemmas.{is_rest, run_with_digit, run_with_separator}
 use Rattle.lexical_literal.proofs.ScanLemmas.{HasRoles, Accepts, took, none_accepts, role_in, as_digit, no_digit, as_role}
-use Rattle.lexical_literal.proofs.StepLemmas.{reading, begins, stage_after, after_byte, digit_seen, digit_settles, digit_begun, mark_seen, mark_settles, mark_bare, settled, bare_settles, either, stage_at, gap_at, sign_fits, prefix_fits, ends_part, text_after}
+use Rattle.lexical_literal.proofs.StepLemmas.{reading, begins, stage_after, after_byte, digit_seen, digit_settles, mark_seen, mark_settles, mark_bare, either, stage_at, gap_at, sign_fits, prefix_fits, ends_part, text_after}
 
 -- A sign, a prefix, digits, and the parts of `more` behind the digits of `part`.
 pub record Found (m : Notation) (part : Part) (stage : Stage) (gap : Bool) (sign prefix text : List ℕ) : Type 0 where
