@@ -7,8 +7,8 @@ use Rattle.lexical_util.specs.declared.feature_format.roles.Role.{Role}
 use Rattle.lexical_util.specs.declared.feature_format.roles.Role.TheVariants as roles
 use Rattle.lexical_util.specs.declared.format_flags.Part.{Part}
 use Rattle.lexical_util.specs.declared.format_flags.Part.TheVariants as parts
-use Rattle.lexical_literal.specs.Notation.{Notation}
-use Rattle.lexical_literal.specs.Literal.{Literal, is_absent, is_none_or_one}
+use Rattle.lexical_literal.specs.Notation.{Notation, role_set}
+use Rattle.lexical_literal.specs.Literal.{Literal, is_none_or_one}
 use Rattle.lexical_literal.specs.Additions.Summary.{implies, has_digit, is_fresh, is_bare, after_digit, after_mark, after_point, is_open, may_follow, is_signed, forbids_plus, gap_fits, digits_suffice, ends, continues, may_float, takes, after}
 use Rattle.lexical_literal.specs.declared.steps.Stage.{Stage}
 use Rattle.lexical_literal.specs.declared.steps.Stage.TheVariants as stages
@@ -95,7 +95,8 @@ module _ (m : Notation) where
     digit_first digit signed fits cut = go cut.prefix (unsigned part (after_digit stage gap (b == 48)) false text (digit_settles stage gap (b == 48)) cut) where
       go : (prefix : List ℕ) → Found m part (after_digit stage gap (b == 48)) false [] prefix text → Cut m part stage gap (b ∷ text)
       go [] found = longer (after_digit stage gap (b == 48)) false true digit signed
-          (λ run is. run_with_digit m part (has_digit stage) gap b run digit fits (subst (λ t. is_rest m part t false run ≡ true) (digit_seen stage gap (b == 48)) is))
+          (λ run is. run_with_digit m part (has_digit stage) gap b run digit fits
+          (subst (λ t. is_rest m part t false run ≡ true) (digit_seen stage gap (b == 48)) is))
           (λ run. refl) found
       go (x ∷ []) found = cut_at part stage gap (b ∷ text) [] (b ∷ x ∷ []) found.digits found.more (ap (λ t. b ∷ t) found.whole)
           (no_sign_fits part stage signed) (let prefixed = found.prefixed in grind arith) found.run found.end
@@ -116,7 +117,8 @@ module _ (m : Notation) where
     sign_first one taken cut =
         let both = and_parts (is_fresh stage) _ taken in
         let found = unsigned part (after_mark stage) gap text (mark_settles stage) cut in
-        cut_at part stage gap (b ∷ text) (b ∷ []) cut.prefix found.digits found.more (ap (λ t. b ∷ t) found.whole) (and_from _ _ one (and_from _ _ both.1 both.0))
+        cut_at part stage gap (b ∷ text) (b ∷ []) cut.prefix found.digits found.more (ap (λ t. b ∷ t) found.whole)
+        (and_from _ _ one (and_from _ _ both.1 both.0))
         (let prefixed = found.prefixed in grind arith) found.run found.end
 
     -- A prefix in front, whose zero has been read.
@@ -150,7 +152,7 @@ module _ (m : Notation) where
   exponent_first part stage gap b text character is cut =
       let both = and_parts _ (continues m part stage roles.Exponent) is in
       let found = unprefixed parts.Exponent stages.Mark false cut.sign cut.prefix text refl refl cut.found in
-      let run = subst (λ t. is_rest m parts.Exponent t false found.digits ≡ true) (either has_digit (is_absent cut.sign) stages.Mark stages.Free refl refl) found.run in
+      let run = subst (λ t. is_rest m parts.Exponent t false found.digits ≡ true) (grind arith) found.run in
       let more = record found.more { point = []; fraction = []; exponent_character = b ∷ []; exponent_sign = cut.sign; exponent = found.digits } in
       ended_by part stage gap (b ∷ text) more (ap (λ t. b ∷ t) found.whole) both.0
       (λ digits. and_from _ _ digits (and_from _ _ character (and_from _ _ both.1 (and_from _ _ found.signed (and_from _ _ run found.end)))))
@@ -162,22 +164,31 @@ module _ (m : Notation) where
     ended s (b ∷ text) over is = absurd (false≢true (sym (took m h s b (λ o. Accepts m o text) (none_accepts m text) is).going ∙ over))
 
     -- What is accepted can be cut into parts.
+    abbrev CanCut : List ℕ → Type 0
+    CanCut text = (part : Part) (stage : Stage) (gap : Bool) → Accepts m (Some (reading part stage gap)) text → Cut m part stage gap text
+
     pub cut_of : (part : Part) (stage : Stage) (gap : Bool) (text : List ℕ) → Accepts m (Some (reading part stage gap)) text → Cut m part stage gap text
     cut_of part stage gap [] is = stopped part stage gap [] is refl
     cut_of part stage gap (b ∷ text) is =
         let t = took m h (reading part stage gap) b (λ o. Accepts m o text) (none_accepts m text) is in
         go t.role t.plays t.taken t.rest (λ part stage gap. cut_of part stage gap text) where
-          go : (r : Role) → role_in m part b ≡ Some r → takes m (reading part stage gap) (b == 43) r ≡ true → Accepts m (Some (after (reading part stage gap) (b == 48) r)) text
-              → ((part : Part) (stage : Stage) (gap : Bool) → Accepts m (Some (reading part stage gap)) text → Cut m part stage gap text) → Cut m part stage gap (b ∷ text)
+          plays : (r : Role) → role_in m part b ≡ Some r → role_set m r b ≡ true
+          plays r role = as_role m h part r b role
+
+          go : (r : Role) → role_in m part b ≡ Some r → takes m (reading part stage gap) (b == 43) r ≡ true
+              → Accepts m (Some (after (reading part stage gap) (b == 48) r)) text → CanCut text → Cut m part stage gap (b ∷ text)
           go roles.Digit role taken is cut =
               let both = and_parts (is_signed m part stage) _ taken in
-              digit_first part stage gap b text (as_digit m h part b role) both.0 (and_parts _ (may_follow m stage) both.1).0 (cut part (after_digit stage gap (b == 48)) false is)
+              let fits = and_parts _ (may_follow m stage) both.1 in
+              digit_first part stage gap b text (as_digit m h part b role) both.0 fits.0 (cut part (after_digit stage gap (b == 48)) false is)
           go roles.Separator role taken is cut =
               let both = and_parts (is_signed m part stage) _ taken in
-              separator_first part stage gap b text (no_digit m h part b role) (as_role m h part roles.Separator b role) both.0 both.1 (cut part (after_mark stage) true is)
-          go roles.Sign role taken is cut = sign_first part stage gap b text (as_role m h part roles.Sign b role) taken (cut part (after_mark stage) gap is)
-          go roles.Prefix role taken is cut = prefix_first part stage gap b text (as_role m h part roles.Prefix b role) taken (cut part stages.Free false is)
-          go roles.Point role taken is cut = point_first part stage gap b text (as_role m h part roles.Point b role) taken (cut parts.Fraction (after_point (has_digit stage)) false is)
-          go roles.Exponent role taken is cut = exponent_first part stage gap b text (as_role m h part roles.Exponent b role) taken (cut parts.Exponent stages.Mark false is)
+              separator_first part stage gap b text (no_digit m h part b role) (plays roles.Separator role) both.0 both.1 (cut part (after_mark stage) true is)
+          go roles.Sign role taken is cut = sign_first part stage gap b text (plays roles.Sign role) taken (cut part (after_mark stage) gap is)
+          go roles.Prefix role taken is cut = prefix_first part stage gap b text (plays roles.Prefix role) taken (cut part stages.Free false is)
+          go roles.Point role taken is cut =
+              point_first part stage gap b text (plays roles.Point role) taken (cut parts.Fraction (after_point (has_digit stage)) false is)
+          go roles.Exponent role taken is cut =
+              exponent_first part stage gap b text (plays roles.Exponent role) taken (cut parts.Exponent stages.Mark false is)
           go roles.Suffix role taken is cut = stopped part stage gap (b ∷ text) taken
-              (subst (λ t. is_none_or_one m.suffix (b ∷ t) ≡ true) (sym (ended _ text refl is)) (as_role m h part roles.Suffix b role))
+              (subst (λ t. is_none_or_one m.suffix (b ∷ t) ≡ true) (sym (ended _ text refl is)) (plays roles.Suffix role))

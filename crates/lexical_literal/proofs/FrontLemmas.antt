@@ -78,7 +78,8 @@ module _ (m : Notation) where
       | inl fresh ↦
           let taken : takes m (reading part stage gap) (45 == 43) roles.Sign ≡ true = grind arith in
           then_byte (reading part stage gap) 45 roles.Sign refl (is_role m ready.roles part roles.Sign 45 (λ e. cc) refl) taken
-          (digit_completed part (after_mark stage) gap (settled _ m part (mark_settles stage)) (goes_on (reading part stage gap) false false roles.Sign can taken) finishes)
+          (digit_completed part (after_mark stage) gap (settled _ m part (mark_settles stage))
+          (goes_on (reading part stage gap) false false roles.Sign can taken) finishes)
       | inr over ↦ digit_completed part stage gap (settled stage m part over) can finishes
     ]
 
@@ -117,7 +118,8 @@ module _ (m : Notation) where
           let may = points (is_led stage) (m.flag layout.no_float_leading_zeros) m.integers_only point in
           then_byte (reading parts.Integer stage gap) ready.point roles.Point refl
           (is_role m ready.roles parts.Integer roles.Point ready.point (λ e. cc) (ready.has_point may.0)) (and_from _ _ end may.1)
-          (part_completed parts.Fraction (after_point (has_digit stage)) false (record { closes = refl; led = point_unled (has_digit stage) }) fraction_finishes)
+          (part_completed parts.Fraction (after_point (has_digit stage)) false
+          (record { closes = refl; led = point_unled (has_digit stage) }) fraction_finishes)
     ]
 
     completed : (part : Part) (stage : Stage) (gap ended : Bool) → CanGoOn m (record { part = part; stage = stage; gap = gap; ended = ended })
@@ -131,7 +133,8 @@ module _ (m : Notation) where
     pub front_from : (text : List ℕ) (s : Summary) → scan m (Some start) text ≡ Some s → IsFront m text
     front_from text s is =
         let more = completed s.part s.stage s.gap s.ended (all_go_on ready.roles start text s (record { closes = refl; led = refl }) is) in
-        let found = literal_from m ready.roles (text ++ more.0) (subst (λ o. is_accepted m o ≡ true) (sym (scan_append m (Some start) text more.0 ∙ ap (λ o. scan m o more.0) is)) more.1) in
+        let found = literal_from m ready.roles (text ++ more.0) (subst (λ o. is_accepted m o ≡ true)
+        (sym (scan_append m (Some start) text more.0 ∙ ap (λ o. scan m o more.0) is)) more.1) in
         record { more = more.0; literal = found.0; reads = found.1 }
 
     -- A front of a literal is read.

@@ -271,8 +271,8 @@ module _ (m : Notation) (h : HasRoles m) where
             let fits = after_run_separator m part (has_digit stage) gap b run other fit in
             arrives_byte m h (reading part stage gap) b roles.Separator c (run ++ rest) d refl
             (is_role m h part roles.Separator b (λ e. cc) (is_run_separator m part (has_digit stage) gap b run other fit))
-            (and_from _ _ signed (and_from _ _ (separator_fits m part (has_digit stage) gap b run other fit) (opens m part (has_digit stage) (may_follow m stage) run fits
-            (λ some. follow (m.digit part) stage gap (b ∷ run) goes.leads (or_right (m.digit part b) _ some)))))
+            (and_from _ _ signed (and_from _ _ (separator_fits m part (has_digit stage) gap b run other fit)
+            (opens m part (has_digit stage) (may_follow m stage) run fits (λ some. follow (m.digit part) stage gap (b ∷ run) goes.leads (or_right (m.digit part b) _ some)))))
             (run_arrives part (after_mark stage) true run rest more d (settled _ m part (mark_settles stage))
             (subst (λ t. is_rest m part t true run ≡ true) (sym (mark_seen stage)) fits) (next false other))
       ]
@@ -281,7 +281,8 @@ module _ (m : Notation) (h : HasRoles m) where
   unled_arrives : (part : Part) (stage : Stage) (run rest : List ℕ) (c d : Cuts) → is_signed m part stage ≡ true → has_digit stage ≡ false
       → led_after (m.digit part) stage run ≡ false → is_rest m part false false run ≡ true
       → let last = stage_after (m.digit part) stage false run in
-      ((gap : Bool) → gap_fits m part (has_digit last) gap false ≡ true → is_signed m part last ≡ true → Arrives m (Some (reading part last gap)) (add_run part run c) rest d)
+      ((gap : Bool) → gap_fits m part (has_digit last) gap false ≡ true → is_signed m part last ≡ true
+      → Arrives m (Some (reading part last gap)) (add_run part run c) rest d)
       → Arrives m (Some (reading part stage false)) c (run ++ rest) d
   unled_arrives part stage run rest c d signed none unled fit goes =
       run_arrives part stage false run rest c d signed (subst (λ t. is_rest m part t false run ≡ true) (sym none) fit)
@@ -297,12 +298,14 @@ module _ (m : Notation) (h : HasRoles m) where
       let both = and_parts (signs b) _ fits in
       let taken = and_parts (implies (forbids_plus m part) (not (b == 43))) (is_fresh stage) both.1 in
       arrives_byte m h (reading part stage gap) b roles.Sign (cuts []) rest d refl (is_role m h part roles.Sign b (λ e. cc) both.0)
-      (and_from _ _ taken.1 taken.0) (subst (λ c. Arrives m (Some (reading part (after_mark stage) gap)) c rest d) (one b) (more (settled (after_mark stage) m part (mark_settles stage))))
+      (and_from _ _ taken.1 taken.0) (subst (λ c. Arrives m (Some (reading part (after_mark stage) gap)) c rest d) (one b)
+      (more (settled (after_mark stage) m part (mark_settles stage))))
   sign_arrives part stage gap (b ∷ x ∷ sign) rest cuts d fits one more = absurd (false≢true fits)
 
   -- The suffix, or nothing.
   stop_arrives : (part : Part) (stage : Stage) (gap : Bool) (c : Cuts) (suffix : List ℕ)
-      → (ends m (reading part stage gap) && continues m part stage roles.Suffix) ≡ true → is_none_or_one m.suffix suffix ≡ true → Arrives m (Some (reading part stage gap)) c suffix c
+      → (ends m (reading part stage gap) && continues m part stage roles.Suffix) ≡ true → is_none_or_one m.suffix suffix ≡ true
+      → Arrives m (Some (reading part stage gap)) c suffix c
   stop_arrives part stage gap c [] is one = (is, refl)
   stop_arrives part stage gap c (b ∷ []) is one =
       arrives_byte m h (reading part stage gap) b roles.Suffix c [] c refl (is_role m h part roles.Suffix b (λ e. cc) one) is (refl, refl)
