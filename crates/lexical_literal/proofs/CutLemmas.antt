@@ -15,7 +15,7 @@ use Rattle.lexical_literal.specs.declared.steps.Stage.TheVariants as stages
 use Rattle.lexical_literal.specs.declared.steps.Summary.{Summary}
 use Rattle.lexical_literal.proofs.RunLemmas.{is_rest, run_with_digit, run_with_separator}
 use Rattle.lexical_literal.proofs.ScanLemmas.{HasRoles, Accepts, took, none_accepts, role_in, as_digit, no_digit, as_role}
-use Rattle.lexical_literal.proofs.StepLemmas.{reading, begins, stage_after, after_byte, digit_seen, digit_settles, mark_seen, mark_settles, mark_bare, either, stage_at, gap_at, sign_fits, prefix_fits, ends_part, text_after}
+use Rattle.lexical_literal.proofs.StepLemmas.{reading, begins, stage_after, after_byte, digit_seen, digit_settles, mark_seen, mark_settles, mark_bare, stage_at, gap_at, sign_fits, prefix_fits, ends_part, text_after}
 
 -- A sign, a prefix, digits, and the parts of `more` behind the digits of `part`.
 pub record Found (m : Notation) (part : Part) (stage : Stage) (gap : Bool) (sign prefix text : List ℕ) : Type 0 where
@@ -134,11 +134,8 @@ module _ (m : Notation) where
       → Cut m parts.Fraction (after_point (has_digit stage)) false text → Cut m part stage gap (b ∷ text)
   point_first parts.Integer stage gap b text point is cut =
       let both = and_parts _ (may_float m stage) is in
-      let settle : (P : Stage → Bool) → P stages.Free ≡ false → P stages.Lone ≡ false → P (after_point (has_digit stage)) ≡ false =
-      λ P. either P (has_digit stage) stages.Free stages.Lone in
-      let found = plain parts.Fraction (after_point (has_digit stage)) false text (settle is_fresh refl refl) (settle is_bare refl refl)
-      (settle (λ s. begins s && true) refl refl) cut in
-      let run = subst (λ t. is_rest m parts.Fraction t false found.digits ≡ true) (settle has_digit refl refl) found.run in
+      let found = plain parts.Fraction (after_point (has_digit stage)) false text (grind arith) (grind arith) (grind arith) cut in
+      let run = subst (λ t. is_rest m parts.Fraction t false found.digits ≡ true) (grind arith) found.run in
       let fraction = and_parts _ _ found.end in
       ended_by parts.Integer stage gap (b ∷ text) (record found.more { point = b ∷ []; fraction = found.digits }) (ap (λ t. b ∷ t) found.whole) both.0
       (λ digits. and_from _ _ digits (and_from _ _ point (and_from _ _ (and_from _ _ both.1 (and_from _ _ run fraction.0)) fraction.1)))

@@ -17,7 +17,7 @@ use Rattle.lexical_literal.specs.declared.steps.Stage.{Stage}
 use Rattle.lexical_literal.specs.declared.steps.Stage.TheVariants as stages
 use Rattle.lexical_literal.proofs.RunLemmas.{is_rest, rest_of_none, digits_present, digit_fits, after_run_digit, is_run_separator, separator_fits, after_run_separator, opens}
 use Rattle.lexical_literal.proofs.ScanLemmas.{HasRoles, Accepts, Arrives, plus, arrives_byte, digit_role, is_role}
-use Rattle.lexical_literal.proofs.StepLemmas.{reading, led_after, stage_after, after_byte, passed, digit_seen, digit_settles, mark_seen, mark_settles, settled, either, stage_at, sign_fits, prefix_fits, digits_fit, ends_exponent, ends_mantissa, fraction_fits, stops, scales, ends_part, text_after}
+use Rattle.lexical_literal.proofs.StepLemmas.{reading, led_after, stage_after, after_byte, passed, digit_seen, digit_settles, mark_seen, mark_settles, settled, stage_at, sign_fits, prefix_fits, digits_fit, ends_exponent, ends_mantissa, fraction_fits, stops, scales, ends_part, text_after}
 use Rattle.lexical_literal.proofs.CutLemmas.{cut_of}
 
 -- `is_tail bytes` has all of `bytes` but the first.
@@ -158,7 +158,7 @@ module _ (m : Notation) where
     integer_led = (passed (m.digit parts.Integer) (stage_at stages.Start l.sign l.prefix) false l.integer).led ∙ grind arith
 
     fraction_seen : (any : Bool) → is_rest m parts.Fraction false false l.fraction ≡ true → has_digit (fraction_last any) ≡ is_present l.fraction
-    fraction_seen any fit = has_bytes parts.Fraction (after_point any) l.fraction (either has_digit any stages.Free stages.Lone refl refl) fit
+    fraction_seen any fit = has_bytes parts.Fraction (after_point any) l.fraction (grind arith) fit
 
     fraction_counts : (any : Bool) → is_rest m parts.Fraction false false l.fraction ≡ true → is_lone (fraction_last any) ≡ not (is_present l.fraction || any)
     fraction_counts any fit =
@@ -168,7 +168,7 @@ module _ (m : Notation) where
 
     exponent_seen : is_rest m parts.Exponent false false l.exponent ≡ true → has_digit exponent_last ≡ is_present l.exponent
     exponent_seen fit = has_bytes parts.Exponent (stage_at stages.Mark l.exponent_sign []) l.exponent
-        (either has_digit (is_absent l.exponent_sign) stages.Mark stages.Free refl refl) fit
+        (grind arith) fit
 
     -- WHAT IS ACCEPTED IS A LITERAL
 
@@ -320,11 +320,9 @@ module _ (m : Notation) (h : HasRoles m) where
       let both = and_parts (is_rest m parts.Exponent false false l.exponent) _ fits in
       let end = and_parts (digits_suffice m parts.Exponent (exponent_last m l)) _ both.1 in
       let all : Cuts = record c { exponent_sign = plus l.exponent_sign c.exponent_sign; exponent = plus l.exponent c.exponent } in
-      let first : (P : Stage → Bool) → P stages.Mark ≡ false → P stages.Free ≡ false → P (stage_at stages.Mark l.exponent_sign []) ≡ false =
-      λ P. either P (is_absent l.exponent_sign) stages.Mark stages.Free in
       sign_arrives parts.Exponent stages.Mark false l.exponent_sign (l.exponent ++ l.suffix) (λ x. record c { exponent_sign = plus x c.exponent_sign }) all
       sign (λ b. refl) (λ signed. unled_arrives parts.Exponent (stage_at stages.Mark l.exponent_sign []) l.exponent l.suffix _ all signed
-      (first has_digit refl refl) (first (λ s. led_after (m.digit parts.Exponent) s l.exponent) refl refl) both.0
+      (grind arith) (grind arith) both.0
       (λ gap closed signed. stop_arrives parts.Exponent (exponent_last m l) gap all l.suffix
       (and_from _ true (and_from _ _ signed (and_from _ _ closed end.0)) refl) end.1))
 
@@ -366,13 +364,10 @@ module _ (m : Notation) (h : HasRoles m) where
         let both = and_parts (fraction_fits m l stage) _ point.1 in
         let float = and_parts (may_float m stage) _ both.0 in
         let run = and_parts (is_rest m parts.Fraction false false fraction) _ float.1 in
-        let first : (P : Stage → Bool) → P stages.Free ≡ false → P stages.Lone ≡ false → P (after_point (has_digit stage)) ≡ false =
-        λ P. either P (has_digit stage) stages.Free stages.Lone in
         arrives_byte m h (reading parts.Integer stage gap) b roles.Point c (fraction ++ text_after parts.Fraction l) (end_cuts l c) refl
         (is_role m h parts.Integer roles.Point b (λ e. cc) point.0) (and_from _ _ end float.0)
         (unled_arrives parts.Fraction (after_point (has_digit stage)) fraction (text_after parts.Fraction l) more (end_cuts l c)
-        (settled _ m parts.Fraction (first is_fresh refl refl)) (first has_digit refl refl)
-        (first (λ s. led_after (m.digit parts.Fraction) s fraction) refl refl) run.0
+        (grind arith) (grind arith) (grind arith) run.0
         (λ gap closed signed. tail_arrives l parts.Fraction (fraction_last m l (has_digit stage)) gap (record more { fraction = plus fraction c.fraction })
         (and_from _ _ signed (and_from _ _ closed run.1)) both.1))
     go (b ∷ x ∷ point) fraction fits = absurd (false≢true fits)

@@ -88,11 +88,6 @@ module _ (stage : Stage) where
   pub settled : (m : Notation) (part : Part) → is_fresh stage ≡ false → is_signed m part stage ≡ true
   settled m part is = ap (λ t. not t || not (needs_sign m part)) is
 
--- What is false of two stages is false of either.
-pub either : (P : Stage → Bool) (t : Bool) (x y : Stage) → P x ≡ false → P y ≡ false → P (if t then x else y) ≡ false
-either P true x y first second = first
-either P false x y first second = second
-
 -- `stage_at stage sign prefix` is the stage after a sign and a prefix, and `gap_at gap prefix` tells whether a gap is before it.
 abbrev pub stage_at : Stage → List ℕ → List ℕ → Stage
 stage_at stage sign prefix = if is_absent prefix then (if is_absent sign then stage else after_mark stage) else stages.Free
