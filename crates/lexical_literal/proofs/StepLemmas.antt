@@ -76,31 +76,17 @@ module _ (stage : Stage) where
   pub digit_settles : (gap zero : Bool) → is_fresh (after_digit stage gap zero) ≡ false
   digit_settles gap zero = grind arith
 
-  pub digit_begun : (gap zero : Bool) → begins (after_digit stage gap zero) ≡ false
-  digit_begun gap zero = grind arith
-
   pub mark_seen : has_digit (after_mark stage) ≡ has_digit stage
   mark_seen = grind arith
 
   pub mark_settles : is_fresh (after_mark stage) ≡ false
   mark_settles = grind arith
 
-  pub mark_begun : begins (after_mark stage) ≡ begins stage
-  mark_begun = grind arith
-
   pub mark_bare : is_bare (after_mark stage) ≡ false
   mark_bare = grind arith
 
   pub settled : (m : Notation) (part : Part) → is_fresh stage ≡ false → is_signed m part stage ≡ true
   settled m part is = ap (λ t. not t || not (needs_sign m part)) is
-
-  pub bare_settles : is_bare stage ≡ true → is_fresh stage ≡ false
-  bare_settles is = grind arith
-
--- What is false of two stages is false of either.
-pub either : (P : Stage → Bool) (t : Bool) (x y : Stage) → P x ≡ false → P y ≡ false → P (if t then x else y) ≡ false
-either P true x y first second = first
-either P false x y first second = second
 
 -- `stage_at stage sign prefix` is the stage after a sign and a prefix, and `gap_at gap prefix` tells whether a gap is before it.
 abbrev pub stage_at : Stage → List ℕ → List ℕ → Stage
