@@ -17,7 +17,8 @@
 //! assert_eq!((parts.sign, parts.integer, parts.fraction, parts.exponent), (&b"-"[..], &b"1"[..], &b"25"[..], &b"3"[..]));
 //!
 //! // A second decimal point is refused. What is before it is a literal.
-//! assert_eq!(READER.read(b"1.25.3").unwrap_err().valid_up_to(), 4);
+//! let error = READER.read(b"1.25.3").unwrap_err();
+//! assert_eq!((error.valid_up_to(), error.to_string()), (4, "no literal has the byte '.' here".into()));
 //! assert_eq!(READER.read_prefix(b"1.25.3").unwrap().size, 4);
 //! ```
 

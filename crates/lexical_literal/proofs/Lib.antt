@@ -16,3 +16,7 @@ mod SpecialLemmas
 mod CauseLemmas
 mod RefusalLemmas
 mod JointLemmas
+mod BlameLemmas
+mod PlaceLemmas
+mod PartOfLemmas
+mod OneCauseLemmas

@@ -1,6 +1,6 @@
 -- Fronts of a text, and where the loop is left.
 use Rattle.std.proofs.Common.{ℕ, Bool, Option, if◌then◌else◌, ◌≡◌, ◌<◌, ◌≤◌, ◌+◌, suc, inl, inr, true, false, not, List, [], ◌∷◌, ◌++◌, length, get_or, take, drop, Some, None, Ok, refl, sym, ap, subst, append_assoc, append-nil, take-append-drop, ◌∙◌, arith}
-use Rattle.std.proofs.lemmas.Bool.{false≢true, cases_lt, and_parts}
+use Rattle.std.proofs.lemmas.Bool.{false≢true, false_from_ne_true, cases_lt, and_parts}
 use Rattle.std.proofs.lemmas.List.{take-take, take_more, take_all}
 use Rattle.lexical_literal.specs.Notation.{Notation}
 use Rattle.lexical_literal.specs.Literal.{Literal, IsLiteral, Reads, is_none_or_prefix}
@@ -105,7 +105,8 @@ module _ (m : Notation) (text : List ℕ) where
     pub whole_counted : (l : Literal) → Reads m l text → HasLengths l (tables.cuts_of scanned.counts)
     whole_counted l reads = is.counted l (subst (Reads m l) (sym (take_all scanned.valid_up_to text all)) reads) where
       all : length text ≤ scanned.valid_up_to
-      all = no_longer_than scanned.valid_up_to is.error (length text) (omega arith) l (subst (Reads m l) (sym (take_all (length text) text (omega arith))) reads)
+      all = no_longer_than scanned.valid_up_to is.error (length text) (omega arith) l
+          (subst (Reads m l) (sym (take_all (length text) text (omega arith))) reads)
 
     pub none_whole : (scanned.literal ≡ Some (length text) → ⊥) → NoLiteral m text
     none_whole other = subst (NoLiteral m) (take_all (length text) text (omega arith)) (is.longest.no_longer (length text) (omega arith) (λ size found.
@@ -176,7 +177,8 @@ module _ (m : Notation) (ready : IsReady m) (text : List ℕ) where
     wrong_at inside none = record {
       within = omega arith;
       front = front_from m ready (take i text) s has.read;
-      no_longer = λ more over within is. front_is_read m ready (take (i + 1) text) (front_shorter m text (i + 1) more (omega arith) is) (next_scan inside ∙ none);
+      no_longer = λ more over within is.
+          front_is_read m ready (take (i + 1) text) (front_shorter m text (i + 1) more (omega arith) is) (next_scan inside ∙ none);
     }
 
     pub wrong_at_end : length text ≤ i → IsValidUpTo m text i
@@ -185,6 +187,16 @@ module _ (m : Notation) (ready : IsReady m) (text : List ℕ) where
       front = front_from m ready (take i text) s has.read;
       no_longer = λ more over within is. absurd (omega arith);
     }
+
+    pub not_complete : length text ≤ i → (longest ≡ Some (length text) → ⊥) → is_complete m s ≡ false
+    not_complete end other = false_from_ne_true _ (λ complete.
+        let l = literal_from m ready.roles (take i text) (ap (is_accepted m) has.read ∙ complete) in
+        has.longest_is.no_longer i (omega arith) (λ size found.
+        let below = (has.longest_is.found size found).0 in
+        elim (cases_lt size i) [
+          | inl small ↦ small
+          | inr large ↦ let same : size ≡ length text = omega (arith, end, has.within) in absurd (other (found ∙ ap Some same))
+        ]) l.0 l.1)
 
     pub longest_from : IsValidUpTo m text i → IsLongest m text (length text) longest
     longest_from wrong = record {
@@ -202,7 +214,8 @@ module _ (m : Notation) (ready : IsReady m) (text : List ℕ) where
   one_reading l k first second =
       let a = has_lengths m ready.roles l first.literal in
       let b = subst (HasLengths k) (sym (literal_arrives m ready.roles k second.literal).1
-      ∙ ap (tally m (Some start) no_cuts) (sym second.whole ∙ first.whole) ∙ (literal_arrives m ready.roles l first.literal).1) (has_lengths m ready.roles k second.literal) in
+      ∙ ap (tally m (Some start) no_cuts) (sym second.whole ∙ first.whole) ∙ (literal_arrives m ready.roles l first.literal).1)
+      (has_lengths m ready.roles k second.literal) in
       let sign = same_part l.sign k.sign _ _ (a.sign ∙ sym b.sign) (sym first.whole ∙ second.whole) in
       let prefix = same_part l.prefix k.prefix _ _ (a.prefix ∙ sym b.prefix) sign.1 in
       let integer = same_part l.integer k.integer _ _ (omega (arith, a.integer, b.integer)) prefix.1 in

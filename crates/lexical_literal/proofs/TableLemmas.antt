@@ -68,7 +68,8 @@ count_one (a ∷ b ∷ c ∷ d ∷ e ∷ f ∷ g ∷ h ∷ i ∷ []) nine _ = re
 count_one counts nine piece = absurd (omega (arith, nine))
 
 -- No piece has more bytes than have been read.
-pub small_more : (counts : List ℕ) (n k : ℕ) → k < length counts → ((j : ℕ) → get_or counts j 0 ≤ n) → (j : ℕ) → get_or (set counts k (get_or counts k 0 + 1)) j 0 ≤ n + 1
+pub small_more : (counts : List ℕ) (n k : ℕ) → k < length counts → ((j : ℕ) → get_or counts j 0 ≤ n)
+    → (j : ℕ) → get_or (set counts k (get_or counts k 0 + 1)) j 0 ≤ n + 1
 small_more counts n k inside small j = elim (cases_eq j k) [
   | inl same ↦ subst (λ i. get_or (set counts k (get_or counts k 0 + 1)) i 0 ≤ n + 1) (sym same)
       (subst (λ v. v ≤ n + 1) (sym (get_or-set_same counts k (get_or counts k 0 + 1) 0 inside)) (omega (arith, small k)))

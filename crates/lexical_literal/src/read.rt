@@ -1,11 +1,12 @@
 //! Calls that read literals, and the parts that they find.
 
-ghost use Rattle.std.specs.Prelude.{◌≡◌, ◌++◌, ◌<◌, ◌≤◌, ℕ, List, length, take};
+ghost use Rattle.std.specs.Prelude.{◌≡◌, ◌≢◌, ◌++◌, ◌<◌, ◌≤◌, ℕ, List, Some, length, take};
 ghost use Rattle.lexical_literal.specs.Additions.Summary.{HasLengths, class_of, is_complete};
 ghost use Rattle.lexical_literal.specs.Additions.Tables.{HasTables, IsStep, cuts_of, summary_at};
 ghost use Rattle.std.specs.Option.{ForSome};
 ghost use Rattle.lexical_literal.specs.Additions.Longest.{IsScanned};
 ghost use Rattle.lexical_literal.specs.Literal.{Literal, text_of};
+ghost use Rattle.lexical_literal.specs.Cause.{IsRefusal};
 ghost use Rattle.lexical_literal.specs.Notation.{notation_of};
 ghost use Rattle.lexical_literal.specs.Parts.{IsRead, IsReadPrefix, literal_of};
 ghost use Rattle.lexical_literal.specs.Syntax.{IsSyntax};
@@ -191,8 +192,10 @@ fn read_prefix<'a>(
 
 // Returns why `text` is not a literal.
 const fn refuse(grammar: Grammar, text: &[u8], scanned: Scanned) -> ReadError
-    requires { IsScanned (notation_of grammar) text.now scanned }
-    ensures { result.valid_up_to ≡ scanned.valid_up_to }
+    requires syntax { IsSyntax grammar }
+    requires scanned { IsScanned (notation_of grammar) text.now scanned }
+    requires refused { scanned.literal ≢ Some (length text.now) }
+    ensures { IsRefusal (notation_of grammar) text.now result }
 {
     let read = summary_at(scanned.row);
     refusal(grammar, text, scanned.valid_up_to, read)

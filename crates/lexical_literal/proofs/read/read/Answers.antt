@@ -26,14 +26,18 @@ returns-in-Some c =
       error = tt;
     }
 
+pub refuse-requires-clause-refused : goal.refuse-requires-clause-refused
+refuse-requires-clause-refused c whole = elim c.in_default.branch [
+  | in_default-via-in-Some+else-size-text w ↦ let same : w.in-Some.size ≡ length c.args.text.now = cc in w.if-size-text.false same
+  | in_default-via-in_default w ↦ w.in_default.not-Some _ whole
+]
+
 pub returns-in_default : goal.returns-in_default
-returns-in_default c =
-    let is = c.scan-scanned.ensures in
-    record {
-      found = tt;
-      only = λ l reads. absurd (none_whole _ _ _ is (λ whole. elim c.in_default.branch [
-        | in_default-via-in-Some+else-size-text w ↦ let same : w.in-Some.size ≡ length c.args.text.now = cc in w.if-size-text.false same
-        | in_default-via-in_default w ↦ w.in_default.not-Some _ whole
-      ]) l reads);
-      error = subst (IsValidUpTo (notation_of c.args.grammar) c.args.text.now) (sym c.refuse.ensures) is.error;
-    }
+returns-in_default c = record {
+  found = tt;
+  only = λ l reads. absurd (none_whole _ _ _ c.scan-scanned.ensures (λ whole. elim c.in_default.branch [
+    | in_default-via-in-Some+else-size-text w ↦ let same : w.in-Some.size ≡ length c.args.text.now = cc in w.if-size-text.false same
+    | in_default-via-in_default w ↦ w.in_default.not-Some _ whole
+  ]) l reads);
+  error = c.refuse.ensures;
+}

@@ -1,10 +1,13 @@
 -- The loop reads the text, and is left at the first wrong byte.
 use Rattle.std.proofs.Common.{◌<◌, ◌+◌, length, length-set, get_or, set, Some, if◌then◌else◌, refl, sym, ap, ◌∙◌, arith, rules, subst}
+use Rattle.std.proofs.lemmas.Option.{slice_get-get_or, slice_get_past}
+use Rattle.std.specs.Prelude.{is_some}
+use Rattle.lexical_literal.specs.Additions.Causes.{allows, class_of_next}
 use Rattle.lexical_literal.specs.Notation.{notation_of}
 use Rattle.lexical_literal.specs.Additions.Tables.{summary_at, cuts_of}
 use Rattle.lexical_literal.proofs.RoleLemmas.{ready}
 use Rattle.lexical_literal.proofs.TableLemmas.{count_one, small_more}
-use Rattle.lexical_literal.proofs.LongestLemmas.{HasRead, read_nothing, read_more, wrong_at, wrong_at_end, longest_from, counted_from}
+use Rattle.lexical_literal.proofs.LongestLemmas.{HasRead, read_nothing, read_more, wrong_at, wrong_at_end, longest_from, counted_from, not_complete}
 use Rattle.lexical_literal.proofs.read.scan.Goals as goal
 use Rattle.lexical_literal.proofs.read.scan.Goals.{then-is_complete_by, else-is_complete_by}
 
@@ -45,10 +48,26 @@ pub returns-in_default : goal.returns-in_default
 returns-in_default c =
     let has = c.loop-index.invariant.has in
     let wrong = wrong_at _ has.ready _ _ _ _ _ has c.loop-index-test.true c.in_default.ensures in
-    record { error = wrong; row = c.loop-index.invariant.is_row; longest = longest_from _ has.ready _ _ _ _ _ has wrong; counted = counted_from _ has.ready _ _ _ _ _ has }
+    record {
+      error = wrong;
+      row = c.loop-index.invariant.is_row;
+      read = has.read;
+      refused = λ other. ap (λ next. allows (notation_of c.args.grammar) (summary_at c.loop-index.row) (class_of_next (notation_of c.args.grammar) next))
+          (slice_get-get_or c.args.text.now c.loop-index.index 0 c.loop-index-test.true) ∙ ap is_some c.in_default.ensures;
+      longest = longest_from _ has.ready _ _ _ _ _ has wrong;
+      counted = counted_from _ has.ready _ _ _ _ _ has;
+    }
 
 pub returns : goal.returns
 returns c =
     let has = c.loop-index.invariant.has in
     let wrong = wrong_at_end _ has.ready _ _ _ _ _ has c.loop-index-test.false in
-    record { error = wrong; row = c.loop-index.invariant.is_row; longest = longest_from _ has.ready _ _ _ _ _ has wrong; counted = counted_from _ has.ready _ _ _ _ _ has }
+    record {
+      error = wrong;
+      row = c.loop-index.invariant.is_row;
+      read = has.read;
+      refused = λ other. ap (λ next. allows (notation_of c.args.grammar) (summary_at c.loop-index.row) (class_of_next (notation_of c.args.grammar) next))
+          (slice_get_past c.args.text.now c.loop-index.index c.loop-index-test.false) ∙ not_complete _ has.ready _ _ _ _ _ has c.loop-index-test.false other;
+      longest = longest_from _ has.ready _ _ _ _ _ has wrong;
+      counted = counted_from _ has.ready _ _ _ _ _ has;
+    }
