@@ -272,7 +272,8 @@ module _ (m : Notation) (h : HasRoles m) where
             arrives_byte m h (reading part stage gap) b roles.Separator c (run ++ rest) d refl
             (is_role m h part roles.Separator b (λ e. cc) (is_run_separator m part (has_digit stage) gap b run other fit))
             (and_from _ _ signed (and_from _ _ (separator_fits m part (has_digit stage) gap b run other fit)
-            (opens m part (has_digit stage) (may_follow m stage) run fits (λ some. follow (m.digit part) stage gap (b ∷ run) goes.leads (or_right (m.digit part b) _ some)))))
+            (opens m part (has_digit stage) (may_follow m stage) run fits
+            (λ some. follow (m.digit part) stage gap (b ∷ run) goes.leads (or_right (m.digit part b) _ some)))))
             (run_arrives part (after_mark stage) true run rest more d (grind arith)
             (subst (λ t. is_rest m part t true run ≡ true) (grind arith) fits) (next false other))
       ]
