@@ -1,6 +1,6 @@
 -- A text that is accepted, cut into parts.
 use Rattle.std.proofs.Common.{ℕ, ◌≡◌, Bool, true, false, not, ◌==◌, ◌&&◌, ◌||◌, List, [], ◌∷◌, ◌++◌, Some, refl, sym, ap, subst, ◌∙◌, arith}
-use Rattle.std.proofs.lemmas.Bool.{false≢true, and_parts, and_from, and_right}
+use Rattle.std.proofs.lemmas.Bool.{false≢true, and_parts, and_from}
 use Rattle.lexical_util.specs.Layout.{separators_in}
 use Rattle.lexical_util.specs.Roles.{signs}
 use Rattle.lexical_util.specs.declared.feature_format.roles.Role.{Role}
@@ -15,7 +15,7 @@ use Rattle.lexical_literal.specs.declared.steps.Stage.TheVariants as stages
 use Rattle.lexical_literal.specs.declared.steps.Summary.{Summary}
 use Rattle.lexical_literal.proofs.RunLemmas.{is_rest, run_with_digit, run_with_separator}
 use Rattle.lexical_literal.proofs.ScanLemmas.{HasRoles, Accepts, took, none_accepts, role_in, as_digit, no_digit, as_role}
-use Rattle.lexical_literal.proofs.StepLemmas.{reading, begins, stage_after, after_byte, digit_seen, digit_settles, mark_seen, mark_settles, mark_bare, stage_at, gap_at, sign_fits, prefix_fits, ends_part, text_after}
+use Rattle.lexical_literal.proofs.StepLemmas.{reading, begins, stage_after, after_byte, stage_at, gap_at, sign_fits, prefix_fits, ends_part, text_after}
 
 -- A sign, a prefix, digits, and the parts of `more` behind the digits of `part`.
 pub record Found (m : Notation) (part : Part) (stage : Stage) (gap : Bool) (sign prefix text : List ℕ) : Type 0 where
@@ -92,11 +92,11 @@ module _ (m : Notation) where
     -- A digit in front, or the zero of a prefix.
     digit_first : m.digit part b ≡ true → is_signed m part stage ≡ true → gap_fits m part (has_digit stage) gap true ≡ true
         → Cut m part (after_digit stage gap (b == 48)) false text → Cut m part stage gap (b ∷ text)
-    digit_first digit signed fits cut = go cut.prefix (unsigned part (after_digit stage gap (b == 48)) false text (digit_settles stage gap (b == 48)) cut) where
+    digit_first digit signed fits cut = go cut.prefix (unsigned part (after_digit stage gap (b == 48)) false text (grind arith) cut) where
       go : (prefix : List ℕ) → Found m part (after_digit stage gap (b == 48)) false [] prefix text → Cut m part stage gap (b ∷ text)
       go [] found = longer (after_digit stage gap (b == 48)) false true digit signed
           (λ run is. run_with_digit m part (has_digit stage) gap b run digit fits
-          (subst (λ t. is_rest m part t false run ≡ true) (digit_seen stage gap (b == 48)) is))
+          (subst (λ t. is_rest m part t false run ≡ true) (grind arith) is))
           (λ run. refl) found
       go (x ∷ []) found = cut_at part stage gap (b ∷ text) [] (b ∷ x ∷ []) found.digits found.more (ap (λ t. b ∷ t) found.whole)
           (no_sign_fits part stage signed) (let prefixed = found.prefixed in grind arith) found.run found.end
@@ -108,15 +108,15 @@ module _ (m : Notation) where
         → Cut m part (after_mark stage) true text → Cut m part stage gap (b ∷ text)
     separator_first other separator signed fits cut = longer (after_mark stage) true false other signed
         (λ run is. run_with_separator m part (has_digit stage) gap b run other separator (and_parts _ _ fits).0
-        (subst (λ t. is_rest m part t true run ≡ true) (mark_seen stage) is))
-        (λ run. refl) (plain part (after_mark stage) true text (mark_settles stage) (mark_bare stage) (and_right (begins (after_mark stage)) false refl) cut)
+        (subst (λ t. is_rest m part t true run ≡ true) (grind arith) is))
+        (λ run. refl) (plain part (after_mark stage) true text (grind arith) (grind arith) (grind arith) cut)
 
     -- A sign in front.
     sign_first : signs b ≡ true → (is_fresh stage && implies (forbids_plus m part) (not (b == 43))) ≡ true
         → Cut m part (after_mark stage) gap text → Cut m part stage gap (b ∷ text)
     sign_first one taken cut =
         let both = and_parts (is_fresh stage) _ taken in
-        let found = unsigned part (after_mark stage) gap text (mark_settles stage) cut in
+        let found = unsigned part (after_mark stage) gap text (grind arith) cut in
         cut_at part stage gap (b ∷ text) (b ∷ []) cut.prefix found.digits found.more (ap (λ t. b ∷ t) found.whole)
         (and_from _ _ one (and_from _ _ both.1 both.0))
         (let prefixed = found.prefixed in grind arith) found.run found.end

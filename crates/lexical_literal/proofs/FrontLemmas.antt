@@ -13,7 +13,7 @@ use Rattle.lexical_literal.specs.declared.steps.Stage.{Stage}
 use Rattle.lexical_literal.specs.declared.steps.Stage.TheVariants as stages
 use Rattle.lexical_literal.specs.declared.steps.Summary.{Summary}
 use Rattle.lexical_literal.proofs.ScanLemmas.{HasRoles, IsReady, Accepts, role_in, scan_none, scan_append, took, arrives_byte, digit_role, is_role}
-use Rattle.lexical_literal.proofs.StepLemmas.{reading, digit_seen, digit_settles, mark_settles, settled}
+use Rattle.lexical_literal.proofs.StepLemmas.{reading}
 use Rattle.lexical_literal.proofs.LiteralLemmas.{literal_from, literal_arrives}
 
 -- `CanGoOn m s` holds if a gap, where there is one, can be closed, and if there is a leading zero only where one may be.
@@ -65,11 +65,11 @@ module _ (m : Notation) where
     digit_completed part stage gap signed can finishes = elim (closed part (has_digit stage) gap (may_follow m stage) can.closes) [
       | inl here ↦ finishes stage gap here.0 (and_from _ _ signed (and_from _ _ here.1 (let digit = here.0 in grind arith))) can.led
       | inr more ↦
-          let seen = digit_seen stage gap true in
+          let seen : has_digit (after_digit stage gap true) ≡ true = grind arith in
           let may : may_follow m stage ≡ true = (let digit = more.1 in grind arith) in
           then_byte (reading part stage gap) 48 roles.Digit refl (digit_role m ready.roles part 48 (ready.roles.zero_is_digit part))
           (and_from _ _ signed (and_from _ _ more.0 may)) (finishes (after_digit stage gap true) false seen
-          (and_from _ _ (settled (after_digit stage gap true) m part (digit_settles stage gap true)) (grind arith)) (let led = can.led in grind arith))
+          (and_from (is_signed m part (after_digit stage gap true)) _ (grind arith) (grind arith)) (let led = can.led in grind arith))
     ]
 
     -- A sign first, where one may follow.
@@ -78,9 +78,9 @@ module _ (m : Notation) where
       | inl fresh ↦
           let taken : takes m (reading part stage gap) (45 == 43) roles.Sign ≡ true = grind arith in
           then_byte (reading part stage gap) 45 roles.Sign refl (is_role m ready.roles part roles.Sign 45 (λ e. cc) refl) taken
-          (digit_completed part (after_mark stage) gap (settled _ m part (mark_settles stage))
+          (digit_completed part (after_mark stage) gap (grind arith)
           (goes_on (reading part stage gap) false false roles.Sign can taken) finishes)
-      | inr over ↦ digit_completed part stage gap (settled stage m part over) can finishes
+      | inr over ↦ digit_completed part stage gap (grind arith) can finishes
     ]
 
     exponent_finishes : Finishes parts.Exponent

@@ -17,7 +17,7 @@ use Rattle.lexical_literal.specs.declared.steps.Stage.{Stage}
 use Rattle.lexical_literal.specs.declared.steps.Stage.TheVariants as stages
 use Rattle.lexical_literal.proofs.RunLemmas.{is_rest, rest_of_none, digits_present, digit_fits, after_run_digit, is_run_separator, separator_fits, after_run_separator, opens}
 use Rattle.lexical_literal.proofs.ScanLemmas.{HasRoles, Accepts, Arrives, plus, arrives_byte, digit_role, is_role}
-use Rattle.lexical_literal.proofs.StepLemmas.{reading, led_after, stage_after, after_byte, passed, digit_seen, digit_settles, mark_seen, mark_settles, settled, stage_at, sign_fits, prefix_fits, digits_fit, ends_exponent, ends_mantissa, fraction_fits, stops, scales, ends_part, text_after}
+use Rattle.lexical_literal.proofs.StepLemmas.{reading, led_after, stage_after, after_byte, passed, stage_at, sign_fits, prefix_fits, digits_fit, ends_exponent, ends_mantissa, fraction_fits, stops, scales, ends_part, text_after}
 use Rattle.lexical_literal.proofs.CutLemmas.{cut_of}
 
 -- `is_tail bytes` has all of `bytes` but the first.
@@ -264,17 +264,18 @@ module _ (m : Notation) (h : HasRoles m) where
         | inl digit ↦ arrives_byte m h (reading part stage gap) b roles.Digit c (run ++ rest) d refl (digit_role m h part b digit)
             (and_from _ _ signed (and_from _ _ (digit_fits m part (has_digit stage) gap b run digit fit)
             (follow (m.digit part) stage gap (b ∷ run) goes.leads (or_left _ _ digit))))
-            (run_arrives part (after_digit stage gap (b == 48)) false run rest more d (settled _ m part (digit_settles stage gap (b == 48)))
-            (subst (λ t. is_rest m part t false run ≡ true) (sym (digit_seen stage gap (b == 48)))
+            (run_arrives part (after_digit stage gap (b == 48)) false run rest more d (grind arith)
+            (subst (λ t. is_rest m part t false run ≡ true) (grind arith)
             (after_run_digit m part (has_digit stage) gap b run digit fit)) (next true digit))
         | inr other ↦
             let fits = after_run_separator m part (has_digit stage) gap b run other fit in
             arrives_byte m h (reading part stage gap) b roles.Separator c (run ++ rest) d refl
             (is_role m h part roles.Separator b (λ e. cc) (is_run_separator m part (has_digit stage) gap b run other fit))
             (and_from _ _ signed (and_from _ _ (separator_fits m part (has_digit stage) gap b run other fit)
-            (opens m part (has_digit stage) (may_follow m stage) run fits (λ some. follow (m.digit part) stage gap (b ∷ run) goes.leads (or_right (m.digit part b) _ some)))))
-            (run_arrives part (after_mark stage) true run rest more d (settled _ m part (mark_settles stage))
-            (subst (λ t. is_rest m part t true run ≡ true) (sym (mark_seen stage)) fits) (next false other))
+            (opens m part (has_digit stage) (may_follow m stage) run fits
+            (λ some. follow (m.digit part) stage gap (b ∷ run) goes.leads (or_right (m.digit part b) _ some)))))
+            (run_arrives part (after_mark stage) true run rest more d (grind arith)
+            (subst (λ t. is_rest m part t true run ≡ true) (grind arith) fits) (next false other))
       ]
 
   -- Digits of a part without a leading zero.
@@ -299,7 +300,7 @@ module _ (m : Notation) (h : HasRoles m) where
       let taken = and_parts (implies (forbids_plus m part) (not (b == 43))) (is_fresh stage) both.1 in
       arrives_byte m h (reading part stage gap) b roles.Sign (cuts []) rest d refl (is_role m h part roles.Sign b (λ e. cc) both.0)
       (and_from _ _ taken.1 taken.0) (subst (λ c. Arrives m (Some (reading part (after_mark stage) gap)) c rest d) (one b)
-      (more (settled (after_mark stage) m part (mark_settles stage))))
+      (more (grind arith)))
   sign_arrives part stage gap (b ∷ x ∷ sign) rest cuts d fits one more = absurd (false≢true fits)
 
   -- The suffix, or nothing.
