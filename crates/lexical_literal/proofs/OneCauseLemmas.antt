@@ -41,16 +41,16 @@ module _ (m : Notation) (front : List ℕ) (a b : Flag → Bool) where
     flags = λ f. one.none f ∙ sym (two.none f);
   }
   one_cause (Some byte) (causes.Missing p) other one two = absurd one
-  one_cause (Some byte) cause (causes.Missing q) one two = absurd two
+  one_cause (Some byte) kind (causes.Missing q) one two = absurd two
   one_cause (Some byte) causes.Requirement other one two = absurd (two.refused one.allowed)
-  one_cause (Some byte) cause causes.Requirement one two = absurd (one.refused two.allowed)
+  one_cause (Some byte) kind causes.Requirement one two = absurd (one.refused two.allowed)
   one_cause (Some byte) (causes.Separator p x) (causes.Separator q y) one two = separators byte p q x y one two
   one_cause (Some byte) (causes.Separator p x) other one two = absurd (two.no_separator one.some.0 ((one.each one.some.0).0 one.some.1))
-  one_cause (Some byte) cause (causes.Separator q y) one two = absurd (one.no_separator two.some.0 ((two.each two.some.0).0 two.some.1))
+  one_cause (Some byte) kind (causes.Separator q y) one two = absurd (one.no_separator two.some.0 ((two.each two.some.0).0 two.some.1))
   one_cause (Some byte) causes.Case causes.Case one two = record { cause = refl; flags = λ f. same_truth (a f) (b f) (one.each f) (two.each f) }
   one_cause (Some byte) causes.Case causes.Byte one two = absurd (two.no_case one.some.0 ((one.each one.some.0).0 one.some.1))
   one_cause (Some byte) causes.Byte causes.Case one two = absurd (one.no_case two.some.0 ((two.each two.some.0).0 two.some.1))
   one_cause (Some byte) causes.Byte causes.Byte one two = record { cause = refl; flags = λ f. one.none f ∙ sym (two.none f) }
   one_cause None causes.Requirement other one two = absurd two
   one_cause None (causes.Missing p) other one two = absurd two
-  one_cause None cause other one two = absurd one
+  one_cause None kind other one two = absurd one
