@@ -1,11 +1,10 @@
 -- The flags of masks, and the bytes to show.
-use Rattle.std.proofs.Common.{ℕ, ◌≡◌, ◌≢◌, ◌<◌, ◌+◌, ◌-◌, ◌*◌, ◌%◌, ◌^◌, ◌==◌, ◌&&◌, ◌||◌, not, nat_lt, Bool, true, false, inl, inr, if◌then◌else◌, bit_and, bit_or, Option, List, [], ◌∷◌, ◌++◌, length, refl, sym, ap, ◌∙◌, arith}
-use Rattle.std.proofs.lemmas.Bool.{eq-eqb, ne_eqb, cases_eq, cases_lt}
+use Rattle.std.proofs.Common.{ℕ, ◌≡◌, ◌≢◌, ◌<◌, ◌+◌, ◌-◌, ◌*◌, ◌%◌, ◌^◌, ◌==◌, ◌&&◌, ◌||◌, not, nat_lt, Bool, true, false, if◌then◌else◌, bit_and, bit_or, Option, List, [], ◌∷◌, ◌++◌, length, refl, sym, ap, ◌∙◌, arith}
 use Rattle.std.proofs.lemmas.Bool.Decides.{nat_tests}
 use Rattle.std.proofs.lemmas.List.Folds.{list_any-append}
 use Rattle.std.proofs.lemmas.Nat.Bits.{and_pow, bit_at_and, bit_at_or, bit_at_not, bit_at-zero, bit_at-pow_same, bit_at-pow_other}
 use Rattle.std.proofs.lemmas.Nat.{one_shl, pow_below}
-use Rattle.std.proofs.Math.Nat.{mod-lt, zero-mul}
+use Rattle.std.proofs.Math.Nat.{mod-lt}
 use Rattle.std.specs.Bool.{beq}
 use Rattle.std.specs.Int.{w128, bit_not}
 use Rattle.lexical_util.specs.Ascii.{ByteSet}
@@ -41,10 +40,7 @@ module _ (f : Flag) where
   flag_zero = ap (λ n. n == 1) (bit_at-zero (bit f))
 
   pub flag_pow : (k : ℕ) → (raw (2 ^ k)).flag f ≡ (bit f == k)
-  flag_pow k = elim (cases_eq (bit f) k) [
-    | inl same ↦ ap (λ n. part (2 ^ k) n 1 == 1) same ∙ ap (λ n. n == 1) (bit_at-pow_same k) ∙ sym (eq-eqb (bit f) k same)
-    | inr apart ↦ ap (λ n. n == 1) (bit_at-pow_other k (bit f) apart) ∙ sym (ne_eqb (bit f) k apart)
-  ]
+  flag_pow k = let same = bit_at-pow_same k in let other = bit_at-pow_other k (bit f) in grind (arith, nat_tests)
 
 pub requirement_mask : (f : Flag) → (raw 0x73FF).flag f ≡ is_one_of requirement_flags f
 requirement_mask layout.required_integer_digits = refl
@@ -88,10 +84,7 @@ pub is_unset : (n k : ℕ) → bit_and n (2 ^ k) ≡ 0 → part n k 1 ≡ 0
 is_unset n k none = omega (arith, bit_small n k, bit_at-pow_same k, bit_at_and n (2 ^ k) k, ap (λ n. part n k 1) none, bit_at-zero k)
 
 pub is_set : (n k : ℕ) → bit_and n (2 ^ k) ≢ 0 → part n k 1 ≡ 1
-is_set n k some = elim (cases_lt (part n k 1) 1) [
-  | inl less ↦ let none : part n k 1 ≡ 0 = omega arith in absurd (some (and_pow n k ∙ ap (λ b. b * 2 ^ k) none ∙ zero-mul (2 ^ k)))
-  | inr one ↦ omega (arith, bit_small n k)
-]
+is_set n k some = let bits = and_pow n k in let small = bit_small n k in grind arith
 
 pub shifted : (k : ℕ) → k < 44 → 1 * 2 ^ k % 2 ^ 128 ≡ 2 ^ k
 shifted k small = one_shl k 128 (omega arith)
@@ -116,15 +109,11 @@ module _ (m : Notation) (s : Summary) (next : Option Class) (candidates mask : �
   pub as_tested : (result added : Bool) → bit_and candidates (1 * 2 ^ k % 2 ^ 128) ≢ 0
       → result ≡ allows (with_flags m (raw (bit_or mask (1 * 2 ^ k % 2 ^ 128))).flag) s next → beq result allow ≡ added → tested ≡ added
   as_tested result added some is test =
-      let set : (raw candidates).flag f ≡ true = ap (λ n. part candidates n 1 == 1) same
-      ∙ ap (λ n. n == 1) (is_set candidates k (λ none. some (ap (bit_and candidates) (shifted k small) ∙ none))) in
-      let moved : allows (adding f (with_flags m (raw mask).flag)) s next ≡ result =
-      ap (λ n. allows (with_bit n (with_flags m (raw mask).flag)) s next) same ∙ sym (ap (λ n. allows n s next) (with_shifted m mask k small)) ∙ sym is in
-      (λ j. set j && beq (moved j) allow) ∙ test
+      let set = is_set candidates k (λ none. some (ap (bit_and candidates) (shifted k small) ∙ none)) in
+      rw (same, set, ← with_shifted m mask k small, ← is) test
 
   pub as_unset : bit_and candidates (1 * 2 ^ k % 2 ^ 128) ≡ 0 → tested ≡ false
-  as_unset none = ap (λ t. t && beq (allows (adding f (with_flags m (raw mask).flag)) s next) allow)
-      (ap (λ n. part candidates n 1 == 1) same ∙ ap (λ n. n == 1) (is_unset candidates k (sym (ap (bit_and candidates) (shifted k small)) ∙ none)))
+  as_unset none = rw (same, is_unset candidates k (sym (ap (bit_and candidates) (shifted k small)) ∙ none)) refl
 
 -- One more bit has been tried.
 pub tried_more : (b k : ℕ) (x added old new : Bool) → (b ≡ k → x ≡ added) → old ≡ (nat_lt b k && x) → new ≡ (old || ((b == k) && added))

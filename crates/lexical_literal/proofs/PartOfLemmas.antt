@@ -12,6 +12,10 @@ use Rattle.lexical_literal.specs.Additions.Summary.{after, ends, scan, start, ta
 use Rattle.lexical_literal.specs.declared.steps.Summary.{Summary}
 use Rattle.lexical_literal.proofs.ScanLemmas.{HasRoles, role_in, scan_none, as_role, took}
 
+-- After `None`, nothing is read.
+pub none_after : (m : Notation) (text : List ℕ) (last : Summary) → scan m None text ≡ Some last → ⊥
+none_after m text last is = let none = scan_none m text in cc
+
 module _ (m : Notation) (h : HasRoles m) where
   abbrev is_exponent : Part → Bool
   is_exponent parts.Exponent = true
@@ -23,12 +27,9 @@ module _ (m : Notation) (h : HasRoles m) where
       if list_any m.exponent_character text then parts.Exponent
       else (if is_exponent part then parts.Exponent else (if list_any m.point text then parts.Fraction else part))
 
-  none_after : (text : List ℕ) (last : Summary) → scan m None text ≡ Some last → ⊥
-  none_after text last is = let none = scan_none m text in cc
-
   over : (t : Summary) (text : List ℕ) (last : Summary) → t.ended ≡ true → scan m (Some t) text ≡ Some last → last.ended ≡ true
   over t [] last ended is = cc
-  over t (b ∷ text) last ended is = absurd (false≢true (sym (took m h t b (λ o. scan m o text ≡ Some last) (none_after text last) is).going ∙ ended))
+  over t (b ∷ text) last ended is = absurd (false≢true (sym (took m h t b (λ o. scan m o text ≡ Some last) (none_after m text last) is).going ∙ ended))
 
   moves : (t : Summary) (b : ℕ) (text : List ℕ) (last : Summary) (r : Role) → role_in m t.part b ≡ Some r → takes m t (b == 43) r ≡ true
       → last.ended ≡ false → scan m (Some (after t (b == 48) r)) text ≡ Some last → part_after (after t (b == 48) r).part text ≡ part_after t.part (b ∷ text)
@@ -39,7 +40,7 @@ module _ (m : Notation) (h : HasRoles m) where
   ends_in : (t : Summary) (text : List ℕ) (last : Summary) → scan m (Some t) text ≡ Some last → last.ended ≡ false → last.part ≡ part_after t.part text
   ends_in t [] last is going = let same : t.part ≡ last.part = cc in grind arith
   ends_in t (b ∷ text) last is going =
-      let k = took m h t b (λ o. scan m o text ≡ Some last) (none_after text last) is in
+      let k = took m h t b (λ o. scan m o text ≡ Some last) (none_after m text last) is in
       ends_in (after t (b == 48) k.role) text last k.rest going ∙ moves t b text last k.role k.plays k.taken going k.rest
 
   -- What has been read is in the last part.

@@ -1,6 +1,6 @@
 -- What has been read decides what a notation allows, with other flags too.
-use Rattle.std.proofs.Common.{ℕ, ◌≡◌, ◌↔◌, Bool, true, false, not, ◌==◌, ◌&&◌, ◌||◌, if◌then◌else◌, inl, inr, IsTrue, List, [], ◌∷◌, ◌++◌, Option, Some, None, refl, sym, ap, subst, ◌∙◌, arith}
-use Rattle.std.proofs.lemmas.Bool.{false≢true, and_parts, and_from, cases_Bool}
+use Rattle.std.proofs.Common.{ℕ, ◌≡◌, ◌↔◌, Bool, true, false, not, ◌==◌, ◌&&◌, ◌||◌, if◌then◌else◌, IsTrue, List, [], ◌∷◌, ◌++◌, Option, Some, None, refl, sym, ap, subst, ◌∙◌, arith}
+use Rattle.std.proofs.lemmas.Bool.{false≢true, and_parts, and_from}
 use Rattle.std.specs.Prelude.{is_some}
 use Rattle.lexical_util.specs.Layout as layout
 use Rattle.lexical_util.specs.Layout.{Flag, bit, flags, separators_in}
@@ -16,9 +16,10 @@ use Rattle.lexical_literal.specs.Cause.{Allows, is_one_of, requirement_flags, se
 use Rattle.lexical_literal.specs.Additions.Causes.{class_of_next, IsWeaker, allows}
 use Rattle.lexical_literal.specs.Additions.Summary.{after, scan, class_of, step, is_accepted, start}
 use Rattle.lexical_literal.specs.declared.steps.Summary.{Summary}
-use Rattle.lexical_literal.proofs.ScanLemmas.{HasRoles, IsReady, scan_none, scan_append, took}
+use Rattle.lexical_literal.proofs.ScanLemmas.{HasRoles, IsReady, scan_append, took}
 use Rattle.lexical_literal.proofs.LiteralLemmas.{literal_from, literal_arrives}
 use Rattle.lexical_literal.proofs.FrontLemmas.{front_from, front_is_read}
+use Rattle.lexical_literal.proofs.PartOfLemmas.{none_after}
 
 -- FLAGS
 
@@ -39,11 +40,6 @@ pub apart : (f : Flag) → (is_one_of requirement_flags f && is_one_of separator
 apart layout.required_integer_digits = refl
 apart _ = refl
 
--- Other flags require nothing.
-free_flag : (m : Notation) (l : Literal) (f : Flag) → is_one_of requirement_flags f ≡ false → requirement f m l ≡ true
-free_flag m l layout.required_integer_digits is = absurd (false≢true (sym is))
-free_flag m l _ is = grind arith
-
 -- FEWER REQUIREMENTS
 
 module _ (m : Notation) (A : Flag → Bool) where
@@ -61,10 +57,6 @@ module _ (m : Notation) (A : Flag → Bool) where
     one_mantissa = h.one_mantissa;
     integers = h.integers;
   }
-
-  same_requirement : (l : Literal) (f : Flag) → requirement f n l ≡ requirement f m l
-  same_requirement l layout.required_integer_digits = refl
-  same_requirement l _ = refl
 
   module _ (weaker : IsWeaker m A) where
     pub other_ready : IsReady m → IsReady n
@@ -103,10 +95,8 @@ module _ (m : Notation) (A : Flag → Bool) where
         (all_fit part (before ++ b ∷ []) after both.1)
 
     as_required : (l : Literal) (f : Flag) → (IsTrue (m.flag f) → IsTrue (requirement f m l)) → IsTrue (A f) → IsTrue (requirement f n l)
-    as_required l f required is = elim (cases_Bool (is_one_of requirement_flags f)) [
-      | inl one ↦ same_requirement l f ∙ required (weaker.no_more f (and_from _ _ is one))
-      | inr none ↦ free_flag n l f none
-    ]
+    as_required l layout.required_integer_digits required is = required (weaker.no_more layout.required_integer_digits (and_from _ true is refl))
+    as_required l f required is = let more = weaker.no_more f in grind arith
 
     literal_too : (l : Literal) → IsLiteral m l → IsLiteral n l
     literal_too l is = record {
@@ -135,14 +125,11 @@ module _ (m : Notation) (A : Flag → Bool) where
 
   -- THE SAME SUMMARY
 
-  gone : (k : Notation) (text : List ℕ) (u : Summary) → scan k None text ≡ Some u → ⊥
-  gone k text u is = let none = scan_none k text in cc
-
   same_last : HasRoles m → (t : Summary) (text : List ℕ) (s r : Summary) → scan m (Some t) text ≡ Some s → scan n (Some t) text ≡ Some r → s ≡ r
   same_last h t [] s r is_s is_r = cc
   same_last h t (b ∷ text) s r is_s is_r =
-      let one = took m h t b (λ o. scan m o text ≡ Some s) (gone m text s) is_s in
-      let two = took n (other_roles h) t b (λ o. scan n o text ≡ Some r) (gone n text r) is_r in
+      let one = took m h t b (λ o. scan m o text ≡ Some s) (none_after m text s) is_s in
+      let two = took n (other_roles h) t b (λ o. scan n o text ≡ Some r) (none_after n text r) is_r in
       let same : two.role ≡ one.role = let first = one.plays in let second = two.plays in cc in
       same_last h (after t (b == 48) one.role) text s r one.rest (subst (λ x. scan n (Some (after t (b == 48) x)) text ≡ Some r) same two.rest)
 
