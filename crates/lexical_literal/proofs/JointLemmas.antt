@@ -37,10 +37,7 @@ module _ (m : Notation) where
   same_consecutive _ = grind arith
 
   met : {P : Notation → Bool} → Alone P → (f : Flag) → implies (binds m f) (P (adding f (bare m))) ≡ true
-  met {P} a f = go (binds m f) (P (adding f (bare m))) (a.each f) where
-    go : (x y : Bool) → (x ≡ true → y ≡ true) → implies x y ≡ true
-    go true y is = is refl
-    go false y is = refl
+  met a f = let is = a.each f in grind arith
 
   module _ (P Q : Notation → Bool) (a : Alone (λ n. P n && Q n)) where
     left : Alone P

@@ -17,15 +17,10 @@ pub none_after : (m : Notation) (text : List ℕ) (last : Summary) → scan m No
 none_after m text last is = let none = scan_none m text in cc
 
 module _ (m : Notation) (h : HasRoles m) where
-  abbrev is_exponent : Part → Bool
-  is_exponent parts.Exponent = true
-  is_exponent _ = false
-
   -- `part_after part text` is the part that `text` ends in, behind a front that ends in `part`.
   abbrev part_after : Part → List ℕ → Part
-  part_after part text =
-      if list_any m.exponent_character text then parts.Exponent
-      else (if is_exponent part then parts.Exponent else (if list_any m.point text then parts.Fraction else part))
+  part_after parts.Exponent text = parts.Exponent
+  part_after part text = if list_any m.exponent_character text then parts.Exponent else (if list_any m.point text then parts.Fraction else part)
 
   over : (t : Summary) (text : List ℕ) (last : Summary) → t.ended ≡ true → scan m (Some t) text ≡ Some last → last.ended ≡ true
   over t [] last ended is = cc
