@@ -1,5 +1,6 @@
 -- The flags of masks, and the bytes to show.
-use Rattle.std.proofs.Common.{ℕ, ◌≡◌, ◌≢◌, ◌<◌, ◌+◌, ◌-◌, ◌*◌, ◌%◌, ◌^◌, ◌==◌, ◌&&◌, ◌||◌, not, nat_lt, Bool, true, false, if◌then◌else◌, bit_and, bit_or, Option, List, [], ◌∷◌, ◌++◌, length, refl, sym, ap, ◌∙◌, arith}
+use Rattle.std.proofs.Common.{ℕ, ◌≡◌, ◌≢◌, ◌<◌, ◌+◌, ◌-◌, ◌*◌, ◌%◌, ◌^◌, ◌==◌, ◌&&◌, ◌||◌, not, nat_lt, Bool, true, false, if◌then◌else◌}
+use Rattle.std.proofs.Common.{bit_and, bit_or, Option, List, [], ◌∷◌, ◌++◌, length, refl, sym, ap, ◌∙◌, arith}
 use Rattle.std.proofs.lemmas.Bool.Decides.{nat_tests}
 use Rattle.std.proofs.lemmas.List.Folds.{list_any-append}
 use Rattle.std.proofs.lemmas.Nat.Bits.{and_pow, bit_at_and, bit_at_or, bit_at_not, bit_at-zero, bit_at-pow_same, bit_at-pow_other}
@@ -73,7 +74,8 @@ module _ (m : Notation) (byte : ℕ) where
 
   pub case_some : case_mask_of (m.exponent_character byte) (m.prefix byte) (m.suffix byte) ≢ 0 → (f : Flag) × (case_set f m byte ≡ true)
   case_some some = go (m.exponent_character byte) (m.prefix byte) (m.suffix byte) refl refl refl some where
-    go : (a b c : Bool) → m.exponent_character byte ≡ a → m.prefix byte ≡ b → m.suffix byte ≡ c → case_mask_of a b c ≢ 0 → (f : Flag) × (case_set f m byte ≡ true)
+    go : (a b c : Bool) → m.exponent_character byte ≡ a → m.prefix byte ≡ b → m.suffix byte ≡ c → case_mask_of a b c ≢ 0
+        → (f : Flag) × (case_set f m byte ≡ true)
     go true b c is_a is_b is_c some = (layout.case_sensitive_exponent, is_a)
     go false true c is_a is_b is_c some = (layout.case_sensitive_base_prefix, is_b)
     go false false true is_a is_b is_c some = (layout.case_sensitive_base_suffix, is_c)
@@ -90,7 +92,8 @@ pub shifted : (k : ℕ) → k < 44 → 1 * 2 ^ k % 2 ^ 128 ≡ 2 ^ k
 shifted k small = one_shl k 128 (omega arith)
 
 -- One more flag in a mask, or one less.
-pub with_shifted : (m : Notation) (mask k : ℕ) → k < 44 → with_flags m (raw (bit_or mask (1 * 2 ^ k % 2 ^ 128))).flag ≡ with_bit k (with_flags m (raw mask).flag)
+pub with_shifted : (m : Notation) (mask k : ℕ) → k < 44 → with_flags m (raw (bit_or mask (1 * 2 ^ k % 2 ^ 128))).flag
+    ≡ with_bit k (with_flags m (raw mask).flag)
 with_shifted m mask k small = λ j. with_flags m (λ g. both g j) where
   both : (g : Flag) → (raw (bit_or mask (1 * 2 ^ k % 2 ^ 128))).flag g ≡ ((bit g == k) || (raw mask).flag g)
   both g = rw (shifted k small, flag_or g mask (2 ^ k), flag_pow g k) (grind arith)

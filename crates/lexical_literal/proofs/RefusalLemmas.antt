@@ -1,5 +1,6 @@
 -- What has been read decides what a notation allows, with other flags too.
-use Rattle.std.proofs.Common.{ℕ, ◌≡◌, ◌↔◌, Bool, true, false, not, ◌==◌, ◌&&◌, ◌||◌, if◌then◌else◌, IsTrue, List, [], ◌∷◌, ◌++◌, Option, Some, None, refl, sym, ap, subst, ◌∙◌, arith}
+use Rattle.std.proofs.Common.{ℕ, ◌≡◌, ◌↔◌, Bool, true, false, not, ◌==◌, ◌&&◌, ◌||◌, if◌then◌else◌, IsTrue, List, [], ◌∷◌, ◌++◌}
+use Rattle.std.proofs.Common.{Option, Some, None, refl, sym, ap, subst, ◌∙◌, arith}
 use Rattle.std.proofs.lemmas.Bool.{false≢true, and_parts, and_from}
 use Rattle.std.specs.Prelude.{is_some}
 use Rattle.lexical_util.specs.Layout as layout
@@ -116,7 +117,8 @@ module _ (m : Notation) (A : Flag → Bool) where
     }
 
     front_too : (text : List ℕ) → IsFront m text → IsFront n text
-    front_too text is = record { more = is.more; literal = is.literal; reads = record { whole = is.reads.whole; literal = literal_too is.literal is.reads.literal } }
+    front_too text is =
+        record { more = is.more; literal = is.literal; reads = record { whole = is.reads.whole; literal = literal_too is.literal is.reads.literal } }
 
     -- What is allowed stays so.
     pub allowed_too : (front : List ℕ) (next : Option ℕ) → Allows m front next → Allows n front next
@@ -133,19 +135,15 @@ module _ (m : Notation) (A : Flag → Bool) where
       let same : two.role ≡ one.role = let first = one.plays in let second = two.plays in cc in
       same_last h (after t (b == 48) one.role) text s r one.rest (subst (λ x. scan n (Some (after t (b == 48) x)) text ≡ Some r) same two.rest)
 
-  not_none : (o : Option Summary) → (o ≡ None → ⊥) → is_some o ≡ true
-  not_none None some = absurd (some refl)
-  not_none (Some u) some = refl
-
-  some_of : (o : Option Summary) → is_some o ≡ true → (u : Summary) × (o ≡ Some u)
-  some_of None is = absurd (false≢true is)
-  some_of (Some u) is = (u, refl)
+  some_of : (o : Option Summary) → (o ≡ None → ⊥) → (u : Summary) × (o ≡ Some u)
+  some_of None some = absurd (some refl)
+  some_of (Some u) some = (u, refl)
 
   module _ (ready : IsReady m) (weaker : IsWeaker m A) (front : List ℕ) (s : Summary) (read : scan m (Some start) front ≡ Some s) where
     read_too : scan n (Some start) front ≡ Some s
     read_too =
         let front_is = front_too weaker front (front_from m ready front s read) in
-        let some = some_of (scan n (Some start) front) (not_none _ (front_is_read n (other_ready weaker ready) front front_is)) in
+        let some = some_of (scan n (Some start) front) (front_is_read n (other_ready weaker ready) front front_is) in
         some.1 ∙ ap Some (sym (same_last ready.roles start front s some.0 read some.1))
 
     one_more : (b : ℕ) → scan n (Some start) (front ++ b ∷ []) ≡ step n s (class_of m b)
@@ -154,10 +152,10 @@ module _ (m : Notation) (A : Flag → Bool) where
     pub decided : (next : Option ℕ) → (allows n s (class_of_next m next) ≡ true) ↔ Allows n front next
     decided None = (
       λ is. literal_from n (other_roles ready.roles) front (ap (is_accepted n) read_too ∙ is),
-      λ l. sym (ap (is_accepted n) read_too) ∙ ap (λ t. is_accepted n (scan n (Some start) t)) l.1.whole ∙ (literal_arrives n (other_roles ready.roles) l.0 l.1.literal).0,
+      λ l. sym (ap (is_accepted n) read_too) ∙ rw (l.1.whole) (literal_arrives n (other_roles ready.roles) l.0 l.1.literal).0,
     )
     decided (Some b) = (
-      λ is. let some = some_of (step n s (class_of m b)) is in
+      λ is. let some = some_of (step n s (class_of m b)) (λ none. false≢true (sym (ap is_some none) ∙ is)) in
           front_from n (other_ready weaker ready) (front ++ b ∷ []) some.0 (one_more b ∙ some.1),
-      λ front_is. not_none (step n s (class_of m b)) (λ none. front_is_read n (other_ready weaker ready) (front ++ b ∷ []) front_is (one_more b ∙ none)),
+      λ is. ap is_some (some_of (step n s (class_of m b)) (λ none. front_is_read n (other_ready weaker ready) (front ++ b ∷ []) is (one_more b ∙ none))).1,
     )
