@@ -36,8 +36,8 @@ module _ (m : Notation) where
   same_consecutive parts.Integer = grind arith
   same_consecutive _ = grind arith
 
-  met : {P : Notation → Bool} → Alone P → (f : Flag) → implies (binds m f) (P (adding f (bare m))) ≡ true
-  met a f = let is = a.each f in grind arith
+  met : {P : Notation → Bool} → Alone P → (f : Flag) → (P (bare m) && implies (binds m f) (P (adding f (bare m)))) ≡ true
+  met a f = let free = a.free in let each = a.each f in grind arith
 
   module _ (P Q : Notation → Bool) (a : Alone (λ n. P n && Q n)) where
     left : Alone P
@@ -47,22 +47,19 @@ module _ (m : Notation) where
     right = record { free = (and_parts (P (bare m)) _ a.free).1; each = λ f is. (and_parts (P (adding f (bare m))) _ (a.each f is)).1 }
 
   ended : (part : Part) (stage : Stage) (gap : Bool) → Alone (λ n. ends n (reading part stage gap)) → ends m (reading part stage gap) ≡ true
-  ended parts.Integer stage gap a =
-      let free = a.free in let sign = met a layout.required_mantissa_sign in let digits = met a layout.required_integer_digits in grind arith
+  ended parts.Integer stage gap a = let sign = met a layout.required_mantissa_sign in let digits = met a layout.required_integer_digits in grind arith
   ended parts.Fraction stage gap a =
-      let free = a.free in let sign = met a layout.required_mantissa_sign in let digits = met a layout.required_fraction_digits in
+      let sign = met a layout.required_mantissa_sign in let digits = met a layout.required_fraction_digits in
       let mantissa = met a layout.required_mantissa_digits in grind arith
-  ended parts.Exponent stage gap a =
-      let free = a.free in let sign = met a layout.required_exponent_sign in let digits = met a layout.required_exponent_digits in grind arith
+  ended parts.Exponent stage gap a = let sign = met a layout.required_exponent_sign in let digits = met a layout.required_exponent_digits in grind arith
 
   continued : (part : Part) (stage : Stage) (role : Role) → Alone (λ n. continues n part stage role) → continues m part stage role ≡ true
   continued parts.Integer stage roles.Exponent a =
-      let free = a.free in let floats = met a layout.no_float_leading_zeros in let mantissa = met a layout.required_mantissa_digits in
+      let floats = met a layout.no_float_leading_zeros in let mantissa = met a layout.required_mantissa_digits in
       let none = met a layout.no_exponent_notation in let fraction = met a layout.no_exponent_without_fraction in grind arith
-  continued _ stage roles.Exponent a = let free = a.free in let none = met a layout.no_exponent_notation in grind arith
-  continued parts.Integer stage roles.Point a = let free = a.free in let floats = met a layout.no_float_leading_zeros in grind arith
-  continued _ stage roles.Suffix a =
-      let free = a.free in let leads = met a layout.no_integer_leading_zeros in let needs = met a layout.required_exponent_notation in grind arith
+  continued _ stage roles.Exponent a = let none = met a layout.no_exponent_notation in grind arith
+  continued parts.Integer stage roles.Point a = let floats = met a layout.no_float_leading_zeros in grind arith
+  continued _ stage roles.Suffix a = let leads = met a layout.no_integer_leading_zeros in let needs = met a layout.required_exponent_notation in grind arith
   continued _ stage _ a = a.free
 
   goes_on : (part : Part) (stage : Stage) (gap : Bool) (role : Role) → Alone (λ n. ends n (reading part stage gap) && continues n part stage role)
@@ -72,16 +69,15 @@ module _ (m : Notation) where
 
   joint_role : (part : Part) (stage : Stage) (gap plus : Bool) (role : Role) → Alone (λ n. takes n (reading part stage gap) plus role)
       → in_two (λ n. takes n (reading part stage gap) plus role) ≡ true
-  joint_role _ stages.Bare gap plus roles.Separator a = let free = a.free in let leads = met a layout.no_integer_leading_zeros in grind arith
-  joint_role _ stages.Zero gap plus roles.Separator a = let free = a.free in let leads = met a layout.no_integer_leading_zeros in grind arith
-  joint_role parts.Exponent stage gap plus roles.Separator a = let free = a.free in let sign = met a layout.required_exponent_sign in grind arith
-  joint_role _ stage gap plus roles.Separator a = let free = a.free in let sign = met a layout.required_mantissa_sign in grind arith
+  joint_role _ stages.Bare gap plus roles.Separator a = let leads = met a layout.no_integer_leading_zeros in grind arith
+  joint_role _ stages.Zero gap plus roles.Separator a = let leads = met a layout.no_integer_leading_zeros in grind arith
+  joint_role parts.Exponent stage gap plus roles.Separator a = let sign = met a layout.required_exponent_sign in grind arith
+  joint_role _ stage gap plus roles.Separator a = let sign = met a layout.required_mantissa_sign in grind arith
   joint_role parts.Exponent stage gap plus roles.Digit a =
-      let free = a.free in let sign = met a layout.required_exponent_sign in let leads = met a layout.no_integer_leading_zeros in grind arith
-  joint_role _ stage gap plus roles.Digit a =
-      let free = a.free in let sign = met a layout.required_mantissa_sign in let leads = met a layout.no_integer_leading_zeros in grind arith
-  joint_role parts.Exponent stage gap plus roles.Sign a = let free = a.free in let forbidden = met a layout.no_positive_exponent_sign in grind arith
-  joint_role _ stage gap plus roles.Sign a = let free = a.free in let forbidden = met a layout.no_positive_mantissa_sign in grind arith
+      let sign = met a layout.required_exponent_sign in let leads = met a layout.no_integer_leading_zeros in grind arith
+  joint_role _ stage gap plus roles.Digit a = let sign = met a layout.required_mantissa_sign in let leads = met a layout.no_integer_leading_zeros in grind arith
+  joint_role parts.Exponent stage gap plus roles.Sign a = let forbidden = met a layout.no_positive_exponent_sign in grind arith
+  joint_role _ stage gap plus roles.Sign a = let forbidden = met a layout.no_positive_mantissa_sign in grind arith
   joint_role _ stage gap plus roles.Prefix a = let free = a.free in grind arith
   joint_role part stage gap plus role a = or_left _ _ (goes_on part stage gap role a)
 

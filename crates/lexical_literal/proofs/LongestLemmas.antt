@@ -113,10 +113,10 @@ module _ (m : Notation) (text : List ℕ) where
 
 module _ (m : Notation) (ready : IsReady m) (text : List ℕ) where
   accepted : (n : ℕ) (l : Literal) → Reads m l (take n text) → is_accepted m (scan m (Some start) (take n text)) ≡ true
-  accepted n l reads = ap (λ t. is_accepted m (scan m (Some start) t)) reads.whole ∙ (literal_arrives m ready.roles l reads.literal).0
+  accepted n l reads = rw (reads.whole) (literal_arrives m ready.roles l reads.literal).0
 
   none_complete : is_complete m start ≡ true → ⊥
-  none_complete is = false≢true (and_parts (not (needs_exponent m)) false (and_parts (ends m start) _ is).1).1
+  none_complete is = grind arith
 
   pub read_nothing : HasRead m text 0 start no_cuts None
   read_nothing = record {
@@ -126,8 +126,8 @@ module _ (m : Notation) (ready : IsReady m) (text : List ℕ) where
     counted = refl;
     longest_is = record {
       found = λ size is. cc;
-      no_longer = λ more over past l reads. let none : more ≡ 0 = omega arith in
-          none_complete (accepted 0 l (subst (λ n. Reads m l (take n text)) none reads));
+      no_longer = λ more over past l reads.
+          let none : more ≡ 0 = omega arith in none_complete (accepted 0 l (subst (λ n. Reads m l (take n text)) none reads));
     };
   }
 
@@ -229,6 +229,4 @@ module _ (m : Notation) (ready : IsReady m) (text : List ℕ) where
         same_part (b ∷ x) [] X Y same e = cc
         same_part (b ∷ x) (c ∷ y) X Y same e =
             let head : b ≡ c = cc in
-            let rest : x ++ X ≡ y ++ Y = cc in
-            let more = same_part x y X Y (omega (arith, same)) rest in
-            ((λ j. head j ∷ more.0 j), more.1)
+            let more = same_part x y X Y (omega (arith, same)) cc in ((λ j. head j ∷ more.0 j), more.1)
