@@ -1,6 +1,6 @@
 -- Where no flag refuses alone, two flags on leading zeros do together.
 use Rattle.std.proofs.Common.{◌≡◌, Bool, true, false, ◌&&◌, ◌||◌, ◌⊎◌, if◌then◌else◌, inl, inr, Option, Some, None, refl, arith}
-use Rattle.std.proofs.lemmas.Bool.{false≢true, and_parts, and_from, or_left, or_cases}
+use Rattle.std.proofs.lemmas.Bool.{false≢true, and_parts, or_cases}
 use Rattle.std.specs.Prelude.{is_some}
 use Rattle.lexical_util.specs.Layout as layout
 use Rattle.lexical_util.specs.Layout.{Flag, separators_in}
@@ -39,34 +39,6 @@ module _ (m : Notation) where
   met : {P : Notation → Bool} → Alone P → (f : Flag) → (P (bare m) && implies (binds m f) (P (adding f (bare m)))) ≡ true
   met a f = let free = a.free in let each = a.each f in grind arith
 
-  module _ (P Q : Notation → Bool) (a : Alone (λ n. P n && Q n)) where
-    left : Alone P
-    left = record { free = (and_parts (P (bare m)) _ a.free).0; each = λ f is. (and_parts (P (adding f (bare m))) _ (a.each f is)).0 }
-
-    right : Alone Q
-    right = record { free = (and_parts (P (bare m)) _ a.free).1; each = λ f is. (and_parts (P (adding f (bare m))) _ (a.each f is)).1 }
-
-  ended : (part : Part) (stage : Stage) (gap : Bool) → Alone (λ n. ends n (reading part stage gap)) → ends m (reading part stage gap) ≡ true
-  ended parts.Integer stage gap a = let sign = met a layout.required_mantissa_sign in let digits = met a layout.required_integer_digits in grind arith
-  ended parts.Fraction stage gap a =
-      let sign = met a layout.required_mantissa_sign in let digits = met a layout.required_fraction_digits in
-      let mantissa = met a layout.required_mantissa_digits in grind arith
-  ended parts.Exponent stage gap a = let sign = met a layout.required_exponent_sign in let digits = met a layout.required_exponent_digits in grind arith
-
-  continued : (part : Part) (stage : Stage) (role : Role) → Alone (λ n. continues n part stage role) → continues m part stage role ≡ true
-  continued parts.Integer stage roles.Exponent a =
-      let floats = met a layout.no_float_leading_zeros in let mantissa = met a layout.required_mantissa_digits in
-      let none = met a layout.no_exponent_notation in let fraction = met a layout.no_exponent_without_fraction in grind arith
-  continued _ stage roles.Exponent a = let none = met a layout.no_exponent_notation in grind arith
-  continued parts.Integer stage roles.Point a = let floats = met a layout.no_float_leading_zeros in grind arith
-  continued _ stage roles.Suffix a = let leads = met a layout.no_integer_leading_zeros in let needs = met a layout.required_exponent_notation in grind arith
-  continued _ stage _ a = a.free
-
-  goes_on : (part : Part) (stage : Stage) (gap : Bool) (role : Role) → Alone (λ n. ends n (reading part stage gap) && continues n part stage role)
-      → (ends m (reading part stage gap) && continues m part stage role) ≡ true
-  goes_on part stage gap role a = and_from _ _ (ended part stage gap (left (λ n. ends n (reading part stage gap)) (λ n. continues n part stage role) a))
-      (continued part stage role (right (λ n. ends n (reading part stage gap)) (λ n. continues n part stage role) a))
-
   joint_role : (part : Part) (stage : Stage) (gap plus : Bool) (role : Role) → Alone (λ n. takes n (reading part stage gap) plus role)
       → in_two (λ n. takes n (reading part stage gap) plus role) ≡ true
   joint_role _ stages.Bare gap plus roles.Separator a = let leads = met a layout.no_integer_leading_zeros in grind arith
@@ -78,8 +50,19 @@ module _ (m : Notation) where
   joint_role _ stage gap plus roles.Digit a = let sign = met a layout.required_mantissa_sign in let leads = met a layout.no_integer_leading_zeros in grind arith
   joint_role parts.Exponent stage gap plus roles.Sign a = let forbidden = met a layout.no_positive_exponent_sign in grind arith
   joint_role _ stage gap plus roles.Sign a = let forbidden = met a layout.no_positive_mantissa_sign in grind arith
-  joint_role _ stage gap plus roles.Prefix a = let free = a.free in grind arith
-  joint_role part stage gap plus role a = or_left _ _ (goes_on part stage gap role a)
+  joint_role parts.Integer stage gap plus roles.Suffix a =
+      let sign = met a layout.required_mantissa_sign in let digits = met a layout.required_integer_digits in
+      let leads = met a layout.no_integer_leading_zeros in let needs = met a layout.required_exponent_notation in grind arith
+  joint_role parts.Integer stage gap plus role a =
+      let sign = met a layout.required_mantissa_sign in let digits = met a layout.required_integer_digits in
+      let floats = met a layout.no_float_leading_zeros in let mantissa = met a layout.required_mantissa_digits in
+      let none = met a layout.no_exponent_notation in let fraction = met a layout.no_exponent_without_fraction in grind arith
+  joint_role parts.Fraction stage gap plus role a =
+      let sign = met a layout.required_mantissa_sign in let digits = met a layout.required_fraction_digits in
+      let mantissa = met a layout.required_mantissa_digits in let none = met a layout.no_exponent_notation in
+      let needs = met a layout.required_exponent_notation in grind arith
+  joint_role parts.Exponent stage gap plus role a =
+      let sign = met a layout.required_exponent_sign in let digits = met a layout.required_exponent_digits in grind arith
 
   step_joint : (s : Summary) (ended plus zero : Bool) (o : Option Role) → Alone (λ n. is_some (move n (record s { ended = ended }) plus zero o))
       → in_two (λ n. is_some (move n (record s { ended = ended }) plus zero o)) ≡ true
@@ -100,4 +83,4 @@ module _ (m : Notation) where
     whole : (e : Bool) → Alone (λ n. e || (ends n (reading s.part s.stage s.gap) && continues n s.part s.stage roles.Suffix))
         → in_two (λ n. e || (ends n (reading s.part s.stage s.gap) && continues n s.part s.stage roles.Suffix)) ≡ true
     whole true a = refl
-    whole false a = or_left _ _ (goes_on s.part s.stage s.gap roles.Suffix a)
+    whole false a = joint_role s.part s.stage s.gap false roles.Suffix a

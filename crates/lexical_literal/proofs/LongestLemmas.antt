@@ -1,11 +1,11 @@
 -- Fronts of a text, and where the loop is left.
 use Rattle.std.proofs.Common.{ℕ, Bool, Option, if◌then◌else◌, ◌≡◌, ◌<◌, ◌≤◌, ◌+◌, inl, inr, true, false, not, List, [], ◌∷◌, ◌++◌}
 use Rattle.std.proofs.Common.{length, get_or, take, drop, Some, None, Ok, refl, sym, ap, subst, append_assoc, append-nil, take-append-drop, ◌∙◌, arith}
-use Rattle.std.proofs.lemmas.Bool.{false≢true, false_from_ne_true, cases_lt, and_parts}
+use Rattle.std.proofs.lemmas.Bool.{false≢true, false_from_ne_true, cases_lt}
 use Rattle.std.proofs.lemmas.List.{take-take, take_more, take_all}
 use Rattle.lexical_literal.specs.Notation.{Notation}
 use Rattle.lexical_literal.specs.Literal.{Literal, IsLiteral, Reads, is_none_or_prefix}
-use Rattle.lexical_literal.specs.Additions.Summary.{Cuts, class_of, in_part, scan, step, is_accepted, is_complete, needs_exponent}
+use Rattle.lexical_literal.specs.Additions.Summary.{Cuts, class_of, in_part, scan, step, is_accepted, is_complete}
 use Rattle.lexical_literal.specs.Additions.Summary.{ends, tally, count, start, no_cuts, HasLengths}
 use Rattle.lexical_literal.specs.Front.{IsFront, IsValidUpTo, NoLiteral}
 use Rattle.lexical_literal.specs.Additions.Longest.{IsLongest, IsScanned}
