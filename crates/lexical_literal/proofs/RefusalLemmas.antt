@@ -6,7 +6,6 @@ use Rattle.std.specs.Prelude.{is_some}
 use Rattle.lexical_util.specs.Layout as layout
 use Rattle.lexical_util.specs.Layout.{Flag, bit, flags, separators_in}
 use Rattle.lexical_util.specs.declared.feature_format.roles.Role.{Role}
-use Rattle.lexical_util.specs.declared.feature_format.roles.Role.TheVariants as roles
 use Rattle.lexical_util.specs.declared.format_flags.Part.{Part}
 use Rattle.lexical_util.specs.declared.format_flags.Part.TheVariants as parts
 use Rattle.lexical_literal.specs.Notation.{Notation, role_set}
@@ -48,8 +47,7 @@ module _ (m : Notation) (A : Flag → Bool) where
   n = with_flags m A
 
   same_set : (r : Role) (b : ℕ) → role_set n r b ≡ role_set m r b
-  same_set roles.Digit b = refl
-  same_set _ b = refl
+  same_set r b = grind arith
 
   other_roles : HasRoles m → HasRoles n
   other_roles h = record {
@@ -76,24 +74,17 @@ module _ (m : Notation) (A : Flag → Bool) where
     kept : (f : Flag) → (not (is_one_of requirement_flags f) && m.flag f && not (A f)) ≡ false
     kept f = let more = weaker.no_less f in grind arith
 
-    consecutive : (part : Part) → m.flag (separators_in part).consecutive ≡ true → A (separators_in part).consecutive ≡ true
-    consecutive part is = let same = kept (separators_in part).consecutive in grind arith
-
-    more_places : (part : Part) (x y : Bool) → is_place m part x y ≡ true → is_place n part x y ≡ true
-    more_places part x y is =
+    more_places : (part : Part) (d s x y f : Bool) → (d || (s && is_place m part x y && (m.flag (separators_in part).consecutive || f))) ≡ true
+        → (d || (s && is_place n part x y && (A (separators_in part).consecutive || f))) ≡ true
+    more_places part d s x y f is =
         let leading = kept (separators_in part).leading in let internal = kept (separators_in part).internal in
-        let trailing = kept (separators_in part).trailing in grind arith
-
-    fits_more : (d s p q c e f : Bool) → (p ≡ true → q ≡ true) → (c ≡ true → e ≡ true) → (d || (s && p && (c || f))) ≡ true
-        → (d || (s && q && (e || f))) ≡ true
-    fits_more d s p q c e f more_p more_c is = grind arith
+        let trailing = kept (separators_in part).trailing in let consecutive = kept (separators_in part).consecutive in grind arith
 
     all_fit : (part : Part) (before after : List ℕ) → are_fit m part before after ≡ true → are_fit n part before after ≡ true
     all_fit part before [] is = refl
     all_fit part before (b ∷ after) is =
         let both = and_parts (is_fit m part before b after) _ is in
-        and_from _ _ (fits_more (m.digit part b) (m.separator b) _ _ _ _ _ (more_places part _ _) (consecutive part) both.0)
-        (all_fit part (before ++ b ∷ []) after both.1)
+        and_from _ _ (more_places part (m.digit part b) (m.separator b) _ _ _ both.0) (all_fit part (before ++ b ∷ []) after both.1)
 
     as_required : (l : Literal) (f : Flag) → (IsTrue (m.flag f) → IsTrue (requirement f m l)) → IsTrue (A f) → IsTrue (requirement f n l)
     as_required l layout.required_integer_digits required is = required (weaker.no_more layout.required_integer_digits (and_from _ true is refl))
