@@ -193,17 +193,14 @@ module _ (m : Notation) (ready : IsReady m) (text : List ℕ) where
     }
 
     pub counted_from : (l : Literal) → Reads m l (take i text) → HasLengths l c
-    counted_from l reads = subst (HasLengths l)
-        (sym (literal_arrives m ready.roles l reads.literal).1 ∙ ap (tally m (Some start) no_cuts) (sym reads.whole) ∙ has.counted)
-        (has_lengths m ready.roles l reads.literal)
+    counted_from l reads = rw (← has.counted, reads.whole, (literal_arrives m ready.roles l reads.literal).1) (has_lengths m ready.roles l reads.literal)
 
   -- A text has one reading.
   pub one_reading : (l k : Literal) → Reads m l text → Reads m k text → l ≡ k
   one_reading l k first second =
       let a = has_lengths m ready.roles l first.literal in
-      let b = subst (HasLengths k) (sym (literal_arrives m ready.roles k second.literal).1
-      ∙ ap (tally m (Some start) no_cuts) (sym second.whole ∙ first.whole) ∙ (literal_arrives m ready.roles l first.literal).1)
-      (has_lengths m ready.roles k second.literal) in
+      let b : HasLengths k (cuts_of l) = rw (← (literal_arrives m ready.roles l first.literal).1, ← first.whole, second.whole,
+      (literal_arrives m ready.roles k second.literal).1) (has_lengths m ready.roles k second.literal) in
       let sign = same_part l.sign k.sign _ _ (a.sign ∙ sym b.sign) (sym first.whole ∙ second.whole) in
       let prefix = same_part l.prefix k.prefix _ _ (a.prefix ∙ sym b.prefix) sign.1 in
       let integer = same_part l.integer k.integer _ _ (omega (arith, a.integer, b.integer)) prefix.1 in
