@@ -37,13 +37,9 @@ pub extern "C" fn __multi3(a: u128, b: u128) -> u128 {
     (other << 32 | low & LOW) as u128 | (high as u128) << 64
 }
 
-/// Returns a number of 128 bits, shifted left by fewer than 128 bits.
+/// Returns a number of 128 bits, shifted left by fewer than 128 bits: multiplied by a power of two.
 #[unsafe(no_mangle)]
 pub extern "C" fn __ashlti3(value: u128, count: u32) -> u128 {
-    let (low, high) = (value as u64, (value >> 64) as u64);
-    let (low, high) = match count < 64 {
-        true => (low << count, high << count | low >> 1 >> (63 - count)),
-        false => (0, low << (count - 64)),
-    };
-    low as u128 | (high as u128) << 64
+    let power = (1u64 << (count % 64)) as u128;
+    __multi3(value, if count < 64 { power } else { power << 64 })
 }

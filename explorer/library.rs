@@ -90,13 +90,13 @@ pub extern "C" fn literal(low: u64, high: u64, exponent: u8, point: u8, length: 
             return out.write_str(r#"{"parts":[],"error":"not read"}"#);
         };
         let refusal = syntax.read(text).err();
-        if let Some(special) = refusal.and_then(|_| SPECIALS.read(&syntax, text)) {
-            let (sign, rest) = text.split_at(special.sign.map_or(0, |_| 1));
-            put_parts(out, &[("sign", sign), ("special", rest)])?;
-            return out.write_str("}");
-        }
-        match syntax.read_prefix(text) {
-            Ok(Front { parts, .. }) => put_parts(
+        let special = refusal.and_then(|_| SPECIALS.read(&syntax, text));
+        match (special, syntax.read_prefix(text)) {
+            (Some(special), _) => {
+                let (sign, rest) = text.split_at(special.sign.map_or(0, |_| 1));
+                put_parts(out, &[("sign", sign), ("special", rest)])?;
+            }
+            (None, Ok(Front { parts, .. })) => put_parts(
                 out,
                 &[
                     ("sign", parts.sign),
@@ -110,12 +110,11 @@ pub extern "C" fn literal(low: u64, high: u64, exponent: u8, point: u8, length: 
                     ("suffix", parts.suffix),
                 ],
             )?,
-            Err(_) => put_parts(out, &[])?,
+            (None, Err(_)) => put_parts(out, &[])?,
         }
-        if let Some(error) = refusal {
-            let ((start, end), mask) = (error.span(), Word(error.mask()));
-            write!(out, r#","error":{},"mask":{mask},"start":{start},"end":{end}"#, Quoted(error))?;
-            write!(out, r#","validUpTo":{}"#, error.valid_up_to())?;
+        if let (None, Some(error)) = (special, refusal) {
+            let (mask, (start, end), right) = (Word(error.mask()), error.span(), error.valid_up_to());
+            write!(out, r#","error":{},"mask":{mask},"start":{start},"end":{end},"validUpTo":{right}"#, Quoted(error))?;
         }
         out.write_str("}")
     })
