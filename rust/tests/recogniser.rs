@@ -228,7 +228,7 @@ impl<'a> Syntax<'a> {
             let cases = roles.filter(|&(role, _)| self.plays(changed[at], role) && bare.begun(&changed).is_some());
             blamed = mask(cases.map(|(_, flag)| flag));
             cause = if blamed == 0 { "byte" } else { "case" };
-        } else if blamed < 1 << 41 {
+        } else if blamed.trailing_zeros() < 41 {
             let end = if is_other(&stop[at]) { at } else { at + 1 };
             span = stop[..end].iter().rposition(is_other).map_or(0, |other| other + 1)..end;
         }
