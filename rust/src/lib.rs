@@ -44,7 +44,7 @@
 //! |---|---|
 //! | write a format as a constant | [`NumberFormatBuilder`] and its [`build_or_panic`][NumberFormatBuilder::build_or_panic] |
 //! | take a checked format as an argument | [`Format`] |
-//! | read numbers | [`Syntax`][literal::Syntax], or a [`Reader`][literal::Reader] for many texts; [`FormatView::mantissa_digit`] for the value of a digit |
+//! | read numbers | [`Syntax`][literal::Syntax], or a [`Reader`][literal::Reader] for many texts; [`Specials`][literal::Specials] for NaN and infinity; [`FormatView::mantissa_digit`] for the value of a digit |
 //! | write a reader of your own | [`FormatView::is_separator`], [`separators`][FormatView::separators], [`role_of`][FormatView::role_of] |
 //! | read the fields of any word, lawful or not | [`FormatView`]; [`NumberFormat`] for a word that is known at compile time |
 //! | parse settings | `str::parse` for each [`Edit`], or [`Edit::flag`] and [`Edit::byte`]; [`collect`][Iterator::collect] to turn edits into a builder, and [`build_format`][NumberFormatBuilder::build_format] to check it |

@@ -2,29 +2,39 @@
 //!
 //! A [`Syntax`] is a lawful format with an exponent character and a decimal point or, for integers alone, without both.
 //! A [`Reader`] has tables of a syntax, so that it reads a text in less time. Special values, such as NaN and infinity,
-//! are not literals.
+//! are not literals: [`Specials`] reads them.
 //!
 //! ```
 //! use peltzivar::format::STANDARD;
 //! use peltzivar::literal::{Reader, Syntax};
 //!
-//! let reader = Reader::new(Syntax::new(STANDARD, b'e', b'.')?);
-//! let parts = reader.read(b"-1.25e3").unwrap();
+//! /// The numbers of the standard format. Its tables are made when this is compiled.
+//! static READER: Reader = match Syntax::new(STANDARD, b'e', b'.') {
+//!     Ok(syntax) => Reader::new(syntax),
+//!     Err(_) => panic!(),
+//! };
+//! let parts = READER.read(b"-1.25e3").unwrap();
 //! assert_eq!((parts.sign, parts.integer, parts.fraction, parts.exponent), (&b"-"[..], &b"1"[..], &b"25"[..], &b"3"[..]));
 //!
 //! // A second decimal point is refused. What is before it is a literal.
-//! assert_eq!(reader.read(b"1.25.3").unwrap_err().valid_up_to(), 4);
-//! assert_eq!(reader.read_prefix(b"1.25.3").unwrap().size, 4);
-//! # Ok::<(), peltzivar::Error>(())
+//! assert_eq!(READER.read(b"1.25.3").unwrap_err().valid_up_to(), 4);
+//! assert_eq!(READER.read_prefix(b"1.25.3").unwrap().size, 4);
 //! ```
 
 #[allow(clippy::needless_lifetimes, reason = "as it is proved")]
 mod read;
 mod sentence;
+#[allow(
+    clippy::exhaustive_enums,
+    clippy::exhaustive_structs,
+    reason = "callers write spellings, and special values cannot grow"
+)]
+mod specials;
+#[allow(clippy::redundant_pattern_matching, reason = "as it is proved")]
 mod steps;
 mod syntax;
-#[allow(clippy::needless_range_loop, reason = "as it is proved")]
 mod tables;
 
 pub use read::{Front, Parts, ReadError, Reader};
+pub use specials::{Sign, Special, Specials, Spelling};
 pub use syntax::{Options, Syntax};

@@ -5,7 +5,7 @@
 #[path = "../examples/recipes.rs"]
 mod recipes;
 
-use peltzivar::literal::{Parts, ReadError, Reader, Syntax};
+use peltzivar::literal::{Parts, ReadError, Reader, Sign, Special, Specials, Spelling, Syntax};
 use peltzivar::{Edit, FlagSetter, FormatView, NumberFormatBuilder};
 use recipes::RECIPES;
 
@@ -23,6 +23,9 @@ fn table(title: &str) -> impl Iterator<Item = Vec<&'static str>> {
 fn texts(cell: &'static str) -> impl Iterator<Item = &'static str> {
     cell.split("` `")
 }
+
+/// The spellings of special values that the page has.
+const SPECIALS: Specials = Specials { nan: Some(b"NaN"), inf: Some(b"inf"), infinity: None };
 
 /// Returns the word that settings describe.
 fn word(settings: &str) -> u128 {
@@ -58,12 +61,6 @@ fn read<'a>(reader: &Reader, syntax: Syntax, text: &'a [u8]) -> Result<Parts<'a>
     result
 }
 
-/// Returns whether a text is a special value, which is not a literal.
-fn is_special(text: &str) -> bool {
-    let letters = text.trim_start_matches(['+', '-']).replace('_', "").to_lowercase();
-    matches!(letters.as_str(), "nan" | "inf" | "infinity")
-}
-
 /// Each flag, by the texts in its row, with the flag and without it. A flag that allows digit separators changes the texts
 /// that it accepts, and any other flag those that it rejects.
 #[test]
@@ -73,12 +70,13 @@ fn flags_accept_and_reject_the_texts_of_the_page() {
         let mask = Edit::Flag(name.parse::<FlagSetter>().unwrap(), true).mask();
         let set = word(&format!("{with} {name}=true"));
         let texts = texts(accepted).map(|text| (text, true)).chain(texts(rejected).map(|text| (text, false)));
-        for (text, is_accepted) in texts.filter(|(text, _)| !is_special(text)) {
+        for (text, is_accepted) in texts {
             let changes = is_accepted == (mask >> 32 != 0);
             for (word, wanted) in [(set, is_accepted), (set & !mask, is_accepted != changes)] {
                 let syntax = syntax(word);
                 let result = read(&Reader::new(syntax), syntax, text.as_bytes());
-                assert_eq!(result.is_ok(), wanted, "{word:#034X}: {text}: {result:?}");
+                let special = SPECIALS.read(&syntax, text.as_bytes());
+                assert_eq!(result.is_ok() || special.is_some(), wanted, "{word:#034X}: {text}: {result:?}");
             }
         }
     }
@@ -126,6 +124,15 @@ fn parts_are_known() {
     }
 }
 
+#[test]
+fn special_values_are_known() {
+    let special = |settings, text: &str| SPECIALS.read(&syntax(word(settings)), text.as_bytes());
+    let separators = "digit_separator=105 special_digit_separator=true";
+    assert_eq!(special("", "-nan"), Some(Special { sign: Some(Sign::Minus), spelling: Spelling::Nan }));
+    assert_eq!(special(separators, "iINF"), Some(Special { sign: None, spelling: Spelling::Inf }));
+    assert_eq!((special(separators, "nf"), special("", "1"), special("no_special=true", "inf")), (None, None, None));
+}
+
 /// Returns the syntax of a recipe. A recipe whose name ends in `_INTEGER` has integers alone.
 fn recipe(name: &str) -> Syntax {
     let (_, word, exponent) = RECIPES.into_iter().find(|recipe| recipe.0 == name).expect(name);
@@ -135,17 +142,19 @@ fn recipe(name: &str) -> Syntax {
 
 #[test]
 fn recipes_accept_and_reject_what_their_grammars_do() {
+    let specials = Specials { nan: Some(b"nan"), inf: Some(b"inf"), infinity: Some(b"infinity") };
     let rows = include_str!("literals.txt").lines();
     for row in rows.filter(|row| !row.is_empty() && !row.starts_with('#')) {
         let [name, mark, text] = [0, 1, 2].map(|column| row.split_whitespace().nth(column).expect(row));
         let wanted = match mark {
-            "+" | "-!" => !is_special(text),
+            "+" | "-!" => true,
             "-" | "+!" => false,
             _ => panic!("{row}"),
         };
         let syntax = recipe(name);
         let result = read(&Reader::new(syntax), syntax, text.as_bytes());
-        assert_eq!(result.is_ok(), wanted, "{row}: {result:?}");
+        let special = specials.read(&syntax, text.as_bytes());
+        assert_eq!(result.is_ok() || special.is_some(), wanted, "{row}: {result:?}");
     }
 }
 

@@ -73,17 +73,24 @@ REPLACED = [
     ("digit.rt", "VALUES[c as usize] as u32", "VALUES[c as usize]"),
     # A constant panics with a text.
     ("short_text.rt", "pub fn as_str(", "pub const fn as_str("),
+    # Rattle's `split_at` is not const.
+    ("read.rt", "\nfn split_front<", "\nconst fn split_front<"),
+    ("read.rt", "\nfn cut<", "\nconst fn cut<"),
+    ("read.rt", "\nfn read<", "\nconst fn read<"),
+    ("read.rt", "\nfn read_prefix<", "\nconst fn read_prefix<"),
 ]
 
 # Texts that plain Rust replaces in every file, wherever they occur.
 EVERYWHERE = [
     ("fn fmt<W: fmt::Write>(&self, f: &mut fmt::Formatter<W>)", "fn fmt(&self, f: &mut fmt::Formatter<'_>)"),
     ("rattlefmt::skip", "rustfmt::skip"),
+    ("pub fn read<'a>(", "pub const fn read<'a>("),
+    ("pub fn read_prefix<'a>(", "pub const fn read_prefix<'a>("),
 ]
 
 # Types that may grow. In plain Rust, a match outside the crate has to have an arm for what they lack today.
 GROWS = {
-    "enum": "ArgumentKind Byte Cause Class Edit Error FlagSetter Note Part Radixes Role Rule Setter SettingErrorKind",
+    "enum": "ArgumentKind Byte Cause Class Edit Error FlagSetter Note Part Place Radixes Role Rule Setter SettingErrorKind",
     "struct": "Front<'a> NamedByte Options Parts<'a> Separators",
 }
 for kind, types in GROWS.items():

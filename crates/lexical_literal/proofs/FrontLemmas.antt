@@ -9,7 +9,7 @@ use Rattle.lexical_util.specs.declared.format_flags.Part.TheVariants as parts
 use Rattle.lexical_literal.specs.Notation.{Notation}
 use Rattle.lexical_literal.specs.Run.{is_place}
 use Rattle.lexical_literal.specs.Front.{IsFront}
-use Rattle.lexical_literal.specs.Additions.Summary.{implies, has_digit, is_lone, is_led, first_digit, after_sign, after_point, may_lead, needs_exponent, may_follow, may_stop, may_end, digits_suffice, ends, after_digit, after_separator, takes_digit, is_open, is_signed, forbids_plus, takes, after, scan, is_accepted, start, no_cuts}
+use Rattle.lexical_literal.specs.Additions.Summary.{implies, has_digit, is_lone, is_led, after_digit, after_mark, after_point, may_lead, needs_exponent, may_follow, continues, gap_fits, digits_suffice, ends, is_open, is_signed, forbids_plus, takes, after, scan, is_accepted, start, no_cuts}
 use Rattle.lexical_literal.specs.declared.steps.Stage.{Stage}
 use Rattle.lexical_literal.specs.declared.steps.Stage.TheVariants as stages
 use Rattle.lexical_literal.specs.declared.steps.Summary.{Summary}
@@ -27,7 +27,7 @@ record CanGoOn (m : Notation) (s : Summary) : Type 0 where
   led : is_led s.stage ≡ true → may_lead m ≡ true
 
 -- The first digit is no leading zero yet.
-first : (zero gap : Bool) → is_led (first_digit gap zero) ≡ true → ⊥
+first : (zero gap : Bool) → is_led (after_digit stages.Empty gap zero) ≡ true → ⊥
 first zero gap is = grind arith
 
 module _ (m : Notation) where
@@ -41,20 +41,16 @@ module _ (m : Notation) where
   led_next _ gap zero may led is = absurd (false≢true is)
 
   open_next : (part : Part) (stage : Stage) → is_open m part (has_digit stage) (may_follow m stage) ≡ true
-      → is_open m part (has_digit (after_separator stage)) (may_follow m (after_separator stage)) ≡ true
+      → is_open m part (has_digit (after_mark stage)) (may_follow m (after_mark stage)) ≡ true
   open_next part stages.Start is = is
   open_next part _ is = is
 
-  led_kept : (stage : Stage) → is_led (after_separator stage) ≡ true → is_led stage ≡ true
+  led_kept : (stage : Stage) → is_led (after_mark stage) ≡ true → is_led stage ≡ true
   led_kept stages.Start is = is
   led_kept _ is = is
 
-  can_sign : (s : Summary) → CanGoOn m s → CanGoOn m (record s { stage = after_sign s.stage })
-  can_sign s can = go s.stage refl where
-    go : (stage : Stage) → s.stage ≡ stage → CanGoOn m (record s { stage = after_sign stage })
-    go stages.Start is = record { closes = subst (λ t. IsOpen m s.part (has_digit t) s.gap (may_follow m t)) is can.closes; led = λ led. absurd (false≢true led) }
-    go stages.Mark is = record { closes = subst (λ t. IsOpen m s.part (has_digit t) s.gap (may_follow m t)) is can.closes; led = λ led. absurd (false≢true led) }
-    go stage is = subst (λ t. CanGoOn m (record s { stage = t })) is can
+  can_sign : (s : Summary) → CanGoOn m s → CanGoOn m (record s { stage = after_mark s.stage })
+  can_sign s can = record { closes = λ gap. open_next s.part s.stage (can.closes gap); led = λ led. can.led (led_kept s.stage led) }
 
   point_unled : (digit : Bool) → is_led (after_point digit) ≡ true → ⊥
   point_unled digit is = grind arith
@@ -62,7 +58,7 @@ module _ (m : Notation) where
   -- What can go on does so after each byte that is taken.
   goes_on : (s : Summary) (plus zero : Bool) (r : Role) → CanGoOn m s → takes m s plus r ≡ true → CanGoOn m (after s zero r)
   goes_on s plus zero roles.Digit can is =
-      let may = and_parts (takes_digit m s.part (has_digit s.stage) s.gap) (may_follow m s.stage) (and_parts (is_signed m s.part s.stage) _ is).1 in
+      let may = and_parts (gap_fits m s.part (has_digit s.stage) s.gap true) (may_follow m s.stage) (and_parts (is_signed m s.part s.stage) _ is).1 in
       record { closes = λ gap. absurd (false≢true gap); led = led_next s.stage s.gap zero may.1 can.led }
   goes_on s plus zero roles.Separator can is =
       let is_closed = and_parts _ (is_open m s.part (has_digit s.stage) (may_follow m s.stage)) (and_parts (is_signed m s.part s.stage) _ is).1 in
@@ -123,17 +119,20 @@ module _ (m : Notation) where
           (ends_here (after_digit stage gap true) false (settled m part (after_digit stage gap true) (digit_settles stage gap true)) (digit_seen stage gap true) refl)
           (led_next stage gap true may can.led))
     ] where
+      seen : (digit : Bool) → is_place m part digit false ≡ true → digit ≡ true
+      seen true trailing = refl
+      seen false trailing = absurd (false≢true trailing)
+
       closes : (digit gap next : Bool) → IsOpen m part digit gap next
-          → ((digit ≡ true) × (may_end m part digit gap ≡ true)) ⊎ ((takes_digit m part digit gap ≡ true) × (digit ≡ true → next ≡ true))
+          → ((digit ≡ true) × (gap_fits m part digit gap false ≡ true)) ⊎ ((gap_fits m part digit gap true ≡ true) × (digit ≡ true → next ≡ true))
       closes true false next can = inl (refl, refl)
       closes false false next can = inr (refl, λ none. absurd (false≢true none))
-      closes false true next can = inr (can refl, λ none. absurd (false≢true none))
-      closes true true next can = elim (or_cases (is_place m part true false) _ (can refl)) [
-        | inl trailing ↦ inl (refl, trailing)
-        | inr both ↦ let each = and_parts (is_place m part true true) next both in inr (each.0, λ _. each.1)
+      closes digit true next can = elim (or_cases (is_place m part digit true && next) _ (can refl)) [
+        | inl both ↦ let each = and_parts (is_place m part digit true) next both in inr (each.0, λ _. each.1)
+        | inr trailing ↦ inl (seen digit trailing, trailing)
       ]
 
-      ends_here : (last : Stage) (gap : Bool) → is_signed m part last ≡ true → has_digit last ≡ true → may_end m part (has_digit last) gap ≡ true
+      ends_here : (last : Stage) (gap : Bool) → is_signed m part last ≡ true → has_digit last ≡ true → gap_fits m part (has_digit last) gap false ≡ true
           → ends m (reading part last gap) ≡ true
       ends_here last gap signed digit end = and_from _ _ signed (and_from _ _ end (digits_met part last digit))
 
@@ -217,7 +216,7 @@ module _ (m : Notation) where
       open_is parts.Exponent same = exponent_completed s.stage s.gap (moved parts.Exponent same)
 
       go : (e : Bool) → s.ended ≡ e → Completed s
-      go true over = ([], ap (λ t. t || (ends m s && may_stop m s.part s.stage)) over)
+      go true over = ([], ap (λ t. t || (ends m s && continues m s.part s.stage roles.Suffix)) over)
       go false going = subst (λ e. Completed (record s { ended = e })) (sym going) (open_is s.part refl)
 
     -- What has been read is a front of a literal.

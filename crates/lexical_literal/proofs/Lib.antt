@@ -11,3 +11,7 @@ mod PartLemmas
 mod WriterLemmas
 mod ExampleLemmas
 mod TableLemmas
+mod SpecialLemmas
+mod CauseLemmas
+mod RefusalLemmas
+mod JointLemmas

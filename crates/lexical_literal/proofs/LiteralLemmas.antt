@@ -11,11 +11,11 @@ use Rattle.lexical_util.specs.declared.format_flags.Part.TheVariants as parts
 use Rattle.lexical_literal.specs.Notation.{Notation}
 use Rattle.lexical_literal.specs.Run.{is_run}
 use Rattle.lexical_literal.specs.Literal.{Literal, IsLiteral, Reads, text_of, requirement, is_present, is_absent, is_plus, is_none_or_one, is_none_or_prefix, has_leading_zero}
-use Rattle.lexical_literal.specs.Additions.Summary.{Cuts, implies, has_digit, is_fresh, is_lone, is_led, is_bare, after_digit, after_sign, after_point, takes_digit, may_follow, needs_exponent, is_signed, may_end, ends, may_stop, may_scale, may_float, start, no_cuts}
+use Rattle.lexical_literal.specs.Additions.Summary.{Cuts, implies, has_digit, is_fresh, is_lone, is_led, is_bare, after_digit, after_mark, after_point, gap_fits, may_follow, needs_exponent, is_signed, ends, continues, may_float, start, no_cuts}
 use Rattle.lexical_literal.specs.declared.steps.Stage.{Stage}
 use Rattle.lexical_literal.specs.declared.steps.Stage.TheVariants as stages
 use Rattle.lexical_literal.specs.declared.steps.Summary.{Summary}
-use Rattle.lexical_literal.proofs.RunLemmas.{is_rest, run_from_start, digits_present}
+use Rattle.lexical_literal.proofs.RunLemmas.{is_rest, rest_of_none, digits_present}
 use Rattle.lexical_literal.proofs.ScanLemmas.{HasRoles, Accepts, Arrives, plus, arrives_byte, digit_role, is_role}
 use Rattle.lexical_literal.proofs.StepLemmas.{reading, begins, led_after, Taken, Run, run_of, run_arrives, stop_arrives}
 
@@ -124,12 +124,12 @@ module _ (m : Notation) (h : HasRoles m) where
       elim (r.bare_is bare) [ inl first ↦ false≢true (sym other ∙ first.0) | inr zero ↦ false≢true (sym after ∙ zero.1) ]
 
   fit_of : (part : Part) (stage : Stage) (text : List ℕ) → has_digit stage ≡ false → (r : Run m part stage false text)
-      → may_end m part (has_digit r.last) r.last_gap ≡ true → is_rest m part false false r.run ≡ true
+      → gap_fits m part (has_digit r.last) r.last_gap false ≡ true → is_rest m part false false r.run ≡ true
   fit_of part stage text none r end = subst (λ t. is_rest m part t false r.run ≡ true) none (r.fit end)
 
   -- Whether a part has digits, where none were read before it.
   any_of : (part : Part) (stage : Stage) (text : List ℕ) → has_digit stage ≡ false → (r : Run m part stage false text)
-      → may_end m part (has_digit r.last) r.last_gap ≡ true → has_digit r.last ≡ is_present r.run
+      → gap_fits m part (has_digit r.last) r.last_gap false ≡ true → has_digit r.last ≡ is_present r.run
   any_of part stage text none r end = r.seen ∙ ap (λ t. list_any (m.digit part) r.run || t) none ∙ or_false (list_any (m.digit part) r.run)
       ∙ digits_present m part r.run (fit_of part stage text none r end)
 
@@ -146,7 +146,7 @@ module _ (m : Notation) (h : HasRoles m) where
       → Plain text × (is_signed m parts.Exponent stage ≡ true)
   plain_of stage text none r end one =
       let both = and_parts (is_signed m parts.Exponent r.last) _ (and_parts _ true end).0 in
-      let fits = and_parts (may_end m parts.Exponent (has_digit r.last) r.last_gap) _ both.1 in (
+      let fits = and_parts (gap_fits m parts.Exponent (has_digit r.last) r.last_gap false) _ both.1 in (
         record {
           exponent = r.run;
           suffix = r.rest;
@@ -210,8 +210,8 @@ module _ (m : Notation) (h : HasRoles m) where
         | inr (inr (inr (inl sign))) ↦
             let took = and_parts (is_fresh r.last) _ sign.4 in
             let fresh = r.fresh_is took.0 in
-            let p = exponent_plain sign.1 (subst (λ o. Accepts m (Some (reading parts.Exponent (after_sign o) false)) sign.1) fresh.2
-            (subst (λ g. Accepts m (Some (reading parts.Exponent (after_sign r.last) g)) sign.1) fresh.3 sign.5)) in
+            let p = exponent_plain sign.1 (subst (λ o. Accepts m (Some (reading parts.Exponent (after_mark o) false)) sign.1) fresh.2
+            (subst (λ g. Accepts m (Some (reading parts.Exponent (after_mark r.last) g)) sign.1) fresh.3 sign.5)) in
             power_from b sign.1 exponent_character may p (sign.0 ∷ []) sign.3 took.1 (always _ _ refl) text (r.whole ∙ ap (λ t. t ++ r.rest) fresh.1 ∙ sign.2)
         | inr (inr (inr (inr prefix))) ↦ absurd (not_bare parts.Exponent stages.Mark text refl refl r prefix.4)
       ]
@@ -253,17 +253,17 @@ module _ (m : Notation) (h : HasRoles m) where
       let r = run_of m parts.Fraction h (after_point any) false text is in
       elim r.follows [
         | inl done ↦
-            let both = and_parts _ (may_stop m parts.Fraction r.last) done.0 in
+            let both = and_parts _ (continues m parts.Fraction r.last roles.Suffix) done.0 in
             facts r both.0 [] [] [] r.rest refl (no_tail r.rest both.1 done.1)
         | inr (inl again) ↦ absurd (false≢true (and_parts _ false again.4).1)
         | inr (inr (inl exponent_character)) ↦
-            let both = and_parts _ (may_scale m parts.Fraction r.last) exponent_character.4 in
+            let both = and_parts _ (continues m parts.Fraction r.last roles.Exponent) exponent_character.4 in
             let e = power_of exponent_character.0 exponent_character.3 both.1 exponent_character.1 exponent_character.5 in
             facts r both.0 (exponent_character.0 ∷ []) e.sign e.exponent e.suffix (exponent_character.2 ∙ ap (λ t. exponent_character.0 ∷ t) e.whole) e.facts
         | inr (inr (inr (inl sign))) ↦ absurd (false≢true (sym (point_settles any) ∙ (r.fresh_is (and_parts (is_fresh r.last) _ sign.4).0).0))
         | inr (inr (inr (inr prefix))) ↦ absurd (not_bare parts.Fraction (after_point any) text (point_bare any) (point_begins any) r prefix.4)
       ] where
-        counted : (r : Run m parts.Fraction (after_point any) false text) → may_end m parts.Fraction (has_digit r.last) r.last_gap ≡ true
+        counted : (r : Run m parts.Fraction (after_point any) false text) → gap_fits m parts.Fraction (has_digit r.last) r.last_gap false ≡ true
             → not (is_lone r.last) ≡ (any || is_present r.run)
         counted r end = r.counts ∙ (λ j. digits_present m parts.Fraction r.run (fit_of parts.Fraction (after_point any) text (point_seen any) r end) j || point_counts any j)
             ∙ or_swap (is_present r.run) any
@@ -271,7 +271,7 @@ module _ (m : Notation) (h : HasRoles m) where
         facts : (r : Run m parts.Fraction (after_point any) false text) → ends m (reading parts.Fraction r.last r.last_gap) ≡ true
             → (exponent_character sign exponent suffix : List ℕ) → r.rest ≡ exponent_character ++ (sign ++ (exponent ++ suffix)) → TailFacts exponent_character sign exponent suffix → Body any led (p ∷ text)
         facts r end exponent_character sign exponent suffix whole tail =
-            let fits = and_parts (may_end m parts.Fraction (has_digit r.last) r.last_gap) _ (and_parts (is_signed m parts.Fraction r.last) _ end).1 in
+            let fits = and_parts (gap_fits m parts.Fraction (has_digit r.last) r.last_gap false) _ (and_parts (is_signed m parts.Fraction r.last) _ end).1 in
             let digits = and_parts (implies (m.flag layout.required_fraction_digits) (has_digit r.last)) _ fits.1 in
             let seen = any_of parts.Fraction (after_point any) text (point_seen any) r fits.0 in
             record {
@@ -311,7 +311,7 @@ module _ (m : Notation) (h : HasRoles m) where
       ⊎ Taken m (reading parts.Integer r.last r.last_gap) roles.Prefix r.rest)
   number_of stage text none r = elim r.follows [
     | inl done ↦
-        let both = and_parts _ (may_stop m parts.Integer r.last) done.0 in
+        let both = and_parts _ (continues m parts.Integer r.last roles.Suffix) done.0 in
         let stop = and_parts (not (needs_exponent m)) _ both.1 in
         let whole = and_parts (has_digit r.last) _ stop.1 in
         inl (number both.0 (record {
@@ -341,7 +341,7 @@ module _ (m : Notation) (h : HasRoles m) where
         inl (number both.0 (subst (λ t. Body (has_digit r.last) (is_led r.last) t) (sym point.2)
         (fraction_of point.0 (has_digit r.last) (is_led r.last) point.1 point.3 (digits both.0) both.1 point.5)))
     | inr (inr (inl exponent_character)) ↦
-        let both = and_parts _ (may_scale m parts.Integer r.last) exponent_character.4 in
+        let both = and_parts _ (continues m parts.Integer r.last roles.Exponent) exponent_character.4 in
         let may = and_parts (not (m.flag layout.no_exponent_notation)) _ both.1 in
         let float = and_parts (may_float m r.last) _ may.1 in
         let scale = and_parts (implies (m.flag layout.required_mantissa_digits) (has_digit r.last)) _ float.1 in
@@ -372,12 +372,12 @@ module _ (m : Notation) (h : HasRoles m) where
     | inr (inr (inr (inr prefix))) ↦ inr (inr prefix)
   ] where
     digits : ends m (reading parts.Integer r.last r.last_gap) ≡ true → Met m layout.required_integer_digits (has_digit r.last)
-    digits end = (and_parts (may_end m parts.Integer (has_digit r.last) r.last_gap) _ (and_parts (is_signed m parts.Integer r.last) _ end).1).1
+    digits end = (and_parts (gap_fits m parts.Integer (has_digit r.last) r.last_gap false) _ (and_parts (is_signed m parts.Integer r.last) _ end).1).1
 
     number : ends m (reading parts.Integer r.last r.last_gap) ≡ true → Body (has_digit r.last) (is_led r.last) r.rest → Number stage text
     number end body =
         let both = and_parts (is_signed m parts.Integer r.last) _ end in
-        let fits = and_parts (may_end m parts.Integer (has_digit r.last) r.last_gap) _ both.1 in
+        let fits = and_parts (gap_fits m parts.Integer (has_digit r.last) r.last_gap false) _ both.1 in
         record {
           run = r.run;
           rest = r.rest;
@@ -389,7 +389,7 @@ module _ (m : Notation) (h : HasRoles m) where
         }
 
   pub as_run : (part : Part) (run : List ℕ) → is_rest m part false false run ≡ is_run m part run
-  as_run part run = run_from_start m part run
+  as_run part run = rest_of_none m part run
 
   -- The parts of a number, after its sign and its prefix.
   build : (sign prefix : List ℕ) (stage : Stage) (text all : List ℕ) → Number stage text → all ≡ sign ++ (prefix ++ text)
@@ -479,8 +479,8 @@ module _ (m : Notation) (h : HasRoles m) where
             let took = and_parts (is_fresh r.last) _ sign.4 in
             let fresh = r.fresh_is took.0 in
             let whole : text ≡ (sign.0 ∷ []) ++ sign.1 = r.whole ∙ ap (λ t. t ++ r.rest) fresh.1 ∙ sign.2 in
-            let r1 = run_of m parts.Integer h stages.Empty false sign.1 (subst (λ o. Accepts m (Some (reading parts.Integer (after_sign o) false)) sign.1) fresh.2
-            (subst (λ g. Accepts m (Some (reading parts.Integer (after_sign r.last) g)) sign.1) fresh.3 sign.5)) in
+            let r1 = run_of m parts.Integer h stages.Empty false sign.1 (subst (λ o. Accepts m (Some (reading parts.Integer (after_mark o) false)) sign.1) fresh.2
+            (subst (λ g. Accepts m (Some (reading parts.Integer (after_mark r.last) g)) sign.1) fresh.3 sign.5)) in
             elim (number_of stages.Empty sign.1 refl r1) [
               | inl n ↦ build (sign.0 ∷ []) [] stages.Empty sign.1 text n whole sign.3 took.1 (always _ _ refl) refl (λ run. refl)
               | inr (inl again) ↦ absurd (false≢true (r1.fresh_is (and_parts (is_fresh r1.last) _ again.4).0).0)
@@ -523,7 +523,7 @@ module _ (m : Notation) (h : HasRoles m) where
 
   -- What follows the mantissa.
   tail_arrives : (s : Summary) (exponent_character sign exponent suffix : List ℕ) (c : Cuts) → s.ended ≡ false → TailFacts exponent_character sign exponent suffix → ends m s ≡ true
-      → (is_absent exponent_character ≡ true → may_stop m s.part s.stage ≡ true) → (is_absent exponent_character ≡ false → may_scale m s.part s.stage ≡ true)
+      → (is_absent exponent_character ≡ true → continues m s.part s.stage roles.Suffix ≡ true) → (is_absent exponent_character ≡ false → continues m s.part s.stage roles.Exponent ≡ true)
       → Arrives m (Some s) c (exponent_character ++ (sign ++ (exponent ++ suffix)))
       (record c { exponent_character = plus exponent_character c.exponent_character; exponent_sign = plus sign c.exponent_sign; exponent = plus exponent c.exponent })
   tail_arrives s [] sign exponent suffix c going facts end stop scale =
@@ -603,13 +603,13 @@ module _ (m : Notation) (h : HasRoles m) where
         none_of none = ap is_present none
 
         stop_by : (exponent_character : List ℕ) → EndFacts (has_digit last) (is_led last) [] fraction exponent_character sign exponent suffix → is_absent exponent_character ≡ true
-            → may_stop m parts.Integer last ≡ true
+            → continues m parts.Integer last roles.Suffix ≡ true
         stop_by [] facts absent = and_from _ _ (not_set (needs_exponent m) facts.tail.needs_mark)
             (and_from _ _ (sym (or_false (has_digit last)) ∙ facts.some) facts.whole_led)
         stop_by (b ∷ exponent_character) facts absent = absurd (false≢true absent)
 
         scale_by : (exponent_character : List ℕ) → EndFacts (has_digit last) (is_led last) [] fraction exponent_character sign exponent suffix → is_absent exponent_character ≡ false
-            → may_scale m parts.Integer last ≡ true
+            → continues m parts.Integer last roles.Exponent ≡ true
         scale_by [] facts present = absurd (false≢true (sym present))
         scale_by (b ∷ exponent_character) facts present = and_from _ _ (not_set (m.flag layout.no_exponent_notation) facts.tail.no_mark) (and_from _ _ facts.float_led
             (and_from _ _ (bare (m.flag layout.required_mantissa_digits) (has_digit last) _ (none_of (facts.after_point refl)) facts.mantissa)
@@ -706,7 +706,7 @@ module _ (m : Notation) (h : HasRoles m) where
     new_led stages.Empty new = refl
     new_led _ new = absurd (false≢true new)
 
-    new_follows : (stage : Stage) → begins stage ≡ true → (takes_digit m parts.Integer (has_digit stage) false && may_follow m stage) ≡ true
+    new_follows : (stage : Stage) → begins stage ≡ true → (gap_fits m parts.Integer (has_digit stage) false true && may_follow m stage) ≡ true
     new_follows stages.Start new = refl
     new_follows stages.Empty new = refl
     new_follows _ new = absurd (false≢true new)

@@ -1,5 +1,5 @@
 -- A reader sees no difference between equivalent formats.
-use Rattle.std.proofs.Common.{ℕ, ◌≡◌, Bool, true, false, ◌&&◌, nat_lt, Option, Some, None, refl, sym, ap, ◌∙◌}
+use Rattle.std.proofs.Common.{ℕ, ◌≡◌, Bool, true, ◌&&◌, nat_lt, Option, Some, None, refl, arith}
 use Rattle.std.specs.List.{list_any}
 use Rattle.lexical_util.specs.Digits.{byte_value}
 use Rattle.lexical_util.specs.Layout as layout
@@ -18,14 +18,10 @@ module _ (r s : Record) (same : SameFormat r s) where
   same_radix parts.Exponent = same.exponent_radix
 
   same_separator : (byte : ℕ) → used_separator r byte ≡ used_separator s byte
-  same_separator byte = go (separator_allowed r) refl where
-    allowed : separator_allowed r ≡ separator_allowed s
-    allowed j = list_any (λ f. same.flags f j) layout.digit_separator_flags
-
-    go : (t : Bool) → separator_allowed r ≡ t → used_separator r byte ≡ used_separator s byte
-    go true is = λ j. allowed j && cased true (same.digit_separator is j) byte
-    go false is = ap (λ t. t && cased true (r.byte layout.digit_separator) byte) is
-        ∙ sym (ap (λ t. t && cased true (s.byte layout.digit_separator) byte) (sym allowed ∙ is))
+  same_separator byte = both (separator_allowed r) (separator_allowed s) _ _ (λ j. list_any (λ f. same.flags f j) layout.digit_separator_flags)
+      (λ is j. cased true (same.digit_separator is j) byte) where
+        both : (a b x y : Bool) → a ≡ b → (a ≡ true → x ≡ y) → (a && x) ≡ (b && y)
+        both a b x y same is = grind arith
 
   same_character : (options : Option Options) (byte : ℕ) → exponent_character_of r options byte ≡ exponent_character_of s options byte
   same_character None byte = refl

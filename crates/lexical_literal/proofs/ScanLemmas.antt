@@ -1,5 +1,6 @@
 -- How a text is read, byte by byte.
-use Rattle.std.proofs.Common.{ℕ, ◌≡◌, Bool, true, false, not, IsTrue, ◌==◌, ◌&&◌, ◌+◌, if◌then◌else◌, List, [], ◌∷◌, ◌++◌, Option, Some, None, refl, sym, ap, subst, ◌∙◌, arith}
+use Rattle.std.proofs.Common.{ℕ, ◌≡◌, Bool, true, false, not, IsTrue, ◌==◌, ◌&&◌, ◌+◌, if◌then◌else◌, List, [], ◌∷◌, ◌++◌, Option, Some, None}
+use Rattle.std.proofs.Common.{refl, sym, ap, subst, ◌∙◌, arith}
 use Rattle.std.proofs.lemmas.Bool.{false≢true, false_from_ne_true, or_left, eqb-true}
 use Rattle.lexical_util.specs.Layout as layout
 use Rattle.lexical_util.specs.declared.feature_format.roles.Role.{Role}
@@ -7,7 +8,8 @@ use Rattle.lexical_util.specs.declared.feature_format.roles.Role.TheVariants as 
 use Rattle.lexical_util.specs.declared.format_flags.Part.{Part}
 use Rattle.lexical_util.specs.declared.format_flags.Part.TheVariants as parts
 use Rattle.lexical_literal.specs.Notation.{Notation, role_set, IsOnlyRole}
-use Rattle.lexical_literal.specs.Additions.Summary.{Cuts, class_of, role_of, in_part, is_plus, is_zero, takes, after, move, scan, step, is_accepted, count, tally}
+use Rattle.lexical_literal.specs.Additions.Summary.{Cuts, class_of, role_of, in_part, is_plus, is_zero, takes, after}
+use Rattle.lexical_literal.specs.Additions.Summary.{move, scan, step, is_accepted, count, tally}
 use Rattle.lexical_literal.specs.declared.steps.Class.{Class}
 use Rattle.lexical_literal.specs.declared.steps.Class.TheVariants as classes
 use Rattle.lexical_literal.specs.declared.steps.Summary.{Summary}
@@ -101,7 +103,8 @@ module _ (m : Notation) (h : HasRoles m) where
     digit : (part : Part) → (b == 48) ≡ true → m.digit part b ≡ true
     digit part zero = ap (m.digit part) (eqb-true b 48 zero) ∙ h.zero_is_digit part
 
-    go : ((b == 48) ≡ true → m.digit parts.Integer b ≡ true) → ((b == 48) ≡ true → m.digit parts.Exponent b ≡ true) → is_zero (class_of m b) ≡ (b == 48)
+    go : ((b == 48) ≡ true → m.digit parts.Integer b ≡ true) → ((b == 48) ≡ true → m.digit parts.Exponent b ≡ true)
+        → is_zero (class_of m b) ≡ (b == 48)
     go integer exponent = grind arith
 
   -- What a role says of a byte.

@@ -9,7 +9,7 @@ use Rattle.lexical_util.specs.declared.format_flags.Part.{Part}
 use Rattle.lexical_util.specs.declared.format_flags.Part.TheVariants as parts
 use Rattle.lexical_literal.specs.Notation.{Notation, role_set}
 use Rattle.lexical_literal.specs.Literal.{is_none_or_one, has_leading_zero}
-use Rattle.lexical_literal.specs.Additions.Summary.{Cuts, has_digit, is_fresh, is_lone, is_led, is_bare, first_digit, needs_sign, may_lead, may_follow, after_digit, after_separator, may_end, takes_digit, is_open, is_signed, ends, may_stop, takes, after, add, digits_piece}
+use Rattle.lexical_literal.specs.Additions.Summary.{Cuts, has_digit, is_fresh, is_lone, is_led, is_bare, after_digit, needs_sign, may_lead, may_follow, after_mark, gap_fits, is_open, is_signed, ends, continues, takes, after, add, digits_piece}
 use Rattle.lexical_literal.specs.declared.steps.Stage.{Stage}
 use Rattle.lexical_literal.specs.declared.steps.Stage.TheVariants as stages
 use Rattle.lexical_literal.specs.declared.steps.Summary.{Summary}
@@ -35,7 +35,7 @@ Taken m s r text = (b : ℕ) × (rest : List ℕ) × (text ≡ b ∷ rest) × (r
 -- `Follows m s text` holds if `text` may follow the digits of a part.
 abbrev pub Follows : Notation → Summary → List ℕ → Type 0
 Follows m s text =
-    ((ends m s && may_stop m s.part s.stage) ≡ true) × (is_none_or_one m.suffix text ≡ true)
+    ((ends m s && continues m s.part s.stage roles.Suffix) ≡ true) × (is_none_or_one m.suffix text ≡ true)
     ⊎ (Taken m s roles.Point text ⊎ (Taken m s roles.Exponent text ⊎ (Taken m s roles.Sign text ⊎ Taken m s roles.Prefix text)))
 
 -- Nothing follows the suffix.
@@ -55,9 +55,9 @@ module _ (D : ByteSet) where
   or_other : (d y : Bool) → d ≡ false → y ≡ (d || y)
   or_other d y is = grind arith
 
-  led_first : (gap : Bool) (b : ℕ) (run : List ℕ) → D b ≡ true → led_after D (first_digit gap (b == 48)) run ≡ has_leading_zero D (b ∷ run)
+  led_first : (gap : Bool) (b : ℕ) (run : List ℕ) → D b ≡ true → led_after D (after_digit stages.Empty gap (b == 48)) run ≡ has_leading_zero D (b ∷ run)
   led_first gap b run is = go (b == 48) gap ∙ ap (λ t. if t then (b == 48) && list_any D run else has_leading_zero D run) (sym is) where
-    go : (t gap : Bool) → led_after D (first_digit gap t) run ≡ (t && list_any D run)
+    go : (t gap : Bool) → led_after D (after_digit stages.Empty gap t) run ≡ (t && list_any D run)
     go true true = refl
     go true false = refl
     go false gap = refl
@@ -69,7 +69,7 @@ module _ (D : ByteSet) where
   led_digit stages.Zero gap b run is = or_seen (D b) (list_any D run) is
   led_digit _ gap b run is = refl
 
-  led_separator : (stage : Stage) (b : ℕ) (run : List ℕ) → D b ≡ false → led_after D (after_separator stage) run ≡ led_after D stage (b ∷ run)
+  led_separator : (stage : Stage) (b : ℕ) (run : List ℕ) → D b ≡ false → led_after D (after_mark stage) run ≡ led_after D stage (b ∷ run)
   led_separator stages.Start b run is = ap (λ t. if t then (b == 48) && list_any D run else has_leading_zero D run) (sym is)
   led_separator stages.Empty b run is = ap (λ t. if t then (b == 48) && list_any D run else has_leading_zero D run) (sym is)
   led_separator stages.Bare b run is = or_other (D b) (list_any D run) is
@@ -80,7 +80,7 @@ pub digit_seen : (stage : Stage) (gap zero : Bool) → has_digit (after_digit st
 digit_seen stages.Start gap zero = grind arith
 digit_seen _ gap zero = grind arith
 
-pub same_seen : (stage : Stage) → has_digit (after_separator stage) ≡ has_digit stage
+pub same_seen : (stage : Stage) → has_digit (after_mark stage) ≡ has_digit stage
 same_seen stages.Start = refl
 same_seen _ = refl
 
@@ -89,7 +89,7 @@ digit_counts : (stage : Stage) (gap zero : Bool) → is_lone (after_digit stage 
 digit_counts stages.Start gap zero = grind arith
 digit_counts _ gap zero = grind arith
 
-same_counts : (stage : Stage) → is_lone (after_separator stage) ≡ is_lone stage
+same_counts : (stage : Stage) → is_lone (after_mark stage) ≡ is_lone stage
 same_counts stages.Start = refl
 same_counts _ = refl
 
@@ -98,7 +98,7 @@ pub digit_settles : (stage : Stage) (gap zero : Bool) → is_fresh (after_digit 
 digit_settles stages.Start gap zero = grind arith
 digit_settles _ gap zero = grind arith
 
-separator_settles : (stage : Stage) → is_fresh (after_separator stage) ≡ false
+separator_settles : (stage : Stage) → is_fresh (after_mark stage) ≡ false
 separator_settles stages.Start = refl
 separator_settles _ = refl
 
@@ -108,7 +108,7 @@ begins stages.Start = true
 begins stages.Empty = true
 begins _ = false
 
-bare_first : (zero gap : Bool) → is_bare (first_digit gap zero) ≡ true → (zero ≡ true) × (gap ≡ false)
+bare_first : (zero gap : Bool) → is_bare (after_digit stages.Empty gap zero) ≡ true → (zero ≡ true) × (gap ≡ false)
 bare_first zero gap is = grind arith
 
 -- Only a digit 0 that is first is bare.
@@ -122,7 +122,7 @@ begins_without : (stage : Stage) → has_digit stage ≡ true → begins stage �
 begins_without stages.Start digit is = grind arith
 begins_without _ digit is = grind arith
 
-bare_separator : (stage : Stage) → is_bare (after_separator stage) ≡ true → ⊥
+bare_separator : (stage : Stage) → is_bare (after_mark stage) ≡ true → ⊥
 bare_separator stages.Start is = grind arith
 bare_separator _ is = grind arith
 
@@ -135,7 +135,7 @@ pub record Run (m : Notation) (part : Part) (stage : Stage) (gap : Bool) (text :
   pub whole : text ≡ run ++ rest
   pub seen : has_digit last ≡ (list_any (m.digit part) run || has_digit stage)
   pub led : is_led last ≡ led_after (m.digit part) stage run
-  pub fit : may_end m part (has_digit last) last_gap ≡ true → is_rest m part (has_digit stage) gap run ≡ true
+  pub fit : gap_fits m part (has_digit last) last_gap false ≡ true → is_rest m part (has_digit stage) gap run ≡ true
   pub counts : not (is_lone last) ≡ (list_any (m.digit part) run || not (is_lone stage))
   pub signed : is_signed m part last ≡ true → is_signed m part stage ≡ true
   pub fresh_is : is_fresh last ≡ true → (is_fresh stage ≡ true) × (run ≡ []) × (last ≡ stage) × (last_gap ≡ gap)
@@ -161,12 +161,12 @@ module _ (m : Notation) (part : Part) where
   counts_digit stage gap b run is = any_digit (D b) (list_any D run) _ (not (is_lone stage)) is (ap not (digit_counts stage gap (b == 48)))
 
   counts_separator : (stage : Stage) (b : ℕ) (run : List ℕ) → D b ≡ false
-      → (list_any D run || not (is_lone (after_separator stage))) ≡ (list_any D (b ∷ run) || not (is_lone stage))
+      → (list_any D run || not (is_lone (after_mark stage))) ≡ (list_any D (b ∷ run) || not (is_lone stage))
   counts_separator stage b run is = any_other (D b) (list_any D run) _ (not (is_lone stage)) is (ap not (same_counts stage))
 
   seen_separator : (stage : Stage) (b : ℕ) (run : List ℕ) → D b ≡ false
-      → (list_any D run || has_digit (after_separator stage)) ≡ (list_any D (b ∷ run) || has_digit stage)
-  seen_separator stage b run is = any_other (D b) (list_any D run) (has_digit (after_separator stage)) (has_digit stage) is (same_seen stage)
+      → (list_any D run || has_digit (after_mark stage)) ≡ (list_any D (b ∷ run) || has_digit stage)
+  seen_separator stage b run is = any_other (D b) (list_any D run) (has_digit (after_mark stage)) (has_digit stage) is (same_seen stage)
 
   abbrev Goal : Stage → Bool → List ℕ → Type 0
   Goal stage gap text = Accepts m (Some (reading part stage gap)) text → Run m part stage gap text
@@ -215,7 +215,7 @@ module _ (m : Notation) (part : Part) where
   -- `Goes stage run rest c d` holds if the rest arrives after each stage that `run` may lead to.
   abbrev Goes : Stage → List ℕ → List ℕ → Cuts → Cuts → Type 0
   Goes stage run rest c d = (last : Stage) (gap : Bool) → has_digit last ≡ (list_any D run || has_digit stage) → is_led last ≡ led_after D stage run
-      → not (is_lone last) ≡ (list_any D run || not (is_lone stage)) → may_end m part (has_digit last) gap ≡ true → is_signed m part last ≡ true
+      → not (is_lone last) ≡ (list_any D run || not (is_lone stage)) → gap_fits m part (has_digit last) gap false ≡ true → is_signed m part last ≡ true
       → Arrives m (Some (reading part last gap)) (add_run part run c) rest d
 
   module _ (h : HasRoles m) where
@@ -230,7 +230,7 @@ module _ (m : Notation) (part : Part) where
               → Run m part stage gap (b ∷ text)
           go more roles.Digit role taken is =
               let both = and_parts (is_signed m part stage) _ taken in
-              let fits = and_parts (takes_digit m part (has_digit stage) gap) (may_follow m stage) both.1 in
+              let fits = and_parts (gap_fits m part (has_digit stage) gap true) (may_follow m stage) both.1 in
               let digit = as_digit m h part b role in
               let r = more (after_digit stage gap (b == 48)) false is in
               record {
@@ -256,7 +256,7 @@ module _ (m : Notation) (part : Part) where
               let both = and_parts (is_signed m part stage) _ taken in
               let fits = and_parts _ (is_open m part (has_digit stage) (may_follow m stage)) both.1 in
               let other = no_digit m h part b role in
-              let r = more (after_separator stage) true is in
+              let r = more (after_mark stage) true is in
               record {
                 run = b ∷ r.run;
                 rest = r.rest;
@@ -305,7 +305,7 @@ module _ (m : Notation) (part : Part) where
           (is_role m h part roles.Separator b (λ e. cc) (is_run_separator m part (has_digit stage) gap b run other fit))
           (and_from _ _ signed (and_from _ _ (separator_fits m part (has_digit stage) gap b run other fit)
           (opens m part (has_digit stage) (may_follow m stage) run more (λ some. follow stage (b ∷ run) may (or_right (D b) _ some)))))
-          (run_arrives (after_separator stage) true run rest (add c (digits_piece part)) d (settled _ (separator_settles stage))
+          (run_arrives (after_mark stage) true run rest (add c (digits_piece part)) d (settled _ (separator_settles stage))
           (subst (λ t. is_rest m part t true run ≡ true) (sym (same_seen stage)) more)
           (λ led. may (sym (led_separator D stage b run other) ∙ led))
           (λ last gap' seen led counts end signed. subst (λ c. Arrives m (Some (reading part last gap')) c rest d) (sym (add_more part b run c))
@@ -313,7 +313,7 @@ module _ (m : Notation) (part : Part) where
     ]
 
 -- The suffix, or nothing.
-pub stop_arrives : (m : Notation) → HasRoles m → (s : Summary) (c : Cuts) (suffix : List ℕ) → s.ended ≡ false → (ends m s && may_stop m s.part s.stage) ≡ true
+pub stop_arrives : (m : Notation) → HasRoles m → (s : Summary) (c : Cuts) (suffix : List ℕ) → s.ended ≡ false → (ends m s && continues m s.part s.stage roles.Suffix) ≡ true
     → is_none_or_one m.suffix suffix ≡ true → Arrives m (Some s) c suffix c
 stop_arrives m h s c [] open_is is one = (or_right s.ended _ is, refl)
 stop_arrives m h s c (b ∷ []) open_is is one =

@@ -1,3 +1,4 @@
 pub mod Summary
 pub mod Longest
 pub mod Tables
+pub mod Causes

@@ -5,4 +5,6 @@ pub mod Front
 pub mod Parts
 pub mod Readings
 pub mod Syntax
+pub mod Specials
+pub mod Cause
 pub mod Additions

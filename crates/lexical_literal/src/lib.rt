@@ -4,8 +4,10 @@
 //! as NaN and infinity, are not literals.
 #![tactic(auto)]
 
+pub mod cause;
 pub mod laws;
 pub mod read;
+pub mod specials;
 mod steps;
 pub mod syntax;
 mod tables;

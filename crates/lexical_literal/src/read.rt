@@ -1,19 +1,20 @@
 //! Calls that read literals, and the parts that they find.
 
-ghost use Rattle.std.specs.Prelude.{◌≡◌, ◌++◌, ◌<◌, ◌≤◌, ℕ, IfErr, IfOk, IsErr, IsOkAnd, IsTrue, List, length, take};
+ghost use Rattle.std.specs.Prelude.{◌≡◌, ◌++◌, ◌<◌, ℕ, IsTrue, List, length};
 ghost use Rattle.lexical_literal.specs.Additions.Summary.{HasLengths, class_of, is_complete};
 ghost use Rattle.lexical_literal.specs.Additions.Tables.{HasTables, IsStep, cuts_of, summary_at};
 ghost use Rattle.std.specs.Option.{ForSome};
 ghost use Rattle.lexical_literal.specs.Additions.Longest.{IsLongest};
-ghost use Rattle.lexical_literal.specs.Front.{IsValidUpTo, NoLiteral, ReadsFront};
+ghost use Rattle.lexical_literal.specs.Front.{IsValidUpTo};
 ghost use Rattle.lexical_literal.specs.Literal.{Literal, Reads, text_of};
 ghost use Rattle.lexical_literal.specs.Notation.{notation_of};
-ghost use Rattle.lexical_literal.specs.Parts.{literal_of};
+ghost use Rattle.lexical_literal.specs.Parts.{IsRead, IsReadPrefix, literal_of};
 ghost use Rattle.lexical_literal.specs.Syntax.{IsSyntax};
 
+use crate::cause::{ReadError, refusal};
 use crate::steps::class_of;
 use crate::syntax::{Grammar, Syntax};
-use crate::tables::{START, Step, Tables, is_complete, piece_number, step_from};
+use crate::tables::{START, Step, Tables, is_complete, piece_number, step_from, summary_at};
 use lexical_util::laws::flags::role_facts;
 use std::marker::Model;
 
@@ -49,23 +50,6 @@ pub struct Front<'a> {
     pub size: usize,
 }
 
-/// Why a text is not a literal.
-#[derive(Debug, Clone, Copy, PartialEq, Eq, Hash)]
-pub struct ReadError {
-    valid_up_to: usize,
-}
-
-impl ReadError {
-    /// Returns the length of the longest front of the text that some literal begins with: the index of the first byte
-    /// that cannot follow the bytes before it, or the length of the text if bytes are missing.
-    #[must_use]
-    pub const fn valid_up_to(&self) -> usize
-        ensures { result ≡ self.now.valid_up_to }
-    {
-        self.valid_up_to
-    }
-}
-
 impl Syntax {
     /// Returns the parts of the literal `text`.
     ///
@@ -73,15 +57,7 @@ impl Syntax {
     ///
     /// If `text` is not a literal, returns how far it is right.
     pub fn read<'a>(&self, text: &'a [u8]) -> Result<Parts<'a>, ReadError>
-        // The text is a literal with the parts that are returned.
-        ensures found { IfOk result (λ parts. Reads (notation_of self.now) (literal_of parts) text.now) }
-
-        // A literal has no other parts, and they are returned.
-        ensures only { (l : Literal) → Reads (notation_of self.now) l text.now
-            → IsOkAnd result (λ parts. literal_of parts ≡ l) }
-
-        // An error has the length of the longest front that some literal begins with.
-        ensures error { IfErr result (λ error. IsValidUpTo (notation_of self.now) text.now error.valid_up_to) }
+        ensures { IsRead (notation_of self.now) text.now result }
     {
         read(self.grammar(), None, text)
     }
@@ -93,16 +69,7 @@ impl Syntax {
     ///
     /// If no front of `text` is a literal, returns the error of [`read`][Self::read].
     pub fn read_prefix<'a>(&self, text: &'a [u8]) -> Result<Front<'a>, ReadError>
-        // A front of the text is a literal with the parts that are returned, and no longer front is a literal.
-        ensures found { IfOk result (λ front.
-            ReadsFront (notation_of self.now) (literal_of front.parts) text.now front.size) }
-
-        // If no front is returned, no front is a literal.
-        ensures none { IsErr result → (size : ℕ) → size ≤ length text.now
-            → NoLiteral (notation_of self.now) (take size text.now) }
-
-        // An error has the length of the longest front that some literal begins with.
-        ensures error { IfErr result (λ error. IsValidUpTo (notation_of self.now) text.now error.valid_up_to) }
+        ensures { IsReadPrefix (notation_of self.now) text.now result }
     {
         read_prefix(self.grammar(), None, text)
     }
@@ -133,7 +100,7 @@ impl Model for Reader {
 impl Reader {
     /// Returns a reader of the literals of `syntax`.
     #[must_use]
-    pub fn new(syntax: Syntax) -> Reader
+    pub const fn new(syntax: Syntax) -> Reader
         ensures { result ≡ syntax }
     {
         let grammar = syntax.grammar();
@@ -149,15 +116,7 @@ impl Reader {
     ///
     /// If `text` is not a literal, returns how far it is right.
     pub fn read<'a>(&self, text: &'a [u8]) -> Result<Parts<'a>, ReadError>
-        // The text is a literal with the parts that are returned.
-        ensures found { IfOk result (λ parts. Reads (notation_of self.now) (literal_of parts) text.now) }
-
-        // A literal has no other parts, and they are returned.
-        ensures only { (l : Literal) → Reads (notation_of self.now) l text.now
-            → IsOkAnd result (λ parts. literal_of parts ≡ l) }
-
-        // An error has the length of the longest front that some literal begins with.
-        ensures error { IfErr result (λ error. IsValidUpTo (notation_of self.now) text.now error.valid_up_to) }
+        ensures { IsRead (notation_of self.now) text.now result }
     {
         read(self.grammar, Some(&self.tables), text)
     }
@@ -169,26 +128,18 @@ impl Reader {
     ///
     /// If no front of `text` is a literal, returns the error of [`read`][Self::read].
     pub fn read_prefix<'a>(&self, text: &'a [u8]) -> Result<Front<'a>, ReadError>
-        // A front of the text is a literal with the parts that are returned, and no longer front is a literal.
-        ensures found { IfOk result (λ front.
-            ReadsFront (notation_of self.now) (literal_of front.parts) text.now front.size) }
-
-        // If no front is returned, no front is a literal.
-        ensures none { IsErr result → (size : ℕ) → size ≤ length text.now
-            → NoLiteral (notation_of self.now) (take size text.now) }
-
-        // An error has the length of the longest front that some literal begins with.
-        ensures error { IfErr result (λ error. IsValidUpTo (notation_of self.now) text.now error.valid_up_to) }
+        ensures { IsReadPrefix (notation_of self.now) text.now result }
     {
         read_prefix(self.grammar, Some(&self.tables), text)
     }
 }
 
-// The length of the longest front that some literal begins with, the lengths of its parts, and whether the whole text is
-// a literal; if they are looked for, also the length of the longest front that is a literal, or 0 if none is.
+// The length of the longest front that some literal begins with, its row, the lengths of its parts, and whether the whole
+// text is a literal; if they are looked for, also the length of the longest front that is a literal, or 0 if none is.
 #[derive(Clone, Copy)]
 struct Scanned {
     valid_up_to: usize,
+    row: u8,
     counts: [usize; 9],
     is_literal: bool,
     literal: usize,
@@ -203,18 +154,14 @@ fn read<'a>(
 ) -> Result<Parts<'a>, ReadError>
     requires syntax { IsSyntax grammar }
     requires tables { ForSome tables (λ tables. HasTables (notation_of grammar) tables.now) }
-    ensures found { IfOk result (λ parts. Reads (notation_of grammar) (literal_of parts) text.now) }
-    ensures only { (l : Literal) → Reads (notation_of grammar) l text.now
-        → IsOkAnd result (λ parts. literal_of parts ≡ l) }
-    ensures error { IfErr result (λ error. IsValidUpTo (notation_of grammar) text.now error.valid_up_to) }
+    ensures { IsRead (notation_of grammar) text.now result }
 {
     let scanned = scan(grammar, tables, text, false);
     if scanned.is_literal {
         Ok(cut(text, scanned.counts))
     } else {
-        Err(ReadError {
-            valid_up_to: scanned.valid_up_to,
-        })
+        let read = summary_at(scanned.row);
+        Err(refusal(grammar, text, scanned.valid_up_to, read))
     }
 }
 
@@ -227,19 +174,14 @@ fn read_prefix<'a>(
 ) -> Result<Front<'a>, ReadError>
     requires syntax { IsSyntax grammar }
     requires tables { ForSome tables (λ tables. HasTables (notation_of grammar) tables.now) }
-    ensures found { IfOk result (λ front.
-        ReadsFront (notation_of grammar) (literal_of front.parts) text.now front.size) }
-    ensures none { IsErr result → (size : ℕ) → size ≤ length text.now
-        → NoLiteral (notation_of grammar) (take size text.now) }
-    ensures error { IfErr result (λ error. IsValidUpTo (notation_of grammar) text.now error.valid_up_to) }
+    ensures { IsReadPrefix (notation_of grammar) text.now result }
 {
     let fronts = scan(grammar, tables, text, true);
     if fronts.literal == 0 {
-        Err(ReadError {
-            valid_up_to: fronts.valid_up_to,
-        })
+        let read = summary_at(fronts.row);
+        Err(refusal(grammar, text, fronts.valid_up_to, read))
     } else {
-        let front = &text[..fronts.literal];
+        let (front, _) = split_front(text, fronts.literal);
         Ok(Front {
             parts: cut(front, scan(grammar, tables, front, false).counts),
             size: fronts.literal,
@@ -284,10 +226,11 @@ fn cut<'a>(text: &'a [u8], counts: [usize; 9]) -> Parts<'a>
 
 // Reads `text` until no literal begins with what has been read, and looks for fronts that are literals if `fronts` is true.
 #[inline(always)]
-fn scan(grammar: Grammar, tables: Option<&Tables>, text: &[u8], fronts: bool) -> Scanned
+const fn scan(grammar: Grammar, tables: Option<&Tables>, text: &[u8], fronts: bool) -> Scanned
     requires syntax { IsSyntax grammar }
     requires tables { ForSome tables (λ tables. HasTables (notation_of grammar) tables.now) }
     ensures error { IsValidUpTo (notation_of grammar) text.now result.valid_up_to }
+    ensures row { result.row < 108 }
     ensures literal { IsTrue result.is_literal → (l : Literal) × Reads (notation_of grammar) l text.now }
     ensures counted { (l : Literal) → Reads (notation_of grammar) l text.now
         → IsTrue result.is_literal × HasLengths l (cuts_of result.counts) }
@@ -297,10 +240,12 @@ fn scan(grammar: Grammar, tables: Option<&Tables>, text: &[u8], fronts: bool) ->
     let mut row = START;
     let mut counts = [0; 9];
     let mut literal = 0;
-    for (index, byte) in text.iter().enumerate() {
-        let Some(next) = step_by(grammar, tables, row, *byte) else {
+    let mut index = 0;
+    while index < text.len() {
+        let Some(next) = step_by(grammar, tables, row, text[index]) else {
             return Scanned {
                 valid_up_to: index,
+                row,
                 counts,
                 is_literal: false,
                 literal,
@@ -311,9 +256,11 @@ fn scan(grammar: Grammar, tables: Option<&Tables>, text: &[u8], fronts: bool) ->
         if fronts && is_complete_by(grammar, tables, row) {
             literal = index + 1;
         }
+        index += 1;
     }
     Scanned {
         valid_up_to: text.len(),
+        row,
         counts,
         is_literal: is_complete_by(grammar, tables, row),
         literal,
@@ -322,8 +269,8 @@ fn scan(grammar: Grammar, tables: Option<&Tables>, text: &[u8], fronts: bool) ->
 
 // Returns what `byte` makes of a row, by the tables if there are any.
 #[inline(always)]
-fn step_by(grammar: Grammar, tables: Option<&Tables>, row: u8, byte: u8) -> Option<Step>
-    requires row { row < 55 }
+const fn step_by(grammar: Grammar, tables: Option<&Tables>, row: u8, byte: u8) -> Option<Step>
+    requires row { row < 108 }
     requires tables { ForSome tables (λ tables. HasTables (notation_of grammar) tables.now) }
     ensures { IsStep (notation_of grammar) row (class_of (notation_of grammar) byte) result }
 {
@@ -335,8 +282,8 @@ fn step_by(grammar: Grammar, tables: Option<&Tables>, row: u8, byte: u8) -> Opti
 
 // Returns whether a row is that of a literal, by the tables if there are any.
 #[inline(always)]
-fn is_complete_by(grammar: Grammar, tables: Option<&Tables>, row: u8) -> bool
-    requires row { row < 55 }
+const fn is_complete_by(grammar: Grammar, tables: Option<&Tables>, row: u8) -> bool
+    requires row { row < 108 }
     requires tables { ForSome tables (λ tables. HasTables (notation_of grammar) tables.now) }
     ensures { result ≡ is_complete (notation_of grammar) (summary_at row) }
 {

@@ -1,24 +1,22 @@
 //! The steps of a reader: what has been read of a number, changed by the class of one byte.
 
-ghost use Rattle.std.specs.Prelude.{◌≡◌, IsFalse, nat_lt};
+ghost use Rattle.std.specs.Prelude.{◌≡◌, nat_lt};
 ghost use Rattle.lexical_util.specs.Digits.{byte_value};
 ghost use Rattle.lexical_util.specs.Record.{raw};
 ghost use Rattle.lexical_literal.specs.Notation.{notation_of, radix_of, point_of, exponent_character_of};
 ghost use Rattle.lexical_literal.specs.Run.{is_place};
-ghost use Rattle.lexical_literal.specs.Additions.Summary.{IsMove, class_of, role_of, in_part, piece_of, has_digit, is_fresh, may_follow, after_digit, after_separator, after_sign, takes_separator, is_signed, needs_exponent, may_lead, forbids_plus, digits_suffice, may_float, may_scale, may_stop, ends, is_complete, takes, after};
+ghost use Rattle.lexical_literal.specs.Additions.Summary.{class_of, role_of, in_part, piece_of, has_digit, may_follow};
+ghost use Rattle.lexical_literal.specs.Additions.Summary.{gap_fits, is_signed, needs_exponent, continues, ends, is_complete, takes, after, IsMove};
 
 use crate::syntax::Grammar;
 use lexical_util::format::{Part, Role};
 
-/// A class of bytes: bytes of one class mean the same in a number.
+// A class of bytes: bytes of one class mean the same in a number.
 #[derive(Clone, Copy)]
 pub(crate) enum Class {
-    // A byte that plays no role.
-    Other,
-    // The digit 0.
-    Zero,
-    // Another digit of the mantissa and of the exponent.
-    Digit,
+    Other, // A byte that plays no role.
+    Zero, // The digit 0.
+    Digit, // Another digit of the mantissa and of the exponent.
     MantissaDigit,
     ExponentDigit,
     Separator,
@@ -47,36 +45,24 @@ pub(crate) enum Piece {
 // The digits of a part that have been read.
 #[derive(Clone, Copy)]
 pub(crate) enum Stage {
-    // Nothing of the number.
-    Start,
-    // No digits of the integer.
-    Empty,
-    // The digit 0, and no separators.
-    Bare,
-    // The digit 0, and separators.
-    Zero,
-    // A leading zero, and more digits.
-    Led,
-    // Nothing since the exponent character.
-    Mark,
-    // No digits of the fraction, after no digits of the integer.
-    Lone,
-    // No digits, where a zero is not a leading one.
-    Free,
-    // Digits without a leading zero.
-    Digits,
+    Start, // Nothing of the number.
+    Empty, // No digits of the integer.
+    Bare, // The digit 0, and no separators.
+    Zero, // The digit 0, and separators.
+    Led, // A leading zero, and more digits.
+    Mark, // Nothing since the exponent character.
+    Lone, // No digits of the fraction, after no digits of the integer.
+    Free, // No digits, where a zero is not a leading one.
+    Digits, // Digits without a leading zero.
 }
 
 // What has been read of a number.
 #[derive(Clone, Copy)]
 pub(crate) struct Summary {
-    // The part that a digit belongs to.
-    pub(crate) part: Part,
+    pub(crate) part: Part, // The part that a digit belongs to.
     pub(crate) stage: Stage,
-    // Whether the last byte is a separator.
-    pub(crate) gap: bool,
-    // Whether the suffix has been read.
-    pub(crate) ended: bool,
+    pub(crate) gap: bool, // Whether the last byte is a separator.
+    pub(crate) ended: bool, // Whether the suffix has been read.
 }
 
 // A number with a suffix, behind which nothing follows.
@@ -95,18 +81,18 @@ pub(crate) struct Move {
 }
 
 // Returns whether `byte` is a digit of `part`.
-fn is_digit(grammar: Grammar, part: Part, byte: u8) -> bool
+pub(crate) const fn is_digit(grammar: Grammar, part: Part, byte: u8) -> bool
     ensures { result ≡ nat_lt (byte_value byte) (radix_of (raw grammar.word) part) }
 {
     match part {
-        Part::Integer | Part::Fraction => grammar.view().mantissa_digit(byte).is_some(),
-        Part::Exponent => grammar.view().exponent_digit(byte).is_some(),
+        Part::Exponent => matches!(grammar.view().exponent_digit(byte), Some(_)),
+        _ => matches!(grammar.view().mantissa_digit(byte), Some(_)),
     }
 }
 
 // Returns whether `byte` is the decimal point.
 #[tactic(auto, unfolding(lexical_util::specs::Unfoldable::cased))]
-fn is_point(grammar: Grammar, byte: u8) -> bool
+pub(crate) const fn is_point(grammar: Grammar, byte: u8) -> bool
     ensures { result ≡ point_of grammar.options byte }
 {
     match grammar.options {
@@ -116,7 +102,7 @@ fn is_point(grammar: Grammar, byte: u8) -> bool
 }
 
 // Returns whether `byte` is the exponent character.
-fn is_exponent_character(grammar: Grammar, byte: u8) -> bool
+pub(crate) const fn is_exponent_character(grammar: Grammar, byte: u8) -> bool
     ensures { result ≡ exponent_character_of (raw grammar.word) grammar.options byte }
 {
     match grammar.options {
@@ -126,83 +112,57 @@ fn is_exponent_character(grammar: Grammar, byte: u8) -> bool
 }
 
 // Returns the class of `byte`.
-pub(crate) fn class_of(grammar: Grammar, byte: u8) -> Class
-    ensures { result ≡ class_of (notation_of grammar) byte }
-{
-    let mantissa = is_digit(grammar, Part::Integer, byte);
-    let exponent = is_digit(grammar, Part::Exponent, byte);
-    if mantissa && exponent {
-        if byte == b'0' {
-            Class::Zero
-        } else {
-            Class::Digit
-        }
-    } else if mantissa {
-        Class::MantissaDigit
-    } else if exponent {
-        Class::ExponentDigit
-    } else {
-        mark_of(grammar, byte)
-    }
-}
-
-// Returns the class of a `byte` that is not a digit.
-fn mark_of(grammar: Grammar, byte: u8) -> Class
-    requires mantissa { IsFalse ((notation_of grammar).digit Part.Integer byte) }
-    requires exponent { IsFalse ((notation_of grammar).digit Part.Exponent byte) }
+pub(crate) const fn class_of(grammar: Grammar, byte: u8) -> Class
     ensures { result ≡ class_of (notation_of grammar) byte }
 {
     let format = grammar.view();
-    if format.is_separator(byte) {
-        Class::Separator
-    } else if is_point(grammar, byte) {
-        Class::Point
-    } else if is_exponent_character(grammar, byte) {
-        Class::ExponentCharacter
-    } else if format.is_base_suffix(byte) {
-        Class::Suffix
-    } else if byte == b'+' {
-        Class::Plus
-    } else if byte == b'-' {
-        Class::Minus
-    } else if format.is_base_prefix(byte) {
-        Class::Prefix
-    } else {
-        Class::Other
+    let mantissa = is_digit(grammar, Part::Integer, byte);
+    let exponent = is_digit(grammar, Part::Exponent, byte);
+    match (mantissa, exponent) {
+        (true, true) if byte == b'0' => Class::Zero,
+        (true, true) => Class::Digit,
+        (true, false) => Class::MantissaDigit,
+        (false, true) => Class::ExponentDigit,
+        (false, false) if format.is_separator(byte) => Class::Separator,
+        (false, false) if is_point(grammar, byte) => Class::Point,
+        (false, false) if is_exponent_character(grammar, byte) => Class::ExponentCharacter,
+        (false, false) if format.is_base_suffix(byte) => Class::Suffix,
+        (false, false) if byte == b'+' => Class::Plus,
+        (false, false) if byte == b'-' => Class::Minus,
+        (false, false) if format.is_base_prefix(byte) => Class::Prefix,
+        (false, false) => Class::Other,
     }
 }
 
 // Returns the role of the bytes of `class`.
-pub(crate) fn role_of(class: Class) -> Option<Role>
+pub(crate) const fn role_of(class: Class) -> Option<Role>
     ensures { result ≡ role_of class }
 {
-    match class {
-        Class::Other => None,
-        Class::Zero | Class::Digit | Class::MantissaDigit | Class::ExponentDigit => {
-            Some(Role::Digit)
-        }
-        Class::Separator => Some(Role::Separator),
-        Class::Prefix => Some(Role::Prefix),
-        Class::Suffix => Some(Role::Suffix),
-        Class::Point => Some(Role::Point),
-        Class::ExponentCharacter => Some(Role::Exponent),
-        Class::Plus | Class::Minus => Some(Role::Sign),
-    }
+    Some(match class {
+        Class::Other => return None,
+        Class::Zero | Class::Digit | Class::MantissaDigit | Class::ExponentDigit => Role::Digit,
+        Class::Separator => Role::Separator,
+        Class::Prefix => Role::Prefix,
+        Class::Suffix => Role::Suffix,
+        Class::Point => Role::Point,
+        Class::ExponentCharacter => Role::Exponent,
+        Class::Plus | Class::Minus => Role::Sign,
+    })
 }
 
 // Returns the role of a byte of `class` after a front that ends in `part`, whose radix decides what is a digit.
-fn in_part(part: Part, class: Class) -> Option<Role>
+const fn in_part(part: Part, class: Class) -> Option<Role>
     ensures { result ≡ in_part part class }
 {
     match (class, part) {
-        (Class::MantissaDigit, Part::Exponent)
-        | (Class::ExponentDigit, Part::Integer | Part::Fraction) => None,
+        (Class::MantissaDigit, Part::Exponent) => None,
+        (Class::ExponentDigit, Part::Integer | Part::Fraction) => None,
         _ => role_of(class),
     }
 }
 
 // Returns the piece that a byte with the role `role` belongs to, after a front that ends in `part`.
-fn piece_of(part: Part, role: Role) -> Piece
+const fn piece_of(part: Part, role: Role) -> Piece
     ensures { result ≡ piece_of part role }
 {
     match (role, part) {
@@ -210,7 +170,7 @@ fn piece_of(part: Part, role: Role) -> Piece
         (Role::Digit | Role::Separator, Part::Fraction) => Piece::Fraction,
         (Role::Digit | Role::Separator, Part::Exponent) => Piece::Exponent,
         (Role::Sign, Part::Exponent) => Piece::ExponentSign,
-        (Role::Sign, Part::Integer | Part::Fraction) => Piece::Sign,
+        (Role::Sign, _) => Piece::Sign,
         (Role::Prefix, _) => Piece::Prefix,
         (Role::Point, _) => Piece::Point,
         (Role::Exponent, _) => Piece::ExponentCharacter,
@@ -218,8 +178,18 @@ fn piece_of(part: Part, role: Role) -> Piece
     }
 }
 
+// Returns whether the part has a digit.
+pub(crate) const fn has_digit(stage: Stage) -> bool
+    ensures { result ≡ has_digit stage }
+{
+    matches!(
+        stage,
+        Stage::Bare | Stage::Zero | Stage::Led | Stage::Digits
+    )
+}
+
 // Returns whether a separator may be at a place in `part` with digits before it, or not, and after it, or not.
-fn is_place(grammar: Grammar, part: Part, before: bool, after: bool) -> bool
+const fn is_place(grammar: Grammar, part: Part, before: bool, after: bool) -> bool
     ensures { result ≡ is_place (notation_of grammar) part before after }
 {
     let allowed = grammar.view().separators(part);
@@ -231,287 +201,165 @@ fn is_place(grammar: Grammar, part: Part, before: bool, after: bool) -> bool
     }
 }
 
-// Returns whether the part has a digit.
-fn has_digit(stage: Stage) -> bool
-    ensures { result ≡ has_digit stage }
-{
-    matches!(
-        stage,
-        Stage::Bare | Stage::Zero | Stage::Led | Stage::Digits
-    )
-}
-
-// Returns whether a sign may follow.
-fn is_fresh(stage: Stage) -> bool
-    ensures { result ≡ is_fresh stage }
-{
-    matches!(stage, Stage::Start | Stage::Mark)
-}
-
 // Returns whether an exponent is required.
-fn needs_exponent(grammar: Grammar) -> bool
+pub(crate) const fn needs_exponent(grammar: Grammar) -> bool
     ensures { result ≡ needs_exponent (notation_of grammar) }
 {
-    grammar.view().required_exponent_notation() && grammar.options.is_some()
+    grammar.view().required_exponent_notation() && matches!(grammar.options, Some(_))
 }
 
-// Returns whether some literal has a leading zero.
-fn may_lead(grammar: Grammar) -> bool
-    ensures { result ≡ may_lead (notation_of grammar) }
+// Returns whether another digit may follow: after a zero, only if some literal has a leading zero.
+const fn may_follow(grammar: Grammar, stage: Stage) -> bool
+    ensures { result ≡ may_follow (notation_of grammar) stage }
 {
-    (grammar.options.is_some() && !grammar.view().no_float_leading_zeros())
+    !matches!(stage, Stage::Bare | Stage::Zero)
+        || (matches!(grammar.options, Some(_)) && !grammar.view().no_float_leading_zeros())
         || (!grammar.view().no_integer_leading_zeros() && !needs_exponent(grammar))
 }
 
-// Returns whether another digit may follow.
-fn may_follow(grammar: Grammar, stage: Stage) -> bool
-    ensures { result ≡ may_follow (notation_of grammar) stage }
+// Returns whether there is no gap, or one that fits where a digit follows, or not.
+const fn gap_fits(grammar: Grammar, read: Summary, next: bool) -> bool
+    ensures { result ≡ gap_fits (notation_of grammar) read.part (has_digit read.stage) read.gap next }
 {
-    match stage {
-        Stage::Bare | Stage::Zero => may_lead(grammar),
-        Stage::Start
-        | Stage::Empty
-        | Stage::Led
-        | Stage::Mark
-        | Stage::Lone
-        | Stage::Free
-        | Stage::Digits => true,
-    }
-}
-
-// Returns the stage after a digit.
-fn after_digit(stage: Stage, gap: bool, zero: bool) -> Stage
-    ensures { result ≡ after_digit stage gap zero }
-{
-    match stage {
-        Stage::Start | Stage::Empty if !zero => Stage::Digits,
-        Stage::Start | Stage::Empty if gap => Stage::Zero,
-        Stage::Start | Stage::Empty => Stage::Bare,
-        Stage::Bare | Stage::Zero | Stage::Led => Stage::Led,
-        Stage::Mark | Stage::Lone | Stage::Free | Stage::Digits => Stage::Digits,
-    }
-}
-
-// Returns the stage after a sign.
-fn after_sign(stage: Stage) -> Stage
-    ensures { result ≡ after_sign stage }
-{
-    match stage {
-        Stage::Start => Stage::Empty,
-        Stage::Mark => Stage::Free,
-        Stage::Empty
-        | Stage::Bare
-        | Stage::Zero
-        | Stage::Led
-        | Stage::Lone
-        | Stage::Free
-        | Stage::Digits => stage,
-    }
-}
-
-// Returns the stage after a separator.
-fn after_separator(stage: Stage) -> Stage
-    ensures { result ≡ after_separator stage }
-{
-    match stage {
-        Stage::Bare => Stage::Zero,
-        Stage::Start
-        | Stage::Empty
-        | Stage::Zero
-        | Stage::Led
-        | Stage::Mark
-        | Stage::Lone
-        | Stage::Free
-        | Stage::Digits => after_sign(stage),
-    }
-}
-
-// Returns whether a separator may follow, so that the gap can be closed.
-fn takes_separator(grammar: Grammar, part: Part, digit: bool, gap: bool, next: bool) -> bool
-    ensures { result ≡ takes_separator (notation_of grammar) part digit gap next }
-{
-    let allowed = grammar.view().separators(part);
-    let is_open = if digit {
-        allowed.trailing || (allowed.internal && next)
-    } else {
-        allowed.leading
-    };
-    (!gap || allowed.consecutive) && is_open
+    !read.gap || is_place(grammar, read.part, has_digit(read.stage), next)
 }
 
 // Returns whether `part` has a sign, or needs none.
-fn is_signed(grammar: Grammar, part: Part, stage: Stage) -> bool
+const fn is_signed(grammar: Grammar, part: Part, stage: Stage) -> bool
     ensures { result ≡ is_signed (notation_of grammar) part stage }
 {
-    let format = grammar.view();
     let needs_sign = match part {
-        Part::Integer => format.required_mantissa_sign(),
-        Part::Fraction => false,
-        Part::Exponent => format.required_exponent_sign(),
+        Part::Exponent => grammar.view().required_exponent_sign(),
+        _ => grammar.view().required_mantissa_sign(),
     };
-    !is_fresh(stage) || !needs_sign
-}
-
-// Returns whether a plus sign is forbidden in `part`.
-fn forbids_plus(grammar: Grammar, part: Part) -> bool
-    ensures { result ≡ forbids_plus (notation_of grammar) part }
-{
-    match part {
-        Part::Integer => grammar.view().no_positive_mantissa_sign(),
-        Part::Fraction => false,
-        Part::Exponent => grammar.view().no_positive_exponent_sign(),
-    }
-}
-
-// Returns whether `part` has the digits that it needs.
-fn digits_suffice(grammar: Grammar, part: Part, stage: Stage) -> bool
-    ensures { result ≡ digits_suffice (notation_of grammar) part stage }
-{
-    let format = grammar.view();
-    let digit = has_digit(stage);
-    match part {
-        Part::Integer => !format.required_integer_digits() || digit,
-        Part::Fraction => {
-            (!format.required_fraction_digits() || digit)
-                && (!format.required_mantissa_digits() || !matches!(stage, Stage::Lone))
-        }
-        Part::Exponent => !format.required_exponent_digits() || digit,
-    }
+    !matches!(stage, Stage::Start | Stage::Mark) || !needs_sign
 }
 
 // Returns whether the part that is read may end.
-fn ends(grammar: Grammar, read: Summary) -> bool
+const fn ends(grammar: Grammar, read: Summary) -> bool
     ensures { result ≡ ends (notation_of grammar) read }
 {
+    let format = grammar.view();
+    let has_mantissa = !matches!(read.stage, Stage::Lone);
+    let needs_digit = match read.part {
+        Part::Integer => format.required_integer_digits(),
+        Part::Fraction if format.required_mantissa_digits() && !has_mantissa => return false,
+        Part::Fraction => format.required_fraction_digits(),
+        Part::Exponent => format.required_exponent_digits(),
+    };
     is_signed(grammar, read.part, read.stage)
-        && ((!read.gap || is_place(grammar, read.part, has_digit(read.stage), false))
-            && digits_suffice(grammar, read.part, read.stage))
+        && (gap_fits(grammar, read, false) && (!needs_digit || has_digit(read.stage)))
 }
 
-// Returns whether a decimal point or an exponent may follow the leading zero, if there is one.
-fn may_float(grammar: Grammar, stage: Stage) -> bool
-    ensures { result ≡ may_float (notation_of grammar) stage }
-{
-    !grammar.view().no_float_leading_zeros() || !matches!(stage, Stage::Led)
-}
-
-// Returns whether an exponent may follow a part that may end.
-fn may_scale(grammar: Grammar, part: Part, stage: Stage) -> bool
-    ensures { result ≡ may_scale (notation_of grammar) part stage }
+// Returns whether a byte with the role `role` may follow a part that may end.
+const fn continues(grammar: Grammar, part: Part, stage: Stage, role: Role) -> bool
+    ensures { result ≡ continues (notation_of grammar) part stage role }
 {
     let format = grammar.view();
-    match part {
-        Part::Integer => {
+    let digit = has_digit(stage);
+    let led = matches!(stage, Stage::Led);
+    let may_float = !format.no_float_leading_zeros() || !led;
+    match (part, role) {
+        (Part::Integer, Role::Point) => may_float,
+        (Part::Integer, Role::Exponent) => {
             !format.no_exponent_notation()
-                && (may_float(grammar, stage)
-                    && ((!format.required_mantissa_digits() || has_digit(stage))
-                        && !format.no_exponent_without_fraction()))
+                && may_float
+                && (!format.required_mantissa_digits() || digit)
+                && !format.no_exponent_without_fraction()
         }
-        Part::Fraction => !format.no_exponent_notation(),
-        Part::Exponent => false,
-    }
-}
-
-// Returns whether a literal may stop after a part that may end.
-fn may_stop(grammar: Grammar, part: Part, stage: Stage) -> bool
-    ensures { result ≡ may_stop (notation_of grammar) part stage }
-{
-    match part {
-        Part::Integer => {
-            !needs_exponent(grammar)
-                && (has_digit(stage)
-                    && (!grammar.view().no_integer_leading_zeros() || !matches!(stage, Stage::Led)))
+        (Part::Integer, Role::Suffix) => {
+            !needs_exponent(grammar) && digit && (!format.no_integer_leading_zeros() || !led)
         }
-        Part::Fraction => !needs_exponent(grammar),
-        Part::Exponent => true,
+        (Part::Fraction, Role::Exponent) => !format.no_exponent_notation(),
+        (Part::Fraction, Role::Suffix) => !needs_exponent(grammar),
+        (Part::Exponent, Role::Suffix) => true,
+        _ => false,
     }
 }
 
 // Returns whether what has been read is a literal.
-pub(crate) fn is_complete(grammar: Grammar, read: Summary) -> bool
+pub(crate) const fn is_complete(grammar: Grammar, read: Summary) -> bool
     ensures { result ≡ is_complete (notation_of grammar) read }
 {
-    read.ended || (ends(grammar, read) && may_stop(grammar, read.part, read.stage))
+    read.ended || (ends(grammar, read) && continues(grammar, read.part, read.stage, Role::Suffix))
 }
 
 // Returns whether some literal goes on with a byte that has the role `role`, and is a plus sign if `plus` is true.
-fn takes(grammar: Grammar, read: Summary, plus: bool, role: Role) -> bool
+const fn takes(grammar: Grammar, read: Summary, plus: bool, role: Role) -> bool
     ensures { result ≡ takes (notation_of grammar) read plus role }
 {
-    let digit = has_digit(read.stage);
+    let format = grammar.view();
+    let Summary { part, stage, .. } = read;
+    let digit = has_digit(stage);
     match role {
         Role::Digit => {
-            is_signed(grammar, read.part, read.stage)
-                && ((!read.gap || is_place(grammar, read.part, digit, true))
-                    && may_follow(grammar, read.stage))
+            is_signed(grammar, part, stage)
+                && gap_fits(grammar, read, true)
+                && may_follow(grammar, stage)
         }
         Role::Separator => {
-            let next = may_follow(grammar, read.stage);
-            is_signed(grammar, read.part, read.stage)
-                && takes_separator(grammar, read.part, digit, read.gap, next)
+            is_signed(grammar, part, stage)
+                && (!read.gap || format.separators(part).consecutive)
+                && ((is_place(grammar, part, digit, true) && may_follow(grammar, stage))
+                    || is_place(grammar, part, digit, false))
         }
-        Role::Sign => is_fresh(read.stage) && (!forbids_plus(grammar, read.part) || !plus),
-        Role::Prefix => matches!(read.stage, Stage::Bare),
-        Role::Point => {
-            ends(grammar, read)
-                && (matches!(read.part, Part::Integer) && may_float(grammar, read.stage))
+        Role::Sign => {
+            let forbids_plus = match part {
+                Part::Exponent => format.no_positive_exponent_sign(),
+                _ => format.no_positive_mantissa_sign(),
+            };
+            matches!(stage, Stage::Start | Stage::Mark) && (!forbids_plus || !plus)
         }
-        Role::Exponent => ends(grammar, read) && may_scale(grammar, read.part, read.stage),
-        Role::Suffix => ends(grammar, read) && may_stop(grammar, read.part, read.stage),
+        Role::Prefix => matches!(stage, Stage::Bare),
+        _ => ends(grammar, read) && continues(grammar, part, stage, role),
     }
 }
 
 // Returns the summary after a byte that has the role `role`, and is the digit 0 if `zero` is true.
-fn after(read: Summary, zero: bool, role: Role) -> Summary
+const fn after(read: Summary, zero: bool, role: Role) -> Summary
     ensures { result ≡ after read zero role }
 {
-    let mut next = read;
-    match role {
-        Role::Digit => {
-            next.stage = after_digit(read.stage, read.gap, zero);
-            next.gap = false;
-        }
-        Role::Separator => {
-            next.stage = after_separator(read.stage);
-            next.gap = true;
-        }
-        Role::Sign => next.stage = after_sign(read.stage),
-        Role::Prefix => {
-            next.stage = Stage::Free;
-            next.gap = false;
-        }
-        Role::Point => {
-            next.part = Part::Fraction;
-            next.stage = if has_digit(read.stage) {
-                Stage::Free
-            } else {
-                Stage::Lone
-            };
-            next.gap = false;
-        }
-        Role::Exponent => {
-            next.part = Part::Exponent;
-            next.stage = Stage::Mark;
-            next.gap = false;
-        }
-        Role::Suffix => next = FINISHED,
+    let Summary {
+        part,
+        gap,
+        ended,
+        ..
+    } = read;
+    let (part, stage) = match (role, read.stage) {
+        (Role::Digit, Stage::Start | Stage::Empty) if zero && gap => (part, Stage::Zero),
+        (Role::Digit, Stage::Start | Stage::Empty) if zero => (part, Stage::Bare),
+        (Role::Digit, Stage::Bare | Stage::Zero | Stage::Led) => (part, Stage::Led),
+        (Role::Digit, _) => (part, Stage::Digits),
+        (Role::Separator | Role::Sign, Stage::Start) => (part, Stage::Empty),
+        (Role::Separator | Role::Sign, Stage::Mark) => (part, Stage::Free),
+        (Role::Separator | Role::Sign, Stage::Bare) => (part, Stage::Zero),
+        (Role::Separator | Role::Sign, stage) => (part, stage),
+        (Role::Prefix, _) => (part, Stage::Free),
+        (Role::Point, stage) if has_digit(stage) => (Part::Fraction, Stage::Free),
+        (Role::Point, _) => (Part::Fraction, Stage::Lone),
+        (Role::Exponent, _) => (Part::Exponent, Stage::Mark),
+        (Role::Suffix, _) => return FINISHED,
+    };
+    let gap = matches!(role, Role::Separator) || (matches!(role, Role::Sign) && gap);
+    Summary {
+        part,
+        stage,
+        gap,
+        ended,
     }
-    next
 }
 
 // Returns what a byte of `class` makes of what has been read, or `None` if no literal begins so.
-pub(crate) fn step(grammar: Grammar, read: Summary, class: Class) -> Option<Move>
+pub(crate) const fn step(grammar: Grammar, read: Summary, class: Class) -> Option<Move>
     ensures { IsMove (notation_of grammar) read class result }
 {
-    let role = in_part(read.part, class)?;
     let plus = matches!(class, Class::Plus);
     let zero = matches!(class, Class::Zero);
-    if !read.ended & takes(grammar, read, plus, role) {
-        Some(Move {
+    match in_part(read.part, class) {
+        Some(role) if !read.ended && takes(grammar, read, plus, role) => Some(Move {
             summary: after(read, zero, role),
             piece: piece_of(read.part, role),
-        })
-    } else {
-        None
+        }),
+        _ => None,
     }
 }

@@ -128,7 +128,7 @@ impl Syntax {
 
     /// Returns the only role of `byte`, or `None` if it plays no role.
     #[must_use]
-    pub fn role_of(&self, byte: u8) -> Option<Role>
+    pub const fn role_of(&self, byte: u8) -> Option<Role>
         ensures { IsOnlyRole (notation_of self.now) byte result }
     {
         role_facts();

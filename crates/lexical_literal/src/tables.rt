@@ -1,20 +1,18 @@
 //! Tables of all classes and all steps of a syntax.
 
-ghost use Rattle.std.specs.Prelude.{◌≡◌, ◌<◌, ◌/◌, ◌%◌, ℕ, None, false, slice_index_or};
+ghost use Rattle.std.specs.Prelude.{◌≡◌, ◌<◌};
 ghost use Rattle.lexical_literal.specs.Notation.{Notation, notation_of};
 ghost use Rattle.lexical_literal.specs.Additions.Summary.{class_of, is_complete};
-ghost use Rattle.lexical_literal.specs.Additions.Tables.{HasTables, IsStep, class_number, piece_number, class_at, row, summary_at};
+ghost use Rattle.lexical_literal.specs.Additions.Tables.{EachIs, HasTables, IsClass, IsRow, IsStep, class_at, part_at, piece_number, stage_at, summary_at};
 
-use crate::steps::{self, Class, FINISHED, Piece, Stage, Summary};
+use crate::steps::{self, Class, Piece, Stage, Summary};
 use crate::syntax::Grammar;
 use lexical_util::format::Part;
 
-// The rows of a table are summaries, of which the last has ended. The columns are classes.
-const ROWS: usize = 55;
+// The rows of a table are summaries. The columns are classes.
+const ROWS: usize = 108;
 
 const COLUMNS: usize = 12;
-
-const STEPS: usize = ROWS * COLUMNS;
 
 // All parts, stages and classes, each at its number.
 const PARTS: [Part; 3] = [Part::Integer, Part::Fraction, Part::Exponent];
@@ -56,17 +54,23 @@ pub(crate) struct Step {
     pub(crate) piece: Piece,
 }
 
-// The class of each byte, what each class makes of each row, and whether each row is that of a literal.
+// What each class makes of a summary, and whether the summary is that of a literal.
+#[derive(Clone, Copy)]
+struct Row {
+    steps: [Option<Step>; COLUMNS],
+    is_complete: bool,
+}
+
+// The class of each byte, and the row of each summary.
 #[derive(Drop)]
 pub(crate) struct Tables {
     classes: [Class; 256],
-    steps: [Option<Step>; STEPS],
-    ends: [bool; ROWS],
+    rows: [Row; ROWS],
 }
 
 // Returns the place of a piece in a list of lengths.
 #[inline(always)]
-pub(crate) fn piece_number(piece: Piece) -> usize
+pub(crate) const fn piece_number(piece: Piece) -> usize
     ensures value { result ≡ piece_number piece }
     ensures small { result < 9 }
 {
@@ -75,111 +79,131 @@ pub(crate) fn piece_number(piece: Piece) -> usize
 
 // Returns the column of a class.
 #[inline(always)]
-fn class_number(class: Class) -> usize
-    ensures value { result ≡ class_number class }
+const fn column(class: Class) -> usize
+    ensures back { class_at result ≡ class }
     ensures small { result < 12 }
 {
     class as usize
 }
 
-// Returns the row of a summary.
-fn row(read: Summary) -> u8
-    ensures value { result ≡ row read }
-    ensures small { result < 55 }
+// Returns the place of a part in `PARTS`.
+const fn part_number(part: Part) -> usize
+    ensures back { part_at result ≡ part }
+    ensures small { result < 3 }
 {
-    if read.ended {
-        54
-    } else {
-        (read.part as usize * 18 + read.stage as usize * 2 + read.gap as usize) as u8
-    }
+    part as usize
+}
+
+// Returns the place of a stage in `STAGES`.
+const fn stage_number(stage: Stage) -> usize
+    ensures back { stage_at result ≡ stage }
+    ensures small { result < 9 }
+{
+    stage as usize
+}
+
+// Returns the row of a summary.
+const fn row_number(read: Summary) -> u8
+    ensures back { summary_at result ≡ read }
+    ensures small { result < 108 }
+{
+    let digits = part_number(read.part) * 9 + stage_number(read.stage);
+    (digits * 4 + read.gap as usize * 2 + read.ended as usize) as u8
 }
 
 // Returns the summary of a row.
-fn summary_at(row: u8) -> Summary
-    requires { row < 55 }
+pub(crate) const fn summary_at(row: u8) -> Summary
+    requires { row < 108 }
     ensures { result ≡ summary_at row }
 {
-    if row == 54 {
-        return FINISHED;
-    }
     let row = row as usize;
     Summary {
-        part: PARTS[row / 18],
-        stage: STAGES[row / 2 % 9],
-        gap: row % 2 == 1,
-        ended: false,
+        part: PARTS[row / 36],
+        stage: STAGES[row / 4 % 9],
+        gap: row / 2 % 2 == 1,
+        ended: row % 2 == 1,
     }
 }
 
 // Returns what a byte of `class` makes of a row, or `None` if no literal begins so.
-pub(crate) fn step_from(grammar: Grammar, from: u8, class: Class) -> Option<Step>
-    requires { from < 55 }
+pub(crate) const fn step_from(grammar: Grammar, from: u8, class: Class) -> Option<Step>
+    requires { from < 108 }
     ensures { IsStep (notation_of grammar) from class result }
 {
-    let next = steps::step(grammar, summary_at(from), class)?;
-    Some(Step {
-        row: row(next.summary),
-        piece: next.piece,
-    })
+    match steps::step(grammar, summary_at(from), class) {
+        None => None,
+        Some(next) => Some(Step {
+            row: row_number(next.summary),
+            piece: next.piece,
+        }),
+    }
 }
 
 // Returns whether a row is that of a literal.
-pub(crate) fn is_complete(grammar: Grammar, row: u8) -> bool
-    requires { row < 55 }
+pub(crate) const fn is_complete(grammar: Grammar, row: u8) -> bool
+    requires { row < 108 }
     ensures { result ≡ is_complete (notation_of grammar) (summary_at row) }
 {
     steps::is_complete(grammar, summary_at(row))
 }
 
 // Returns the classes of all bytes.
-fn classes_of(grammar: Grammar) -> [Class; 256]
-    ensures { (byte : ℕ) → byte < 256 → slice_index_or result byte Class.Other ≡ class_of (notation_of grammar) byte }
+const fn classes_of(grammar: Grammar) -> [Class; 256]
+    ensures { EachIs (IsClass (notation_of grammar)) result 256 }
 {
     let mut classes = [Class::Other; 256];
-    for byte in 0..256usize {
+    let mut byte = 0;
+    while byte < 256 {
         classes[byte] = steps::class_of(grammar, byte as u8);
+        byte += 1;
     }
     classes
 }
 
-// Returns what each class makes of each row.
-fn steps_of(grammar: Grammar) -> [Option<Step>; STEPS]
-    ensures { (index : ℕ) → index < 660
-        → IsStep (notation_of grammar) (index / 12) (class_at (index % 12)) (slice_index_or result index None) }
+// Returns what each class makes of a row.
+const fn row_of(grammar: Grammar, from: u8) -> Row
+    requires { from < 108 }
+    ensures { IsRow (notation_of grammar) from result }
 {
-    let mut steps = [None; STEPS];
-    for index in 0..STEPS {
-        steps[index] = step_from(grammar, (index / COLUMNS) as u8, CLASSES[index % COLUMNS]);
+    let mut steps = [None; COLUMNS];
+    let mut column = 0;
+    while column < COLUMNS {
+        steps[column] = step_from(grammar, from, CLASSES[column]);
+        column += 1;
     }
-    steps
+    Row {
+        steps,
+        is_complete: is_complete(grammar, from),
+    }
 }
 
-// Returns whether each row is that of a literal.
-fn ends_of(grammar: Grammar) -> [bool; ROWS]
-    ensures { (row : ℕ) → row < 55 → slice_index_or result row false ≡ is_complete (notation_of grammar) (summary_at row) }
+// Returns all rows.
+const fn rows_of(grammar: Grammar) -> [Row; ROWS]
+    ensures { EachIs (IsRow (notation_of grammar)) result 108 }
 {
-    let mut ends = [false; ROWS];
-    for row in 0..ROWS {
-        ends[row] = is_complete(grammar, row as u8);
+    let mut rows = [row_of(grammar, START); ROWS];
+    let mut row = 0;
+    while row < ROWS {
+        rows[row] = row_of(grammar, row as u8);
+        row += 1;
     }
-    ends
+    rows
 }
 
 impl Tables {
     // Returns the tables of a grammar.
-    pub(crate) fn new(grammar: Grammar) -> Tables
+    pub(crate) const fn new(grammar: Grammar) -> Tables
         ensures { HasTables (notation_of grammar) result }
     {
         Tables {
             classes: classes_of(grammar),
-            steps: steps_of(grammar),
-            ends: ends_of(grammar),
+            rows: rows_of(grammar),
         }
     }
 
     // Returns the class of `byte`.
     #[inline(always)]
-    pub(crate) fn class(&self, byte: u8) -> Class
+    pub(crate) const fn class(&self, byte: u8) -> Class
         ensures { (m : Notation) → HasTables m self.now → result ≡ class_of m byte }
     {
         self.classes[byte as usize]
@@ -187,19 +211,19 @@ impl Tables {
 
     // Returns what a byte of `class` makes of a row.
     #[inline(always)]
-    pub(crate) fn step(&self, row: u8, class: Class) -> Option<Step>
-        requires { row < 55 }
+    pub(crate) const fn step(&self, row: u8, class: Class) -> Option<Step>
+        requires { row < 108 }
         ensures { (m : Notation) → HasTables m self.now → IsStep m row class result }
     {
-        self.steps[row as usize * COLUMNS + class_number(class)]
+        self.rows[row as usize].steps[column(class)]
     }
 
     // Returns whether a row is that of a literal.
     #[inline(always)]
-    pub(crate) fn is_complete(&self, row: u8) -> bool
-        requires { row < 55 }
+    pub(crate) const fn is_complete(&self, row: u8) -> bool
+        requires { row < 108 }
         ensures { (m : Notation) → HasTables m self.now → result ≡ is_complete m (summary_at row) }
     {
-        self.ends[row as usize]
+        self.rows[row as usize].is_complete
     }
 }

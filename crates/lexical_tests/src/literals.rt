@@ -6,6 +6,7 @@ use lexical_literal::syntax::Syntax;
 use lexical_util::word_text::parse_word;
 
 mod rows;
+mod specials;
 
 // A row of the table.
 #[derive(Clone, Copy)]

@@ -1,4 +1,4 @@
--- In a lawful format with options that fit, a byte plays at most one role.
+-- In a lawful format with options that fit, or without options, a byte plays at most one role.
 use Rattle.std.proofs.Common.{◌≡◌, ◌≢◌, ◌<◌, ◌⊎◌, inl, inr, ℕ, ◌↔◌, Bool, true, List, [], ◌∷◌, Some, None, IsTrue}
 use Rattle.std.proofs.Common.{refl, sym, ap, subst, ◌∙◌, arith}
 use Rattle.std.proofs.lemmas.Bool.{and_parts, cond-true, cond_both}
@@ -7,7 +7,7 @@ use Rattle.std.specs.List.{find}
 use Rattle.lexical_base.specs.Ascii.{ByteSet}
 use Rattle.lexical_flags.specs.Options.{OptionsHaveOneRole}
 use Rattle.lexical_flags.specs.Record.{Record, raw, separator_allowed}
-use Rattle.lexical_flags.specs.Roles.{Disjoint, cased, other_case, digits, separator, used_separator}
+use Rattle.lexical_flags.specs.Roles.{AreDisjoint, Disjoint, cased, other_case, digits, separator, seven_roles, used_separator}
 use Rattle.lexical_flags.specs.Rules.{Lawful}
 use Rattle.lexical_util.specs.declared.feature_format.roles.Role.{Role}
 use Rattle.lexical_util.specs.declared.feature_format.roles.Role.TheVariants as roles
@@ -55,6 +55,18 @@ cased_below : (counts : Bool) (own byte : ℕ) → own < 256 → IsTrue (cased c
 unfolding cased
 cased_below counts own byte below is = grind (arith, nat_tests, other_below own below)
 
+-- `AreApart word e p` holds if `e` and `p` are below 256, and if no byte plays two of the seven roles.
+pub record AreApart (word e p : ℕ) : Type 0 where
+  pub exponent_below : e < 256
+  pub point_below : p < 256
+  pub roles : AreDisjoint (seven_roles (raw word) e p)
+
+pub apart_from : (word e p : ℕ) → OptionsHaveOneRole word e p → AreApart word e p
+apart_from word e p is =
+    let exponent = is.exponent_is_text in
+    let point = is.point_is_text in
+    record { exponent_below = grind (arith, nat_tests); point_below = grind (arith, nat_tests); roles = is.roles }
+
 -- These lemmas assume the law that two sets are disjoint if and only if no byte is in both.
 module _ (law : (A B : ByteSet)
     → Disjoint A B ↔ ((byte : ℕ) → byte < 256 → IsTrue (A byte) → IsTrue (B byte) → ⊥)) (word : ℕ) where
@@ -68,10 +80,10 @@ module _ (law : (A B : ByteSet)
       (law (digits (raw word)) (separator (raw word))).0 (assumption pairs) byte
       (cased_below true _ byte (omega arith) stored) digit stored
 
-  -- The other lemmas are on a lawful format with options that fit.
-  module _ (e p : ℕ) (fit : OptionsHaveOneRole word e p) where
+  -- The other lemmas are on a format and two bytes with which no byte plays two roles.
+  module _ (e p : ℕ) (apart : AreApart word e p) where
     Disjoint-sym : (A B : ByteSet) → Disjoint A B → Disjoint B A
-    Disjoint-sym A B apart = (law B A).1 (λ byte below in_b in_a. (law A B).0 apart byte below in_a in_b)
+    Disjoint-sym A B none = (law B A).1 (λ byte below in_b in_a. (law A B).0 none byte below in_a in_b)
 
     -- Each byte that plays another role than a digit is below 256.
     below : (role : Role) → roles.Digit ≢ role → (byte : ℕ) → IsTrue (stored_set (raw word) e p role byte) → byte < 256
@@ -80,8 +92,8 @@ module _ (law : (A B : ByteSet)
     below roles.Separator other byte is = cased_below true _ byte (omega arith) is
     below roles.Prefix other byte is = cased_below _ _ byte (omega arith) is
     below roles.Suffix other byte is = cased_below _ _ byte (omega arith) is
-    below roles.Exponent other byte is = let text = fit.exponent_is_text in cased_below _ e byte (grind (arith, nat_tests)) is
-    below roles.Point other byte is = let text = fit.point_is_text in cased_below true p byte (grind (arith, nat_tests)) is
+    below roles.Exponent other byte is = cased_below _ e byte apart.exponent_below is
+    below roles.Point other byte is = cased_below true p byte apart.point_below is
 
     -- If a byte is in two stored sets, then their roles are equal.
     one_below : (byte : ℕ) → byte < 256 → (a b : Role) → IsTrue (stored_set (raw word) e p a byte)
@@ -94,7 +106,7 @@ module _ (law : (A B : ByteSet)
     one_below byte small roles.Exponent roles.Exponent in_a in_b = refl
     one_below byte small roles.Point roles.Point in_a in_b = refl
     one_below byte small a b in_a in_b = absurd ((law (stored_set (raw word) e p a) (stored_set (raw word) e p b)).0
-        (search (Disjoint-sym, fit.roles)) byte small in_a in_b)
+        (search (Disjoint-sym, apart.roles)) byte small in_a in_b)
 
     one_stored : (byte : ℕ) (a b : Role) → IsTrue (stored_set (raw word) e p a byte)
         → IsTrue (stored_set (raw word) e p b byte) → a ≡ b

@@ -2,7 +2,7 @@ mod Lower
 mod EditLemmas
 mod NormalLemmas
 mod ViewLemmas
-mod ByteRoleLemmas
+pub mod ByteRoleLemmas
 pub mod ListingLemmas
 mod ChangeLemmas
 mod ImageLemmas

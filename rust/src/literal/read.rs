@@ -61,7 +61,7 @@ impl Syntax {
     /// # Errors
     ///
     /// If `text` is not a literal, returns how far it is right.
-    pub fn read<'a>(&self, text: &'a [u8]) -> Result<Parts<'a>, ReadError> {
+    pub const fn read<'a>(&self, text: &'a [u8]) -> Result<Parts<'a>, ReadError> {
         read(self.grammar(), None, text)
     }
 
@@ -71,7 +71,7 @@ impl Syntax {
     /// # Errors
     ///
     /// If no front of `text` is a literal, returns the error of [`read`][Self::read].
-    pub fn read_prefix<'a>(&self, text: &'a [u8]) -> Result<Front<'a>, ReadError> {
+    pub const fn read_prefix<'a>(&self, text: &'a [u8]) -> Result<Front<'a>, ReadError> {
         read_prefix(self.grammar(), None, text)
     }
 }
@@ -87,7 +87,7 @@ pub struct Reader {
 impl Reader {
     /// Returns a reader of the literals of `syntax`.
     #[must_use]
-    pub fn new(syntax: Syntax) -> Reader {
+    pub const fn new(syntax: Syntax) -> Reader {
         let grammar = syntax.grammar();
         Reader {
             grammar,
@@ -100,7 +100,7 @@ impl Reader {
     /// # Errors
     ///
     /// If `text` is not a literal, returns how far it is right.
-    pub fn read<'a>(&self, text: &'a [u8]) -> Result<Parts<'a>, ReadError> {
+    pub const fn read<'a>(&self, text: &'a [u8]) -> Result<Parts<'a>, ReadError> {
         read(self.grammar, Some(&self.tables), text)
     }
 
@@ -110,7 +110,7 @@ impl Reader {
     /// # Errors
     ///
     /// If no front of `text` is a literal, returns the error of [`read`][Self::read].
-    pub fn read_prefix<'a>(&self, text: &'a [u8]) -> Result<Front<'a>, ReadError> {
+    pub const fn read_prefix<'a>(&self, text: &'a [u8]) -> Result<Front<'a>, ReadError> {
         read_prefix(self.grammar, Some(&self.tables), text)
     }
 }
@@ -127,7 +127,7 @@ struct Scanned {
 
 // Returns the parts of the literal `text`, or how far it is right.
 #[inline(always)]
-fn read<'a>(
+const fn read<'a>(
     grammar: Grammar,
     tables: Option<&Tables>,
     text: &'a [u8],
@@ -144,7 +144,7 @@ fn read<'a>(
 
 // Returns the longest front of `text` that is a literal, or how far it is right.
 #[inline(always)]
-fn read_prefix<'a>(
+const fn read_prefix<'a>(
     grammar: Grammar,
     tables: Option<&Tables>,
     text: &'a [u8],
@@ -155,7 +155,7 @@ fn read_prefix<'a>(
             valid_up_to: fronts.valid_up_to,
         })
     } else {
-        let front = &text[..fronts.literal];
+        let (front, _) = split_front(text, fronts.literal);
         Ok(Front {
             parts: cut(front, scan(grammar, tables, front, false).counts),
             size: fronts.literal,
@@ -164,12 +164,12 @@ fn read_prefix<'a>(
 }
 
 // Splits off the first `size` bytes.
-fn split_front<'a>(text: &'a [u8], size: usize) -> (&'a [u8], &'a [u8]) {
+const fn split_front<'a>(text: &'a [u8], size: usize) -> (&'a [u8], &'a [u8]) {
     text.split_at(size)
 }
 
 // Splits `text` into parts with the lengths `counts`. The zero of a prefix is counted as a digit of the integer.
-fn cut<'a>(text: &'a [u8], counts: [usize; 9]) -> Parts<'a> {
+const fn cut<'a>(text: &'a [u8], counts: [usize; 9]) -> Parts<'a> {
     let (sign, after_sign) = split_front(text, counts[0]);
     let (prefix, after_prefix) = split_front(after_sign, counts[1] + counts[1]);
     let (integer, after_integer) = split_front(after_prefix, counts[2] - counts[1]);
@@ -193,12 +193,13 @@ fn cut<'a>(text: &'a [u8], counts: [usize; 9]) -> Parts<'a> {
 
 // Reads `text` until no literal begins with what has been read, and looks for fronts that are literals if `fronts` is true.
 #[inline(always)]
-fn scan(grammar: Grammar, tables: Option<&Tables>, text: &[u8], fronts: bool) -> Scanned {
+const fn scan(grammar: Grammar, tables: Option<&Tables>, text: &[u8], fronts: bool) -> Scanned {
     let mut row = START;
     let mut counts = [0; 9];
     let mut literal = 0;
-    for (index, byte) in text.iter().enumerate() {
-        let Some(next) = step_by(grammar, tables, row, *byte) else {
+    let mut index = 0;
+    while index < text.len() {
+        let Some(next) = step_by(grammar, tables, row, text[index]) else {
             return Scanned {
                 valid_up_to: index,
                 counts,
@@ -211,6 +212,7 @@ fn scan(grammar: Grammar, tables: Option<&Tables>, text: &[u8], fronts: bool) ->
         if fronts && is_complete_by(grammar, tables, row) {
             literal = index + 1;
         }
+        index += 1;
     }
     Scanned {
         valid_up_to: text.len(),
@@ -222,7 +224,7 @@ fn scan(grammar: Grammar, tables: Option<&Tables>, text: &[u8], fronts: bool) ->
 
 // Returns what `byte` makes of a row, by the tables if there are any.
 #[inline(always)]
-fn step_by(grammar: Grammar, tables: Option<&Tables>, row: u8, byte: u8) -> Option<Step> {
+const fn step_by(grammar: Grammar, tables: Option<&Tables>, row: u8, byte: u8) -> Option<Step> {
     match tables {
         None => step_from(grammar, row, class_of(grammar, byte)),
         Some(tables) => tables.step(row, tables.class(byte)),
@@ -231,7 +233,7 @@ fn step_by(grammar: Grammar, tables: Option<&Tables>, row: u8, byte: u8) -> Opti
 
 // Returns whether a row is that of a literal, by the tables if there are any.
 #[inline(always)]
-fn is_complete_by(grammar: Grammar, tables: Option<&Tables>, row: u8) -> bool {
+const fn is_complete_by(grammar: Grammar, tables: Option<&Tables>, row: u8) -> bool {
     match tables {
         None => is_complete(grammar, row),
         Some(tables) => tables.is_complete(row),

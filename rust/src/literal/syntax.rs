@@ -88,7 +88,7 @@ impl Syntax {
 
     /// Returns the only role of `byte`, or `None` if it plays no role.
     #[must_use]
-    pub fn role_of(&self, byte: u8) -> Option<Role> {
+    pub const fn role_of(&self, byte: u8) -> Option<Role> {
         role_of(class_of(self.grammar(), byte))
     }
 

@@ -2,16 +2,14 @@
 
 //! Tables of all classes and all steps of a syntax.
 
-use crate::literal::steps::{self, Class, Piece, Stage, Summary, FINISHED};
+use crate::literal::steps::{self, Class, Piece, Stage, Summary};
 use crate::literal::syntax::Grammar;
 use crate::word::Part;
 
-// The rows of a table are summaries, of which the last has ended. The columns are classes.
-const ROWS: usize = 55;
+// The rows of a table are summaries. The columns are classes.
+const ROWS: usize = 108;
 
 const COLUMNS: usize = 12;
-
-const STEPS: usize = ROWS * COLUMNS;
 
 // All parts, stages and classes, each at its number.
 const PARTS: [Part; 3] = [Part::Integer, Part::Fraction, Part::Exponent];
@@ -53,115 +51,135 @@ pub(crate) struct Step {
     pub(crate) piece: Piece,
 }
 
-// The class of each byte, what each class makes of each row, and whether each row is that of a literal.
+// What each class makes of a summary, and whether the summary is that of a literal.
+#[derive(Clone, Copy)]
+struct Row {
+    steps: [Option<Step>; COLUMNS],
+    is_complete: bool,
+}
+
+// The class of each byte, and the row of each summary.
 #[derive(Clone)]
 pub(crate) struct Tables {
     classes: [Class; 256],
-    steps: [Option<Step>; STEPS],
-    ends: [bool; ROWS],
+    rows: [Row; ROWS],
 }
 
 // Returns the place of a piece in a list of lengths.
 #[inline(always)]
-pub(crate) fn piece_number(piece: Piece) -> usize {
+pub(crate) const fn piece_number(piece: Piece) -> usize {
     piece as usize
 }
 
 // Returns the column of a class.
 #[inline(always)]
-fn class_number(class: Class) -> usize {
+const fn column(class: Class) -> usize {
     class as usize
 }
 
+// Returns the place of a part in `PARTS`.
+const fn part_number(part: Part) -> usize {
+    part as usize
+}
+
+// Returns the place of a stage in `STAGES`.
+const fn stage_number(stage: Stage) -> usize {
+    stage as usize
+}
+
 // Returns the row of a summary.
-fn row(read: Summary) -> u8 {
-    if read.ended {
-        54
-    } else {
-        (read.part as usize * 18 + read.stage as usize * 2 + read.gap as usize) as u8
-    }
+const fn row_number(read: Summary) -> u8 {
+    let digits = part_number(read.part) * 9 + stage_number(read.stage);
+    (digits * 4 + read.gap as usize * 2 + read.ended as usize) as u8
 }
 
 // Returns the summary of a row.
-fn summary_at(row: u8) -> Summary {
-    if row == 54 {
-        return FINISHED;
-    }
+const fn summary_at(row: u8) -> Summary {
     let row = row as usize;
     Summary {
-        part: PARTS[row / 18],
-        stage: STAGES[row / 2 % 9],
-        gap: row % 2 == 1,
-        ended: false,
+        part: PARTS[row / 36],
+        stage: STAGES[row / 4 % 9],
+        gap: row / 2 % 2 == 1,
+        ended: row % 2 == 1,
     }
 }
 
 // Returns what a byte of `class` makes of a row, or `None` if no literal begins so.
-pub(crate) fn step_from(grammar: Grammar, from: u8, class: Class) -> Option<Step> {
-    let next = steps::step(grammar, summary_at(from), class)?;
-    Some(Step {
-        row: row(next.summary),
-        piece: next.piece,
-    })
+pub(crate) const fn step_from(grammar: Grammar, from: u8, class: Class) -> Option<Step> {
+    match steps::step(grammar, summary_at(from), class) {
+        None => None,
+        Some(next) => Some(Step {
+            row: row_number(next.summary),
+            piece: next.piece,
+        }),
+    }
 }
 
 // Returns whether a row is that of a literal.
-pub(crate) fn is_complete(grammar: Grammar, row: u8) -> bool {
+pub(crate) const fn is_complete(grammar: Grammar, row: u8) -> bool {
     steps::is_complete(grammar, summary_at(row))
 }
 
 // Returns the classes of all bytes.
-fn classes_of(grammar: Grammar) -> [Class; 256] {
+const fn classes_of(grammar: Grammar) -> [Class; 256] {
     let mut classes = [Class::Other; 256];
-    for byte in 0..256usize {
+    let mut byte = 0;
+    while byte < 256 {
         classes[byte] = steps::class_of(grammar, byte as u8);
+        byte += 1;
     }
     classes
 }
 
-// Returns what each class makes of each row.
-fn steps_of(grammar: Grammar) -> [Option<Step>; STEPS] {
-    let mut steps = [None; STEPS];
-    for index in 0..STEPS {
-        steps[index] = step_from(grammar, (index / COLUMNS) as u8, CLASSES[index % COLUMNS]);
+// Returns what each class makes of a row.
+const fn row_of(grammar: Grammar, from: u8) -> Row {
+    let mut steps = [None; COLUMNS];
+    let mut column = 0;
+    while column < COLUMNS {
+        steps[column] = step_from(grammar, from, CLASSES[column]);
+        column += 1;
     }
-    steps
+    Row {
+        steps,
+        is_complete: is_complete(grammar, from),
+    }
 }
 
-// Returns whether each row is that of a literal.
-fn ends_of(grammar: Grammar) -> [bool; ROWS] {
-    let mut ends = [false; ROWS];
-    for row in 0..ROWS {
-        ends[row] = is_complete(grammar, row as u8);
+// Returns all rows.
+const fn rows_of(grammar: Grammar) -> [Row; ROWS] {
+    let mut rows = [row_of(grammar, START); ROWS];
+    let mut row = 0;
+    while row < ROWS {
+        rows[row] = row_of(grammar, row as u8);
+        row += 1;
     }
-    ends
+    rows
 }
 
 impl Tables {
     // Returns the tables of a grammar.
-    pub(crate) fn new(grammar: Grammar) -> Tables {
+    pub(crate) const fn new(grammar: Grammar) -> Tables {
         Tables {
             classes: classes_of(grammar),
-            steps: steps_of(grammar),
-            ends: ends_of(grammar),
+            rows: rows_of(grammar),
         }
     }
 
     // Returns the class of `byte`.
     #[inline(always)]
-    pub(crate) fn class(&self, byte: u8) -> Class {
+    pub(crate) const fn class(&self, byte: u8) -> Class {
         self.classes[byte as usize]
     }
 
     // Returns what a byte of `class` makes of a row.
     #[inline(always)]
-    pub(crate) fn step(&self, row: u8, class: Class) -> Option<Step> {
-        self.steps[row as usize * COLUMNS + class_number(class)]
+    pub(crate) const fn step(&self, row: u8, class: Class) -> Option<Step> {
+        self.rows[row as usize].steps[column(class)]
     }
 
     // Returns whether a row is that of a literal.
     #[inline(always)]
-    pub(crate) fn is_complete(&self, row: u8) -> bool {
-        self.ends[row as usize]
+    pub(crate) const fn is_complete(&self, row: u8) -> bool {
+        self.rows[row as usize].is_complete
     }
 }

@@ -1,5 +1,6 @@
 -- What has been read of a number, changed by one byte.
-use Rattle.std.specs.Prelude.{ℕ, Bool, true, false, not, ◌==◌, ◌&&◌, ◌||◌, if◌then◌else◌, ◌+◌, ◌≡◌, length, List, [], ◌∷◌, Option, Some, None}
+use Rattle.std.specs.Prelude.{ℕ, Bool, true, false, not, ◌==◌, ◌&&◌, ◌||◌, if◌then◌else◌, ◌+◌, ◌≡◌, length}
+use Rattle.std.specs.Prelude.{List, [], ◌∷◌, Option, Some, None}
 use Rattle.lexical_util.specs.Layout as layout
 use Rattle.lexical_util.specs.Layout.{separators_in}
 use Rattle.lexical_util.specs.Roles.{signs}
@@ -32,13 +33,9 @@ class_of m byte =
     else (if signs byte then (if byte == 43 then classes.Plus else classes.Minus)
     else (if m.prefix byte then classes.Prefix else classes.Other)))))))
 
--- `role_of class` is the role of the bytes of `class`.
+-- `role_of class` is the role of the bytes of `class`. Four classes are of digits.
 abbrev pub role_of : Class → Option Role
 role_of classes.Other = None
-role_of classes.Zero = Some roles.Digit
-role_of classes.Digit = Some roles.Digit
-role_of classes.MantissaDigit = Some roles.Digit
-role_of classes.ExponentDigit = Some roles.Digit
 role_of classes.Separator = Some roles.Separator
 role_of classes.Prefix = Some roles.Prefix
 role_of classes.Suffix = Some roles.Suffix
@@ -46,6 +43,7 @@ role_of classes.Point = Some roles.Point
 role_of classes.ExponentCharacter = Some roles.Exponent
 role_of classes.Plus = Some roles.Sign
 role_of classes.Minus = Some roles.Sign
+role_of _ = Some roles.Digit
 
 -- `in_part part class` is the role of a byte of `class` after a front that ends in `part`, where digits are those of the
 -- radix of `part`.
@@ -115,60 +113,40 @@ may_follow m stages.Bare = may_lead m
 may_follow m stages.Zero = may_lead m
 may_follow m _ = true
 
--- `first_digit gap zero` is the stage after the first digit of the integer.
-abbrev pub first_digit : Bool → Bool → Stage
-first_digit gap zero = if zero then (if gap then stages.Zero else stages.Bare) else stages.Digits
-
--- `after_digit stage gap zero` is the stage after a digit, which is 0 if `zero` is true.
+-- `after_digit stage gap zero` is the stage after a digit, which is 0 if `zero` is true, and after a gap if `gap` is true.
 abbrev pub after_digit : Stage → Bool → Bool → Stage
-after_digit stages.Start gap zero = first_digit gap zero
-after_digit stages.Empty gap zero = first_digit gap zero
+after_digit stages.Start gap zero = if zero then (if gap then stages.Zero else stages.Bare) else stages.Digits
+after_digit stages.Empty gap zero = if zero then (if gap then stages.Zero else stages.Bare) else stages.Digits
 after_digit stages.Bare gap zero = stages.Led
 after_digit stages.Zero gap zero = stages.Led
 after_digit stages.Led gap zero = stages.Led
 after_digit _ gap zero = stages.Digits
 
--- `after_separator stage` is the stage after a separator.
-abbrev pub after_separator : Stage → Stage
-after_separator stages.Start = stages.Empty
-after_separator stages.Mark = stages.Free
-after_separator stages.Bare = stages.Zero
-after_separator stage = stage
+-- `after_mark stage` is the stage after a separator or a sign.
+abbrev pub after_mark : Stage → Stage
+after_mark stages.Start = stages.Empty
+after_mark stages.Mark = stages.Free
+after_mark stages.Bare = stages.Zero
+after_mark stage = stage
 
--- `after_sign stage` is the stage after a sign.
-abbrev pub after_sign : Stage → Stage
-after_sign stages.Start = stages.Empty
-after_sign stages.Mark = stages.Free
-after_sign stage = stage
+-- `gap_fits m part digit gap next` is true if there is no gap, or if a separator may be where it is: after a digit of `part`
+-- if `digit` is true, and before one if `next` is true.
+abbrev pub gap_fits : Notation → Part → Bool → Bool → Bool → Bool
+gap_fits m part digit gap next = not gap || is_place m part digit next
 
--- `may_end m part digit gap` is true if the digits of `part` may end, after a digit or not, and in a gap or not.
-abbrev pub may_end : Notation → Part → Bool → Bool → Bool
-may_end m part digit gap = not gap || is_place m part digit false
-
--- `takes_digit m part digit gap` is true if another digit may follow, as far as separators decide.
-abbrev pub takes_digit : Notation → Part → Bool → Bool → Bool
-takes_digit m part digit gap = not gap || is_place m part digit true
-
--- `is_open m part digit next` is true if a gap can be closed, where another digit may follow or not.
+-- `is_open m part digit next` is true if a gap can be closed, where another digit may follow if `next` is true.
 abbrev pub is_open : Notation → Part → Bool → Bool → Bool
-is_open m part true next = is_place m part true false || (is_place m part true true && next)
-is_open m part false next = is_place m part false true
+is_open m part digit next = (is_place m part digit true && next) || is_place m part digit false
 
--- `takes_separator m part digit gap next` is true if a separator may follow, so that its gap can be closed.
-abbrev pub takes_separator : Notation → Part → Bool → Bool → Bool → Bool
-takes_separator m part digit gap next = (not gap || m.flag (separators_in part).consecutive) && is_open m part digit next
-
--- `needs_sign m part` is true if a sign is required before the digits of `part`.
+-- `needs_sign m part` is true if a sign is required before the digits of `part`, and `forbids_plus m part` if it must not be
+-- a plus sign. No sign may be before a fraction.
 abbrev pub needs_sign : Notation → Part → Bool
-needs_sign m parts.Integer = m.flag layout.required_mantissa_sign
-needs_sign m parts.Fraction = false
 needs_sign m parts.Exponent = m.flag layout.required_exponent_sign
+needs_sign m _ = m.flag layout.required_mantissa_sign
 
--- `forbids_plus m part` is true if that sign must not be a plus sign.
 abbrev pub forbids_plus : Notation → Part → Bool
-forbids_plus m parts.Integer = m.flag layout.no_positive_mantissa_sign
-forbids_plus m parts.Fraction = false
 forbids_plus m parts.Exponent = m.flag layout.no_positive_exponent_sign
+forbids_plus m _ = m.flag layout.no_positive_mantissa_sign
 
 -- `is_signed m part stage` is true if the part has a sign, or needs none.
 abbrev pub is_signed : Notation → Part → Stage → Bool
@@ -185,47 +163,37 @@ digits_suffice m parts.Exponent stage = implies (m.flag layout.required_exponent
 abbrev pub may_float : Notation → Stage → Bool
 may_float m stage = implies (m.flag layout.no_float_leading_zeros) (not (is_led stage))
 
--- `may_point m part stage` is true if a decimal point may follow `part`.
-abbrev pub may_point : Notation → Part → Stage → Bool
-may_point m parts.Integer stage = may_float m stage
-may_point m _ stage = false
-
--- `may_scale m part stage` is true if an exponent may follow `part`.
-abbrev pub may_scale : Notation → Part → Stage → Bool
-may_scale m parts.Integer stage =
+-- `continues m part stage role` is true if a byte with the role `role` may follow `part`. A literal may stop where the suffix
+-- may follow.
+abbrev pub continues : Notation → Part → Stage → Role → Bool
+continues m parts.Integer stage roles.Point = may_float m stage
+continues m parts.Integer stage roles.Exponent =
     not (m.flag layout.no_exponent_notation) && (may_float m stage
     && (implies (m.flag layout.required_mantissa_digits) (has_digit stage) && not (m.flag layout.no_exponent_without_fraction)))
-may_scale m parts.Fraction stage = not (m.flag layout.no_exponent_notation)
-may_scale m parts.Exponent stage = false
-
--- `may_stop m part stage` is true if nothing, or the suffix, may follow `part`.
-abbrev pub may_stop : Notation → Part → Stage → Bool
-may_stop m parts.Integer stage =
-    not (needs_exponent m)
-    && (has_digit stage && implies (m.flag layout.no_integer_leading_zeros) (not (is_led stage)))
-may_stop m parts.Fraction stage = not (needs_exponent m)
-may_stop m parts.Exponent stage = true
+continues m parts.Integer stage roles.Suffix =
+    not (needs_exponent m) && (has_digit stage && implies (m.flag layout.no_integer_leading_zeros) (not (is_led stage)))
+continues m parts.Fraction stage roles.Exponent = not (m.flag layout.no_exponent_notation)
+continues m parts.Fraction stage roles.Suffix = not (needs_exponent m)
+continues m parts.Exponent stage roles.Suffix = true
+continues m part stage role = false
 
 -- `ends m s` is true if the part of `s` may end.
 abbrev pub ends : Notation → Summary → Bool
-ends m s = is_signed m s.part s.stage && (may_end m s.part (has_digit s.stage) s.gap && digits_suffice m s.part s.stage)
+ends m s = is_signed m s.part s.stage && (gap_fits m s.part (has_digit s.stage) s.gap false && digits_suffice m s.part s.stage)
 
 -- `is_complete m s` is true if what has been read is a literal.
 abbrev pub is_complete : Notation → Summary → Bool
-is_complete m s = s.ended || (ends m s && may_stop m s.part s.stage)
+is_complete m s = s.ended || (ends m s && continues m s.part s.stage roles.Suffix)
 
 -- `takes m s plus role` is true if some literal goes on with a byte that has the role `role`, and is a plus sign if `plus`
 -- is true.
 abbrev pub takes : Notation → Summary → Bool → Role → Bool
-takes m s plus roles.Digit =
-    is_signed m s.part s.stage && (takes_digit m s.part (has_digit s.stage) s.gap && may_follow m s.stage)
-takes m s plus roles.Separator =
-    is_signed m s.part s.stage && takes_separator m s.part (has_digit s.stage) s.gap (may_follow m s.stage)
+takes m s plus roles.Digit = is_signed m s.part s.stage && (gap_fits m s.part (has_digit s.stage) s.gap true && may_follow m s.stage)
+takes m s plus roles.Separator = is_signed m s.part s.stage && ((not s.gap || m.flag (separators_in s.part).consecutive)
+    && is_open m s.part (has_digit s.stage) (may_follow m s.stage))
 takes m s plus roles.Sign = is_fresh s.stage && implies (forbids_plus m s.part) (not plus)
 takes m s plus roles.Prefix = is_bare s.stage
-takes m s plus roles.Point = ends m s && may_point m s.part s.stage
-takes m s plus roles.Exponent = ends m s && may_scale m s.part s.stage
-takes m s plus roles.Suffix = ends m s && may_stop m s.part s.stage
+takes m s plus role = ends m s && continues m s.part s.stage role
 
 -- `after_point digit` is the stage after a decimal point that follows an integer with a digit if `digit` is true.
 abbrev pub after_point : Bool → Stage
@@ -238,8 +206,8 @@ finished = record { part = parts.Exponent; stage = stages.Digits; gap = false; e
 -- `after s zero role` is the summary after a byte that has the role `role`, and is the digit 0 if `zero` is true.
 abbrev pub after : Summary → Bool → Role → Summary
 after s zero roles.Digit = record s { stage = after_digit s.stage s.gap zero; gap = false }
-after s zero roles.Separator = record s { stage = after_separator s.stage; gap = true }
-after s zero roles.Sign = record s { stage = after_sign s.stage }
+after s zero roles.Separator = record s { stage = after_mark s.stage; gap = true }
+after s zero roles.Sign = record s { stage = after_mark s.stage }
 after s zero roles.Prefix = record s { stage = stages.Free; gap = false }
 after s zero roles.Point = record s { part = parts.Fraction; stage = after_point (has_digit s.stage); gap = false }
 after s zero roles.Exponent = record s { part = parts.Exponent; stage = stages.Mark; gap = false }
@@ -254,21 +222,18 @@ move m s plus zero (Some role) = if not s.ended && takes m s plus role then Some
 abbrev pub step : Notation → Summary → Class → Option Summary
 step m s class = move m s (is_plus class) (is_zero class) (in_part s.part class)
 
--- `digits_piece part` is the piece of the digits of `part`, and `sign_piece part` that of a sign before them.
+-- `digits_piece part` is the piece of the digits of `part`.
 abbrev pub digits_piece : Part → Piece
 digits_piece parts.Integer = pieces.Integer
 digits_piece parts.Fraction = pieces.Fraction
 digits_piece parts.Exponent = pieces.Exponent
 
-abbrev pub sign_piece : Part → Piece
-sign_piece parts.Exponent = pieces.ExponentSign
-sign_piece _ = pieces.Sign
-
 -- `piece_of part role` is the piece that a byte with the role `role` belongs to, after a front that ends in `part`.
 abbrev pub piece_of : Part → Role → Piece
 piece_of part roles.Digit = digits_piece part
 piece_of part roles.Separator = digits_piece part
-piece_of part roles.Sign = sign_piece part
+piece_of parts.Exponent roles.Sign = pieces.ExponentSign
+piece_of part roles.Sign = pieces.Sign
 piece_of part roles.Prefix = pieces.Prefix
 piece_of part roles.Point = pieces.Point
 piece_of part roles.Exponent = pieces.ExponentCharacter

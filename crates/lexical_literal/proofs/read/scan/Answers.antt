@@ -17,7 +17,7 @@ pub loop-index-init : goal.loop-index-init
 loop-index-init c =
     let m = notation_of c.args.grammar in
     let is_ready = ready c.role_facts.ensures.disjoint c.role_facts.ensures.five c.role_facts.ensures.lawful c.args.grammar c.requires.syntax in
-    record { read = refl; is_row = omega arith; counted = refl; size = refl; small = search rules; latest = λ fronts. latest_init m is_ready c.args.text.now }
+    record { read = refl; within = omega arith; is_row = omega arith; counted = refl; size = refl; small = search rules; latest = λ fronts. latest_init m is_ready c.args.text.now }
 
 pub loop-index-preserved : goal.loop-index-preserved
 loop-index-preserved c =
@@ -34,6 +34,7 @@ loop-index-preserved c =
     let read = next_scan m is_ready text i s c.loop-index-test.true now.read ∙ next.0 in
     record {
       read = read;
+      within = omega arith;
       is_row = next.1;
       counted = next_tally m is_ready text i s c.loop-index-test.true now.read (cuts_of counts) now.counted
           ∙ next.2 (cuts_of counts) ∙ count_one counts now.size c.in-Some.next.piece
@@ -69,7 +70,7 @@ returns-clause-error c =
     let text = c.args.text.now in
     let is_ready = ready c.role_facts.ensures.disjoint c.role_facts.ensures.five c.role_facts.ensures.lawful c.args.grammar c.requires.syntax in
     wrong_at_end m is_ready text (summary_at c.loop-index.row)
-    (at_end c.loop-index.index (length text) (λ n. scan m (Some start) (take n text) ≡ Some (summary_at c.loop-index.row)) c.loop-index-test.false c.loop-index.auto.index-end c.loop-index.invariant.read)
+    (at_end c.loop-index.index (length text) (λ n. scan m (Some start) (take n text) ≡ Some (summary_at c.loop-index.row)) c.loop-index-test.false c.loop-index.invariant.within c.loop-index.invariant.read)
 
 pub returns-clause-literal : goal.returns-clause-literal
 returns-clause-literal c is =
@@ -77,7 +78,7 @@ returns-clause-literal c is =
     let text = c.args.text.now in
     let is_ready = ready c.role_facts.ensures.disjoint c.role_facts.ensures.five c.role_facts.ensures.lawful c.args.grammar c.requires.syntax in
     whole_literal m is_ready text (summary_at c.loop-index.row)
-    (at_end c.loop-index.index (length text) (λ n. scan m (Some start) (take n text) ≡ Some (summary_at c.loop-index.row)) c.loop-index-test.false c.loop-index.auto.index-end c.loop-index.invariant.read)
+    (at_end c.loop-index.index (length text) (λ n. scan m (Some start) (take n text) ≡ Some (summary_at c.loop-index.row)) c.loop-index-test.false c.loop-index.invariant.within c.loop-index.invariant.read)
     (sym c.is_complete_by-2.ensures ∙ is)
 
 pub returns-clause-counted : goal.returns-clause-counted
@@ -86,9 +87,9 @@ returns-clause-counted c l reads =
     let text = c.args.text.now in
     let is_ready = ready c.role_facts.ensures.disjoint c.role_facts.ensures.five c.role_facts.ensures.lawful c.args.grammar c.requires.syntax in
     let both = whole_counted m is_ready text (summary_at c.loop-index.row)
-    (at_end c.loop-index.index (length text) (λ n. scan m (Some start) (take n text) ≡ Some (summary_at c.loop-index.row)) c.loop-index-test.false c.loop-index.auto.index-end c.loop-index.invariant.read)
+    (at_end c.loop-index.index (length text) (λ n. scan m (Some start) (take n text) ≡ Some (summary_at c.loop-index.row)) c.loop-index-test.false c.loop-index.invariant.within c.loop-index.invariant.read)
     (cuts_of c.loop-index.counts)
-    (at_end c.loop-index.index (length text) (λ n. tally m (Some start) no_cuts (take n text) ≡ cuts_of c.loop-index.counts) c.loop-index-test.false c.loop-index.auto.index-end c.loop-index.invariant.counted)
+    (at_end c.loop-index.index (length text) (λ n. tally m (Some start) no_cuts (take n text) ≡ cuts_of c.loop-index.counts) c.loop-index-test.false c.loop-index.invariant.within c.loop-index.invariant.counted)
     l reads in
     (c.is_complete_by-2.ensures ∙ both.0, both.1)
 
@@ -104,4 +105,4 @@ returns-clause-longest c fronts =
     let text = c.args.text.now in
     let is_ready = ready c.role_facts.ensures.disjoint c.role_facts.ensures.five c.role_facts.ensures.lawful c.args.grammar c.requires.syntax in
     longest_from m is_ready text c.loop-index.literal (length text) (returns-clause-error c)
-    (at_end c.loop-index.index (length text) (IsLatest m text c.loop-index.literal) c.loop-index-test.false c.loop-index.auto.index-end (c.loop-index.invariant.latest fronts))
+    (at_end c.loop-index.index (length text) (IsLatest m text c.loop-index.literal) c.loop-index-test.false c.loop-index.invariant.within (c.loop-index.invariant.latest fronts))

@@ -1,0 +1,41 @@
+-- Each bit has been tested.
+use Rattle.std.proofs.Common.{◌≡◌, ◌^◌, ◌&&◌, ◌||◌, ◌==◌, Bool, true, false, bit_or, ap, ◌∙◌, arith}
+use Rattle.lexical_util.specs.Layout.{bit}
+use Rattle.lexical_util.specs.Record.{raw}
+use Rattle.lexical_literal.specs.Notation.{notation_of}
+use Rattle.lexical_literal.proofs.CauseLemmas.{flag_or, flag_pow, shifted, as_tested, as_unset, tried_more}
+use Rattle.lexical_literal.proofs.cause.Stop.flags_that.Goals as goal
+use Rattle.lexical_literal.proofs.cause.Stop.flags_that.Goals.{then-candidates-flag-ne0+then-allows-allow, else-candidates-flag-ne0, else-candidates-flag-ne0-via-then-candidates-flag-ne0+else-allows-allow, else-candidates-flag-ne0-via-else-candidates-flag-ne0}
+
+none_added : (old t : Bool) → old ≡ (old || (t && false))
+none_added old t = grind arith
+
+one_added : (old t : Bool) → (old || t) ≡ (old || (t && true))
+one_added old t = grind arith
+
+pub loop-bit-preserved : goal.loop-bit-preserved
+loop-bit-preserved c =
+    let m = notation_of c.args.self.grammar in
+    let s = c.args.self.read in
+    let next = c.args.self.next in
+    let k = c.loop-bit.bit in
+    let small = c.loop-bit-test.true in
+    let found = c.loop-bit.found in
+    record {
+      within = omega arith;
+      each = λ f. elim c.if-candidates-flag-ne0.branch [
+        | then-candidates-flag-ne0+then-allows-allow w ↦ tried_more (bit f) k _ true ((raw found).flag f) _
+            (λ same. as_tested m s next c.args.candidates c.args.mask c.args.allow k small f same w.allows.result true w.if-candidates-flag-ne0.true w.allows.ensures w.if-allows-allow.true)
+            (c.loop-bit.invariant.each f)
+            (ap (λ n. (raw n).flag f) (w.found-is ∙ ap (bit_or found) (shifted k small)) ∙ flag_or f found (2 ^ k)
+            ∙ ap (λ t. (raw found).flag f || t) (flag_pow f k) ∙ one_added ((raw found).flag f) (bit f == k))
+        | else-candidates-flag-ne0 w ↦ tried_more (bit f) k _ false ((raw found).flag f) _
+            (λ same. elim w.else-candidates-flag-ne0.branch [
+              | else-candidates-flag-ne0-via-then-candidates-flag-ne0+else-allows-allow v ↦
+                  as_tested m s next c.args.candidates c.args.mask c.args.allow k small f same v.allows.result false v.if-candidates-flag-ne0.true v.allows.ensures v.if-allows-allow.false
+              | else-candidates-flag-ne0-via-else-candidates-flag-ne0 v ↦ as_unset m s next c.args.candidates c.args.mask c.args.allow k small f same v.if-candidates-flag-ne0.false
+            ])
+            (c.loop-bit.invariant.each f)
+            (ap (λ n. (raw n).flag f) w.found-is ∙ none_added ((raw found).flag f) (bit f == k))
+      ];
+    }

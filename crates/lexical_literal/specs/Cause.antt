@@ -1,0 +1,226 @@
+-- Why a text is not a literal: the cause, the flags that are to blame, and the bytes to show.
+use Rattle.std.specs.Prelude.{ℕ, ◌≡◌, ◌+◌, ◌<◌, ◌==◌, ◌&&◌, ◌↔◌, ◌⊎◌, ◌||◌, not, Bool, false, if◌then◌else◌, IsTrue, List, [], ◌∷◌, ◌++◌, length, Option, Some, None}
+use Rattle.std.specs.Int.{w128, trailing_zeros}
+use Rattle.std.specs.List.{list_any}
+use Rattle.lexical_util.specs.Ascii.{ByteSet}
+use Rattle.lexical_util.specs.declared.error.Error.{Error}
+use Rattle.lexical_util.specs.declared.error.Error.TheVariants as errors
+use Rattle.lexical_util.specs.Layout as layout
+use Rattle.lexical_util.specs.Layout.{Flag, bit, separators_in}
+use Rattle.lexical_util.specs.Roles.{other_case}
+use Rattle.lexical_util.specs.declared.format_flags.Part.{Part}
+use Rattle.lexical_util.specs.declared.format_flags.Part.TheVariants as parts
+use Rattle.lexical_literal.specs.Front.{IsFront, NoLiteral}
+use Rattle.lexical_literal.specs.Literal.{Literal, Reads}
+use Rattle.lexical_literal.specs.Notation.{Notation}
+use Rattle.lexical_literal.specs.declared.cause.Cause.{Cause}
+use Rattle.lexical_literal.specs.declared.cause.Cause.TheVariants as causes
+use Rattle.lexical_literal.specs.declared.cause.Place.{Place}
+use Rattle.lexical_literal.specs.declared.cause.Place.TheVariants as places
+
+-- THE SAME NOTATION WITH OTHER FLAGS
+
+-- `requirement_flags` lists the flags that require something of the parts of a literal.
+abbrev pub requirement_flags : List Flag
+requirement_flags =
+    layout.required_digits ++ layout.no_positive_mantissa_sign ∷ layout.required_mantissa_sign ∷ layout.no_exponent_notation ∷
+    layout.no_positive_exponent_sign ∷ layout.required_exponent_sign ∷ layout.no_exponent_without_fraction ∷
+    layout.no_integer_leading_zeros ∷ layout.no_float_leading_zeros ∷ layout.required_exponent_notation ∷ []
+
+-- `separator_flags` lists the flags that allow a digit separator in a number.
+abbrev pub separator_flags : List Flag
+separator_flags = layout.internal_digit_separator ++ layout.leading_digit_separator ++ layout.trailing_digit_separator ++ layout.consecutive_digit_separator
+
+-- `is_one_of fs f` is true if `f` is one of `fs`.
+abbrev pub is_one_of : List Flag → Flag → Bool
+is_one_of fs f = list_any (λ g. bit g == bit f) fs
+
+-- `with_flags m flag` is `m` with the flags for which `flag` is true, and no others.
+abbrev pub with_flags : Notation → (Flag → Bool) → Notation
+with_flags m flag = record m { flag = flag }
+
+-- `bare m` is `m` without the flags that require something.
+abbrev pub bare : Notation → Notation
+bare m = with_flags m (λ g. m.flag g && not (is_one_of requirement_flags g))
+
+-- `adding f m` is `m` with the flag `f`, and `without f m` is `m` without it.
+abbrev pub adding : Flag → Notation → Notation
+adding f m = with_flags m (λ g. (bit g == bit f) || m.flag g)
+
+abbrev pub without : Flag → Notation → Notation
+without f m = with_flags m (λ g. m.flag g && not (bit g == bit f))
+
+-- THE CAUSE
+
+-- `Allows m front next` holds if some literal begins with `front` and the byte `next`, or if `front` is a literal, where
+-- `next` is `None`.
+abbrev pub Allows : Notation → List ℕ → Option ℕ → Type 0
+Allows m front None = (l : Literal) × Reads m l front
+Allows m front (Some byte) = IsFront m (front ++ byte ∷ [])
+
+-- `NoFlag flag` holds if `flag` is true of no flag, and `SomeFlag flag` if it is true of one.
+abbrev pub NoFlag : (Flag → Bool) → Type 0
+NoFlag flag = (f : Flag) → flag f ≡ false
+
+abbrev pub SomeFlag : (Flag → Bool) → Type 0
+SomeFlag flag = (f : Flag) × IsTrue (flag f)
+
+-- `binds m f` is true if the flag `f` is set and requires something. Where each literal has an exponent, the flag on the
+-- leading zeros of integers requires nothing.
+abbrev pub binds : Notation → Flag → Bool
+binds m f =
+    m.flag f && (is_one_of requirement_flags f
+    && not ((bit f == 12) && (m.flag layout.required_exponent_notation && not m.integers_only)))
+
+-- A text `front` is right, and the byte `next` cannot follow it; or `next` is `None`, and `front` is not a literal.
+module _ (m : Notation) (front : List ℕ) (next : Option ℕ) where
+  -- `RefusesAlone f` holds if the flag `f` requires something and refuses `next`, even if it is the only such flag.
+  abbrev pub RefusesAlone : Flag → Type 0
+  RefusesAlone f = IsTrue (binds m f) × (Allows (adding f (bare m)) front next → ⊥)
+
+  -- `Releases f` holds if `f` is set and requires something, and `next` is allowed without it.
+  abbrev pub Releases : Flag → Type 0
+  Releases f = IsTrue (m.flag f && is_one_of requirement_flags f) × Allows (without f m) front next
+
+  -- `IsLowest f` holds if no flag refuses `next` alone, and `f` is the lowest flag without which `next` is allowed.
+  pub record IsLowest (f : Flag) : Type 0 where
+    pub none_alone : (g : Flag) → RefusesAlone g → ⊥
+    pub releases : Releases f
+    pub lowest : (g : Flag) → bit g < bit f → Releases g → ⊥
+
+  -- `IsRequirement blamed` holds if the flags that are `blamed` require something, but for which `next` were allowed.
+  pub record IsRequirement (blamed : Flag → Bool) : Type 0 where
+    pub allowed : Allows (bare m) front next
+    pub some : SomeFlag blamed
+    pub each : (f : Flag) → IsTrue (blamed f) ↔ (RefusesAlone f ⊎ IsLowest f)
+
+-- `is_at place part f` is true if the flag `f` allows a digit separator in `part` at `place`.
+abbrev pub is_at : Place → Part → Flag → Bool
+is_at places.BeforeDigits part f = is_one_of ((separators_in part).leading ∷ []) f
+is_at places.AfterDigit part f = is_one_of ((separators_in part).internal ∷ (separators_in part).trailing ∷ []) f
+is_at places.Consecutive part f = is_one_of ((separators_in part).consecutive ∷ []) f
+
+-- `case_set m f` is the set of the bytes whose case counts by the flag `f`.
+abbrev pub case_set : Flag → Notation → ByteSet
+case_set layout.case_sensitive_exponent m byte = m.exponent_character byte
+case_set layout.case_sensitive_base_prefix m byte = m.prefix byte
+case_set layout.case_sensitive_base_suffix m byte = m.suffix byte
+case_set _ m byte = false
+
+-- `last_part m front` is the part of a number that `front` ends in.
+abbrev pub last_part : Notation → List ℕ → Part
+last_part m front =
+    if list_any m.exponent_character front then parts.Exponent
+    else (if list_any m.point front then parts.Fraction else parts.Integer)
+
+-- The byte `byte` cannot follow the text `front`.
+module _ (m : Notation) (front : List ℕ) (byte : ℕ) where
+  -- `Permits f` holds if `f` allows digit separators, and `byte` may follow with this one flag more.
+  abbrev pub Permits : Flag → Type 0
+  Permits f = IsTrue (is_one_of separator_flags f) × Allows (adding f (bare m)) front (Some byte)
+
+  -- `IsCaseFlag f` holds if the other case of `byte` may follow, and has a role whose case counts by `f`.
+  abbrev pub IsCaseFlag : Flag → Type 0
+  IsCaseFlag f = IsTrue (case_set f m (other_case byte)) × Allows (bare m) front (Some (other_case byte))
+
+  -- `IsSeparator part place blamed` holds if a separator in `part` at `place` is not allowed, but is with one of the flags
+  -- that are `blamed`.
+  pub record IsSeparator (part : Part) (place : Place) (blamed : Flag → Bool) : Type 0 where
+    pub refused : Allows (bare m) front (Some byte) → ⊥
+    pub some : SomeFlag blamed
+    pub each : (f : Flag) → IsTrue (blamed f) ↔ Permits f
+    pub at : (f : Flag) → IsTrue (blamed f) → IsTrue (is_at place part f)
+
+  -- `IsWrongCase blamed` holds if `byte` is wrong in its case alone, which counts by the flag that is `blamed`.
+  pub record IsWrongCase (blamed : Flag → Bool) : Type 0 where
+    pub refused : Allows (bare m) front (Some byte) → ⊥
+    pub no_separator : (f : Flag) → Permits f → ⊥
+    pub some : SomeFlag blamed
+    pub each : (f : Flag) → IsTrue (blamed f) ↔ IsCaseFlag f
+
+  -- `IsWrongByte blamed` holds if no flag is to blame that `byte` is wrong.
+  pub record IsWrongByte (blamed : Flag → Bool) : Type 0 where
+    pub refused : Allows (bare m) front (Some byte) → ⊥
+    pub no_separator : (f : Flag) → Permits f → ⊥
+    pub no_case : (f : Flag) → IsCaseFlag f → ⊥
+    pub none : NoFlag blamed
+
+-- `IsMissing m front part blamed` holds if digits of `part` are missing behind `front`, and no flag is to blame.
+pub record IsMissing (m : Notation) (front : List ℕ) (part : Part) (blamed : Flag → Bool) : Type 0 where
+  pub refused : NoLiteral (bare m) front
+  pub last : part ≡ last_part m front
+  pub none : NoFlag blamed
+
+-- `IsCause m front next cause blamed` holds if `cause` is why the byte `next` cannot follow `front`, or why `front` is not a
+-- literal, where `next` is `None`, and if the flags that are `blamed` are to blame.
+abbrev pub IsCause : Notation → List ℕ → Option ℕ → Cause → (Flag → Bool) → Type 0
+IsCause m front next causes.Requirement blamed = IsRequirement m front next blamed
+IsCause m front (Some byte) (causes.Separator part place) blamed = IsSeparator m front byte part place blamed
+IsCause m front (Some byte) causes.Case blamed = IsWrongCase m front byte blamed
+IsCause m front (Some byte) causes.Byte blamed = IsWrongByte m front byte blamed
+IsCause m front None (causes.Missing part) blamed = IsMissing m front part blamed
+IsCause _ _ _ _ _ = ⊥
+
+-- THE BYTES TO SHOW, AND THE ERROR
+
+-- `behind A text` is the index behind the last byte of `text` that is in `A`, or 0 if none is.
+abbrev pub behind : ByteSet → List ℕ → ℕ
+behind A [] = 0
+behind A (byte ∷ text) = if A byte || list_any A text then 1 + behind A text else 0
+
+-- `first_in A text` is the index of the first byte of `text` that is in `A`, or the length of `text` if none is.
+abbrev pub first_in : ByteSet → List ℕ → ℕ
+first_in A [] = 0
+first_in A (byte ∷ text) = if A byte then 0 else 1 + first_in A text
+
+-- `lowest mask` is the number of the lowest flag of `mask`.
+abbrev pub lowest : ℕ → ℕ
+lowest mask = trailing_zeros w128 mask
+
+-- `requirement_span m front stop number` has the first index and the end of the bytes to show for the flag with the number
+-- `number`: the exponent without digits, the integer digits, the sign or the exponent character, or none.
+abbrev pub requirement_span : Notation → List ℕ → List ℕ → ℕ → ℕ × ℕ
+requirement_span m front stop number =
+    if number == 2 then (behind m.exponent_character front, length front)
+    else (if (number == 12) || (number == 13) then (
+      first_in (m.digit parts.Integer) stop,
+      behind (m.digit parts.Integer) stop,
+    )
+    else (if (number == 4) || ((number == 6) || ((number == 7) || (number == 9))) then (length front, length front + 1)
+    else (length front, length front)))
+
+-- `span_of m front stop cause number` has the first index and the end of the bytes to show for `cause` and its lowest flag.
+abbrev pub span_of : Notation → List ℕ → List ℕ → Cause → ℕ → ℕ × ℕ
+span_of m front stop causes.Requirement number = requirement_span m front stop number
+span_of m front stop (causes.Separator part places.Consecutive) number = (length front, length front + 1)
+span_of m front stop (causes.Separator part place) number =
+    (behind (λ byte. not (m.separator byte)) front, behind m.separator stop)
+span_of m front stop (causes.Missing part) number = (length front, length front)
+span_of m front stop _ number = (length front, length front + 1)
+
+-- `requirement_error m number start size` is the error for the flag with the number `number`.
+abbrev pub requirement_error : Notation → ℕ → ℕ → ℕ → Error
+requirement_error m number start size =
+    if number == 0 then errors.EmptyInteger start
+    else (if number == 1 then errors.EmptyFraction start
+    else (if number == 2 then errors.EmptyExponent size
+    else (if number == 3 then errors.EmptyMantissa start
+    else (if number == 4 then (if m.integers_only then errors.InvalidPositiveSign start else errors.InvalidPositiveMantissaSign start)
+    else (if number == 5 then (if m.integers_only then errors.MissingSign start else errors.MissingMantissaSign start)
+    else (if number == 6 then errors.InvalidExponent start
+    else (if number == 7 then errors.InvalidPositiveExponentSign start
+    else (if number == 8 then errors.MissingExponentSign start
+    else (if number == 9 then errors.ExponentWithoutFraction start
+    else (if number == 14 then errors.MissingExponent start
+    else errors.InvalidLeadingZeros start))))))))))
+
+-- `is_mark m` is the set of the separator, the point and the exponent character.
+abbrev pub is_mark : Notation → ByteSet
+is_mark m byte = m.separator byte || (m.point byte || m.exponent_character byte)
+
+-- `error_of m front cause number start` is the error for `cause` and its lowest flag, where the bytes to show begin at `start`.
+abbrev pub error_of : Notation → List ℕ → Cause → ℕ → ℕ → Error
+error_of m front causes.Requirement number start = requirement_error m number start (length front)
+error_of m front (causes.Missing part) number start =
+    if list_any (is_mark m) front then errors.InvalidDigit start else errors.Empty start
+error_of m front _ number start = errors.InvalidDigit start

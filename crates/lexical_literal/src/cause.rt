@@ -1,0 +1,475 @@
+//! Why a text is not a literal.
+
+ghost use Rattle.std.specs.Prelude.{◌≡◌, ◌≢◌, ◌<◌, ◌^◌, ◌≤◌, ◌&&◌, ℕ, true, false, length, take, slice_get};
+ghost use Rattle.std.specs.Bool.{beq};
+ghost use Rattle.lexical_util.specs.Layout.{Flag, part};
+ghost use Rattle.lexical_util.specs.Record.{raw};
+ghost use Rattle.lexical_util.specs.Roles.{other_case};
+ghost use Rattle.lexical_literal.specs.Additions.Causes.{IsLowestBit, allows, class_of_next, kind_set, without_bit};
+ghost use Rattle.lexical_literal.specs.Cause.{adding, bare, behind, binds, error_of, first_in, requirement_error, requirement_span, span_of, with_flags};
+ghost use Rattle.lexical_literal.specs.Notation.{notation_of};
+
+use crate::steps::{
+    self, Class, Summary, class_of, has_digit, is_digit, is_exponent_character, is_point,
+    needs_exponent,
+};
+use crate::syntax::Grammar;
+use lexical_util::error::Error;
+use lexical_util::format as flags;
+use lexical_util::format::Part;
+
+/// Where a digit separator is.
+#[derive(Debug, Clone, Copy, PartialEq, Eq)]
+pub enum Place {
+    /// Before the digits of its part.
+    BeforeDigits,
+    /// After a digit of its part, between digits or behind them.
+    AfterDigit,
+    /// After another digit separator.
+    Consecutive,
+}
+
+/// Why a text is not a literal. Another cause may follow when this one is mended.
+#[derive(Debug, Clone, Copy, PartialEq, Eq)]
+pub enum Cause {
+    /// Flags are set that require something that the text does not have.
+    Requirement,
+    /// A digit separator is not allowed in this part at this place.
+    Separator(Part, Place),
+    /// A letter has the wrong case.
+    Case,
+    /// A byte cannot follow the bytes before it.
+    Byte,
+    /// Digits of this part are missing.
+    Missing(Part),
+}
+
+/// Why a text is not a literal, and where.
+#[derive(Debug, Clone, Copy, PartialEq, Eq)]
+pub struct ReadError {
+    pub(crate) valid_up_to: usize,
+    pub(crate) cause: Cause,
+    pub(crate) mask: u128,
+    pub(crate) start: usize,
+    pub(crate) end: usize,
+    pub(crate) code: Error,
+}
+
+impl ReadError {
+    /// Returns the length of the longest front of the text that some literal begins with: the index of the first byte
+    /// that cannot follow the bytes before it, or the length of the text if bytes are missing.
+    #[must_use]
+    pub const fn valid_up_to(&self) -> usize
+        ensures { result ≡ self.now.valid_up_to }
+    {
+        self.valid_up_to
+    }
+
+    /// Returns the cause.
+    #[must_use]
+    pub const fn cause(&self) -> Cause
+        ensures { result ≡ self.now.cause }
+    {
+        self.cause
+    }
+
+    /// Returns the mask of the flags in a format word that are to blame. It is 0 for a wrong byte and for missing digits.
+    #[must_use]
+    pub const fn mask(&self) -> u128
+        ensures { result ≡ self.now.mask }
+    {
+        self.mask
+    }
+
+    /// Returns the first index and the end of the bytes to show. They may be none.
+    #[must_use]
+    pub const fn span(&self) -> (usize, usize)
+        ensures { result ≡ (self.now.start, self.now.end) }
+    {
+        (self.start, self.end)
+    }
+
+    /// Returns the error that `lexical-util` has for the cause.
+    #[must_use]
+    pub const fn code(&self) -> Error
+        ensures { result ≡ self.now.code }
+    {
+        self.code
+    }
+}
+
+// The flags that require something of the parts of a literal.
+const REQUIREMENTS: u128 = flags::REQUIRED_DIGITS
+    | flags::NO_POSITIVE_MANTISSA_SIGN
+    | flags::REQUIRED_MANTISSA_SIGN
+    | flags::NO_EXPONENT_NOTATION
+    | flags::NO_POSITIVE_EXPONENT_SIGN
+    | flags::REQUIRED_EXPONENT_SIGN
+    | flags::NO_EXPONENT_WITHOUT_FRACTION
+    | flags::NO_INTEGER_LEADING_ZEROS
+    | flags::NO_FLOAT_LEADING_ZEROS
+    | flags::REQUIRED_EXPONENT_NOTATION;
+
+// The flags that allow a digit separator in a number.
+const SEPARATORS: u128 = flags::INTERNAL_DIGIT_SEPARATOR
+    | flags::LEADING_DIGIT_SEPARATOR
+    | flags::TRAILING_DIGIT_SEPARATOR
+    | flags::CONSECUTIVE_DIGIT_SEPARATOR;
+
+// A cause, and the flags that are to blame.
+#[derive(Clone, Copy)]
+struct Blame {
+    cause: Cause,
+    mask: u128,
+}
+
+// What has been read of a text, and the class of the byte that cannot follow, or `None` if bytes are missing.
+#[derive(Clone, Copy)]
+struct Stop {
+    grammar: Grammar,
+    read: Summary,
+    next: Option<Class>,
+}
+
+impl Stop {
+    // Returns whether the text could go on if the flags of the format were `mask`.
+    const fn allows(self, mask: u128) -> bool
+        ensures { result ≡ allows (with_flags (notation_of self.grammar) (raw mask).flag) self.read self.next }
+    {
+        let other = Grammar {
+            word: mask,
+            options: self.grammar.options,
+        };
+        match self.next {
+            None => steps::is_complete(other, self.read),
+            Some(class) => matches!(steps::step(other, self.read, class), Some(_)),
+        }
+    }
+
+    // Returns those of `candidates` that allow the text to go on, or do not, with the flags of `mask`.
+    const fn flags_that(self, allow: bool, candidates: u128, mask: u128) -> u128
+        requires { candidates < 2 ^ 44 }
+        ensures { (f : Flag) → (raw result).flag f ≡ ((raw candidates).flag f
+            && beq (allows (adding f (with_flags (notation_of self.grammar) (raw mask).flag)) self.read self.next) allow) }
+    {
+        let mut found = 0;
+        let mut bit: u32 = 0;
+        while bit < 44 {
+            let flag = 1u128 << bit;
+            if candidates & flag != 0 && self.allows(mask | flag) == allow {
+                found |= flag;
+            }
+            bit += 1;
+        }
+        found
+    }
+
+    // Returns the lowest of `candidates` without which the text can go on, or 0.
+    const fn lowest_without(self, candidates: u128) -> u128
+        ensures found { result ≢ 0 → (k : ℕ) × (result ≡ 2 ^ k) × IsLowestBit (notation_of self.grammar) self.read self.next candidates k }
+        ensures none { result ≡ 0 → (k : ℕ) → k < 15 → part candidates k 1 ≡ 1
+            → allows (without_bit k (notation_of self.grammar)) self.read self.next ≡ false }
+    {
+        let mut bit: u32 = 0;
+        while bit < 15 {
+            let flag = 1u128 << bit;
+            if candidates & flag != 0 && self.allows(self.grammar.word & !flag) {
+                return flag;
+            }
+            bit += 1;
+        }
+        0
+    }
+
+    // Returns the flags that are set and require something.
+    const fn binding(self) -> u128
+        ensures flags { (f : Flag) → (raw result).flag f ≡ binds (notation_of self.grammar) f }
+        ensures small { result < 2 ^ 44 }
+    {
+        if needs_exponent(self.grammar) {
+            self.grammar.word & (REQUIREMENTS & !flags::NO_INTEGER_LEADING_ZEROS)
+        } else {
+            self.grammar.word & REQUIREMENTS
+        }
+    }
+
+    // Returns the flags without requirements.
+    const fn bare(self) -> u128
+        ensures { (f : Flag) → (raw result).flag f ≡ (bare (notation_of self.grammar)).flag f }
+    {
+        self.grammar.word & !REQUIREMENTS
+    }
+
+    // Returns the flags to blame for a requirement.
+    const fn requirements(self) -> u128 {
+        let alone = self.flags_that(false, self.binding(), self.bare());
+        if alone == 0 {
+            self.lowest_without(self.grammar.word & REQUIREMENTS)
+        } else {
+            alone
+        }
+    }
+
+    // Returns the flags each of which would allow a separator that is not allowed.
+    const fn separators(self) -> u128 {
+        if self.allows(self.bare() | SEPARATORS) {
+            self.flags_that(true, SEPARATORS, self.bare())
+        } else {
+            0
+        }
+    }
+
+    // Returns the flag by which the case of a letter counts that may stand here in the class of its other case.
+    const fn case_flag(self) -> u128 {
+        if !self.allows(self.bare()) {
+            return 0;
+        }
+        match self.next {
+            Some(Class::ExponentCharacter) => flags::CASE_SENSITIVE_EXPONENT,
+            Some(Class::Prefix) => flags::CASE_SENSITIVE_BASE_PREFIX,
+            Some(Class::Suffix) => flags::CASE_SENSITIVE_BASE_SUFFIX,
+            _ => 0,
+        }
+    }
+
+    // Returns where a separator is not allowed.
+    const fn place(self) -> Place {
+        if self.read.gap && matches!(self.next, Some(Class::Separator)) {
+            Place::Consecutive
+        } else if has_digit(self.read.stage) {
+            Place::AfterDigit
+        } else {
+            Place::BeforeDigits
+        }
+    }
+
+    // Returns why `byte` cannot follow, if no requirement is the cause.
+    const fn wrong(self, byte: u8) -> Blame {
+        let separators = self.separators();
+        if separators != 0 {
+            let cause = Cause::Separator(self.read.part, self.place());
+            return Blame {
+                cause,
+                mask: separators,
+            };
+        }
+        let mut other = self;
+        other.next = Some(class_of(self.grammar, other_case(byte)));
+        let mask = other.case_flag();
+        let cause = if mask == 0 { Cause::Byte } else { Cause::Case };
+        Blame { cause, mask }
+    }
+
+    // Returns the cause.
+    const fn blame(self, byte: Option<u8>) -> Blame {
+        if self.allows(self.bare()) {
+            return Blame {
+                cause: Cause::Requirement,
+                mask: self.requirements(),
+            };
+        }
+        match byte {
+            None => Blame {
+                cause: Cause::Missing(self.read.part),
+                mask: 0,
+            },
+            Some(byte) => self.wrong(byte),
+        }
+    }
+}
+
+// Returns the other case of a letter, or the byte itself if it is not a letter.
+const fn other_case(byte: u8) -> u8
+    ensures { result ≡ other_case byte }
+{
+    match byte {
+        b'A'..=b'Z' => byte + 32,
+        b'a'..=b'z' => byte - 32,
+        _ => byte,
+    }
+}
+
+// A set of bytes.
+#[derive(Clone, Copy)]
+enum Kind {
+    Digit,
+    Separator,
+    NotSeparator,
+    ExponentCharacter,
+    // A separator, a point or an exponent character.
+    Mark,
+}
+
+// Returns whether `byte` is of a kind.
+const fn is_kind(grammar: Grammar, kind: Kind, byte: u8) -> bool
+    ensures { result ≡ kind_set (notation_of grammar) kind byte }
+{
+    let separator = grammar.view().is_separator(byte);
+    match kind {
+        Kind::Digit => is_digit(grammar, Part::Integer, byte),
+        Kind::Separator => separator,
+        Kind::NotSeparator => !separator,
+        Kind::ExponentCharacter => is_exponent_character(grammar, byte),
+        Kind::Mark => {
+            separator || is_point(grammar, byte) || is_exponent_character(grammar, byte)
+        }
+    }
+}
+
+// Returns the index behind the last byte of a kind among the first `end`, or 0 if there is none.
+const fn behind(grammar: Grammar, kind: Kind, text: &[u8], end: usize) -> usize
+    requires { end ≤ length text.now }
+    ensures { result ≡ behind (kind_set (notation_of grammar) kind) (take end text.now) }
+{
+    let mut found = 0;
+    let mut index = 0;
+    while index < end {
+        if is_kind(grammar, kind, text[index]) {
+            found = index + 1;
+        }
+        index += 1;
+    }
+    found
+}
+
+// Returns the index of the first byte of a kind among the first `end`, or `end` if there is none.
+const fn first(grammar: Grammar, kind: Kind, text: &[u8], end: usize) -> usize
+    requires { end ≤ length text.now }
+    ensures { result ≡ first_in (kind_set (notation_of grammar) kind) (take end text.now) }
+{
+    let mut index = 0;
+    while index < end {
+        if is_kind(grammar, kind, text[index]) {
+            return index;
+        }
+        index += 1;
+    }
+    index
+}
+
+// The bytes that are right, which are the first `size`, and one more, if there is one, which are the first `end`.
+#[derive(Clone, Copy)]
+struct Limits {
+    size: usize,
+    end: usize,
+}
+
+// Returns the first index and the end of the bytes to show for the flag with the number `number`.
+const fn requirement_span(grammar: Grammar, text: &[u8], limits: Limits, number: u32) -> (usize, usize)
+    requires size { limits.size ≤ length text.now }
+    requires end { limits.end ≤ length text.now }
+    ensures { result ≡ requirement_span (notation_of grammar) (take limits.size text.now) (take limits.end text.now) number }
+{
+    let Limits { size, end } = limits;
+    match number {
+        2 => (behind(grammar, Kind::ExponentCharacter, text, size), size),
+        12 | 13 => (
+            first(grammar, Kind::Digit, text, end),
+            behind(grammar, Kind::Digit, text, end),
+        ),
+        4 | 6 | 7 | 9 => (size, size + 1),
+        _ => (size, size),
+    }
+}
+
+// Returns the first index and the end of the bytes to show for a cause and its lowest flag.
+const fn span(grammar: Grammar, text: &[u8], limits: Limits, cause: Cause, number: u32) -> (usize, usize)
+    requires size { limits.size ≤ length text.now }
+    requires end { limits.end ≤ length text.now }
+    ensures { result ≡ span_of (notation_of grammar) (take limits.size text.now) (take limits.end text.now) cause number }
+{
+    let Limits { size, end } = limits;
+    match cause {
+        Cause::Requirement => requirement_span(grammar, text, limits, number),
+        Cause::Separator(_, Place::Consecutive) | Cause::Case | Cause::Byte => (size, size + 1),
+        Cause::Separator(_, _) => (
+            behind(grammar, Kind::NotSeparator, text, size),
+            behind(grammar, Kind::Separator, text, end),
+        ),
+        Cause::Missing(_) => (size, size),
+    }
+}
+
+// Returns the error for the flag with the number `number`.
+const fn requirement_error(grammar: Grammar, number: u32, start: usize, size: usize) -> Error
+    ensures { result ≡ requirement_error (notation_of grammar) number start size }
+{
+    let integers = matches!(grammar.options, None);
+    match number {
+        0 => Error::EmptyInteger(start),
+        1 => Error::EmptyFraction(start),
+        2 => Error::EmptyExponent(size),
+        3 => Error::EmptyMantissa(start),
+        4 if integers => Error::InvalidPositiveSign(start),
+        4 => Error::InvalidPositiveMantissaSign(start),
+        5 if integers => Error::MissingSign(start),
+        5 => Error::MissingMantissaSign(start),
+        6 => Error::InvalidExponent(start),
+        7 => Error::InvalidPositiveExponentSign(start),
+        8 => Error::MissingExponentSign(start),
+        9 => Error::ExponentWithoutFraction(start),
+        14 => Error::MissingExponent(start),
+        _ => Error::InvalidLeadingZeros(start),
+    }
+}
+
+// Returns the error for a cause and its lowest flag, where the bytes to show begin at `start`.
+const fn error(grammar: Grammar, text: &[u8], size: usize, cause: Cause, number: u32, start: usize) -> Error
+    requires { size ≤ length text.now }
+    ensures { result ≡ error_of (notation_of grammar) (take size text.now) cause number start }
+{
+    match cause {
+        Cause::Requirement => {
+            requirement_error(grammar, number, start, size)
+        }
+        Cause::Missing(_) if behind(grammar, Kind::Mark, text, size) == 0 => Error::Empty(start),
+        _ => Error::InvalidDigit(start),
+    }
+}
+
+// Returns the byte behind the first `size`, if there is one.
+const fn byte_at(text: &[u8], size: usize) -> Option<u8>
+    ensures { result ≡ slice_get text.now size }
+{
+    if size < text.len() {
+        Some(text[size])
+    } else {
+        None
+    }
+}
+
+// Returns the class of the next byte, if there is one.
+const fn class_of_next(grammar: Grammar, next: Option<u8>) -> Option<Class>
+    ensures { result ≡ class_of_next (notation_of grammar) next }
+{
+    match next {
+        None => None,
+        Some(byte) => Some(class_of(grammar, byte)),
+    }
+}
+
+// Returns why `text` is not a literal, of which `size` bytes can be read, which makes `read` of them.
+#[cold]
+pub(crate) const fn refusal(grammar: Grammar, text: &[u8], size: usize, read: Summary) -> ReadError
+    requires { size ≤ length text.now }
+    ensures { result.valid_up_to ≡ size }
+{
+    let byte = byte_at(text, size);
+    let stop = Stop {
+        grammar,
+        read,
+        next: class_of_next(grammar, byte),
+    };
+    let Blame { cause, mask } = stop.blame(byte);
+    let number = mask.trailing_zeros();
+    let end = if size < text.len() { size + 1 } else { size };
+    let (start, end) = span(grammar, text, Limits { size, end }, cause, number);
+    ReadError {
+        valid_up_to: size,
+        cause,
+        mask,
+        start,
+        end,
+        code: error(grammar, text, size, cause, number, start),
+    }
+}
