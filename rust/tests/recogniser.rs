@@ -11,14 +11,33 @@
 mod recipes;
 
 use core::ops::Range;
-use peltzivar::{literal, Error, Format, Role};
+use peltzivar::{literal, Error, Format, Part, Role};
 use recipes::RECIPES;
 use Piece::*;
+
+#[derive(Debug, Clone, Copy, PartialEq, Eq)]
+enum Place {
+    BeforeDigits,
+    AfterDigit,
+    Consecutive,
+}
+#[derive(Debug, Clone, Copy, PartialEq, Eq)]
+enum Cause {
+    Requirement,
+    Separator(Part, Place),
+    Case,
+    Byte,
+    Missing(Part),
+}
 
 #[rustfmt::skip]
 #[derive(Clone, Copy)]
 enum Piece { Sign, Prefix, Integer, Point, Fraction, Character, ExponentSign, Exponent, Suffix }
 const PIECES: [Piece; 9] = [Sign, Prefix, Integer, Point, Fraction, Character, ExponentSign, Exponent, Suffix];
+
+/// The parts of flags 32, 33 and 34, and so on, and the places of flags 32, 35, 38 and 41.
+const PARTS: [Part; 3] = [Part::Integer, Part::Fraction, Part::Exponent];
+const PLACES: [Place; 4] = [Place::AfterDigit, Place::BeforeDigits, Place::AfterDigit, Place::Consecutive];
 
 /// Where each part of a text ends. An absent part is empty.
 #[derive(Clone, Copy, Default)]
@@ -38,9 +57,9 @@ impl Reading {
 /// Why a text is not a literal.
 #[derive(Clone, Debug, PartialEq)]
 struct Failure {
-    cause: &'static str,
-    blamed: u128,
     valid_up_to: usize,
+    cause: Cause,
+    mask: u128,
     span: Range<usize>,
     code: Error,
 }
@@ -219,20 +238,22 @@ impl<'a> Syntax<'a> {
         let is_other = |&byte: &u8| !self.plays(byte, Role::Separator);
         // Without a separator in `stop`, no flag allows it: a literal is one of bare if you leave out its separators.
         let flags = if stop.iter().all(is_other) { 0..0 } else { 32..44 };
-        let mut blamed = mask(flags.filter(|&flag| !bare.flag(flag) && bare.with(flag).begun(stop).is_some()));
-        let (mut cause, mut span) = ("separator", at..at + 1);
-        if blamed == 0 {
-            let mut changed = stop.to_vec();
-            changed[at] ^= if stop[at].is_ascii_alphabetic() { 0x20 } else { 0 };
-            let roles = [(Role::Exponent, 15), (Role::Prefix, 16), (Role::Suffix, 17)].into_iter();
-            let cases = roles.filter(|&(role, _)| self.plays(changed[at], role) && bare.begun(&changed).is_some());
-            blamed = mask(cases.map(|(_, flag)| flag));
-            cause = if blamed == 0 { "byte" } else { "case" };
-        } else if blamed.trailing_zeros() < 41 {
-            let end = if is_other(&stop[at]) { at } else { at + 1 };
-            span = stop[..end].iter().rposition(is_other).map_or(0, |other| other + 1)..end;
-        }
-        Failure { cause, blamed, valid_up_to: at, code: Error::InvalidDigit(span.start), span }
+        let allowing = mask(flags.filter(|&flag| !bare.flag(flag) && bare.with(flag).begun(stop).is_some()));
+        let mut changed = stop.to_vec();
+        changed[at] ^= if stop[at].is_ascii_alphabetic() { 0x20 } else { 0 };
+        let roles = [(Role::Exponent, 15), (Role::Prefix, 16), (Role::Suffix, 17)].into_iter();
+        let cases = roles.filter(|&(role, _)| self.plays(changed[at], role) && bare.begun(&changed).is_some());
+        let mask = if allowing == 0 { mask(cases.map(|(_, flag)| flag)) } else { allowing };
+        let number = mask.trailing_zeros() as usize;
+        let cause = match number {
+            32..44 => Cause::Separator(PARTS[(number - 32) % 3], PLACES[(number - 32) / 3]),
+            128 => Cause::Byte,
+            _ => Cause::Case,
+        };
+        let end = if is_other(&stop[at]) { at } else { at + 1 };
+        let separators = stop[..end].iter().rposition(is_other).map_or(0, |other| other + 1)..end;
+        let span = if (32..41).contains(&number) { separators } else { at..at + 1 };
+        Failure { valid_up_to: at, cause, mask, code: Error::InvalidDigit(span.start), span }
     }
 
     /// Returns why `text` is not a literal. A literal begins with it.
@@ -242,26 +263,26 @@ impl<'a> Syntax<'a> {
             return self.requirement(text, &reading, self.unsatisfied(text, &reading), end);
         }
         let has = |role: Role| text.iter().any(|&byte| self.plays(byte, role));
-        let cause = match () {
-            () if has(Role::Exponent) => "missing exponent",
-            () if has(Role::Point) => "missing fraction",
-            () => "missing integer",
+        let part = match (has(Role::Exponent), has(Role::Point)) {
+            (true, _) => Part::Exponent,
+            (false, true) => Part::Fraction,
+            (false, false) => Part::Integer,
         };
         let unsigned = text.strip_prefix(b"+").or(text.strip_prefix(b"-")).unwrap_or(text);
         let is_empty = unsigned.is_empty() || self.is_piece(Prefix, unsigned);
         let code = if is_empty { Error::Empty(end) } else { Error::InvalidDigit(end) };
-        Failure { cause, blamed: 0, valid_up_to: end, span: end..end, code }
+        Failure { valid_up_to: end, cause: Cause::Missing(part), mask: 0, span: end..end, code }
     }
 
     /// Returns the failure of `text`, which may also be stop, because of requirements. `reading` may go on after it.
-    fn requirement(self, text: &[u8], reading: &Reading, mut blamed: u128, valid_up_to: usize) -> Failure {
+    fn requirement(self, text: &[u8], reading: &Reading, mut mask: u128, valid_up_to: usize) -> Failure {
         let integers = self.options.is_none();
         if self.flag(14) && !integers {
-            blamed &= !(1 << 12);
+            mask &= !(1 << 12);
         }
         let mut digits = reading.range(Integer).filter(|&at| at < text.len() && self.is_digit(text[at], Integer));
         let empty = valid_up_to..valid_up_to;
-        let (span, code): (_, fn(usize) -> Error) = match blamed.trailing_zeros() {
+        let (span, code): (_, fn(usize) -> Error) = match mask.trailing_zeros() {
             0 => (empty, Error::EmptyInteger),
             1 => (empty, Error::EmptyFraction),
             2 => (reading.range(Character).end..valid_up_to, Error::EmptyExponent),
@@ -280,8 +301,8 @@ impl<'a> Syntax<'a> {
                 (first..digits.next_back().unwrap_or(first) + 1, Error::InvalidLeadingZeros)
             }
         };
-        let at = if blamed.trailing_zeros() == 2 { valid_up_to } else { span.start };
-        Failure { cause: "requirement", blamed, valid_up_to, span, code: code(at) }
+        let at = if mask.trailing_zeros() == 2 { valid_up_to } else { span.start };
+        Failure { valid_up_to, cause: Cause::Requirement, mask, span, code: code(at) }
     }
 
     /// Returns what can complete a front: a sign, prefix, digits, point, exponent and suffix, each there or not.
@@ -362,7 +383,7 @@ fn hostile_bytes(word: u128, options: Option<(u8, u8)>) -> Vec<u8> {
     let digit = |value: u8| char::from_digit(value.into(), 36).map_or(b'[', |digit| digit as u8);
     let highest = digit(radix.max(exponent_radix) - 1);
     let (exponent, point) = options.unwrap_or((b'e', b'.'));
-    let letters = [exponent, prefix, suffix, highest].into_iter().filter(u8::is_ascii_alphabetic);
+    let letters = [prefix, suffix, exponent, highest].into_iter().filter(u8::is_ascii_alphabetic);
     let mut other_cases = letters.map(|letter| letter ^ 0x20);
     let mut bytes = vec![b'0', highest, separator, prefix, suffix, exponent, point, b'+', b'-'];
     bytes.retain(|&byte| byte != 0);
@@ -382,6 +403,13 @@ fn answer(read: Result<literal::Parts<'_>, literal::ReadError>, has_failures: bo
     let parts = read.map_err(|error| has_failures.then(|| error.valid_up_to()))?;
     let literal::Parts { sign, prefix, integer, point, fraction, exponent_sign, exponent, suffix, .. } = parts;
     Ok([sign, prefix, integer, point, fraction, parts.exponent_character, exponent_sign, exponent, suffix])
+}
+
+/// The parts of the longest literal among the fronts of a text, and why a front begins no literal.
+#[derive(Default)]
+struct Seen {
+    literal: Option<Reading>,
+    wrong: Option<Failure>,
 }
 
 /// The comparison of the answers to all texts of some bytes.
@@ -409,15 +437,12 @@ impl<'a> Comparison<'a> {
         Self { syntax, library, reader, bytes, longest, eighths, random }
     }
 
-    /// Compares the answers to `text` and to texts that begin with it. Before `text` itself, `front` has the parts of its
-    /// longest front that is a literal, and `wrong` is why some front begins no literal.
-    fn compare(&mut self, text: &mut Vec<u8>, front: Option<Reading>, mut wrong: Option<Failure>) {
+    /// Compares the answers to `text`. `seen` is what its other fronts have.
+    fn compare(&self, text: &[u8], seen: &Seen) -> Seen {
         let literal = self.syntax.literal(text);
-        let front = literal.or(front);
+        let front = literal.or(seen.literal);
         let has_failures = !self.syntax.more.is_empty();
-        if has_failures && wrong.is_none() {
-            wrong = self.syntax.wrong(text);
-        }
+        let wrong = seen.wrong.clone().or_else(|| has_failures.then(|| self.syntax.wrong(text))?);
         let failure = || wrong.clone().unwrap_or_else(|| self.syntax.missing(text)).valid_up_to;
         let expect = |reading: Option<Reading>| match reading {
             Some(reading) => Ok(PIECES.map(|piece| &text[reading.range(piece)])),
@@ -430,11 +455,17 @@ impl<'a> Comparison<'a> {
             let read = answer(read.map(|front| front.parts), has_failures);
             assert_eq!(read, expect(front), "front of {} in {:?}", text.escape_ascii(), self.syntax);
         }
+        Seen { literal: front, wrong }
+    }
+
+    /// Compares the answers to `text` and to texts that begin with it. `seen` is what its other fronts have.
+    fn compare_from(&mut self, text: &mut Vec<u8>, seen: &Seen) {
+        let seen = self.compare(text, seen);
         let bytes = if text.len() < self.longest { self.bytes } else { &[] };
         for &byte in bytes {
             if text.is_empty() || self.random.below(8) < self.eighths {
                 text.push(byte);
-                self.compare(text, front, wrong.clone());
+                self.compare_from(text, &seen);
                 text.pop();
             }
         }
@@ -450,7 +481,7 @@ fn compare_recipes(eighths: u64) {
         let byte = Vec::from_iter(bytes.iter().map(|&byte| vec![byte]).chain([vec![]]));
         let more = joined(&[byte.clone(), byte.clone(), byte]);
         let syntax = Syntax::new(word, options, &more);
-        Comparison::new(word, syntax, &bytes, 6, eighths).compare(&mut Vec::new(), None, None);
+        Comparison::new(word, syntax, &bytes, 6, eighths).compare_from(&mut Vec::new(), &Seen::default());
     }
 }
 
@@ -468,7 +499,7 @@ fn compare_random_words(words: usize, with_failures: usize, eighths: u64) {
                 false => (vec![], 4),
             };
             let syntax = Syntax::new(word, options, &more);
-            Comparison::new(word, syntax, &bytes, longest, eighths).compare(&mut Vec::new(), None, None);
+            Comparison::new(word, syntax, &bytes, longest, eighths).compare_from(&mut Vec::new(), &Seen::default());
         }
     }
 }
