@@ -66,7 +66,7 @@ struct Failure {
 
 /// A lawful word in its normal form, an exponent character and a decimal point unless literals are integers alone, and
 /// what is tried after a front to find a literal that begins with it.
-#[derive(Clone, Copy, Debug)]
+#[derive(Clone, Copy)]
 struct Syntax<'a> {
     word: u128,
     options: Option<(u8, u8)>,
@@ -77,6 +77,10 @@ impl<'a> Syntax<'a> {
     fn new(word: u128, options: Option<(u8, u8)>, more: &'a [Vec<u8>]) -> Self {
         let word = Format::new(word).unwrap().normal_form().word();
         Self { word, options, more }
+    }
+
+    fn name(self) -> String {
+        format!("{:#034X} {:?}", self.word, self.options)
     }
 
     fn flag(self, flag: u32) -> bool {
@@ -161,7 +165,7 @@ impl<'a> Syntax<'a> {
         let Some(&piece) = PIECES.get(at) else {
             let has_number = reading.has(Integer) || reading.has(Point) || reading.has(Character);
             if start == text.len() && has_number && self.unsatisfied(text, &reading) == 0 {
-                assert!(found.replace(reading).is_none(), "{self:?} has {} in two ways", text.escape_ascii());
+                assert!(found.replace(reading).is_none(), "{} has {} in two ways", self.name(), text.escape_ascii());
             }
             return;
         };
@@ -431,7 +435,7 @@ impl<'a> Comparison<'a> {
             None => literal::Syntax::integers(word).unwrap(),
         };
         for byte in 0..=255 {
-            assert_eq!(library.role_of(byte), syntax.role_of(byte), "{byte} in {syntax:?}");
+            assert_eq!(library.role_of(byte), syntax.role_of(byte), "{byte} in {}", syntax.name());
         }
         let (reader, random) = (literal::Reader::new(library), Random(1));
         Self { syntax, library, reader, bytes, longest, eighths, random }
@@ -449,11 +453,17 @@ impl<'a> Comparison<'a> {
             None => Err(has_failures.then(failure)),
         };
         for read in [self.library.read(text), self.reader.read(text)] {
-            assert_eq!(answer(read, has_failures), expect(literal), "{} in {:?}", text.escape_ascii(), self.syntax);
+            assert_eq!(
+                answer(read, has_failures),
+                expect(literal),
+                "{} in {}",
+                text.escape_ascii(),
+                self.syntax.name()
+            );
         }
         for read in [self.library.read_prefix(text), self.reader.read_prefix(text)] {
             let read = answer(read.map(|front| front.parts), has_failures);
-            assert_eq!(read, expect(front), "front of {} in {:?}", text.escape_ascii(), self.syntax);
+            assert_eq!(read, expect(front), "front of {} in {}", text.escape_ascii(), self.syntax.name());
         }
         Seen { literal: front, wrong }
     }
