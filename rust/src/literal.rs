@@ -17,10 +17,13 @@
 //! assert_eq!((parts.sign, parts.integer, parts.fraction, parts.exponent), (&b"-"[..], &b"1"[..], &b"25"[..], &b"3"[..]));
 //!
 //! // A second decimal point is refused. What is before it is a literal.
-//! assert_eq!(READER.read(b"1.25.3").unwrap_err().valid_up_to(), 4);
+//! let error = READER.read(b"1.25.3").unwrap_err();
+//! assert_eq!((error.valid_up_to(), error.to_string()), (4, "no literal has the byte '.' here".into()));
 //! assert_eq!(READER.read_prefix(b"1.25.3").unwrap().size, 4);
 //! ```
 
+#[allow(clippy::redundant_pattern_matching, reason = "as it is proved")]
+mod cause;
 #[allow(clippy::needless_lifetimes, reason = "as it is proved")]
 mod read;
 mod sentence;
@@ -35,6 +38,7 @@ mod steps;
 mod syntax;
 mod tables;
 
-pub use read::{Front, Parts, ReadError, Reader};
+pub use cause::{Cause, Place, ReadError};
+pub use read::{Front, Parts, Reader};
 pub use specials::{Sign, Special, Specials, Spelling};
 pub use syntax::{Options, Syntax};

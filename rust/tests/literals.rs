@@ -5,7 +5,8 @@
 #[path = "../examples/recipes.rs"]
 mod recipes;
 
-use peltzivar::literal::{Parts, ReadError, Reader, Sign, Special, Specials, Spelling, Syntax};
+use peltzivar::format::{CASE_SENSITIVE_SPECIAL, DIGIT_SEPARATOR_FLAG_MASK, NO_SPECIAL};
+use peltzivar::literal::{Cause, Parts, ReadError, Reader, Sign, Special, Specials, Spelling, Syntax};
 use peltzivar::{Edit, FlagSetter, FormatView, NumberFormatBuilder};
 use recipes::RECIPES;
 
@@ -61,8 +62,9 @@ fn read<'a>(reader: &Reader, syntax: Syntax, text: &'a [u8]) -> Result<Parts<'a>
     result
 }
 
-/// Each flag, by the texts in its row, with the flag and without it. A flag that allows digit separators changes the texts
-/// that it accepts, and any other flag those that it rejects.
+/// Each flag, by the texts in its row: with the flag, without it, and that an error blames the flag. A flag that allows
+/// digit separators changes the texts that it accepts, and any other flag those that it rejects. The flags of special values
+/// are not to blame, and neither is one without which no flag allows the separator.
 #[test]
 fn flags_accept_and_reject_the_texts_of_the_page() {
     for row in table("The flags") {
@@ -77,6 +79,13 @@ fn flags_accept_and_reject_the_texts_of_the_page() {
                 let result = read(&Reader::new(syntax), syntax, text.as_bytes());
                 let special = SPECIALS.read(&syntax, text.as_bytes());
                 assert_eq!(result.is_ok() || special.is_some(), wanted, "{word:#034X}: {text}: {result:?}");
+                let can_be_blamed = match mask >> 32 {
+                    0 => mask & (NO_SPECIAL | CASE_SENSITIVE_SPECIAL) == 0,
+                    _ => word & DIGIT_SEPARATOR_FLAG_MASK != 0,
+                };
+                let blames = |error: ReadError| error.mask() & mask != 0 && error.to_string().contains(name);
+                let is_blamed = result.map_or_else(blames, |_| true);
+                assert!(is_blamed || wanted || !changes || !can_be_blamed, "{word:#034X}: {text}: {result:?}");
             }
         }
     }
@@ -87,21 +96,33 @@ fn questions_have_the_answers_of_the_page() {
     for row in table("How a reader applies the flags") {
         let [.., settings, accepted, rejected] = row[..] else { panic!("{row:?}") };
         let syntax = syntax(word(settings));
-        let rejected = texts(rejected).step_by(2).map(|text| (text, false));
-        for (text, wanted) in texts(accepted).map(|text| (text, true)).chain(rejected) {
-            let result = read(&Reader::new(syntax), syntax, text.as_bytes());
-            assert_eq!(result.is_ok(), wanted, "{settings}: {text}: {result:?}");
+        let reader = Reader::new(syntax);
+        for text in texts(accepted) {
+            assert!(read(&reader, syntax, text.as_bytes()).is_ok(), "{settings}: {text}");
+        }
+        for (text, code) in texts(rejected).step_by(2).zip(texts(rejected).skip(1).step_by(2)) {
+            let found = read(&reader, syntax, text.as_bytes()).map_err(|error| format!("{:?}", error.code()));
+            assert_eq!(found, Err(code.into()), "{settings}: {text}");
         }
     }
 }
 
 #[test]
-fn texts_are_right_as_far_as_the_page_states() {
+fn causes_are_those_of_the_page() {
     for row in table("Texts and their causes") {
-        let [text, settings, _, valid_up_to, _] = row[..] else { panic!("{row:?}") };
+        let [text, settings, cause, valid_up_to, span] = row[..] else { panic!("{row:?}") };
         let syntax = syntax(word(settings));
         let error = read(&Reader::new(syntax), syntax, text.as_bytes()).expect_err(text);
-        assert_eq!(error.valid_up_to().to_string(), valid_up_to, "{settings}: {text}");
+        let mut found = match error.cause() {
+            Cause::Separator(..) => "separator".into(),
+            Cause::Missing(part) => format!("missing {part:?}").to_lowercase(),
+            cause => format!("{cause:?}").to_lowercase(),
+        };
+        let blamed = (0..128).filter(|bit| error.mask() >> bit & 1 == 1);
+        blamed.for_each(|bit| found += &format!(" {bit}"));
+        let (start, end) = error.span();
+        let found = [found, error.valid_up_to().to_string(), format!("{start}..{end}")];
+        assert_eq!(found, [cause, valid_up_to, span], "{settings}: {text}");
     }
 }
 

@@ -52,24 +52,34 @@ fn examples_end_as_their_comments_state() {
     }
 }
 
-/// A word of decimal numbers, and one of hexadecimal numbers with decimal exponents.
+/// A word of decimal numbers, one with leading digit separators but without leading zeros of integers and uppercase
+/// exponent characters, and one of hexadecimal numbers with decimal exponents.
 const DECIMAL: &str = "0x00000A0000000000000000000000000C";
+const LEADING: &str = "0x00000A000000005F000000380000900C";
 const HEXADECIMAL: &str = "0x000A10007800005F000000010000000C";
 
 #[test]
 fn the_example_prints_the_parts_of_literals() {
     const MALFORMED: &str = "literal: the arguments are not WORD E P TEXT\n";
     #[rustfmt::skip]
-    let rows: [(&[&str], i32, &str); 17] = [
+    let rows: [(&[&str], i32, &str); 21] = [
         (&[HEXADECIMAL, "112", "46", "0x1_F"], 0, "prefix 0x\ninteger 1_F\n"),
         (&[HEXADECIMAL, "112", "046", "-F.8P+3"], 0,
             "sign -\ninteger F\npoint .\nfraction 8\nexponent_character P\nexponent_sign +\nexponent 3\n"),
         (&["0xA6800000000000000000000000C", "101", "46", "1H"], 0, "integer 1\nsuffix H\n"),
         (&[HEXADECIMAL, "none", "none", "0x1_F"], 0, "prefix 0x\ninteger 1_F\n"),
-        (&[HEXADECIMAL, "none", "none", "0x1.8"], 1, "3: "),
-        (&[DECIMAL, "101", "46", ""], 1, "0: "),
-        (&[DECIMAL, "101", "46", "1 2"], 1, "1: "),
-        (&[DECIMAL, "101", "46", "1e"], 1, "2: "),
+        (&[HEXADECIMAL, "none", "none", "0x1.8"], 1, "3: no literal has the byte '.' here\n"),
+        (&[DECIMAL, "101", "46", ""], 1, "0: expected a digit of the integer\n"),
+        (&[DECIMAL, "101", "46", "1 2"], 1, "1: no literal has the byte 32 here\n"),
+        (&[DECIMAL, "101", "46", "1e"], 1,
+            "2: expected a digit after the exponent character, which required_exponent_digits requires\n"),
+        (&[LEADING, "101", "46", "01"], 1, "2: a leading zero, which no_integer_leading_zeros forbids\n"),
+        (&[LEADING, "101", "46", "1E5"], 1,
+            "1: the other case of the exponent character, which case_sensitive_exponent forbids\n"),
+        (&[LEADING, "101", "46", "1_"], 1, "1: a digit separator after a digit, \
+            which requires integer_internal_digit_separator or integer_trailing_digit_separator\n"),
+        (&[LEADING, "101", "46", "1.__2"], 1,
+            "3: a digit separator after another, which requires fraction_consecutive_digit_separator\n"),
         (&[HEXADECIMAL, "101", "46", "1"], 1,
             "lexical number format error: 'invalid exponent symbol: must be ASCII and not a digit or a `+/-` sign'\n"),
         (&["0x0", "none", "none", "1"], 1, "lexical number format error: 'invalid radix for mantissa digits'\n"),
@@ -83,6 +93,6 @@ fn the_example_prints_the_parts_of_literals() {
     ];
     for (arguments, wanted, text) in rows {
         let (status, printed) = cargo_run(&[&["--example", "literal", "--"], arguments].concat());
-        assert!(status == Some(wanted) && printed.starts_with(text), "{arguments:?}: {printed}");
+        assert_eq!((status, printed.as_str()), (Some(wanted), text), "{arguments:?}");
     }
 }

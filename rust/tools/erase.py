@@ -108,6 +108,7 @@ ATTRIBUTES = [
     ("short_text.rt", "#[derive(Drop)]", "#[derive(Clone, Copy)]"),
     ("read.rt", "#[derive(Drop)]", "#[derive(Clone)]"),
     ("tables.rt", "#[derive(Drop)]", "#[derive(Clone)]"),
+    ("cause.rt", "Eq)]\npub struct ReadError", "Eq, Hash)]\npub struct ReadError"),
 ]
 
 # Words that plain Rust must not contain. If one is left, a ghost form was not removed.

@@ -19,7 +19,7 @@ use lexical_util::format as flags;
 use lexical_util::format::Part;
 
 /// Where a digit separator is.
-#[derive(Debug, Clone, Copy, PartialEq, Eq)]
+#[derive(Debug, Clone, Copy, PartialEq, Eq, Hash)]
 pub enum Place {
     /// Before the digits of its part.
     BeforeDigits,
@@ -30,7 +30,7 @@ pub enum Place {
 }
 
 /// Why a text is not a literal. Another cause may follow when this one is mended.
-#[derive(Debug, Clone, Copy, PartialEq, Eq)]
+#[derive(Debug, Clone, Copy, PartialEq, Eq, Hash)]
 pub enum Cause {
     /// Flags are set that require something that the text does not have.
     Requirement,
@@ -53,6 +53,7 @@ pub struct ReadError {
     pub(crate) start: usize,
     pub(crate) end: usize,
     pub(crate) code: Error,
+    pub(crate) byte: Option<u8>,
 }
 
 impl ReadError {
@@ -95,6 +96,14 @@ impl ReadError {
         ensures { result ≡ self.now.code }
     {
         self.code
+    }
+
+    /// Returns the byte that cannot follow, or `None` if bytes are missing.
+    #[must_use]
+    pub const fn byte(&self) -> Option<u8>
+        ensures { result ≡ self.now.byte }
+    {
+        self.byte
     }
 }
 
@@ -355,7 +364,12 @@ struct Limits {
 }
 
 // Returns the first index and the end of the bytes to show for the flag with the number `number`.
-const fn requirement_span(grammar: Grammar, text: &[u8], limits: Limits, number: u32) -> (usize, usize)
+const fn requirement_span(
+    grammar: Grammar,
+    text: &[u8],
+    limits: Limits,
+    number: u32,
+) -> (usize, usize)
     requires size { limits.size ≤ length text.now }
     requires end { limits.end ≤ length text.now }
     ensures { result ≡ requirement_span (notation_of grammar) (take limits.size text.now) (take limits.end text.now) number }
@@ -373,7 +387,13 @@ const fn requirement_span(grammar: Grammar, text: &[u8], limits: Limits, number:
 }
 
 // Returns the first index and the end of the bytes to show for a cause and its lowest flag.
-const fn span(grammar: Grammar, text: &[u8], limits: Limits, cause: Cause, number: u32) -> (usize, usize)
+const fn span(
+    grammar: Grammar,
+    text: &[u8],
+    limits: Limits,
+    cause: Cause,
+    number: u32,
+) -> (usize, usize)
     requires size { limits.size ≤ length text.now }
     requires end { limits.end ≤ length text.now }
     ensures { result ≡ span_of (notation_of grammar) (take limits.size text.now) (take limits.end text.now) cause number }
@@ -414,14 +434,19 @@ const fn requirement_error(grammar: Grammar, number: u32, start: usize, size: us
 }
 
 // Returns the error for a cause and its lowest flag, where the bytes to show begin at `start`.
-const fn error(grammar: Grammar, text: &[u8], size: usize, cause: Cause, number: u32, start: usize) -> Error
+const fn error(
+    grammar: Grammar,
+    text: &[u8],
+    size: usize,
+    cause: Cause,
+    number: u32,
+    start: usize,
+) -> Error
     requires { size ≤ length text.now }
     ensures { result ≡ error_of (notation_of grammar) (take size text.now) cause number start }
 {
     match cause {
-        Cause::Requirement => {
-            requirement_error(grammar, number, start, size)
-        }
+        Cause::Requirement => { requirement_error(grammar, number, start, size) }
         Cause::Missing(_) if behind(grammar, Kind::Mark, text, size) == 0 => Error::Empty(start),
         _ => Error::InvalidDigit(start),
     }
@@ -471,5 +496,6 @@ pub(crate) const fn refusal(grammar: Grammar, text: &[u8], size: usize, read: Su
         start,
         end,
         code: error(grammar, text, size, cause, number, start),
+        byte,
     }
 }

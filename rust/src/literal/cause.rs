@@ -12,7 +12,7 @@ use crate::word as flags;
 use crate::word::Part;
 
 /// Where a digit separator is.
-#[derive(Debug, Clone, Copy, PartialEq, Eq)]
+#[derive(Debug, Clone, Copy, PartialEq, Eq, Hash)]
 #[non_exhaustive]
 pub enum Place {
     /// Before the digits of its part.
@@ -24,7 +24,7 @@ pub enum Place {
 }
 
 /// Why a text is not a literal. Another cause may follow when this one is mended.
-#[derive(Debug, Clone, Copy, PartialEq, Eq)]
+#[derive(Debug, Clone, Copy, PartialEq, Eq, Hash)]
 #[non_exhaustive]
 pub enum Cause {
     /// Flags are set that require something that the text does not have.
@@ -40,7 +40,7 @@ pub enum Cause {
 }
 
 /// Why a text is not a literal, and where.
-#[derive(Debug, Clone, Copy, PartialEq, Eq)]
+#[derive(Debug, Clone, Copy, PartialEq, Eq, Hash)]
 pub struct ReadError {
     pub(crate) valid_up_to: usize,
     pub(crate) cause: Cause,
@@ -48,6 +48,7 @@ pub struct ReadError {
     pub(crate) start: usize,
     pub(crate) end: usize,
     pub(crate) code: Error,
+    pub(crate) byte: Option<u8>,
 }
 
 impl ReadError {
@@ -80,6 +81,12 @@ impl ReadError {
     #[must_use]
     pub const fn code(&self) -> Error {
         self.code
+    }
+
+    /// Returns the byte that cannot follow, or `None` if bytes are missing.
+    #[must_use]
+    pub const fn byte(&self) -> Option<u8> {
+        self.byte
     }
 }
 
@@ -430,5 +437,6 @@ pub(crate) const fn refusal(
         start,
         end,
         code: error(grammar, text, size, cause, number, start),
+        byte,
     }
 }

@@ -2,9 +2,12 @@
 
 //! Calls that read literals, and the parts that they find.
 
+use crate::literal::cause::{refusal, ReadError};
 use crate::literal::steps::class_of;
 use crate::literal::syntax::{Grammar, Syntax};
-use crate::literal::tables::{is_complete, piece_number, step_from, Step, Tables, START};
+use crate::literal::tables::{
+    is_complete, piece_number, step_from, summary_at, Step, Tables, START,
+};
 
 /// The parts of a literal, in the order of the text. An absent part has no bytes.
 #[derive(Debug, Clone, Copy, PartialEq, Eq, Hash)]
@@ -38,21 +41,6 @@ pub struct Front<'a> {
     pub parts: Parts<'a>,
     /// The number of bytes of the literal.
     pub size: usize,
-}
-
-/// Why a text is not a literal.
-#[derive(Debug, Clone, Copy, PartialEq, Eq, Hash)]
-pub struct ReadError {
-    valid_up_to: usize,
-}
-
-impl ReadError {
-    /// Returns the length of the longest front of the text that some literal begins with: the index of the first byte
-    /// that cannot follow the bytes before it, or the length of the text if bytes are missing.
-    #[must_use]
-    pub const fn valid_up_to(&self) -> usize {
-        self.valid_up_to
-    }
 }
 
 impl Syntax {
@@ -115,11 +103,12 @@ impl Reader {
     }
 }
 
-// The length of the longest front that some literal begins with, the lengths of its parts, and whether the whole text is
-// a literal; if they are looked for, also the length of the longest front that is a literal, or 0 if none is.
+// The length of the longest front that some literal begins with, its row, the lengths of its parts, and whether the whole
+// text is a literal; if they are looked for, also the length of the longest front that is a literal, or 0 if none is.
 #[derive(Clone, Copy)]
 struct Scanned {
     valid_up_to: usize,
+    row: u8,
     counts: [usize; 9],
     is_literal: bool,
     literal: usize,
@@ -136,9 +125,8 @@ const fn read<'a>(
     if scanned.is_literal {
         Ok(cut(text, scanned.counts))
     } else {
-        Err(ReadError {
-            valid_up_to: scanned.valid_up_to,
-        })
+        let read = summary_at(scanned.row);
+        Err(refusal(grammar, text, scanned.valid_up_to, read))
     }
 }
 
@@ -151,9 +139,8 @@ const fn read_prefix<'a>(
 ) -> Result<Front<'a>, ReadError> {
     let fronts = scan(grammar, tables, text, true);
     if fronts.literal == 0 {
-        Err(ReadError {
-            valid_up_to: fronts.valid_up_to,
-        })
+        let read = summary_at(fronts.row);
+        Err(refusal(grammar, text, fronts.valid_up_to, read))
     } else {
         let (front, _) = split_front(text, fronts.literal);
         Ok(Front {
@@ -202,6 +189,7 @@ const fn scan(grammar: Grammar, tables: Option<&Tables>, text: &[u8], fronts: bo
         let Some(next) = step_by(grammar, tables, row, text[index]) else {
             return Scanned {
                 valid_up_to: index,
+                row,
                 counts,
                 is_literal: false,
                 literal,
@@ -216,6 +204,7 @@ const fn scan(grammar: Grammar, tables: Option<&Tables>, text: &[u8], fronts: bo
     }
     Scanned {
         valid_up_to: text.len(),
+        row,
         counts,
         is_literal: is_complete_by(grammar, tables, row),
         literal,

@@ -2,17 +2,74 @@
 
 use core::fmt;
 
-use crate::literal::ReadError;
+use crate::edits::FlagSetter;
+use crate::format_flags::Part;
+use crate::literal::{Cause, Place, ReadError};
+use crate::short_text::ShortText;
 
 impl core::error::Error for ReadError {}
 
-/// Prints how much of the text some literal begins with.
+/// Prints the cause as a sentence without a full stop, such as `a leading zero, which no_integer_leading_zeros forbids`.
+/// If several flags are to blame for a requirement, the sentence names the lowest.
 impl fmt::Display for ReadError {
     fn fmt(&self, f: &mut fmt::Formatter<'_>) -> fmt::Result {
-        write!(
-            f,
-            "no literal begins with more than {} bytes of the text",
-            self.valid_up_to()
-        )
+        let is_blamed = |flag: &&FlagSetter| flag.is_set(self.mask());
+        let mut blamed = FlagSetter::FLAGS.iter().filter(is_blamed);
+        let text = match (self.cause(), blamed.next()) {
+            (Cause::Missing(part), _) => ShortText::of(digit(part)),
+            (Cause::Separator(_, place), Some(flag)) => {
+                let text = ShortText::of(separator(place)).and(", which requires ");
+                let join = |text: ShortText, other: &FlagSetter| text.and(" or ").and(other.name());
+                blamed.fold(text.and(flag.name()), join)
+            }
+            (_, Some(flag)) => {
+                let is_required = flag.name().starts_with("required");
+                let verb = if is_required { " requires" } else { " forbids" };
+                let text = ShortText::of(requirement(*flag)).and(", which ");
+                text.and(flag.name()).and(verb)
+            }
+            (_, None) => {
+                let text = ShortText::of("no literal has the byte ");
+                text.quoted(self.byte().unwrap_or(0)).and(" here")
+            }
+        };
+        f.pad(text.as_str())
+    }
+}
+
+fn digit(part: Part) -> &'static str {
+    match part {
+        Part::Integer => "expected a digit of the integer",
+        Part::Fraction => "expected a digit of the fraction",
+        Part::Exponent => "expected a digit of the exponent",
+    }
+}
+
+fn separator(place: Place) -> &'static str {
+    match place {
+        Place::BeforeDigits => "a digit separator before digits",
+        Place::AfterDigit => "a digit separator after a digit",
+        Place::Consecutive => "a digit separator after another",
+    }
+}
+
+/// Returns what a flag requires or forbids.
+fn requirement(flag: FlagSetter) -> &'static str {
+    match flag {
+        FlagSetter::RequiredIntegerDigits => "expected a digit of the integer",
+        FlagSetter::RequiredFractionDigits => "expected a digit after the decimal point",
+        FlagSetter::RequiredExponentDigits => "expected a digit after the exponent character",
+        FlagSetter::RequiredMantissaDigits => "expected a digit of the integer or the fraction",
+        FlagSetter::NoPositiveMantissaSign => "a plus sign",
+        FlagSetter::RequiredMantissaSign => "expected a sign",
+        FlagSetter::NoExponentNotation => "an exponent",
+        FlagSetter::NoPositiveExponentSign => "a plus sign in the exponent",
+        FlagSetter::RequiredExponentSign => "expected a sign of the exponent",
+        FlagSetter::NoExponentWithoutFraction => "an exponent without a decimal point",
+        FlagSetter::RequiredExponentNotation => "expected an exponent",
+        FlagSetter::CaseSensitiveExponent => "the other case of the exponent character",
+        FlagSetter::CaseSensitiveBasePrefix => "the other case of the base prefix",
+        FlagSetter::CaseSensitiveBaseSuffix => "the other case of the base suffix",
+        _ => "a leading zero",
     }
 }

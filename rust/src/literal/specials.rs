@@ -45,17 +45,17 @@ pub struct Special {
 }
 
 impl<'a> Specials<'a> {
-    /// Returns the special value that `text` is, or `None` if `text` is not a special value. If several spellings match,
-    /// the first in the order NaN, inf, infinity is returned.
+    /// Returns the special value that `text` is, or `None` if `text` is not a special value. If several spellings
+    /// match, the first in the order NaN, inf, infinity is returned.
     ///
     /// A special value is an optional sign, and then one of the spellings. The flags of the format decide the rest:
     ///
     /// - With `no_special`, no text is a special value.
     /// - With `no_positive_mantissa_sign`, the sign is not `+`. With `required_mantissa_sign`, there is a sign.
     /// - The case of ASCII letters does not matter, unless `case_sensitive_special` is set.
-    /// - With `special_digit_separator`, digit separators may be anywhere behind the sign: a text matches if what is left
-    ///   of it, when some separators are left out, is the spelling. So a separator can also be a letter of the spelling.
-    ///   If it is `i`, then `inf` and `iINF` match the spelling `inf`, and `nf` does not.
+    /// - With `special_digit_separator`, digit separators may be anywhere behind the sign: a text matches if what is
+    ///   left of it, when some separators are left out, is the spelling. So a separator can also be a letter of the
+    ///   spelling. If it is `i`, then `inf` and `iINF` match the spelling `inf`, and `nf` does not.
     ///
     /// A text can be both a literal and a special value, such as `inf` in radix 36.
     #[must_use]
@@ -143,10 +143,10 @@ const fn is_behind(grammar: Grammar, first: u8, word: &[u8], text: &[u8]) -> boo
 
 // Returns whether `text` is spelled as `word`.
 //
-// What has been read may be more than one front of `word`, since a separator that is a letter of `word` may be this letter
-// or be left out. The lengths of these fronts are those from `low` to `high`, and the bytes of `word` from `low` to `high`
-// are this letter, in either case. The letter in its other case cannot be left out, which ends the shortest front. Any
-// other byte ends all fronts but the longest.
+// What has been read may be more than one front of `word`, since a separator that is a letter of `word` may be this
+// letter or be left out. The lengths of these fronts are those from `low` to `high`, and the bytes of `word` from `low`
+// to `high` are this letter, in either case. The letter in its other case cannot be left out, which ends the shortest
+// front. Any other byte ends all fronts but the longest.
 const fn is_spelled(grammar: Grammar, word: &[u8], text: &[u8]) -> bool {
     let mut low = 0;
     let mut high = 0;

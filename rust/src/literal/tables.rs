@@ -94,7 +94,7 @@ const fn row_number(read: Summary) -> u8 {
 }
 
 // Returns the summary of a row.
-const fn summary_at(row: u8) -> Summary {
+pub(crate) const fn summary_at(row: u8) -> Summary {
     let row = row as usize;
     Summary {
         part: PARTS[row / 36],
