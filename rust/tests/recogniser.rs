@@ -11,24 +11,10 @@
 mod recipes;
 
 use core::ops::Range;
-use peltzivar::{literal, Error, Format, Part, Role};
+use peltzivar::literal::{self, Cause, Place};
+use peltzivar::{Error, Format, Part, Role};
 use recipes::RECIPES;
 use Piece::*;
-
-#[derive(Debug, Clone, Copy, PartialEq, Eq)]
-enum Place {
-    BeforeDigits,
-    AfterDigit,
-    Consecutive,
-}
-#[derive(Debug, Clone, Copy, PartialEq, Eq)]
-enum Cause {
-    Requirement,
-    Separator(Part, Place),
-    Case,
-    Byte,
-    Missing(Part),
-}
 
 #[rustfmt::skip]
 #[derive(Clone, Copy)]
@@ -400,11 +386,15 @@ fn hostile_bytes(word: u128, options: Option<(u8, u8)>) -> Vec<u8> {
 }
 
 /// The parts of a literal, or why a text is none: `None` if that is not compared.
-type Answer<'a> = Result<[&'a [u8]; 9], Option<usize>>;
+type Answer<'a> = Result<[&'a [u8]; 9], Option<Failure>>;
 
 /// Returns the answer of the library.
 fn answer(read: Result<literal::Parts<'_>, literal::ReadError>, has_failures: bool) -> Answer<'_> {
-    let parts = read.map_err(|error| has_failures.then(|| error.valid_up_to()))?;
+    let failure = |error: literal::ReadError| {
+        let (valid_up_to, cause, mask, (start, end)) = (error.valid_up_to(), error.cause(), error.mask(), error.span());
+        Failure { valid_up_to, cause, mask, span: start..end, code: error.code() }
+    };
+    let parts = read.map_err(|error| has_failures.then(|| failure(error)))?;
     let literal::Parts { sign, prefix, integer, point, fraction, exponent_sign, exponent, suffix, .. } = parts;
     Ok([sign, prefix, integer, point, fraction, parts.exponent_character, exponent_sign, exponent, suffix])
 }
@@ -447,7 +437,7 @@ impl<'a> Comparison<'a> {
         let front = literal.or(seen.literal);
         let has_failures = !self.syntax.more.is_empty();
         let wrong = seen.wrong.clone().or_else(|| has_failures.then(|| self.syntax.wrong(text))?);
-        let failure = || wrong.clone().unwrap_or_else(|| self.syntax.missing(text)).valid_up_to;
+        let failure = || wrong.clone().unwrap_or_else(|| self.syntax.missing(text));
         let expect = |reading: Option<Reading>| match reading {
             Some(reading) => Ok(PIECES.map(|piece| &text[reading.range(piece)])),
             None => Err(has_failures.then(failure)),
