@@ -48,6 +48,7 @@ struct Failure {
     mask: u128,
     span: Range<usize>,
     code: Error,
+    byte: Option<u8>,
 }
 
 /// A lawful word in its normal form, an exponent character and a decimal point unless literals are integers alone, and
@@ -243,7 +244,7 @@ impl<'a> Syntax<'a> {
         let end = if is_other(&stop[at]) { at } else { at + 1 };
         let separators = stop[..end].iter().rposition(is_other).map_or(0, |other| other + 1)..end;
         let span = if (32..41).contains(&number) { separators } else { at..at + 1 };
-        Failure { valid_up_to: at, cause, mask, code: Error::InvalidDigit(span.start), span }
+        Failure { valid_up_to: at, cause, mask, code: Error::InvalidDigit(span.start), span, byte: Some(stop[at]) }
     }
 
     /// Returns why `text` is not a literal. A literal begins with it.
@@ -261,7 +262,7 @@ impl<'a> Syntax<'a> {
         let unsigned = text.strip_prefix(b"+").or(text.strip_prefix(b"-")).unwrap_or(text);
         let is_empty = unsigned.is_empty() || self.is_piece(Prefix, unsigned);
         let code = if is_empty { Error::Empty(end) } else { Error::InvalidDigit(end) };
-        Failure { valid_up_to: end, cause: Cause::Missing(part), mask: 0, span: end..end, code }
+        Failure { valid_up_to: end, cause: Cause::Missing(part), mask: 0, span: end..end, code, byte: None }
     }
 
     /// Returns the failure of `text`, which may also be stop, because of requirements. `reading` may go on after it.
@@ -292,7 +293,8 @@ impl<'a> Syntax<'a> {
             }
         };
         let at = if mask.trailing_zeros() == 2 { valid_up_to } else { span.start };
-        Failure { valid_up_to, cause: Cause::Requirement, mask, span, code: code(at) }
+        let byte = text.get(valid_up_to).copied();
+        Failure { valid_up_to, cause: Cause::Requirement, mask, span, code: code(at), byte }
     }
 
     /// Returns what can complete a front: a sign, prefix, digits, point, exponent and suffix, each there or not.
@@ -392,7 +394,7 @@ type Answer<'a> = Result<[&'a [u8]; 9], Option<Failure>>;
 fn answer(read: Result<literal::Parts<'_>, literal::ReadError>, has_failures: bool) -> Answer<'_> {
     let failure = |error: literal::ReadError| {
         let (valid_up_to, cause, mask, (start, end)) = (error.valid_up_to(), error.cause(), error.mask(), error.span());
-        Failure { valid_up_to, cause, mask, span: start..end, code: error.code() }
+        Failure { valid_up_to, cause, mask, span: start..end, code: error.code(), byte: error.byte() }
     };
     let parts = read.map_err(|error| has_failures.then(|| failure(error)))?;
     let literal::Parts { sign, prefix, integer, point, fraction, exponent_sign, exponent, suffix, .. } = parts;
