@@ -509,7 +509,7 @@ fn compare_random_words(words: usize, with_failures: usize, eighths: u64) {
 #[test]
 fn some_answers_are_those_of_the_recogniser() {
     compare_recipes(2);
-    compare_random_words(100, 10, 3);
+    compare_random_words(200, 100, 3);
 }
 
 #[test]
