@@ -7,7 +7,7 @@
 //! E and P do not fit it, and 2 if the arguments are malformed.
 
 use peltzivar::edits::byte_from_decimal;
-use peltzivar::literal::Syntax;
+use peltzivar::literal::{Parts, Syntax};
 use peltzivar::{Error, FormatView};
 use std::ffi::OsString;
 use std::io::{self, Write};
@@ -20,17 +20,10 @@ fn main() -> io::Result<ExitCode> {
         return Ok(ExitCode::from(2));
     };
     let mut out = io::stdout().lock();
-    let syntax = match syntax {
-        Ok(syntax) => syntax,
-        Err(error) => {
-            writeln!(out, "{error}")?;
-            return Ok(ExitCode::FAILURE);
-        }
-    };
-    let parts = match syntax.read(text) {
+    let parts = match read(syntax, text) {
         Ok(parts) => parts,
-        Err(error) => {
-            writeln!(out, "{}: {error}", error.valid_up_to())?;
+        Err(line) => {
+            writeln!(out, "{line}")?;
             return Ok(ExitCode::FAILURE);
         }
     };
@@ -49,6 +42,13 @@ fn main() -> io::Result<ExitCode> {
         out.write_all(&[name.as_bytes(), b" ", bytes, b"\n"].concat())?;
     }
     Ok(ExitCode::SUCCESS)
+}
+
+/// Returns the parts of a literal, or the line that the program prints instead.
+fn read(syntax: Result<Syntax, Error>, text: &[u8]) -> Result<Parts<'_>, String> {
+    let syntax = syntax.map_err(|error| error.to_string())?;
+    let parts = syntax.read(text);
+    parts.map_err(|error| format!("{}: {error}", error.valid_up_to()))
 }
 
 /// Returns the syntax, or the error of its word or options, and the text. Returns `None` if an argument is malformed.

@@ -73,9 +73,10 @@
 //! contract. From this code, a program in the repository generated the files that begin with `Made by`. In the
 //! documentation, `Proved of the source` heads what the contracts of a call state.
 //!
-//! The following parts are written by hand: [`Format`], [`NumberFormat`], the iterators and conversions,
-//! `Display`, `FromStr` and `Debug` of words, `build_or_panic`, and the tests of slices in [`ascii`]. A build of this
-//! crate proves nothing. You trust the program that generated the files, the handwritten parts, and `rustc`.
+//! The following parts are written by hand: [`Format`], [`NumberFormat`], the iterators and conversions, `Display`,
+//! `FromStr` and `Debug` of words, `Display` of [`ReadError`][literal::ReadError], `build_or_panic`, and the tests of
+//! slices in [`ascii`]. A build of this crate proves nothing. You trust the program that generated the files, the
+//! handwritten parts, and `rustc`.
 #![no_std]
 #![forbid(unsafe_code)]
 

@@ -75,6 +75,7 @@ REPLACED = [
     ("short_text.rt", "pub fn as_str(", "pub const fn as_str("),
     # Rattle's `split_at` is not const.
     ("read.rt", "\nfn split_front<", "\nconst fn split_front<"),
+    ("read.rt", "\nfn front_of<", "\nconst fn front_of<"),
     ("read.rt", "\nfn cut<", "\nconst fn cut<"),
     ("read.rt", "\nfn read<", "\nconst fn read<"),
     ("read.rt", "\nfn read_prefix<", "\nconst fn read_prefix<"),

@@ -14,7 +14,7 @@ use Rattle.lexical_util.specs.Layout as layout
 use Rattle.lexical_util.specs.Layout.{Flag, bit, part}
 use Rattle.lexical_util.specs.Record.{raw}
 use Rattle.lexical_literal.specs.Additions.Causes.{allows, with_bit, without_bit}
-use Rattle.lexical_literal.specs.Cause.{adding, behind, first_in, is_one_of, requirement_flags, separator_flags, with_flags}
+use Rattle.lexical_literal.specs.Cause.{adding, behind, case_set, first_in, is_one_of, requirement_flags, separator_flags, with_flags}
 use Rattle.lexical_literal.specs.Notation.{Notation}
 use Rattle.lexical_literal.specs.declared.steps.Class.{Class}
 use Rattle.lexical_literal.specs.declared.steps.Summary.{Summary}
@@ -34,7 +34,7 @@ some_one a b below_a below_b = grind (arith, nat_tests)
 other_one : (a : ℕ) → a < 2 → (1 - a == 1) ≡ not (a == 1)
 other_one a below = grind (arith, nat_tests)
 
-bit_small : (n k : ℕ) → part n k 1 < 2
+pub bit_small : (n k : ℕ) → part n k 1 < 2
 bit_small n k = mod-lt _ (omega arith)
 
 module _ (f : Flag) where
@@ -75,6 +75,33 @@ separator_mask _ = refl
 -- The flags of a word without requirements.
 pub bare_flags : (word : ℕ) (f : Flag) → (raw (bit_and word (bit_not w128 0x73FF))).flag f ≡ ((raw word).flag f && not (is_one_of requirement_flags f))
 bare_flags word f = flag_and f word (bit_not w128 0x73FF) ∙ ap (λ t. (raw word).flag f && t) (flag_not f 0x73FF (omega arith) ∙ ap not (requirement_mask f))
+
+-- `case_mask_of a b c` has the flags on the case of the exponent character, the prefix and the suffix, each if it is true.
+abbrev pub case_mask_of : Bool → Bool → Bool → ℕ
+case_mask_of a b c = bit_or (bit_or (if a then 2 ^ 15 else 0) (if b then 2 ^ 16 else 0)) (if c then 2 ^ 17 else 0)
+
+module _ (m : Notation) (byte : ℕ) where
+  if_flag : (f : Flag) (t : Bool) (k : ℕ) → (raw (if t then 2 ^ k else 0)).flag f ≡ (t && (bit f == k))
+  if_flag f true k = flag_pow f k
+  if_flag f false k = flag_zero f
+
+  picks : (f : Flag) → (((m.exponent_character byte && (bit f == 15)) || (m.prefix byte && (bit f == 16))) || (m.suffix byte && (bit f == 17))) ≡ case_set f m byte
+  picks layout.required_integer_digits = grind arith
+  picks _ = grind arith
+
+  pub case_each : (f : Flag) → (raw (case_mask_of (m.exponent_character byte) (m.prefix byte) (m.suffix byte))).flag f ≡ case_set f m byte
+  case_each f = flag_or f (bit_or (if m.exponent_character byte then 2 ^ 15 else 0) (if m.prefix byte then 2 ^ 16 else 0)) (if m.suffix byte then 2 ^ 17 else 0)
+      ∙ (λ j. (flag_or f (if m.exponent_character byte then 2 ^ 15 else 0) (if m.prefix byte then 2 ^ 16 else 0)
+      ∙ (λ k. if_flag f (m.exponent_character byte) 15 k || if_flag f (m.prefix byte) 16 k)) j || if_flag f (m.suffix byte) 17 j)
+      ∙ picks f
+
+  pub case_some : case_mask_of (m.exponent_character byte) (m.prefix byte) (m.suffix byte) ≢ 0 → (f : Flag) × (case_set f m byte ≡ true)
+  case_some some = go (m.exponent_character byte) (m.prefix byte) (m.suffix byte) refl refl refl some where
+    go : (a b c : Bool) → m.exponent_character byte ≡ a → m.prefix byte ≡ b → m.suffix byte ≡ c → case_mask_of a b c ≢ 0 → (f : Flag) × (case_set f m byte ≡ true)
+    go true b c is_a is_b is_c some = (layout.case_sensitive_exponent, is_a)
+    go false true c is_a is_b is_c some = (layout.case_sensitive_base_prefix, is_b)
+    go false false true is_a is_b is_c some = (layout.case_sensitive_base_suffix, is_c)
+    go false false false is_a is_b is_c some = absurd (some refl)
 
 -- A bit that a mask has, or has not.
 pub is_set : (n k : ℕ) → bit_and n (2 ^ k) ≢ 0 → part n k 1 ≡ 1

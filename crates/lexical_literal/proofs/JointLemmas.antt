@@ -1,5 +1,5 @@
 -- Where no flag refuses alone, two flags on leading zeros do together.
-use Rattle.std.proofs.Common.{ℕ, ◌≡◌, Bool, true, false, not, ◌==◌, ◌&&◌, ◌||◌, ◌⊎◌, if◌then◌else◌, inl, inr, IsTrue, Option, Some, None, refl, sym, ap, subst, ◌∙◌, arith}
+use Rattle.std.proofs.Common.{◌≡◌, Bool, true, false, not, ◌==◌, ◌&&◌, ◌||◌, ◌⊎◌, if◌then◌else◌, inl, inr, Option, Some, None, refl, sym, ap, ◌∙◌, arith}
 use Rattle.std.proofs.lemmas.Bool.{false≢true, and_parts, and_from, or_left, or_right, cases_Bool, eq-eqb}
 use Rattle.std.proofs.lemmas.Bool.Decides.{nat_tests}
 use Rattle.std.specs.Prelude.{is_some}
@@ -13,7 +13,7 @@ use Rattle.lexical_literal.specs.Notation.{Notation}
 use Rattle.lexical_literal.specs.Run.{is_place}
 use Rattle.lexical_literal.specs.Cause.{adding, bare, binds, is_one_of, requirement_flags, without}
 use Rattle.lexical_literal.specs.Additions.Causes.{allows}
-use Rattle.lexical_literal.specs.Additions.Summary.{implies, forbids_plus, has_digit, is_fresh, is_lone, is_led, needs_exponent, may_lead, may_follow, gap_fits, is_open, is_signed, digits_suffice, may_float, continues, ends, is_complete, takes, move, step, is_plus, is_zero, in_part, after}
+use Rattle.lexical_literal.specs.Additions.Summary.{implies, forbids_plus, has_digit, is_fresh, is_lone, is_led, needs_exponent, may_lead, may_follow, gap_fits, is_open, is_signed, digits_suffice, may_float, continues, ends, takes, move, is_plus, is_zero, in_part, after}
 use Rattle.lexical_literal.specs.declared.steps.Class.{Class}
 use Rattle.lexical_literal.specs.declared.steps.Stage.{Stage}
 use Rattle.lexical_literal.specs.declared.steps.Stage.TheVariants as stages
@@ -155,7 +155,7 @@ module _ (m : Notation) where
   if_more : (g p q : Bool) → (p ≡ true → q ≡ true) → (g || p) ≡ true → (g || q) ≡ true
   if_more g p q more is = grind arith
 
-  same_consecutive : (part : Part) → (bare m).flag (separators_in part).consecutive ≡ m.flag (separators_in part).consecutive
+  pub same_consecutive : (part : Part) → (bare m).flag (separators_in part).consecutive ≡ m.flag (separators_in part).consecutive
   same_consecutive parts.Integer = grind arith
   same_consecutive _ = grind arith
 
@@ -173,8 +173,11 @@ module _ (m : Notation) where
       ∙ (left (λ n. gap_fits n s.part (has_digit s.stage) s.gap true) (λ n. may_follow n s.stage) rest).free in
       elim (follows s.stage (right (λ n. gap_fits n s.part (has_digit s.stage) s.gap true) (λ n. may_follow n s.stage) rest)) [
         | inl is ↦ inl (and_from _ _ sign (and_from _ _ gap is))
-        | inr both ↦ inr (both.0, and_from _ _ (signed_less s.part s.stage sign)
-            (and_from _ _ (if_more (not s.gap) _ _ (place_less s.part (has_digit s.stage) true) gap) both.1))
+        | inr both ↦ inr (
+          both.0,
+          and_from _ _ (signed_less s.part s.stage sign)
+              (and_from _ _ (if_more (not s.gap) _ _ (place_less s.part (has_digit s.stage) true) gap) both.1),
+        )
       ]
 
   drop_false : (a b : Bool) → b ≡ false → (a || b) ≡ true → a ≡ true
@@ -222,8 +225,11 @@ module _ (m : Notation) where
             } in
             elim (follows s.stage follow) [
               | inl is ↦ inl (and_from _ _ sign (and_from _ _ gap (open_next (is_place m s.part digit true) (is_place m s.part digit false) _ some is)))
-              | inr both ↦ inr (both.0, and_from _ _ (signed_less s.part s.stage sign) (and_from _ _ less_gap
-                  (open_next (is_place less s.part digit true) (is_place less s.part digit false) _ (or_left _ _ (place_less s.part digit true inside)) both.1)))
+              | inr both ↦ inr (
+                both.0,
+                and_from _ _ (signed_less s.part s.stage sign) (and_from _ _ less_gap
+                    (open_next (is_place less s.part digit true) (is_place less s.part digit false) _ (or_left _ _ (place_less s.part digit true inside)) both.1)),
+              )
             ]
       ]
 

@@ -2,6 +2,7 @@
 mod RunLemmas
 mod ScanLemmas
 mod StepLemmas
+mod CutLemmas
 mod LiteralLemmas
 mod FrontLemmas
 mod LongestLemmas
@@ -15,3 +16,7 @@ mod SpecialLemmas
 mod CauseLemmas
 mod RefusalLemmas
 mod JointLemmas
+mod BlameLemmas
+mod PlaceLemmas
+mod PartOfLemmas
+mod OneCauseLemmas

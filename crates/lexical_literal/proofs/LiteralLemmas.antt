@@ -1,7 +1,8 @@
 -- The texts that are accepted are the literals.
-use Rattle.std.proofs.Common.{ℕ, ◌≡◌, Bool, true, false, not, ◌==◌, ◌&&◌, ◌||◌, ◌⊎◌, inl, inr, IsTrue, List, [], ◌∷◌, ◌++◌, ◌+◌, Some, refl, sym, ap, subst, ◌∙◌, arith}
-use Rattle.std.proofs.lemmas.Bool.{false≢true, and_parts, and_from, or_right, eqb-true}
+use Rattle.std.proofs.Common.{ℕ, ◌≡◌, Bool, true, false, not, ◌==◌, ◌&&◌, ◌||◌, inl, inr, if◌then◌else◌, List, [], ◌∷◌, ◌++◌, ◌+◌, Some, refl, sym, subst, ◌∙◌, arith}
+use Rattle.std.proofs.lemmas.Bool.{false≢true, and_parts, and_from, and_right, cases_Bool, or_left, or_right, eqb-true}
 use Rattle.std.specs.List.{list_any}
+use Rattle.lexical_util.specs.Ascii.{ByteSet}
 use Rattle.lexical_util.specs.Layout as layout
 use Rattle.lexical_util.specs.Layout.{Flag}
 use Rattle.lexical_util.specs.Roles.{signs}
@@ -10,741 +11,434 @@ use Rattle.lexical_util.specs.declared.format_flags.Part.{Part}
 use Rattle.lexical_util.specs.declared.format_flags.Part.TheVariants as parts
 use Rattle.lexical_literal.specs.Notation.{Notation}
 use Rattle.lexical_literal.specs.Run.{is_run}
-use Rattle.lexical_literal.specs.Literal.{Literal, IsLiteral, Reads, text_of, requirement, is_present, is_absent, is_plus, is_none_or_one, is_none_or_prefix, has_leading_zero}
-use Rattle.lexical_literal.specs.Additions.Summary.{Cuts, implies, has_digit, is_fresh, is_lone, is_led, is_bare, after_digit, after_mark, after_point, gap_fits, may_follow, needs_exponent, is_signed, ends, continues, may_float, start, no_cuts}
+use Rattle.lexical_literal.specs.Literal.{Literal, IsLiteral, Reads, text_of, is_present, is_absent, is_plus, is_none_or_one, is_none_or_prefix, has_leading_zero, is_zero_led}
+use Rattle.lexical_literal.specs.Additions.Summary.{Cuts, implies, has_digit, is_fresh, is_lone, is_led, after_digit, after_mark, after_point, may_follow, may_lead, is_signed, forbids_plus, gap_fits, digits_suffice, ends, continues, may_float, add, count, digits_piece, start, no_cuts}
 use Rattle.lexical_literal.specs.declared.steps.Stage.{Stage}
 use Rattle.lexical_literal.specs.declared.steps.Stage.TheVariants as stages
-use Rattle.lexical_literal.specs.declared.steps.Summary.{Summary}
-use Rattle.lexical_literal.proofs.RunLemmas.{is_rest, rest_of_none, digits_present}
+use Rattle.lexical_literal.proofs.RunLemmas.{is_rest, rest_of_none, digits_present, digit_fits, after_run_digit, is_run_separator, separator_fits, after_run_separator, opens}
 use Rattle.lexical_literal.proofs.ScanLemmas.{HasRoles, Accepts, Arrives, plus, arrives_byte, digit_role, is_role}
-use Rattle.lexical_literal.proofs.StepLemmas.{reading, begins, led_after, Taken, Run, run_of, run_arrives, stop_arrives}
-
--- `Met m f d` holds if `d` is true or the flag `f` is not set.
-abbrev Met : Notation → Flag → Bool → Type 0
-Met m f d = implies (m.flag f) d ≡ true
-
-holds : (a d : Bool) → implies a d ≡ true → a ≡ true → d ≡ true
-holds a d is set = grind arith
-
-implied : (a d : Bool) → (a ≡ true → d ≡ true) → implies a d ≡ true
-implied true d is = is refl
-implied false d is = refl
-
-always : (a d : Bool) → d ≡ true → implies a d ≡ true
-always a d is = grind arith
-
-never : (a d : Bool) → not a ≡ true → implies a d ≡ true
-never a d is = grind arith
-
-not_set : (f : Bool) → implies f false ≡ true → not f ≡ true
-not_set f is = grind arith
-
-weaker : (f a d : Bool) → implies f a ≡ true → implies f (a || d) ≡ true
-weaker f a d is = grind arith
-
-needed : (f n d : Bool) → implies (f && not n) d ≡ true → f ≡ true → (n || d) ≡ true
-needed f n d is set = grind arith
-
-unneeded : (f n d : Bool) → implies f (n || d) ≡ true → implies (f && not n) d ≡ true
-unneeded f n d is = grind arith
-
-or_false : (a : Bool) → (a || false) ≡ a
-or_false true = refl
-or_false false = refl
-
-or_true : (a : Bool) → (a || true) ≡ true
-or_true a = grind arith
+use Rattle.lexical_literal.proofs.StepLemmas.{reading, led_after, stage_after, after_byte, passed, digit_seen, digit_settles, mark_seen, mark_settles, settled, either, stage_at, sign_fits, prefix_fits, digits_fit, ends_exponent, ends_mantissa, fraction_fits, stops, scales, ends_part, text_after}
+use Rattle.lexical_literal.proofs.CutLemmas.{cut_of}
 
 -- `is_tail bytes` has all of `bytes` but the first.
 abbrev pub is_tail : List ℕ → List ℕ
 is_tail [] = []
 is_tail (b ∷ bytes) = bytes
 
--- The lengths of the parts of `l`, begun with `c`.
-abbrev pub lengths : Literal → Cuts → Cuts
-lengths l c = record c {
-  integer = plus l.integer c.integer;
-  point = plus l.point c.point;
-  fraction = plus l.fraction c.fraction;
+-- `tail_cuts l c` has the lengths of the parts of `l` behind the mantissa, begun with `c`, and `cuts_of l` those of all its parts.
+abbrev tail_cuts : Literal → Cuts → Cuts
+tail_cuts l c = record c {
   exponent_character = plus l.exponent_character c.exponent_character;
   exponent_sign = plus l.exponent_sign c.exponent_sign;
   exponent = plus l.exponent c.exponent;
 }
 
+abbrev end_cuts : Literal → Cuts → Cuts
+end_cuts l c = tail_cuts l (record c { point = plus l.point c.point; fraction = plus l.fraction c.fraction })
+
 abbrev pub cuts_of : Literal → Cuts
-cuts_of l = lengths l (record no_cuts { sign = plus l.sign 0; prefix = plus (is_tail l.prefix) 0; integer = plus (is_tail l.prefix) 0 })
+cuts_of l = end_cuts l (record no_cuts { sign = plus l.sign 0; prefix = plus (is_tail l.prefix) 0; integer = plus l.integer (plus (is_tail l.prefix) 0) })
 
-module _ (m : Notation) (h : HasRoles m) where
-  -- What an exponent and a suffix satisfy.
-  record TailFacts (exponent_character sign exponent suffix : List ℕ) : Type 0 where
-    mark_one : is_none_or_one m.exponent_character exponent_character ≡ true
-    sign_one : is_none_or_one signs sign ≡ true
-    run : is_rest m parts.Exponent false false exponent ≡ true
-    suffix_one : is_none_or_one m.suffix suffix ≡ true
-    after_mark : is_absent exponent_character ≡ true → (sign ≡ []) × (exponent ≡ [])
-    digits : Met m layout.required_exponent_digits (is_absent exponent_character || is_present exponent)
-    no_mark : Met m layout.no_exponent_notation (is_absent exponent_character)
-    plus_sign : Met m layout.no_positive_exponent_sign (not (is_plus sign))
-    signed : Met m layout.required_exponent_sign (is_absent exponent_character || is_present sign)
-    needs_mark : implies (needs_exponent m) (is_present exponent_character) ≡ true
+-- What the parts behind the mantissa satisfy, said of plain variables: `k`, `s` and `e` tell whether the exponent character, its
+-- sign and the exponent are absent.
+module _ (k one_k s one_s plus e fits_e one_x no_plus sign_required digits_required : Bool) where
+  record TailFacts (stops scales : Bool) : Type 0 where
+    character : one_k ≡ true
+    sign : one_s ≡ true
+    exponent : fits_e ≡ true
+    suffix : one_x ≡ true
+    sign_after : implies k s ≡ true
+    exponent_after : implies k e ≡ true
+    digits : implies digits_required (k || not e) ≡ true
+    no_plus_sign : implies no_plus (not plus) ≡ true
+    signed : implies sign_required (k || not s) ≡ true
+    stop : implies k stops ≡ true
+    scale : implies (not k) scales ≡ true
 
-  -- What follows an integer with a digit if `any`, and a leading zero if `led`.
-  record EndFacts (any led : Bool) (point fraction exponent_character sign exponent suffix : List ℕ) : Type 0 where
-    point_one : is_none_or_one m.point point ≡ true
-    after_point : is_absent point ≡ true → fraction ≡ []
-    run : is_rest m parts.Fraction false false fraction ≡ true
-    some : (any || (is_present point || is_present exponent_character)) ≡ true
-    integer : Met m layout.required_integer_digits any
-    digits : Met m layout.required_fraction_digits (is_absent point || is_present fraction)
-    mantissa : Met m layout.required_mantissa_digits (any || is_present fraction)
-    scaled : Met m layout.no_exponent_without_fraction (is_absent exponent_character || is_present point)
-    whole_led : Met m layout.no_integer_leading_zeros ((is_present point || is_present exponent_character) || not led)
-    float_led : Met m layout.no_float_leading_zeros (not (is_present point || is_present exponent_character) || not led)
-    tail : TailFacts exponent_character sign exponent suffix
+  abbrev tail_fits : Bool → Bool → Bool → Bool
+  tail_fits stop scale digit = one_k && (if k then stop && ((s && e) && one_x)
+      else scale && ((one_s && (implies no_plus (not plus) && (if s then not sign_required else true)))
+      && (fits_e && (implies digits_required digit && one_x))))
 
-  -- WHAT IS ACCEPTED IS A LITERAL
+  module _ (stop scale digit : Bool) where
+    tail_if : digit ≡ not e → TailFacts stop scale → tail_fits stop scale digit ≡ true
+    tail_if same facts = grind arith
 
-  no_tail : (suffix : List ℕ) → not (needs_exponent m) ≡ true → is_none_or_one m.suffix suffix ≡ true → TailFacts [] [] [] suffix
-  no_tail suffix none one = record {
-    mark_one = refl;
-    sign_one = refl;
-    run = refl;
-    suffix_one = one;
-    after_mark = λ _. (refl, refl);
-    digits = always _ _ refl;
-    no_mark = always _ _ refl;
-    plus_sign = always _ _ refl;
-    signed = always _ _ refl;
-    needs_mark = never (needs_exponent m) false none;
-  }
+    module _ (absent_s : implies s (one_s && not plus) ≡ true) (absent_e : implies e fits_e ≡ true) (is : tail_fits stop scale digit ≡ true) where
+      has_exponent : fits_e ≡ true
+      has_exponent = grind arith
 
-  -- After a decimal point or an exponent character, no zero is bare.
-  not_bare : (part : Part) (stage : Stage) (text : List ℕ) → is_bare stage ≡ false → begins stage ≡ false → (r : Run m part stage false text) → is_bare r.last ≡ true → ⊥
-  not_bare part stage text other after r bare =
-      elim (r.bare_is bare) [ inl first ↦ false≢true (sym other ∙ first.0) | inr zero ↦ false≢true (sym after ∙ zero.1) ]
+      tail_facts : (fits_e ≡ true → digit ≡ not e) → TailFacts stop scale
+      tail_facts seen = let same : digit ≡ not e = seen has_exponent in grind arith
 
-  fit_of : (part : Part) (stage : Stage) (text : List ℕ) → has_digit stage ≡ false → (r : Run m part stage false text)
-      → gap_fits m part (has_digit r.last) r.last_gap false ≡ true → is_rest m part false false r.run ≡ true
-  fit_of part stage text none r end = subst (λ t. is_rest m part t false r.run ≡ true) none (r.fit end)
+-- What an integer and a fraction satisfy: `any` and `led` tell whether the integer has a digit and a leading zero, and `p`, `f` and
+-- `k` whether the point, the fraction and the exponent character are absent.
+module _ (any led p one_p f fits_f k : Bool) (flag : Flag → Bool) (only : Bool) where
+  record EndFacts : Type 0 where
+    point : one_p ≡ true
+    fraction : fits_f ≡ true
+    after_point : implies p f ≡ true
+    some : (any || (not p || not k)) ≡ true
+    integer_digits : implies (flag layout.required_integer_digits) any ≡ true
+    fraction_digits : implies (flag layout.required_fraction_digits) (p || not f) ≡ true
+    mantissa_digits : implies (flag layout.required_mantissa_digits) (any || not f) ≡ true
+    notation : implies (flag layout.no_exponent_notation) k ≡ true
+    with_fraction : implies (flag layout.no_exponent_without_fraction) (k || not p) ≡ true
+    whole_led : implies (flag layout.no_integer_leading_zeros) ((not p || not k) || not led) ≡ true
+    float_led : implies (flag layout.no_float_leading_zeros) (not (not p || not k) || not led) ≡ true
+    needed : implies (flag layout.required_exponent_notation) (only || not k) ≡ true
 
-  -- Whether a part has digits, where none were read before it.
-  any_of : (part : Part) (stage : Stage) (text : List ℕ) → has_digit stage ≡ false → (r : Run m part stage false text)
-      → gap_fits m part (has_digit r.last) r.last_gap false ≡ true → has_digit r.last ≡ is_present r.run
-  any_of part stage text none r end = r.seen ∙ ap (λ t. list_any (m.digit part) r.run || t) none ∙ or_false (list_any (m.digit part) r.run)
-      ∙ digits_present m part r.run (fit_of part stage text none r end)
+  abbrev may_lead_so : Bool
+  may_lead_so = (not only && not (flag layout.no_float_leading_zeros))
+      || (not (flag layout.no_integer_leading_zeros) && not (flag layout.required_exponent_notation && not only))
 
-  record Plain (text : List ℕ) : Type 0 where
-    exponent : List ℕ
-    suffix : List ℕ
-    whole : text ≡ exponent ++ suffix
-    run : is_rest m parts.Exponent false false exponent ≡ true
-    digits : Met m layout.required_exponent_digits (is_present exponent)
-    suffix_one : is_none_or_one m.suffix suffix ≡ true
+  abbrev stops_so : Bool
+  stops_so =
+      let may = not (flag layout.required_exponent_notation && not only) in
+      if p then may && (any && implies (flag layout.no_integer_leading_zeros) (not led)) else may
 
-  plain_of : (stage : Stage) (text : List ℕ) → has_digit stage ≡ false → (r : Run m parts.Exponent stage false text)
-      → (ends m (reading parts.Exponent r.last r.last_gap) && true) ≡ true → is_none_or_one m.suffix r.rest ≡ true
-      → Plain text × (is_signed m parts.Exponent stage ≡ true)
-  plain_of stage text none r end one =
-      let both = and_parts (is_signed m parts.Exponent r.last) _ (and_parts _ true end).0 in
-      let fits = and_parts (gap_fits m parts.Exponent (has_digit r.last) r.last_gap false) _ both.1 in (
+  abbrev scales_so : Bool
+  scales_so =
+      let may = not (flag layout.no_exponent_notation) in
+      if p then may && (implies (flag layout.no_float_leading_zeros) (not led)
+      && (implies (flag layout.required_mantissa_digits) any && not (flag layout.no_exponent_without_fraction))) else may
+
+  abbrev fraction_so : Bool → Bool → Bool
+  fraction_so digit lone = if p then f else implies (flag layout.no_float_leading_zeros) (not led)
+      && (fits_f && (implies (flag layout.required_fraction_digits) digit && implies (flag layout.required_mantissa_digits) (not lone)))
+
+  leads : EndFacts → implies only (p && k) ≡ true → led ≡ true → may_lead_so ≡ true
+  leads facts no_float is = grind arith
+
+  module _ (digit lone : Bool) where
+    end_if : digit ≡ not f → lone ≡ not (not f || any) → EndFacts → (implies k stops_so && (implies (not k) scales_so && fraction_so digit lone)) ≡ true
+    end_if same_digit same_lone facts = grind arith
+
+    module _ (absent_f : implies f fits_f ≡ true) (is_point : one_p ≡ true) (integer : implies (flag layout.required_integer_digits) any ≡ true)
+        (is : fraction_so digit lone ≡ true) where
+      has_fraction : fits_f ≡ true
+      has_fraction = grind arith
+
+      end_facts : implies k stops_so ≡ true → implies (not k) scales_so ≡ true
+          → (fits_f ≡ true → digit ≡ not f) → (fits_f ≡ true → lone ≡ not (not f || any)) → EndFacts
+      end_facts stop scale seen counted =
+          let same_digit : digit ≡ not f = seen has_fraction in let same_lone : lone ≡ not (not f || any) = counted has_fraction in grind arith
+
+-- What an absent part satisfies.
+absent : (P : List ℕ → Bool) (bytes : List ℕ) → P [] ≡ true → implies (is_absent bytes) (P bytes) ≡ true
+absent P [] is = is
+absent P (b ∷ bytes) is = refl
+
+module _ (m : Notation) where
+  -- Digits that are present have a digit.
+  has_bytes : (part : Part) (stage : Stage) (run : List ℕ) → has_digit stage ≡ false → is_rest m part false false run ≡ true
+      → has_digit (stage_after (m.digit part) stage false run) ≡ is_present run
+  has_bytes part stage run none fit = same _ _ _ _ (passed (m.digit part) stage false run).seen none (digits_present m part run fit) where
+    same : (last some before present : Bool) → last ≡ (some || before) → before ≡ false → some ≡ present → last ≡ present
+    same last some before present seen none is = grind arith
+
+  -- The stage before the integer digits.
+  first_seen : (sign prefix : List ℕ) → has_digit (stage_at stages.Start sign prefix) ≡ false
+  first_seen sign prefix = grind arith
+
+  first_led : (sign prefix run : List ℕ) → led_after (m.digit parts.Integer) (stage_at stages.Start sign prefix) run
+      ≡ (is_absent prefix && has_leading_zero (m.digit parts.Integer) run)
+  first_led sign prefix run = grind arith
+
+  module _ (l : Literal) where
+    abbrev Tail : Bool → Bool → Type 0
+    Tail = TailFacts (is_absent l.exponent_character) (is_none_or_one m.exponent_character l.exponent_character) (is_absent l.exponent_sign)
+        (is_none_or_one signs l.exponent_sign) (is_plus l.exponent_sign) (is_absent l.exponent) (is_rest m parts.Exponent false false l.exponent)
+        (is_none_or_one m.suffix l.suffix) (m.flag layout.no_positive_exponent_sign) (m.flag layout.required_exponent_sign)
+        (m.flag layout.required_exponent_digits)
+
+    abbrev End : Bool → Bool → Type 0
+    End any led = EndFacts any led (is_absent l.point) (is_none_or_one m.point l.point) (is_absent l.fraction) (is_rest m parts.Fraction false false l.fraction)
+        (is_absent l.exponent_character) m.flag m.integers_only
+
+    -- The stages after the integer, the fraction and the exponent digits.
+    abbrev integer_last : Stage
+    integer_last = stage_after (m.digit parts.Integer) (stage_at stages.Start l.sign l.prefix) false l.integer
+
+    abbrev fraction_last : Bool → Stage
+    fraction_last any = stage_after (m.digit parts.Fraction) (after_point any) false l.fraction
+
+    abbrev exponent_last : Stage
+    exponent_last = stage_after (m.digit parts.Exponent) (stage_at stages.Mark l.exponent_sign []) false l.exponent
+
+    integer_seen : is_rest m parts.Integer false false l.integer ≡ true → has_digit integer_last ≡ is_present l.integer
+    integer_seen fit = has_bytes parts.Integer (stage_at stages.Start l.sign l.prefix) l.integer (first_seen l.sign l.prefix) fit
+
+    integer_led : is_led integer_last ≡ is_zero_led m l
+    integer_led = (passed (m.digit parts.Integer) (stage_at stages.Start l.sign l.prefix) false l.integer).led ∙ first_led l.sign l.prefix l.integer
+
+    fraction_seen : (any : Bool) → is_rest m parts.Fraction false false l.fraction ≡ true → has_digit (fraction_last any) ≡ is_present l.fraction
+    fraction_seen any fit = has_bytes parts.Fraction (after_point any) l.fraction (either has_digit any stages.Free stages.Lone refl refl) fit
+
+    fraction_counts : (any : Bool) → is_rest m parts.Fraction false false l.fraction ≡ true → is_lone (fraction_last any) ≡ not (is_present l.fraction || any)
+    fraction_counts any fit = counted _ _ (is_present l.fraction) any (passed (m.digit parts.Fraction) (after_point any) false l.fraction).counts
+        (digits_present m parts.Fraction l.fraction fit) where
+          counted : (lone some present any : Bool) → not lone ≡ (some || not (is_lone (after_point any))) → some ≡ present → lone ≡ not (present || any)
+          counted lone some present any is same = grind arith
+
+    exponent_seen : is_rest m parts.Exponent false false l.exponent ≡ true → has_digit exponent_last ≡ is_present l.exponent
+    exponent_seen fit = has_bytes parts.Exponent (stage_at stages.Mark l.exponent_sign []) l.exponent
+        (either has_digit (is_absent l.exponent_sign) stages.Mark stages.Free refl refl) fit
+
+    -- WHAT IS ACCEPTED IS A LITERAL
+
+    tail_of : (stop scale : Bool) → ends_mantissa m l stop scale ≡ true → Tail stop scale
+    tail_of stop scale is = tail_facts _ _ _ _ _ _ _ _ _ _ _ stop scale (has_digit exponent_last)
+        (absent (λ x. is_none_or_one signs x && not (is_plus x)) l.exponent_sign refl) (absent (is_rest m parts.Exponent false false) l.exponent refl) is exponent_seen
+
+    end_of : (last : Stage) → Tail (stops m l last) (scales m l last) → digits_suffice m parts.Integer last ≡ true → is_none_or_one m.point l.point ≡ true
+        → fraction_fits m l last ≡ true → End (has_digit last) (is_led last)
+    end_of last tail digits point fraction =
+        let any = has_digit last in
+        end_facts _ _ _ _ _ _ _ _ _ (has_digit (fraction_last any)) (is_lone (fraction_last any)) (absent (is_rest m parts.Fraction false false) l.fraction refl)
+        point digits fraction tail.stop tail.scale (fraction_seen any) (fraction_counts any)
+
+    literal_if : sign_fits m parts.Integer stages.Start l.sign ≡ true → prefix_fits m stages.Start false l.prefix ≡ true
+        → is_rest m parts.Integer false false l.integer ≡ true → ends_part m parts.Integer l integer_last ≡ true → IsLiteral m l
+    literal_if sign prefix run is =
+        let digits = and_parts (digits_suffice m parts.Integer integer_last) _ is in
+        let point = and_parts (is_none_or_one m.point l.point) _ digits.1 in
+        let fraction = and_parts (fraction_fits m l integer_last) _ point.1 in
+        let tail = tail_of (stops m l integer_last) (scales m l integer_last) fraction.1 in
+        let end = subst (λ t. End t (is_zero_led m l)) (integer_seen run)
+        (subst (λ t. End (has_digit integer_last) t) integer_led (end_of integer_last tail digits.0 point.0 fraction.0)) in
         record {
-          exponent = r.run;
-          suffix = r.rest;
-          whole = r.whole;
-          run = fit_of parts.Exponent stage text none r fits.0;
-          digits = subst (λ t. Met m layout.required_exponent_digits t) (any_of parts.Exponent stage text none r fits.0) fits.1;
-          suffix_one = one;
-        },
-        r.signed both.0,
-      )
-
-  exponent_plain : (text : List ℕ) → Accepts m (Some (reading parts.Exponent stages.Free false)) text → Plain text
-  exponent_plain text is =
-      let r = run_of m parts.Exponent h stages.Free false text is in
-      elim r.follows [
-        | inl done ↦ (plain_of stages.Free text refl r done.0 done.1).0
-        | inr (inl point) ↦ absurd (false≢true (and_parts _ false point.4).1)
-        | inr (inr (inl exponent_character)) ↦ absurd (false≢true (and_parts _ false exponent_character.4).1)
-        | inr (inr (inr (inl sign))) ↦ absurd (false≢true (r.fresh_is (and_parts (is_fresh r.last) _ sign.4).0).0)
-        | inr (inr (inr (inr prefix))) ↦ absurd (not_bare parts.Exponent stages.Free text refl refl r prefix.4)
-      ]
-
-  record Power (b : ℕ) (text : List ℕ) : Type 0 where
-    sign : List ℕ
-    exponent : List ℕ
-    suffix : List ℕ
-    whole : text ≡ sign ++ (exponent ++ suffix)
-    facts : TailFacts (b ∷ []) sign exponent suffix
-
-  power_from : (b : ℕ) (text : List ℕ) → m.exponent_character b ≡ true → not (m.flag layout.no_exponent_notation) ≡ true → (p : Plain text) → (sign : List ℕ)
-      → is_none_or_one signs sign ≡ true → Met m layout.no_positive_exponent_sign (not (is_plus sign)) → Met m layout.required_exponent_sign (is_present sign)
-      → (all : List ℕ) → all ≡ sign ++ text → Power b all
-  power_from b text exponent_character may p sign one plus signed all whole = record {
-    sign = sign;
-    exponent = p.exponent;
-    suffix = p.suffix;
-    whole = whole ∙ ap (λ t. sign ++ t) p.whole;
-    facts = record {
-      mark_one = exponent_character;
-      sign_one = one;
-      run = p.run;
-      suffix_one = p.suffix_one;
-      after_mark = λ absent. absurd (false≢true absent);
-      digits = p.digits;
-      no_mark = never (m.flag layout.no_exponent_notation) false may;
-      plus_sign = plus;
-      signed = signed;
-      needs_mark = always _ _ refl;
-    };
-  }
-
-  power_of : (b : ℕ) → m.exponent_character b ≡ true → not (m.flag layout.no_exponent_notation) ≡ true → (text : List ℕ)
-      → Accepts m (Some (reading parts.Exponent stages.Mark false)) text → Power b text
-  power_of b exponent_character may text is =
-      let r = run_of m parts.Exponent h stages.Mark false text is in
-      elim r.follows [
-        | inl done ↦ let p = plain_of stages.Mark text refl r done.0 done.1 in
-            power_from b text exponent_character may p.0 [] refl (always _ _ refl) (never (m.flag layout.required_exponent_sign) false p.1) text refl
-        | inr (inl point) ↦ absurd (false≢true (and_parts _ false point.4).1)
-        | inr (inr (inl scale)) ↦ absurd (false≢true (and_parts _ false scale.4).1)
-        | inr (inr (inr (inl sign))) ↦
-            let took = and_parts (is_fresh r.last) _ sign.4 in
-            let fresh = r.fresh_is took.0 in
-            let p = exponent_plain sign.1 (subst (λ o. Accepts m (Some (reading parts.Exponent (after_mark o) false)) sign.1) fresh.2
-            (subst (λ g. Accepts m (Some (reading parts.Exponent (after_mark r.last) g)) sign.1) fresh.3 sign.5)) in
-            power_from b sign.1 exponent_character may p (sign.0 ∷ []) sign.3 took.1 (always _ _ refl) text (r.whole ∙ ap (λ t. t ++ r.rest) fresh.1 ∙ sign.2)
-        | inr (inr (inr (inr prefix))) ↦ absurd (not_bare parts.Exponent stages.Mark text refl refl r prefix.4)
-      ]
-
-  -- What follows an integer.
-  record Body (any led : Bool) (text : List ℕ) : Type 0 where
-    point : List ℕ
-    fraction : List ℕ
-    exponent_character : List ℕ
-    sign : List ℕ
-    exponent : List ℕ
-    suffix : List ℕ
-    whole : text ≡ point ++ (fraction ++ (exponent_character ++ (sign ++ (exponent ++ suffix))))
-    facts : EndFacts any led point fraction exponent_character sign exponent suffix
-
-  -- The stage after a decimal point.
-  point_seen : (any : Bool) → has_digit (after_point any) ≡ false
-  point_seen any = grind arith
-
-  point_settles : (any : Bool) → is_fresh (after_point any) ≡ false
-  point_settles any = grind arith
-
-  point_bare : (any : Bool) → is_bare (after_point any) ≡ false
-  point_bare any = grind arith
-
-  point_begins : (any : Bool) → begins (after_point any) ≡ false
-  point_begins any = grind arith
-
-  point_counts : (any : Bool) → not (is_lone (after_point any)) ≡ any
-  point_counts any = grind arith
-
-  or_swap : (a b : Bool) → (a || b) ≡ (b || a)
-  or_swap a b = grind arith
-
-  -- What follows a decimal point.
-  fraction_of : (p : ℕ) (any led : Bool) (text : List ℕ) → m.point p ≡ true → Met m layout.required_integer_digits any
-      → Met m layout.no_float_leading_zeros (not led) → Accepts m (Some (reading parts.Fraction (after_point any) false)) text → Body any led (p ∷ text)
-  fraction_of p any led text point integer float is =
-      let r = run_of m parts.Fraction h (after_point any) false text is in
-      elim r.follows [
-        | inl done ↦
-            let both = and_parts _ (continues m parts.Fraction r.last roles.Suffix) done.0 in
-            facts r both.0 [] [] [] r.rest refl (no_tail r.rest both.1 done.1)
-        | inr (inl again) ↦ absurd (false≢true (and_parts _ false again.4).1)
-        | inr (inr (inl exponent_character)) ↦
-            let both = and_parts _ (continues m parts.Fraction r.last roles.Exponent) exponent_character.4 in
-            let e = power_of exponent_character.0 exponent_character.3 both.1 exponent_character.1 exponent_character.5 in
-            facts r both.0 (exponent_character.0 ∷ []) e.sign e.exponent e.suffix (exponent_character.2 ∙ ap (λ t. exponent_character.0 ∷ t) e.whole) e.facts
-        | inr (inr (inr (inl sign))) ↦ absurd (false≢true (sym (point_settles any) ∙ (r.fresh_is (and_parts (is_fresh r.last) _ sign.4).0).0))
-        | inr (inr (inr (inr prefix))) ↦ absurd (not_bare parts.Fraction (after_point any) text (point_bare any) (point_begins any) r prefix.4)
-      ] where
-        counted : (r : Run m parts.Fraction (after_point any) false text) → gap_fits m parts.Fraction (has_digit r.last) r.last_gap false ≡ true
-            → not (is_lone r.last) ≡ (any || is_present r.run)
-        counted r end = r.counts ∙ (λ j. digits_present m parts.Fraction r.run (fit_of parts.Fraction (after_point any) text (point_seen any) r end) j || point_counts any j)
-            ∙ or_swap (is_present r.run) any
-
-        facts : (r : Run m parts.Fraction (after_point any) false text) → ends m (reading parts.Fraction r.last r.last_gap) ≡ true
-            → (exponent_character sign exponent suffix : List ℕ) → r.rest ≡ exponent_character ++ (sign ++ (exponent ++ suffix)) → TailFacts exponent_character sign exponent suffix → Body any led (p ∷ text)
-        facts r end exponent_character sign exponent suffix whole tail =
-            let fits = and_parts (gap_fits m parts.Fraction (has_digit r.last) r.last_gap false) _ (and_parts (is_signed m parts.Fraction r.last) _ end).1 in
-            let digits = and_parts (implies (m.flag layout.required_fraction_digits) (has_digit r.last)) _ fits.1 in
-            let seen = any_of parts.Fraction (after_point any) text (point_seen any) r fits.0 in
-            record {
-              point = p ∷ [];
-              fraction = r.run;
-              exponent_character = exponent_character;
-              sign = sign;
-              exponent = exponent;
-              suffix = suffix;
-              whole = ap (λ t. p ∷ t) (r.whole ∙ ap (λ t. r.run ++ t) whole);
-              facts = record {
-                point_one = point;
-                after_point = λ absent. absurd (false≢true absent);
-                run = fit_of parts.Fraction (after_point any) text (point_seen any) r fits.0;
-                some = or_true any;
-                integer = integer;
-                digits = subst (λ t. Met m layout.required_fraction_digits t) seen digits.0;
-                mantissa = subst (λ t. Met m layout.required_mantissa_digits t) (counted r fits.0) digits.1;
-                scaled = always _ _ (or_true (is_absent exponent_character));
-                whole_led = always _ _ refl;
-                float_led = float;
-                tail = tail;
-              };
-            }
-
-  record Number (stage : Stage) (text : List ℕ) : Type 0 where
-    run : List ℕ
-    rest : List ℕ
-    whole : text ≡ run ++ rest
-    fit : is_rest m parts.Integer false false run ≡ true
-    signed : is_signed m parts.Integer stage ≡ true
-    body : Body (is_present run) (led_after (m.digit parts.Integer) stage run) rest
-
-  -- What follows the sign and the prefix, or the sign or the prefix.
-  number_of : (stage : Stage) (text : List ℕ) → has_digit stage ≡ false → (r : Run m parts.Integer stage false text)
-      → Number stage text ⊎ (Taken m (reading parts.Integer r.last r.last_gap) roles.Sign r.rest
-      ⊎ Taken m (reading parts.Integer r.last r.last_gap) roles.Prefix r.rest)
-  number_of stage text none r = elim r.follows [
-    | inl done ↦
-        let both = and_parts _ (continues m parts.Integer r.last roles.Suffix) done.0 in
-        let stop = and_parts (not (needs_exponent m)) _ both.1 in
-        let whole = and_parts (has_digit r.last) _ stop.1 in
-        inl (number both.0 (record {
-          point = [];
-          fraction = [];
-          exponent_character = [];
-          sign = [];
-          exponent = [];
-          suffix = r.rest;
-          whole = refl;
-          facts = record {
-            point_one = refl;
-            after_point = λ _. refl;
-            run = refl;
-            some = ap (λ t. t || (false || false)) (whole.0);
-            integer = always _ _ whole.0;
-            digits = always _ _ refl;
-            mantissa = always _ _ (ap (λ t. t || false) (whole.0));
-            scaled = always _ _ refl;
-            whole_led = whole.1;
-            float_led = always _ _ refl;
-            tail = no_tail r.rest stop.0 done.1;
-          };
-        }))
-    | inr (inl point) ↦
-        let both = and_parts _ (may_float m r.last) point.4 in
-        inl (number both.0 (subst (λ t. Body (has_digit r.last) (is_led r.last) t) (sym point.2)
-        (fraction_of point.0 (has_digit r.last) (is_led r.last) point.1 point.3 (digits both.0) both.1 point.5)))
-    | inr (inr (inl exponent_character)) ↦
-        let both = and_parts _ (continues m parts.Integer r.last roles.Exponent) exponent_character.4 in
-        let may = and_parts (not (m.flag layout.no_exponent_notation)) _ both.1 in
-        let float = and_parts (may_float m r.last) _ may.1 in
-        let scale = and_parts (implies (m.flag layout.required_mantissa_digits) (has_digit r.last)) _ float.1 in
-        let e = power_of exponent_character.0 exponent_character.3 may.0 exponent_character.1 exponent_character.5 in
-        inl (number both.0 (record {
-          point = [];
-          fraction = [];
-          exponent_character = exponent_character.0 ∷ [];
-          sign = e.sign;
-          exponent = e.exponent;
-          suffix = e.suffix;
-          whole = exponent_character.2 ∙ ap (λ t. exponent_character.0 ∷ t) e.whole;
-          facts = record {
-            point_one = refl;
-            after_point = λ _. refl;
-            run = refl;
-            some = or_true (has_digit r.last);
-            integer = digits both.0;
-            digits = always _ _ refl;
-            mantissa = weaker (m.flag layout.required_mantissa_digits) (has_digit r.last) false scale.0;
-            scaled = never (m.flag layout.no_exponent_without_fraction) false scale.1;
-            whole_led = always _ _ refl;
-            float_led = float.0;
-            tail = e.facts;
-          };
-        }))
-    | inr (inr (inr (inl sign))) ↦ inr (inl sign)
-    | inr (inr (inr (inr prefix))) ↦ inr (inr prefix)
-  ] where
-    digits : ends m (reading parts.Integer r.last r.last_gap) ≡ true → Met m layout.required_integer_digits (has_digit r.last)
-    digits end = (and_parts (gap_fits m parts.Integer (has_digit r.last) r.last_gap false) _ (and_parts (is_signed m parts.Integer r.last) _ end).1).1
-
-    number : ends m (reading parts.Integer r.last r.last_gap) ≡ true → Body (has_digit r.last) (is_led r.last) r.rest → Number stage text
-    number end body =
-        let both = and_parts (is_signed m parts.Integer r.last) _ end in
-        let fits = and_parts (gap_fits m parts.Integer (has_digit r.last) r.last_gap false) _ both.1 in
-        record {
-          run = r.run;
-          rest = r.rest;
-          whole = r.whole;
-          fit = fit_of parts.Integer stage text none r fits.0;
-          signed = r.signed both.0;
-          body = subst (λ t. Body t (led_after (m.digit parts.Integer) stage r.run) r.rest) (any_of parts.Integer stage text none r fits.0)
-              (subst (λ t. Body (has_digit r.last) t r.rest) r.led body);
+          sign = grind arith;
+          prefix = grind arith;
+          integer = sym (rest_of_none m parts.Integer l.integer) ∙ run;
+          point = end.point;
+          fraction = sym (rest_of_none m parts.Fraction l.fraction) ∙ end.fraction;
+          exponent_character = tail.character;
+          exponent_sign = tail.sign;
+          exponent = sym (rest_of_none m parts.Exponent l.exponent) ∙ tail.exponent;
+          suffix = tail.suffix;
+          after_point = λ none. grind arith;
+          after_character = λ none. (grind arith, grind arith);
+          some_number = end.some;
+          requirements = λ f set. grind arith;
         }
 
-  pub as_run : (part : Part) (run : List ℕ) → is_rest m part false false run ≡ is_run m part run
-  as_run part run = rest_of_none m part run
-
-  -- The parts of a number, after its sign and its prefix.
-  build : (sign prefix : List ℕ) (stage : Stage) (text all : List ℕ) → Number stage text → all ≡ sign ++ (prefix ++ text)
-      → is_none_or_one signs sign ≡ true → Met m layout.no_positive_mantissa_sign (not (is_plus sign)) → Met m layout.required_mantissa_sign (is_present sign)
-      → is_none_or_prefix m.prefix prefix ≡ true
-      → ((run : List ℕ) → led_after (m.digit parts.Integer) stage run ≡ (is_absent prefix && has_leading_zero (m.digit parts.Integer) run)) → (l : Literal) × Reads m l all
-  build sign prefix stage text all n whole one plus signed dressed led =
-      let b = n.body in
-      let l : Literal = record {
-        sign = sign;
-        prefix = prefix;
-        integer = n.run;
-        point = b.point;
-        fraction = b.fraction;
-        exponent_character = b.exponent_character;
-        exponent_sign = b.sign;
-        exponent = b.exponent;
-        suffix = b.suffix;
-      } in
-      let facts = subst (λ t. EndFacts (is_present n.run) t b.point b.fraction b.exponent_character b.sign b.exponent b.suffix) (led n.run) b.facts in (
-        l,
-        record {
-          whole = whole ∙ ap (λ t. sign ++ (prefix ++ t)) (n.whole ∙ ap (λ t. n.run ++ t) b.whole);
-          literal = record {
-            sign = one;
-            prefix = dressed;
-            integer = sym (as_run parts.Integer n.run) ∙ n.fit;
-            point = facts.point_one;
-            fraction = sym (as_run parts.Fraction b.fraction) ∙ facts.run;
-            exponent_character = facts.tail.mark_one;
-            exponent_sign = facts.tail.sign_one;
-            exponent = sym (as_run parts.Exponent b.exponent) ∙ facts.tail.run;
-            suffix = facts.tail.suffix_one;
-            after_point = facts.after_point;
-            after_character = facts.tail.after_mark;
-            some_number = facts.some;
-            requirements = met l facts plus signed;
-          };
-        },
-      ) where
-        met : (l : Literal) → EndFacts (is_present l.integer) (is_absent l.prefix && has_leading_zero (m.digit parts.Integer) l.integer)
-            l.point l.fraction l.exponent_character l.exponent_sign l.exponent l.suffix
-            → Met m layout.no_positive_mantissa_sign (not (is_plus l.sign)) → Met m layout.required_mantissa_sign (is_present l.sign)
-            → (f : Flag) → IsTrue (m.flag f) → IsTrue (requirement f m l)
-        met l facts plus signed layout.required_integer_digits = holds _ (is_present l.integer) facts.integer
-        met l facts plus signed layout.required_fraction_digits = holds _ _ facts.digits
-        met l facts plus signed layout.required_exponent_digits = holds _ _ facts.tail.digits
-        met l facts plus signed layout.required_mantissa_digits = holds _ _ facts.mantissa
-        met l facts plus signed layout.no_positive_mantissa_sign = holds _ _ plus
-        met l facts plus signed layout.required_mantissa_sign = holds _ _ signed
-        met l facts plus signed layout.no_exponent_notation = holds _ _ facts.tail.no_mark
-        met l facts plus signed layout.no_positive_exponent_sign = holds _ _ facts.tail.plus_sign
-        met l facts plus signed layout.required_exponent_sign = holds _ _ facts.tail.signed
-        met l facts plus signed layout.no_exponent_without_fraction = holds _ _ facts.scaled
-        met l facts plus signed layout.no_integer_leading_zeros = holds _ _ facts.whole_led
-        met l facts plus signed layout.no_float_leading_zeros = holds _ _ facts.float_led
-        met l facts plus signed layout.required_exponent_notation = needed (m.flag layout.required_exponent_notation) m.integers_only _ facts.tail.needs_mark
-        met l facts plus signed _ = λ _. refl
-
-  -- The zero of a prefix has been read as a digit.
-  prefixed : (sign : List ℕ) (stage : Stage) (text all : List ℕ) → is_bare stage ≡ false → (r : Run m parts.Integer stage false text)
-      → Taken m (reading parts.Integer r.last r.last_gap) roles.Prefix r.rest → all ≡ sign ++ text
-      → is_none_or_one signs sign ≡ true → Met m layout.no_positive_mantissa_sign (not (is_plus sign))
-      → (is_signed m parts.Integer stage ≡ true → Met m layout.required_mantissa_sign (is_present sign)) → (l : Literal) × Reads m l all
-  prefixed sign stage text all other r prefix whole one plus signed =
-      let zero : (r.run ≡ 48 ∷ []) × (begins stage ≡ true) × (false ≡ false) =
-      elim (r.bare_is prefix.4) [ inl first ↦ absurd (false≢true (sym other ∙ first.0)) | inr zero ↦ zero ] in
-      let r2 = run_of m parts.Integer h stages.Free false prefix.1 prefix.5 in
-      elim (number_of stages.Free prefix.1 refl r2) [
-        | inl n ↦ build sign (48 ∷ prefix.0 ∷ []) stages.Free prefix.1 all n
-            (whole ∙ ap (λ t. sign ++ t) (r.whole ∙ (λ j. zero.0 j ++ prefix.2 j))) one plus (signed (r.signed (unfresh r.last prefix.4))) prefix.3 (λ run. refl)
-        | inr (inl sign) ↦ absurd (false≢true (r2.fresh_is (and_parts (is_fresh r2.last) _ sign.4).0).0)
-        | inr (inr again) ↦ absurd (not_bare parts.Integer stages.Free prefix.1 refl refl r2 again.4)
-      ] where
-        unfresh : (stage : Stage) → is_bare stage ≡ true → is_signed m parts.Integer stage ≡ true
-        unfresh stages.Bare bare = refl
-        unfresh stages.Start bare = absurd (false≢true bare)
-        unfresh _ bare = absurd (false≢true bare)
-
+module _ (m : Notation) (h : HasRoles m) where
   -- What is accepted is a literal.
   pub literal_from : (text : List ℕ) → Accepts m (Some start) text → (l : Literal) × Reads m l text
   literal_from text is =
-      let r = run_of m parts.Integer h stages.Start false text is in
-      elim (number_of stages.Start text refl r) [
-        | inl n ↦ build [] [] stages.Start text text n refl refl (always _ _ refl) (never (m.flag layout.required_mantissa_sign) false n.signed) refl (λ run. refl)
-        | inr (inl sign) ↦
-            let took = and_parts (is_fresh r.last) _ sign.4 in
-            let fresh = r.fresh_is took.0 in
-            let whole : text ≡ (sign.0 ∷ []) ++ sign.1 = r.whole ∙ ap (λ t. t ++ r.rest) fresh.1 ∙ sign.2 in
-            let r1 = run_of m parts.Integer h stages.Empty false sign.1 (subst (λ o. Accepts m (Some (reading parts.Integer (after_mark o) false)) sign.1) fresh.2
-            (subst (λ g. Accepts m (Some (reading parts.Integer (after_mark r.last) g)) sign.1) fresh.3 sign.5)) in
-            elim (number_of stages.Empty sign.1 refl r1) [
-              | inl n ↦ build (sign.0 ∷ []) [] stages.Empty sign.1 text n whole sign.3 took.1 (always _ _ refl) refl (λ run. refl)
-              | inr (inl again) ↦ absurd (false≢true (r1.fresh_is (and_parts (is_fresh r1.last) _ again.4).0).0)
-              | inr (inr prefix) ↦ prefixed (sign.0 ∷ []) stages.Empty sign.1 text refl r1 prefix whole sign.3 took.1 (λ _. always _ _ refl)
-            ]
-        | inr (inr prefix) ↦ prefixed [] stages.Start text text refl r prefix refl refl (always _ _ refl) (λ signed. never (m.flag layout.required_mantissa_sign) false signed)
-      ]
+      let cut = cut_of m h parts.Integer stages.Start false text is in
+      let found = cut.found in
+      let l : Literal = record found.more { sign = cut.sign; prefix = cut.prefix; integer = found.digits } in
+      let first = stage_at stages.Start cut.sign cut.prefix in
+      let no_gap = and_right (is_absent cut.prefix) false refl in
+      let run = subst (λ t. is_rest m parts.Integer t false found.digits ≡ true) (first_seen m cut.sign cut.prefix)
+      (subst (λ g. is_rest m parts.Integer (has_digit first) g found.digits ≡ true) no_gap found.run) in
+      let end = subst (λ g. ends_part m parts.Integer found.more (stage_after (m.digit parts.Integer) first g found.digits) ≡ true) no_gap found.end in
+      (l, record { whole = found.whole; literal = literal_if m l found.signed found.prefixed run end })
 
   -- A LITERAL IS ACCEPTED
 
-  seen_any : (part : Part) (stage : Stage) (run : List ℕ) (digit : Bool) → has_digit stage ≡ false → is_rest m part false false run ≡ true
-      → digit ≡ (list_any (m.digit part) run || has_digit stage) → digit ≡ is_present run
-  seen_any part stage run digit none fit seen = seen ∙ ap (λ t. list_any (m.digit part) run || t) none ∙ or_false (list_any (m.digit part) run)
-      ∙ digits_present m part run fit
+  -- `Goes part last c rest d` holds if `rest` arrives where the digits of `part` end at the stage `last`.
+  record Goes (part : Part) (last : Stage) (c : Cuts) (rest : List ℕ) (d : Cuts) : Type 0 where
+    leads : is_led last ≡ true → may_lead m ≡ true
+    arrives : (gap : Bool) → gap_fits m part (has_digit last) gap false ≡ true → is_signed m part last ≡ true
+        → Arrives m (Some (reading part last gap)) c rest d
 
-  exponent_arrives : (stage : Stage) (exponent suffix : List ℕ) (c : Cuts) → has_digit stage ≡ false → led_after (m.digit parts.Exponent) stage exponent ≡ false
-      → is_signed m parts.Exponent stage ≡ true
-      → is_rest m parts.Exponent false false exponent ≡ true → Met m layout.required_exponent_digits (is_present exponent)
-      → is_none_or_one m.suffix suffix ≡ true
-      → Arrives m (Some (reading parts.Exponent stage false)) c (exponent ++ suffix) (record c { exponent = plus exponent c.exponent })
-  exponent_arrives stage exponent suffix c none unled signed run digits one =
-      let d : Cuts = record c { exponent = plus exponent c.exponent } in
-      run_arrives m parts.Exponent h stage false exponent suffix c d signed (subst (λ t. is_rest m parts.Exponent t false exponent ≡ true) (sym none) run)
-      (λ led. absurd (false≢true (sym unled ∙ led)))
-      (λ last gap seen led counts end signed. stop_arrives m h (reading parts.Exponent last gap) d suffix refl
-      (and_from _ true (and_from _ _ signed (and_from _ _ end (subst (λ t. Met m layout.required_exponent_digits t)
-      (sym (seen_any parts.Exponent stage exponent (has_digit last) none run seen)) digits))) refl) one)
+  -- `add_run part run c` counts the bytes of `run`.
+  abbrev add_run : Part → List ℕ → Cuts → Cuts
+  add_run parts.Integer run c = record c { integer = plus run c.integer }
+  add_run parts.Fraction run c = record c { fraction = plus run c.fraction }
+  add_run parts.Exponent run c = record c { exponent = plus run c.exponent }
 
-  power_arrives : (b : ℕ) (sign exponent suffix : List ℕ) (c : Cuts) → TailFacts (b ∷ []) sign exponent suffix
-      → Arrives m (Some (reading parts.Exponent stages.Mark false)) c (sign ++ (exponent ++ suffix))
-      (record c { exponent_sign = plus sign c.exponent_sign; exponent = plus exponent c.exponent })
-  power_arrives b [] exponent suffix c facts =
-      exponent_arrives stages.Mark exponent suffix c refl refl (not_set (m.flag layout.required_exponent_sign) facts.signed) facts.run facts.digits facts.suffix_one
-  power_arrives b (s ∷ []) exponent suffix c facts =
-      let more : Cuts = record c { exponent_sign = c.exponent_sign + 1 } in
-      arrives_byte m h (reading parts.Exponent stages.Mark false) s roles.Sign c (exponent ++ suffix) (record more { exponent = plus exponent c.exponent }) refl
-      (is_role m h parts.Exponent roles.Sign s (λ e. cc) facts.sign_one) facts.plus_sign
-      (exponent_arrives stages.Free exponent suffix more refl refl refl facts.run facts.digits facts.suffix_one)
-  power_arrives b (s ∷ x ∷ sign) exponent suffix c facts = absurd (false≢true facts.sign_one)
+  add_more : (part : Part) (b : ℕ) (run : List ℕ) (c : Cuts) → add_run part (b ∷ run) c ≡ add_run part run (add c (digits_piece part))
+  add_more parts.Integer b run c = refl
+  add_more _ b run c = refl
+
+  add_none : (part : Part) (c : Cuts) → add_run part [] c ≡ c
+  add_none parts.Integer c = refl
+  add_none _ c = refl
+
+  -- Where a digit follows, it may.
+  follow : (D : ByteSet) (stage : Stage) (gap : Bool) (run : List ℕ) → (is_led (stage_after D stage gap run) ≡ true → may_lead m ≡ true) → list_any D run ≡ true
+      → may_follow m stage ≡ true
+  follow D stage gap run may is = let led = (passed D stage gap run).led in grind arith
+
+  -- The digits of a part.
+  run_arrives : (part : Part) (stage : Stage) (gap : Bool) (run rest : List ℕ) (c d : Cuts) → is_signed m part stage ≡ true
+      → is_rest m part (has_digit stage) gap run ≡ true → Goes part (stage_after (m.digit part) stage gap run) (add_run part run c) rest d
+      → Arrives m (Some (reading part stage gap)) c (run ++ rest) d
+  run_arrives part stage gap [] rest c d signed fit goes =
+      subst (λ c. Arrives m (Some (reading part stage gap)) c rest d) (add_none part c) (goes.arrives gap fit signed)
+  run_arrives part stage gap (b ∷ run) rest c d signed fit goes =
+      let more = add c (digits_piece part) in
+      let next : (t : Bool) → m.digit part b ≡ t → Goes part (after_byte (m.digit part) stage gap b run t) (add_run part run more) rest d =
+      λ t is. subst (λ t. Goes part (after_byte (m.digit part) stage gap b run t) (add_run part run more) rest d) is
+      (subst (λ c. Goes part (stage_after (m.digit part) stage gap (b ∷ run)) c rest d) (add_more part b run c) goes) in
+      elim (cases_Bool (m.digit part b)) [
+        | inl digit ↦ arrives_byte m h (reading part stage gap) b roles.Digit c (run ++ rest) d refl (digit_role m h part b digit)
+            (and_from _ _ signed (and_from _ _ (digit_fits m part (has_digit stage) gap b run digit fit)
+            (follow (m.digit part) stage gap (b ∷ run) goes.leads (or_left _ _ digit))))
+            (run_arrives part (after_digit stage gap (b == 48)) false run rest more d (settled _ m part (digit_settles stage gap (b == 48)))
+            (subst (λ t. is_rest m part t false run ≡ true) (sym (digit_seen stage gap (b == 48)))
+            (after_run_digit m part (has_digit stage) gap b run digit fit)) (next true digit))
+        | inr other ↦
+            let fits = after_run_separator m part (has_digit stage) gap b run other fit in
+            arrives_byte m h (reading part stage gap) b roles.Separator c (run ++ rest) d refl
+            (is_role m h part roles.Separator b (λ e. cc) (is_run_separator m part (has_digit stage) gap b run other fit))
+            (and_from _ _ signed (and_from _ _ (separator_fits m part (has_digit stage) gap b run other fit) (opens m part (has_digit stage) (may_follow m stage) run fits
+            (λ some. follow (m.digit part) stage gap (b ∷ run) goes.leads (or_right (m.digit part b) _ some)))))
+            (run_arrives part (after_mark stage) true run rest more d (settled _ m part (mark_settles stage))
+            (subst (λ t. is_rest m part t true run ≡ true) (sym (mark_seen stage)) fits) (next false other))
+      ]
+
+  -- Digits of a part without a leading zero.
+  unled_arrives : (part : Part) (stage : Stage) (run rest : List ℕ) (c d : Cuts) → is_signed m part stage ≡ true → has_digit stage ≡ false
+      → led_after (m.digit part) stage run ≡ false → is_rest m part false false run ≡ true
+      → let last = stage_after (m.digit part) stage false run in
+      ((gap : Bool) → gap_fits m part (has_digit last) gap false ≡ true → is_signed m part last ≡ true → Arrives m (Some (reading part last gap)) (add_run part run c) rest d)
+      → Arrives m (Some (reading part stage false)) c (run ++ rest) d
+  unled_arrives part stage run rest c d signed none unled fit goes =
+      run_arrives part stage false run rest c d signed (subst (λ t. is_rest m part t false run ≡ true) (sym none) fit)
+      (record { leads = λ led. absurd (false≢true (sym ((passed (m.digit part) stage false run).led ∙ unled) ∙ led)); arrives = goes })
+
+  -- A sign, or none; `cuts` counts its bytes.
+  sign_arrives : (part : Part) (stage : Stage) (gap : Bool) (sign rest : List ℕ) (cuts : List ℕ → Cuts) (d : Cuts) → sign_fits m part stage sign ≡ true
+      → ((b : ℕ) → cuts (b ∷ []) ≡ count part (Some roles.Sign) (cuts []))
+      → (is_signed m part (stage_at stage sign []) ≡ true → Arrives m (Some (reading part (stage_at stage sign []) gap)) (cuts sign) rest d)
+      → Arrives m (Some (reading part stage gap)) (cuts []) (sign ++ rest) d
+  sign_arrives part stage gap [] rest cuts d fits one more = more (and_parts (implies (forbids_plus m part) true) (is_signed m part stage) fits).1
+  sign_arrives part stage gap (b ∷ []) rest cuts d fits one more =
+      let both = and_parts (signs b) _ fits in
+      let taken = and_parts (implies (forbids_plus m part) (not (b == 43))) (is_fresh stage) both.1 in
+      arrives_byte m h (reading part stage gap) b roles.Sign (cuts []) rest d refl (is_role m h part roles.Sign b (λ e. cc) both.0)
+      (and_from _ _ taken.1 taken.0) (subst (λ c. Arrives m (Some (reading part (after_mark stage) gap)) c rest d) (one b) (more (settled (after_mark stage) m part (mark_settles stage))))
+  sign_arrives part stage gap (b ∷ x ∷ sign) rest cuts d fits one more = absurd (false≢true fits)
+
+  -- The suffix, or nothing.
+  stop_arrives : (part : Part) (stage : Stage) (gap : Bool) (c : Cuts) (suffix : List ℕ)
+      → (ends m (reading part stage gap) && continues m part stage roles.Suffix) ≡ true → is_none_or_one m.suffix suffix ≡ true → Arrives m (Some (reading part stage gap)) c suffix c
+  stop_arrives part stage gap c [] is one = (is, refl)
+  stop_arrives part stage gap c (b ∷ []) is one =
+      arrives_byte m h (reading part stage gap) b roles.Suffix c [] c refl (is_role m h part roles.Suffix b (λ e. cc) one) is (refl, refl)
+  stop_arrives part stage gap c (b ∷ x ∷ suffix) is one = absurd (false≢true one)
+
+  -- What follows an exponent character.
+  power_arrives : (l : Literal) (c : Cuts) → sign_fits m parts.Exponent stages.Mark l.exponent_sign ≡ true
+      → digits_fit m parts.Exponent (stage_at stages.Mark l.exponent_sign []) l.exponent (ends_exponent m l) ≡ true
+      → Arrives m (Some (reading parts.Exponent stages.Mark false)) c (l.exponent_sign ++ (l.exponent ++ l.suffix))
+      (record c { exponent_sign = plus l.exponent_sign c.exponent_sign; exponent = plus l.exponent c.exponent })
+  power_arrives l c sign fits =
+      let both = and_parts (is_rest m parts.Exponent false false l.exponent) _ fits in
+      let end = and_parts (digits_suffice m parts.Exponent (exponent_last m l)) _ both.1 in
+      let all : Cuts = record c { exponent_sign = plus l.exponent_sign c.exponent_sign; exponent = plus l.exponent c.exponent } in
+      let first : (P : Stage → Bool) → P stages.Mark ≡ false → P stages.Free ≡ false → P (stage_at stages.Mark l.exponent_sign []) ≡ false =
+      λ P. either P (is_absent l.exponent_sign) stages.Mark stages.Free in
+      sign_arrives parts.Exponent stages.Mark false l.exponent_sign (l.exponent ++ l.suffix) (λ x. record c { exponent_sign = plus x c.exponent_sign }) all
+      sign (λ b. refl) (λ signed. unled_arrives parts.Exponent (stage_at stages.Mark l.exponent_sign []) l.exponent l.suffix _ all signed
+      (first has_digit refl refl) (first (λ s. led_after (m.digit parts.Exponent) s l.exponent) refl refl) both.0
+      (λ gap closed signed. stop_arrives parts.Exponent (exponent_last m l) gap all l.suffix
+      (and_from _ true (and_from _ _ signed (and_from _ _ closed end.0)) refl) end.1))
 
   -- What follows the mantissa.
-  tail_arrives : (s : Summary) (exponent_character sign exponent suffix : List ℕ) (c : Cuts) → s.ended ≡ false → TailFacts exponent_character sign exponent suffix → ends m s ≡ true
-      → (is_absent exponent_character ≡ true → continues m s.part s.stage roles.Suffix ≡ true) → (is_absent exponent_character ≡ false → continues m s.part s.stage roles.Exponent ≡ true)
-      → Arrives m (Some s) c (exponent_character ++ (sign ++ (exponent ++ suffix)))
-      (record c { exponent_character = plus exponent_character c.exponent_character; exponent_sign = plus sign c.exponent_sign; exponent = plus exponent c.exponent })
-  tail_arrives s [] sign exponent suffix c going facts end stop scale =
-      subst (λ t. Arrives m (Some s) c (t ++ (exponent ++ suffix)) (record c { exponent_sign = plus t c.exponent_sign; exponent = plus exponent c.exponent }))
-      (sym (facts.after_mark refl).0)
-      (subst (λ t. Arrives m (Some s) c (t ++ suffix) (record c { exponent = plus t c.exponent })) (sym (facts.after_mark refl).1)
-      (stop_arrives m h s c suffix going (and_from _ _ end (stop refl)) facts.suffix_one))
-  tail_arrives s (b ∷ []) sign exponent suffix c going facts end stop scale =
-      let more : Cuts = record c { exponent_character = c.exponent_character + 1 } in
-      arrives_byte m h s b roles.Exponent c (sign ++ (exponent ++ suffix)) (record more { exponent_sign = plus sign c.exponent_sign; exponent = plus exponent c.exponent }) going
-      (is_role m h s.part roles.Exponent b (λ e. cc) facts.mark_one) (and_from _ _ end (scale refl))
-      (subst (λ e. Arrives m (Some (record (reading parts.Exponent stages.Mark false) { ended = e })) more (sign ++ (exponent ++ suffix))
-      (record more { exponent_sign = plus sign c.exponent_sign; exponent = plus exponent c.exponent })) (sym going)
-      (power_arrives b sign exponent suffix more facts))
-  tail_arrives s (b ∷ x ∷ exponent_character) sign exponent suffix c going facts end stop scale = absurd (false≢true facts.mark_one)
+  tail_arrives : (l : Literal) (part : Part) (stage : Stage) (gap : Bool) (c : Cuts) → ends m (reading part stage gap) ≡ true
+      → ends_mantissa m l (continues m part stage roles.Suffix) (continues m part stage roles.Exponent) ≡ true
+      → Arrives m (Some (reading part stage gap)) c (text_after parts.Fraction l) (tail_cuts l c)
+  tail_arrives l part stage gap c end fits = go l.exponent_character l.exponent_sign l.exponent fits where
+    go : (character sign exponent : List ℕ) → let l = record l { exponent_character = character; exponent_sign = sign; exponent = exponent } in
+        ends_mantissa m l (continues m part stage roles.Suffix) (continues m part stage roles.Exponent) ≡ true
+        → Arrives m (Some (reading part stage gap)) c (text_after parts.Fraction l) (tail_cuts l c)
+    go [] [] [] fits =
+        let both = and_parts (continues m part stage roles.Suffix) _ fits in
+        stop_arrives part stage gap c l.suffix (and_from _ _ end both.0) both.1
+    go [] sign exponent fits = absurd (false≢true (and_parts (continues m part stage roles.Suffix) false fits).1)
+    go (b ∷ []) sign exponent fits =
+        let character = and_parts (m.exponent_character b) _ fits in
+        let scale = and_parts (continues m part stage roles.Exponent) _ character.1 in
+        let power = and_parts (sign_fits m parts.Exponent stages.Mark sign) _ scale.1 in
+        arrives_byte m h (reading part stage gap) b roles.Exponent c (sign ++ (exponent ++ l.suffix)) _ refl
+        (is_role m h part roles.Exponent b (λ e. cc) character.0) (and_from _ _ end scale.0)
+        (power_arrives (record l { exponent_character = b ∷ []; exponent_sign = sign; exponent = exponent })
+        (record c { exponent_character = c.exponent_character + 1 }) power.0 power.1)
+    go (b ∷ x ∷ character) sign exponent fits = absurd (false≢true fits)
 
-  fraction_arrives : (any led : Bool) (p : ℕ) (fraction exponent_character sign exponent suffix : List ℕ) (c : Cuts) → EndFacts any led (p ∷ []) fraction exponent_character sign exponent suffix
-      → Arrives m (Some (reading parts.Fraction (after_point any) false)) c (fraction ++ (exponent_character ++ (sign ++ (exponent ++ suffix)))) (record c {
-        fraction = plus fraction c.fraction;
-        exponent_character = plus exponent_character c.exponent_character;
-        exponent_sign = plus sign c.exponent_sign;
-        exponent = plus exponent c.exponent;
-      })
-  fraction_arrives any led p fraction exponent_character sign exponent suffix c facts =
-      let counted : Cuts = record c { fraction = plus fraction c.fraction } in
-      run_arrives m parts.Fraction h (after_point any) false fraction (exponent_character ++ (sign ++ (exponent ++ suffix))) c
-      (record counted { exponent_character = plus exponent_character c.exponent_character; exponent_sign = plus sign c.exponent_sign; exponent = plus exponent c.exponent })
-      (point_signed any) (subst (λ t. is_rest m parts.Fraction t false fraction ≡ true) (sym (point_seen any)) facts.run)
-      (λ led. absurd (false≢true (sym (point_led any) ∙ led)))
-      (λ last gap seen led counts end signed. tail_arrives (reading parts.Fraction last gap) exponent_character sign exponent suffix counted refl facts.tail
-      (and_from _ _ signed (and_from _ _ end (and_from _ _
-      (subst (λ t. Met m layout.required_fraction_digits t) (sym (seen_any parts.Fraction (after_point any) fraction (has_digit last) (point_seen any) facts.run seen)) facts.digits)
-      (subst (λ t. Met m layout.required_mantissa_digits t) (sym (counted_any last counts)) facts.mantissa))))
-      (stop_by exponent_character facts.tail) (scale_by exponent_character facts.tail)) where
-        counted_any : (last : Stage) → not (is_lone last) ≡ (list_any (m.digit parts.Fraction) fraction || not (is_lone (after_point any)))
-            → not (is_lone last) ≡ (any || is_present fraction)
-        counted_any last counts = counts ∙ (λ j. digits_present m parts.Fraction fraction facts.run j || point_counts any j) ∙ or_swap (is_present fraction) any
+  -- What follows the integer digits.
+  end_arrives : (l : Literal) (stage : Stage) (gap : Bool) (c : Cuts) → ends m (reading parts.Integer stage gap) ≡ true
+      → ends_part m parts.Integer l stage ≡ true → Arrives m (Some (reading parts.Integer stage gap)) c (text_after parts.Integer l) (end_cuts l c)
+  end_arrives l stage gap c end fits = go l.point l.fraction (and_parts (digits_suffice m parts.Integer stage) _ fits).1 where
+    go : (point fraction : List ℕ) → let l = record l { point = point; fraction = fraction } in
+        (is_none_or_one m.point point && (fraction_fits m l stage && ends_mantissa m l (stops m l stage) (scales m l stage))) ≡ true
+        → Arrives m (Some (reading parts.Integer stage gap)) c (text_after parts.Integer l) (end_cuts l c)
+    go [] [] fits = tail_arrives l parts.Integer stage gap c end fits
+    go [] (f ∷ fraction) fits = absurd (false≢true fits)
+    go (b ∷ []) fraction fits =
+        let l : Literal = record l { point = b ∷ []; fraction = fraction } in
+        let more : Cuts = record c { point = c.point + 1 } in
+        let point = and_parts (m.point b) _ fits in
+        let both = and_parts (fraction_fits m l stage) _ point.1 in
+        let float = and_parts (may_float m stage) _ both.0 in
+        let run = and_parts (is_rest m parts.Fraction false false fraction) _ float.1 in
+        let first : (P : Stage → Bool) → P stages.Free ≡ false → P stages.Lone ≡ false → P (after_point (has_digit stage)) ≡ false =
+        λ P. either P (has_digit stage) stages.Free stages.Lone in
+        arrives_byte m h (reading parts.Integer stage gap) b roles.Point c (fraction ++ text_after parts.Fraction l) (end_cuts l c) refl
+        (is_role m h parts.Integer roles.Point b (λ e. cc) point.0) (and_from _ _ end float.0)
+        (unled_arrives parts.Fraction (after_point (has_digit stage)) fraction (text_after parts.Fraction l) more (end_cuts l c)
+        (settled _ m parts.Fraction (first is_fresh refl refl)) (first has_digit refl refl)
+        (first (λ s. led_after (m.digit parts.Fraction) s fraction) refl refl) run.0
+        (λ gap closed signed. tail_arrives l parts.Fraction (fraction_last m l (has_digit stage)) gap (record more { fraction = plus fraction c.fraction })
+        (and_from _ _ signed (and_from _ _ closed run.1)) both.1))
+    go (b ∷ x ∷ point) fraction fits = absurd (false≢true fits)
 
-        point_signed : (any : Bool) → is_signed m parts.Fraction (after_point any) ≡ true
-        point_signed true = refl
-        point_signed false = refl
-
-        point_led : (any : Bool) → led_after (m.digit parts.Fraction) (after_point any) fraction ≡ false
-        point_led true = refl
-        point_led false = refl
-
-        stop_by : (exponent_character : List ℕ) → TailFacts exponent_character sign exponent suffix → is_absent exponent_character ≡ true → not (needs_exponent m) ≡ true
-        stop_by [] facts absent = not_set (needs_exponent m) facts.needs_mark
-        stop_by (b ∷ exponent_character) facts absent = absurd (false≢true absent)
-
-        scale_by : (exponent_character : List ℕ) → TailFacts exponent_character sign exponent suffix → is_absent exponent_character ≡ false → not (m.flag layout.no_exponent_notation) ≡ true
-        scale_by [] facts present = absurd (false≢true (sym present))
-        scale_by (b ∷ exponent_character) facts present = not_set (m.flag layout.no_exponent_notation) facts.no_mark
-
-  -- What follows the digits of an integer.
-  end_arrives : (last : Stage) (gap : Bool) (point fraction exponent_character sign exponent suffix : List ℕ) (c : Cuts)
-      → EndFacts (has_digit last) (is_led last) point fraction exponent_character sign exponent suffix → ends m (reading parts.Integer last gap) ≡ true
-      → Arrives m (Some (reading parts.Integer last gap)) c (point ++ (fraction ++ (exponent_character ++ (sign ++ (exponent ++ suffix))))) (record c {
-        point = plus point c.point;
-        fraction = plus fraction c.fraction;
-        exponent_character = plus exponent_character c.exponent_character;
-        exponent_sign = plus sign c.exponent_sign;
-        exponent = plus exponent c.exponent;
-      })
-  end_arrives last gap [] fraction exponent_character sign exponent suffix c facts end =
-      subst (λ t. Arrives m (Some (reading parts.Integer last gap)) c (t ++ (exponent_character ++ (sign ++ (exponent ++ suffix)))) (record c {
-        fraction = plus t c.fraction;
-        exponent_character = plus exponent_character c.exponent_character;
-        exponent_sign = plus sign c.exponent_sign;
-        exponent = plus exponent c.exponent;
-      })) (sym (facts.after_point refl))
-      (tail_arrives (reading parts.Integer last gap) exponent_character sign exponent suffix c refl facts.tail end (stop_by exponent_character facts) (scale_by exponent_character facts)) where
-        bare : (f a d : Bool) → d ≡ false → implies f (a || d) ≡ true → implies f a ≡ true
-        bare f a d none is = grind arith
-
-        none_of : fraction ≡ [] → is_present fraction ≡ false
-        none_of none = ap is_present none
-
-        stop_by : (exponent_character : List ℕ) → EndFacts (has_digit last) (is_led last) [] fraction exponent_character sign exponent suffix → is_absent exponent_character ≡ true
-            → continues m parts.Integer last roles.Suffix ≡ true
-        stop_by [] facts absent = and_from _ _ (not_set (needs_exponent m) facts.tail.needs_mark)
-            (and_from _ _ (sym (or_false (has_digit last)) ∙ facts.some) facts.whole_led)
-        stop_by (b ∷ exponent_character) facts absent = absurd (false≢true absent)
-
-        scale_by : (exponent_character : List ℕ) → EndFacts (has_digit last) (is_led last) [] fraction exponent_character sign exponent suffix → is_absent exponent_character ≡ false
-            → continues m parts.Integer last roles.Exponent ≡ true
-        scale_by [] facts present = absurd (false≢true (sym present))
-        scale_by (b ∷ exponent_character) facts present = and_from _ _ (not_set (m.flag layout.no_exponent_notation) facts.tail.no_mark) (and_from _ _ facts.float_led
-            (and_from _ _ (bare (m.flag layout.required_mantissa_digits) (has_digit last) _ (none_of (facts.after_point refl)) facts.mantissa)
-            (not_set (m.flag layout.no_exponent_without_fraction) facts.scaled)))
-  end_arrives last gap (p ∷ []) fraction exponent_character sign exponent suffix c facts end =
-      let more : Cuts = record c { point = c.point + 1 } in
-      arrives_byte m h (reading parts.Integer last gap) p roles.Point c (fraction ++ (exponent_character ++ (sign ++ (exponent ++ suffix)))) (record more {
-        fraction = plus fraction c.fraction;
-        exponent_character = plus exponent_character c.exponent_character;
-        exponent_sign = plus sign c.exponent_sign;
-        exponent = plus exponent c.exponent;
-      }) refl (is_role m h parts.Integer roles.Point p (λ e. cc) facts.point_one) (and_from _ _ end facts.float_led)
-      (fraction_arrives (has_digit last) (is_led last) p fraction exponent_character sign exponent suffix more facts)
-  end_arrives last gap (p ∷ x ∷ point) fraction exponent_character sign exponent suffix c facts end = absurd (false≢true facts.point_one)
+  -- A prefix, or none.
+  prefix_arrives : (stage : Stage) (prefix rest : List ℕ) (c d : Cuts) → may_follow m stage ≡ true → after_digit stage false true ≡ stages.Bare
+      → is_signed m parts.Integer stage ≡ true → is_none_or_prefix m.prefix prefix ≡ true
+      → (is_signed m parts.Integer (stage_at stage [] prefix) ≡ true → Arrives m (Some (reading parts.Integer (stage_at stage [] prefix) false))
+      (record c { prefix = plus (is_tail prefix) c.prefix; integer = plus (is_tail prefix) c.integer }) rest d)
+      → Arrives m (Some (reading parts.Integer stage false)) c (prefix ++ rest) d
+  prefix_arrives stage [] rest c d follows bare signed one more = more signed
+  prefix_arrives stage (z ∷ []) rest c d follows bare signed one more = absurd (false≢true one)
+  prefix_arrives stage (z ∷ b ∷ []) rest c d follows bare signed one more =
+      let both = and_parts (z == 48) _ one in
+      let zero : Cuts = record c { integer = c.integer + 1 } in
+      subst (λ z. Arrives m (Some (reading parts.Integer stage false)) c (z ∷ b ∷ rest) d) (sym (eqb-true z 48 both.0))
+      (arrives_byte m h (reading parts.Integer stage false) 48 roles.Digit c (b ∷ rest) d refl (digit_role m h parts.Integer 48 (h.zero_is_digit parts.Integer))
+      (and_from _ _ signed follows) (subst (λ s. Arrives m (Some (reading parts.Integer s false)) zero (b ∷ rest) d) (sym bare)
+      (arrives_byte m h (reading parts.Integer stages.Bare false) b roles.Prefix zero rest d refl
+      (is_role m h parts.Integer roles.Prefix b (λ e. cc) both.1) refl (more refl))))
+  prefix_arrives stage (z ∷ b ∷ x ∷ prefix) rest c d follows bare signed one more = absurd (false≢true one)
 
   module _ (l : Literal) (is : IsLiteral m l) where
-    abbrev rest : List ℕ
-    rest = l.point ++ (l.fraction ++ (l.exponent_character ++ (l.exponent_sign ++ (l.exponent ++ l.suffix))))
+    run : (part : Part) (digits : List ℕ) → is_run m part digits ≡ true → is_rest m part false false digits ≡ true
+    run part digits is = rest_of_none m part digits ∙ is
 
-    flag : (f : Flag) → Met m f (requirement f m l)
-    flag f = implied (m.flag f) (requirement f m l) (is.requirements f)
+    end : End m l (has_digit (integer_last m l)) (is_led (integer_last m l))
+    end =
+        let fits = run parts.Fraction l.fraction is.fraction in
+        let any = integer_seen m l (run parts.Integer l.integer is.integer) in
+        let led = integer_led m l in
+        grind arith
 
-    facts : EndFacts (is_present l.integer) (is_absent l.prefix && has_leading_zero (m.digit parts.Integer) l.integer)
-        l.point l.fraction l.exponent_character l.exponent_sign l.exponent l.suffix
-    facts = record {
-      point_one = is.point;
-      after_point = is.after_point;
-      run = as_run parts.Fraction l.fraction ∙ is.fraction;
-      some = is.some_number;
-      integer = flag layout.required_integer_digits;
-      digits = flag layout.required_fraction_digits;
-      mantissa = flag layout.required_mantissa_digits;
-      scaled = flag layout.no_exponent_without_fraction;
-      whole_led = flag layout.no_integer_leading_zeros;
-      float_led = flag layout.no_float_leading_zeros;
-      tail = record {
-        mark_one = is.exponent_character;
-        sign_one = is.exponent_sign;
-        run = as_run parts.Exponent l.exponent ∙ is.exponent;
-        suffix_one = is.suffix;
-        after_mark = is.after_character;
-        digits = flag layout.required_exponent_digits;
-        no_mark = flag layout.no_exponent_notation;
-        plus_sign = flag layout.no_positive_exponent_sign;
-        signed = flag layout.required_exponent_sign;
-        needs_mark = unneeded (m.flag layout.required_exponent_notation) m.integers_only _ (flag layout.required_exponent_notation);
-      };
-    }
-
-    lead : (led x k i f r n : Bool) → implies i (x || not led) ≡ true → implies f (not x || not led) ≡ true → implies (r && not n) k ≡ true
-        → (n ≡ true → x ≡ false) → (k ≡ true → x ≡ true) → led ≡ true → ((not n && not f) || (not i && not (r && not n))) ≡ true
-    lead led true k i f r true whole float needs none some is = absurd (false≢true (sym (none refl)))
-    lead led true k i f r false whole float needs none some is = grind arith
-    lead led false true i f r n whole float needs none some is = absurd (false≢true (some refl))
-    lead led false false i f r n whole float needs none some is = grind arith
-
-    -- Where integers alone are literals, no literal is a float.
-    no_float : m.integers_only ≡ true → (is_present l.point || is_present l.exponent_character) ≡ false
-    no_float only = neither l.point l.exponent_character is.point is.exponent_character where
-      neither : (point character : List ℕ) → is_none_or_one m.point point ≡ true → is_none_or_one m.exponent_character character ≡ true
-          → (is_present point || is_present character) ≡ false
-      neither [] [] point character = refl
-      neither [] (c ∷ []) point character = absurd (false≢true (sym (h.integers only c).1 ∙ character))
-      neither [] (c ∷ x ∷ more) point character = absurd (false≢true character)
-      neither (p ∷ []) _ point character = absurd (false≢true (sym (h.integers only p).0 ∙ point))
-      neither (p ∷ x ∷ more) _ point character = absurd (false≢true point)
-
-    integer_arrives : (stage : Stage) (c : Cuts) → has_digit stage ≡ false
-        → led_after (m.digit parts.Integer) stage l.integer ≡ (is_absent l.prefix && has_leading_zero (m.digit parts.Integer) l.integer)
-        → is_signed m parts.Integer stage ≡ true → Arrives m (Some (reading parts.Integer stage false)) c (l.integer ++ rest) (lengths l c)
-    integer_arrives stage c none same signed =
-        run_arrives m parts.Integer h stage false l.integer rest c (lengths l c) signed
-        (subst (λ t. is_rest m parts.Integer t false l.integer ≡ true) (sym none) (as_run parts.Integer l.integer ∙ is.integer))
-        (λ led. lead _ (is_present l.point || is_present l.exponent_character) (is_present l.exponent_character) (m.flag layout.no_integer_leading_zeros)
-        (m.flag layout.no_float_leading_zeros) (m.flag layout.required_exponent_notation) m.integers_only facts.whole_led facts.float_led facts.tail.needs_mark
-        no_float (or_right (is_present l.point) (is_present l.exponent_character)) (sym same ∙ led))
-        (λ last gap seen led counts end signed.
-        let any : is_present l.integer ≡ has_digit last =
-        sym (seen_any parts.Integer stage l.integer (has_digit last) none (as_run parts.Integer l.integer ∙ is.integer) seen) in
-        let moved = subst (λ t. EndFacts t (is_led last) l.point l.fraction l.exponent_character l.exponent_sign l.exponent l.suffix) any
-        (subst (λ t. EndFacts (is_present l.integer) t l.point l.fraction l.exponent_character l.exponent_sign l.exponent l.suffix) (sym (led ∙ same)) facts) in
-        end_arrives last gap l.point l.fraction l.exponent_character l.exponent_sign l.exponent l.suffix (record c { integer = plus l.integer c.integer }) moved
-        (and_from _ _ signed (and_from _ _ end moved.integer)))
-
-    -- A zero, and the end of a prefix, before the integer digits.
-    -- Before the first digit.
-    new_seen : (stage : Stage) → begins stage ≡ true → has_digit stage ≡ false
-    new_seen stages.Start new = refl
-    new_seen stages.Empty new = refl
-    new_seen _ new = absurd (false≢true new)
-
-    new_led : (stage : Stage) → begins stage ≡ true → led_after (m.digit parts.Integer) stage l.integer ≡ has_leading_zero (m.digit parts.Integer) l.integer
-    new_led stages.Start new = refl
-    new_led stages.Empty new = refl
-    new_led _ new = absurd (false≢true new)
-
-    new_follows : (stage : Stage) → begins stage ≡ true → (gap_fits m parts.Integer (has_digit stage) false true && may_follow m stage) ≡ true
-    new_follows stages.Start new = refl
-    new_follows stages.Empty new = refl
-    new_follows _ new = absurd (false≢true new)
-
-    new_bare : (stage : Stage) → begins stage ≡ true → after_digit stage false true ≡ stages.Bare
-    new_bare stages.Start new = refl
-    new_bare stages.Empty new = refl
-    new_bare _ new = absurd (false≢true new)
-
-    prefix_arrives : (stage : Stage) → begins stage ≡ true → is_signed m parts.Integer stage ≡ true → (prefix : List ℕ) → l.prefix ≡ prefix → is_none_or_prefix m.prefix prefix ≡ true → (c : Cuts)
-        → Arrives m (Some (reading parts.Integer stage false)) c (prefix ++ (l.integer ++ rest))
-        (lengths l (record c { prefix = plus (is_tail prefix) c.prefix; integer = plus (is_tail prefix) c.integer }))
-    prefix_arrives stage new signed [] same one c = integer_arrives stage c (new_seen stage new)
-        (new_led stage new ∙ ap (λ t. is_absent t && has_leading_zero (m.digit parts.Integer) l.integer) (sym same)) signed
-    prefix_arrives stage new signed (z ∷ []) same one c = absurd (false≢true one)
-    prefix_arrives stage new signed (z ∷ b ∷ []) same one c =
-        let both = and_parts (z == 48) _ one in
-        let zero : Cuts = record c { integer = c.integer + 1 } in
-        let more : Cuts = record zero { prefix = c.prefix + 1 } in
-        subst (λ z. Arrives m (Some (reading parts.Integer stage false)) c (z ∷ b ∷ (l.integer ++ rest)) (lengths l more)) (sym (eqb-true z 48 both.0))
-        (arrives_byte m h (reading parts.Integer stage false) 48 roles.Digit c (b ∷ (l.integer ++ rest)) (lengths l more) refl
-        (digit_role m h parts.Integer 48 (h.zero_is_digit parts.Integer)) (and_from _ _ signed (new_follows stage new))
-        (subst (λ s. Arrives m (Some (reading parts.Integer s false)) zero (b ∷ (l.integer ++ rest)) (lengths l more)) (sym (new_bare stage new)) (arrives_byte m h (reading parts.Integer stages.Bare false) b roles.Prefix zero (l.integer ++ rest) (lengths l more) refl
-        (is_role m h parts.Integer roles.Prefix b (λ e. cc) both.1) refl
-        (integer_arrives stages.Free more refl (ap (λ t. is_absent t && has_leading_zero (m.digit parts.Integer) l.integer) (sym same)) refl))))
-    prefix_arrives stage new signed (z ∷ b ∷ x ∷ prefix) same one c = absurd (false≢true one)
-
-    sign_arrives : (sign : List ℕ) → is_none_or_one signs sign ≡ true → Met m layout.no_positive_mantissa_sign (not (is_plus sign))
-        → Met m layout.required_mantissa_sign (is_present sign) → Arrives m (Some start) no_cuts (sign ++ (l.prefix ++ (l.integer ++ rest)))
-        (lengths l (record no_cuts { sign = plus sign 0; prefix = plus (is_tail l.prefix) 0; integer = plus (is_tail l.prefix) 0 }))
-    sign_arrives [] one no_plus signed = prefix_arrives stages.Start refl (not_set (m.flag layout.required_mantissa_sign) signed) l.prefix refl is.prefix no_cuts
-    sign_arrives (b ∷ []) one no_plus signed =
-        let more : Cuts = record no_cuts { sign = 0 + 1 } in
-        arrives_byte m h start b roles.Sign no_cuts (l.prefix ++ (l.integer ++ rest))
-        (lengths l (record more { prefix = plus (is_tail l.prefix) 0; integer = plus (is_tail l.prefix) 0 })) refl
-        (is_role m h parts.Integer roles.Sign b (λ e. cc) one) no_plus (prefix_arrives stages.Empty refl refl l.prefix refl is.prefix more)
-    sign_arrives (b ∷ x ∷ sign) one no_plus signed = absurd (false≢true one)
+    ends_well : ends_part m parts.Integer l (integer_last m l) ≡ true
+    ends_well =
+        let last = integer_last m l in
+        let all = end_if _ _ _ _ _ _ _ _ _ (has_digit (fraction_last m l (has_digit last))) (is_lone (fraction_last m l (has_digit last)))
+        (fraction_seen m l (has_digit last) end.fraction) (fraction_counts m l (has_digit last) end.fraction) end in
+        let stop = and_parts (implies (is_absent l.exponent_character) (stops m l last)) _ all in
+        let scale = and_parts (implies (is_present l.exponent_character) (scales m l last)) _ stop.1 in
+        and_from _ _ end.integer_digits (and_from _ _ end.point (and_from _ _ scale.1 (tail_if _ _ _ _ _ _ _ _ _ _ _ (stops m l last) (scales m l last)
+        (has_digit (exponent_last m l)) (exponent_seen m l (run parts.Exponent l.exponent is.exponent))
+        (let fits = run parts.Exponent l.exponent is.exponent in grind arith))))
 
     -- A literal is accepted, and its parts are counted.
     pub literal_arrives : Arrives m (Some start) no_cuts (text_of l) (cuts_of l)
-    literal_arrives = sign_arrives l.sign is.sign (flag layout.no_positive_mantissa_sign) (flag layout.required_mantissa_sign)
+    literal_arrives =
+        let signs : Cuts = record no_cuts { sign = plus l.sign 0 } in
+        let dressed : Cuts = record signs { prefix = plus (is_tail l.prefix) 0; integer = plus (is_tail l.prefix) 0 } in
+        sign_arrives parts.Integer stages.Start false l.sign _ (λ x. record no_cuts { sign = plus x 0 }) (cuts_of l) (grind arith) (λ b. refl)
+        (λ signed. prefix_arrives (stage_at stages.Start l.sign []) l.prefix _ signs (cuts_of l) (grind arith) (grind arith) signed is.prefix
+        (λ signed. run_arrives parts.Integer (stage_at stages.Start l.sign l.prefix) false l.integer _ dressed (cuts_of l) signed
+        (subst (λ t. is_rest m parts.Integer t false l.integer ≡ true) (sym (first_seen m l.sign l.prefix)) (run parts.Integer l.integer is.integer)) (record {
+          leads = λ led. leads _ _ _ _ _ _ _ _ _ end (grind arith) led;
+          arrives = λ gap closed signed. end_arrives l (integer_last m l) gap (record dressed { integer = plus l.integer (plus (is_tail l.prefix) 0) })
+              (and_from _ _ signed (and_from _ _ closed end.integer_digits)) ends_well;
+        })))

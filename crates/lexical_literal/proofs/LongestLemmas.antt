@@ -1,20 +1,20 @@
 -- Fronts of a text, and where the loop is left.
-use Rattle.std.proofs.Common.{ℕ, ◌≡◌, ◌<◌, ◌≤◌, ◌+◌, suc, inl, inr, true, false, not, List, [], ◌∷◌, ◌++◌, length, get_or, take, drop, Some, None, refl, sym, ap, subst, append_assoc, append-nil, take-append-drop, ◌∙◌, arith}
-use Rattle.std.proofs.lemmas.Bool.{false≢true, cases_lt, and_parts}
+use Rattle.std.proofs.Common.{ℕ, Bool, Option, if◌then◌else◌, ◌≡◌, ◌<◌, ◌≤◌, ◌+◌, suc, inl, inr, true, false, not, List, [], ◌∷◌, ◌++◌, length, get_or, take, drop, Some, None, Ok, refl, sym, ap, subst, append_assoc, append-nil, take-append-drop, ◌∙◌, arith}
+use Rattle.std.proofs.lemmas.Bool.{false≢true, false_from_ne_true, cases_lt, and_parts}
 use Rattle.std.proofs.lemmas.List.{take-take, take_more, take_all}
 use Rattle.lexical_literal.specs.Notation.{Notation}
 use Rattle.lexical_literal.specs.Literal.{Literal, IsLiteral, Reads, is_none_or_prefix}
 use Rattle.lexical_literal.specs.Additions.Summary.{Cuts, class_of, in_part, scan, step, is_accepted, is_complete, needs_exponent, ends, tally, count, start, no_cuts, HasLengths}
 use Rattle.lexical_literal.specs.Front.{IsFront, IsValidUpTo, NoLiteral}
-use Rattle.lexical_literal.specs.Additions.Longest.{IsLongest}
+use Rattle.lexical_literal.specs.Additions.Longest.{IsLongest, IsScanned}
+use Rattle.lexical_literal.specs.Additions.Tables as tables
+use Rattle.lexical_literal.specs.Parts.{IsReadPrefix, literal_of}
+use Rattle.lexical_literal.specs.declared.read.Parts.{Parts}
+use Rattle.lexical_literal.specs.declared.read.Scanned.{Scanned}
 use Rattle.lexical_literal.specs.declared.steps.Summary.{Summary}
-use Rattle.lexical_literal.proofs.ScanLemmas.{HasRoles, IsReady, Accepts, plus, scan_append, tally_append}
+use Rattle.lexical_literal.proofs.ScanLemmas.{HasRoles, IsReady, plus, scan_append, tally_append}
 use Rattle.lexical_literal.proofs.LiteralLemmas.{literal_from, literal_arrives, cuts_of, is_tail}
 use Rattle.lexical_literal.proofs.FrontLemmas.{front_from, front_is_read}
-
--- At the end, all bytes have been read.
-pub at_end : (i n : ℕ) (P : ℕ → Type 0) → n ≤ i → i ≤ n → P i → P n
-at_end i n P low high is = let same : i ≡ n = omega arith in subst P same is
 
 front_shorter : (m : Notation) (text : List ℕ) (k n : ℕ) → k ≤ n → IsFront m (take n text) → IsFront m (take k text)
 front_shorter m text k n below is = record {
@@ -60,114 +60,162 @@ has_lengths m h l is = record {
   integer : (x : List ℕ) → is_none_or_prefix m.prefix x ≡ true → length l.integer + plus (is_tail x) 0 ≡ plus l.integer (plus (is_tail x) 0)
   integer x one = plus_is l.integer (plus (is_tail x) 0)
 
--- `IsLatest m text end n` holds if `end` is the longest front of at most `n` bytes that is accepted, or 0 if none is.
-pub record IsLatest (m : Notation) (text : List ℕ) (end n : ℕ) : Type 0 where
-  within : end ≤ n
-  found : 0 < end → Accepts m (Some start) (take end text)
-  no_later : (more : ℕ) → end < more → more ≤ n → Accepts m (Some start) (take more text) → ⊥
+-- `HasRead m text i s c longest` holds if the first `i` bytes of `text` have the summary `s` and parts with the lengths `c`,
+-- and if `longest` is their longest front that is a literal.
+pub record HasRead (m : Notation) (text : List ℕ) (i : ℕ) (s : Summary) (c : Cuts) (longest : Option ℕ) : Type 0 where
+  pub ready : IsReady m
+  pub within : i ≤ length text
+  pub read : scan m (Some start) (take i text) ≡ Some s
+  pub counted : tally m (Some start) no_cuts (take i text) ≡ c
+  pub longest_is : IsLongest m text i longest
 
-module _ (m : Notation) (ready : IsReady m) (text : List ℕ) where
-  -- One more byte.
-  module _ (i : ℕ) (s : Summary) (inside : i < length text) (read : scan m (Some start) (take i text) ≡ Some s) where
-    pub next_scan : scan m (Some start) (take (i + 1) text) ≡ step m s (class_of m (get_or text i 0))
-    next_scan = ap (scan m (Some start)) (take_more text i 0 inside) ∙ scan_append m (Some start) (take i text) (get_or text i 0 ∷ [])
-        ∙ ap (λ o. scan m o (get_or text i 0 ∷ [])) read
+module _ (m : Notation) (text : List ℕ) where
+  -- A literal is no longer than the longest front that some literal begins with.
+  no_longer_than : (n : ℕ) → IsValidUpTo m text n → (more : ℕ) → more ≤ length text → (l : Literal) → Reads m l (take more text) → more ≤ n
+  no_longer_than n wrong more within l reads = elim (cases_lt n more) [
+    | inl past ↦ absurd (wrong.no_longer more past within (record {
+      more = [];
+      literal = l;
+      reads = record { whole = append-nil (take more text) ∙ reads.whole; literal = reads.literal };
+    }))
+    | inr below ↦ below
+  ]
 
-    pub next_tally : (c : Cuts) → tally m (Some start) no_cuts (take i text) ≡ c
-        → tally m (Some start) no_cuts (take (i + 1) text) ≡ count s.part (in_part s.part (class_of m (get_or text i 0))) c
-    next_tally c counted = ap (tally m (Some start) no_cuts) (take_more text i 0 inside) ∙ tally_append m (Some start) no_cuts (take i text) (get_or text i 0 ∷ [])
-        ∙ (λ j. tally m (read j) (counted j) (get_or text i 0 ∷ []))
+  module _ (scanned : Scanned) (is : IsScanned m text scanned) where
+    -- Where a literal ends at the first wrong byte, its parts have been counted.
+    pub right_front : (size : ℕ) → scanned.literal ≡ Some size → size ≡ scanned.valid_up_to
+        → (l : Literal) × Reads m l (take size text) × HasLengths l (tables.cuts_of scanned.counts)
+    right_front size found right = let l = is.longest.found size found in (l.1, l.2, is.counted l.1 (subst (λ n. Reads m l.1 (take n text)) right l.2))
 
-    pub wrong_at : step m s (class_of m (get_or text i 0)) ≡ None → IsValidUpTo m text i
-    wrong_at none = record {
-      within = omega arith;
-      front = front_from m ready (take i text) s read;
-      no_longer = λ more over within is. front_is_read m ready (take (i + 1) text) (front_shorter m text (i + 1) more (omega arith) is) (next_scan ∙ none);
+    pub prefix_read : (size : ℕ) → scanned.literal ≡ Some size → (parts : Parts) → Reads m (literal_of parts) (take size text)
+        → IsReadPrefix m text (Ok (record { parts = parts; size = size }))
+    prefix_read size found parts reads = record {
+      found = record {
+        within = (is.longest.found size found).0;
+        reads = reads;
+        no_longer = λ more past below. is.longest.no_longer more below (λ other same. let equal : size ≡ other = cc in subst (λ n. n < more) equal past);
+      };
+      none = λ err. absurd (false≢true err);
+      error = tt;
     }
 
-  pub wrong_at_end : (s : Summary) → scan m (Some start) (take (length text) text) ≡ Some s → IsValidUpTo m text (length text)
-  wrong_at_end s read = record {
-    within = omega arith;
-    front = front_from m ready (take (length text) text) s read;
-    no_longer = λ more over within is. absurd (omega arith);
-  }
+    pub whole_literal : (size : ℕ) → scanned.literal ≡ Some size → length text ≤ size → (l : Literal) × Reads m l text
+    whole_literal size found all = let l = is.longest.found size found in (l.1, subst (Reads m l.1) (take_all size text all) l.2)
+
+    pub whole_counted : (l : Literal) → Reads m l text → HasLengths l (tables.cuts_of scanned.counts)
+    whole_counted l reads = is.counted l (subst (Reads m l) (sym (take_all scanned.valid_up_to text all)) reads) where
+      all : length text ≤ scanned.valid_up_to
+      all = no_longer_than scanned.valid_up_to is.error (length text) (omega arith) l
+          (subst (Reads m l) (sym (take_all (length text) text (omega arith))) reads)
+
+    pub none_whole : (scanned.literal ≡ Some (length text) → ⊥) → NoLiteral m text
+    none_whole other = subst (NoLiteral m) (take_all (length text) text (omega arith)) (is.longest.no_longer (length text) (omega arith) (λ size found.
+        let below = (is.longest.found size found).0 in
+        elim (cases_lt size (length text)) [
+          | inl small ↦ small
+          | inr large ↦ let same : size ≡ length text = omega arith in absurd (other (found ∙ ap Some same))
+        ]))
+
+module _ (m : Notation) (ready : IsReady m) (text : List ℕ) where
+  accepted : (n : ℕ) (l : Literal) → Reads m l (take n text) → is_accepted m (scan m (Some start) (take n text)) ≡ true
+  accepted n l reads = ap (λ t. is_accepted m (scan m (Some start) t)) reads.whole ∙ (literal_arrives m ready.roles l reads.literal).0
 
   none_complete : is_complete m start ≡ true → ⊥
   none_complete is = false≢true (and_parts (not (needs_exponent m)) false (and_parts (ends m start) _ is).1).1
 
-  pub latest_init : IsLatest m text 0 0
-  latest_init = record { within = omega arith; found = λ some. absurd (omega arith); no_later = λ more over below is. absurd (omega arith) }
-
-  -- One more byte that completes a literal, or does not.
-  pub latest_more : (n : ℕ) (s : Summary) → scan m (Some start) (take (n + 1) text) ≡ Some s → is_complete m s ≡ true → IsLatest m text (n + 1) (n + 1)
-  latest_more n s read complete = record {
+  pub read_nothing : HasRead m text 0 start no_cuts None
+  read_nothing = record {
+    ready = ready;
     within = omega arith;
-    found = λ some. ap (is_accepted m) read ∙ complete;
-    no_later = λ more over below is. absurd (omega arith);
+    read = refl;
+    counted = refl;
+    longest_is = record {
+      found = λ size is. cc;
+      no_longer = λ more over past l reads. let none : more ≡ 0 = omega arith in
+          none_complete (accepted 0 l (subst (λ n. Reads m l (take n text)) none reads));
+    };
   }
 
-  pub latest_kept : (end n : ℕ) (s : Summary) → scan m (Some start) (take (n + 1) text) ≡ Some s → is_complete m s ≡ false → IsLatest m text end n
-      → IsLatest m text end (n + 1)
-  latest_kept end n s read incomplete latest = record {
-    within = omega (arith, latest.within);
-    found = latest.found;
-    no_later = λ more over below is. elim (cases_lt n more) [
-      | inl new ↦
-          let same : more ≡ n + 1 = omega arith in
-          false≢true (sym incomplete ∙ ap (is_accepted m) (sym read) ∙ subst (λ k. Accepts m (Some start) (take k text)) same is)
-      | inr old ↦ latest.no_later more over old is
-    ];
-  }
+  module _ (i : ℕ) (s : Summary) (c : Cuts) (longest : Option ℕ) (has : HasRead m text i s c longest) where
+    next_scan : i < length text → scan m (Some start) (take (i + 1) text) ≡ step m s (class_of m (get_or text i 0))
+    next_scan inside = ap (scan m (Some start)) (take_more text i 0 inside) ∙ scan_append m (Some start) (take i text) (get_or text i 0 ∷ [])
+        ∙ ap (λ o. scan m o (get_or text i 0 ∷ [])) has.read
 
-  accepted : (n : ℕ) (l : Literal) → Reads m l (take n text) → Accepts m (Some start) (take n text)
-  accepted n l reads = ap (λ t. is_accepted m (scan m (Some start) t)) reads.whole ∙ (literal_arrives m ready.roles l reads.literal).0
+    next_longest : (t : Summary) → scan m (Some start) (take (i + 1) text) ≡ Some t
+        → IsLongest m text (i + 1) (if is_complete m t then Some (i + 1) else longest)
+    next_longest t read = go (is_complete m t) refl where
+      go : (is : Bool) → is_complete m t ≡ is → IsLongest m text (i + 1) (if is then Some (i + 1) else longest)
+      go true complete = record {
+        found = λ size is. let same : i + 1 ≡ size = cc in
+            subst (λ n. (n ≤ i + 1) × (l : Literal) × Reads m l (take n text)) same
+            (let l = literal_from m ready.roles (take (i + 1) text) (ap (is_accepted m) read ∙ complete) in (omega arith, l.0, l.1));
+        no_longer = λ more over past. absurd (let low : i + 1 < more = past (i + 1) refl in omega arith);
+      }
+      go false incomplete = record {
+        found = λ size is. let old = has.longest_is.found size is in (omega (arith, old.0), old.1, old.2);
+        no_longer = λ more over past l reads. elim (cases_lt i more) [
+          | inl new ↦ let same : more ≡ i + 1 = omega arith in
+              false≢true (sym incomplete ∙ ap (is_accepted m) (sym read) ∙ accepted (i + 1) l (subst (λ n. Reads m l (take n text)) same reads))
+          | inr old ↦ has.longest_is.no_longer more old past l reads
+        ];
+      }
 
-  -- Past the first wrong byte, no front is a literal.
-  dead : (n : ℕ) → IsValidUpTo m text n → (more : ℕ) → n < more → more ≤ length text → (l : Literal) → Reads m l (take more text) → ⊥
-  dead n wrong more over below l reads = wrong.no_longer more over below (record {
-    more = [];
-    literal = l;
-    reads = record { whole = append-nil (take more text) ∙ reads.whole; literal = reads.literal };
-  })
+    -- One more byte.
+    pub read_more : (t : Summary) (d : Cuts) → i < length text → step m s (class_of m (get_or text i 0)) ≡ Some t
+        → count s.part (in_part s.part (class_of m (get_or text i 0))) c ≡ d → HasRead m text (i + 1) t d (if is_complete m t then Some (i + 1) else longest)
+    read_more t d inside taken counted = record {
+      ready = ready;
+      within = omega arith;
+      read = next_scan inside ∙ taken;
+      counted = ap (tally m (Some start) no_cuts) (take_more text i 0 inside) ∙ tally_append m (Some start) no_cuts (take i text) (get_or text i 0 ∷ [])
+          ∙ (λ j. tally m (has.read j) (has.counted j) (get_or text i 0 ∷ [])) ∙ counted;
+      longest_is = next_longest t (next_scan inside ∙ taken);
+    }
 
-  pub longest_from : (end n : ℕ) → IsValidUpTo m text n → IsLatest m text end n → IsLongest m text end
-  longest_from end n wrong latest = record {
-    within = omega (arith, latest.within, wrong.within);
-    found = λ some. literal_from m ready.roles (take end text) (latest.found some);
-    no_longer = λ more over below l reads. elim (cases_lt n more) [
-      | inl past ↦ dead n wrong more past below l reads
-      | inr old ↦ latest.no_later more over old (accepted more l reads)
-    ];
-    not_empty = λ l reads. none_complete (accepted 0 l reads);
-  }
+    -- A byte that is not taken, and the end of the text.
+    pub wrong_at : i < length text → step m s (class_of m (get_or text i 0)) ≡ None → IsValidUpTo m text i
+    wrong_at inside none = record {
+      within = omega arith;
+      front = front_from m ready (take i text) s has.read;
+      no_longer = λ more over within is.
+          front_is_read m ready (take (i + 1) text) (front_shorter m text (i + 1) more (omega arith) is) (next_scan inside ∙ none);
+    }
 
-  -- THE WHOLE TEXT
+    pub wrong_at_end : length text ≤ i → IsValidUpTo m text i
+    wrong_at_end end = record {
+      within = has.within;
+      front = front_from m ready (take i text) s has.read;
+      no_longer = λ more over within is. absurd (omega arith);
+    }
 
-  -- Where a byte is wrong, the text is not a literal.
-  pub wrong_none : (n : ℕ) → n < length text → IsValidUpTo m text n → NoLiteral m text
-  wrong_none n inside wrong l reads =
-      dead n wrong (length text) inside (omega arith) l (subst (λ t. Reads m l t) (sym (take_all (length text) text (omega arith))) reads)
+    pub not_complete : length text ≤ i → (longest ≡ Some (length text) → ⊥) → is_complete m s ≡ false
+    not_complete end other = false_from_ne_true _ (λ complete.
+        let l = literal_from m ready.roles (take i text) (ap (is_accepted m) has.read ∙ complete) in
+        has.longest_is.no_longer i (omega arith) (λ size found.
+        let below = (has.longest_is.found size found).0 in
+        elim (cases_lt size i) [
+          | inl small ↦ small
+          | inr large ↦ let same : size ≡ length text = omega (arith, end, has.within) in absurd (other (found ∙ ap Some same))
+        ]) l.0 l.1)
 
-  module _ (s : Summary) (read : scan m (Some start) (take (length text) text) ≡ Some s) where
-    pub whole_literal : is_complete m s ≡ true → (l : Literal) × Reads m l text
-    whole_literal complete = subst (λ t. (l : Literal) × Reads m l t) (take_all (length text) text (omega arith))
-        (literal_from m ready.roles (take (length text) text) (ap (is_accepted m) read ∙ complete))
+    pub longest_from : IsValidUpTo m text i → IsLongest m text (length text) longest
+    longest_from wrong = record {
+      found = λ size is. let old = has.longest_is.found size is in (omega (arith, old.0, has.within), old.1, old.2);
+      no_longer = λ more within past l reads. has.longest_is.no_longer more (no_longer_than m text i wrong more within l reads) past l reads;
+    }
 
-    pub whole_counted : (c : Cuts) → tally m (Some start) no_cuts (take (length text) text) ≡ c → (l : Literal) → Reads m l text
-        → (is_complete m s ≡ true) × HasLengths l c
-    whole_counted c counted l reads =
-        let arrives = literal_arrives m ready.roles l reads.literal in
-        let same = take_all (length text) text (omega arith) ∙ reads.whole in (
-          sym (ap (is_accepted m) read) ∙ ap (λ t. is_accepted m (scan m (Some start) t)) same ∙ arrives.0,
-          subst (HasLengths l) (sym arrives.1 ∙ ap (tally m (Some start) no_cuts) (sym same) ∙ counted) (has_lengths m ready.roles l reads.literal),
-        )
+    pub counted_from : (l : Literal) → Reads m l (take i text) → HasLengths l c
+    counted_from l reads = subst (HasLengths l)
+        (sym (literal_arrives m ready.roles l reads.literal).1 ∙ ap (tally m (Some start) no_cuts) (sym reads.whole) ∙ has.counted)
+        (has_lengths m ready.roles l reads.literal)
 
   -- A text has one reading.
   pub one_reading : (l k : Literal) → Reads m l text → Reads m k text → l ≡ k
   one_reading l k first second =
       let a = has_lengths m ready.roles l first.literal in
       let b = subst (HasLengths k) (sym (literal_arrives m ready.roles k second.literal).1
-      ∙ ap (tally m (Some start) no_cuts) (sym second.whole ∙ first.whole) ∙ (literal_arrives m ready.roles l first.literal).1) (has_lengths m ready.roles k second.literal) in
+      ∙ ap (tally m (Some start) no_cuts) (sym second.whole ∙ first.whole) ∙ (literal_arrives m ready.roles l first.literal).1)
+      (has_lengths m ready.roles k second.literal) in
       let sign = same_part l.sign k.sign _ _ (a.sign ∙ sym b.sign) (sym first.whole ∙ second.whole) in
       let prefix = same_part l.prefix k.prefix _ _ (a.prefix ∙ sym b.prefix) sign.1 in
       let integer = same_part l.integer k.integer _ _ (omega (arith, a.integer, b.integer)) prefix.1 in

@@ -1,6 +1,6 @@
 -- The roles of the bytes of a literal's parts.
-use Rattle.std.proofs.Common.{ℕ, ◌≡◌, Bool, true, ◌&&◌, ◌||◌, List, [], ◌∷◌, ◌++◌, refl, arith}
-use Rattle.std.proofs.lemmas.Bool.{false≢true, and_parts, and_from, or_left, or_right}
+use Rattle.std.proofs.Common.{ℕ, ◌≡◌, true, List, [], ◌∷◌, ◌++◌, arith}
+use Rattle.std.proofs.lemmas.Bool.{false≢true, and_parts}
 use Rattle.lexical_util.specs.Ascii.{ByteSet}
 use Rattle.lexical_util.specs.declared.format_flags.Part.{Part}
 use Rattle.lexical_util.specs.declared.format_flags.Part.TheVariants as parts
@@ -13,16 +13,7 @@ module _ (m : Notation) (part : Part) where
   -- Each byte of a digit run is a digit or a separator.
   fit_bytes : (before run : List ℕ) → are_fit m part before run ≡ true → AllIn (run_byte m part) run
   fit_bytes before [] is = tt
-  fit_bytes before (b ∷ run) is =
-      let both = and_parts (is_fit m part before b run) _ is in
-      (either (m.digit part b) (m.separator b) _ _ both.0, fit_bytes (before ++ b ∷ []) run both.1) where
-        either : (d s x y : Bool) → (d || (s && x && y)) ≡ true → (d || s) ≡ true
-        either d s x y is = grind arith
-
-  -- Digits alone are a digit run.
-  pub digits_fit : (before digits : List ℕ) → AllIn (m.digit part) digits → are_fit m part before digits ≡ true
-  digits_fit before [] all = refl
-  digits_fit before (b ∷ digits) all = and_from _ _ (or_left (m.digit part b) _ all.0) (digits_fit (before ++ b ∷ []) digits all.1)
+  fit_bytes before (b ∷ run) is = (grind arith, fit_bytes (before ++ b ∷ []) run (and_parts (is_fit m part before b run) _ is).1)
 
 one_bytes : (A : ByteSet) (bytes : List ℕ) → is_none_or_one A bytes ≡ true → AllIn A bytes
 one_bytes A [] is = tt
@@ -32,7 +23,7 @@ one_bytes A (b ∷ c ∷ bytes) is = absurd (false≢true is)
 prefix_bytes : (m : Notation) (bytes : List ℕ) → is_none_or_prefix m.prefix bytes ≡ true → AllIn (prefix_byte m) bytes
 prefix_bytes m [] is = tt
 prefix_bytes m (z ∷ []) is = absurd (false≢true is)
-prefix_bytes m (z ∷ b ∷ []) is = let both = and_parts _ (m.prefix b) is in (or_left _ (m.prefix z) both.0, (or_right _ _ both.1, tt))
+prefix_bytes m (z ∷ b ∷ []) is = (grind arith, (grind arith, tt))
 prefix_bytes m (z ∷ b ∷ c ∷ bytes) is = absurd (false≢true is)
 
 pub parts_have_roles : (m : Notation) (l : Literal) → IsLiteral m l → PartsHaveRoles m l

@@ -15,7 +15,6 @@ use Rattle.lexical_literal.specs.Front.{IsFront}
 use Rattle.lexical_literal.specs.Cause.{Allows, is_one_of, requirement_flags, separator_flags, with_flags}
 use Rattle.lexical_literal.specs.Additions.Causes.{class_of_next, IsWeaker, allows}
 use Rattle.lexical_literal.specs.Additions.Summary.{is_plus, is_zero, in_part, takes, after, move, scan, class_of, step, is_accepted, start}
-use Rattle.lexical_literal.specs.declared.steps.Class.{Class}
 use Rattle.lexical_literal.specs.declared.steps.Summary.{Summary}
 use Rattle.lexical_literal.proofs.ScanLemmas.{HasRoles, IsReady, scan_none, scan_append}
 use Rattle.lexical_literal.proofs.LiteralLemmas.{literal_from, literal_arrives}

@@ -1,7 +1,7 @@
 -- In a syntax, no byte plays two roles.
-use Rattle.std.proofs.Common.{ℕ, ◌≡◌, ◌<◌, ◌↔◌, Bool, true, false, nat_lt, min, ◌||◌, ◌==◌, ◌&&◌, not}
-use Rattle.std.proofs.Common.{IsTrue, List, [], ◌∷◌, Option, Some, None, refl, ap, ◌∙◌, sym, arith}
-use Rattle.std.proofs.lemmas.Bool.{or_left, lt-ltb, eq-eqb, ne_eqb, and_from, not_from_false, false≢true}
+use Rattle.std.proofs.Common.{ℕ, ◌≡◌, ◌<◌, ◌↔◌, Bool, true, false, nat_lt, min, ◌||◌, ◌&&◌}
+use Rattle.std.proofs.Common.{IsTrue, List, [], ◌∷◌, Option, Some, None, refl, sym, arith}
+use Rattle.std.proofs.lemmas.Bool.{lt-ltb, false≢true}
 use Rattle.std.proofs.lemmas.Bool.Decides.{nat_tests}
 use Rattle.std.specs.List.{AllByRecursion}
 use Rattle.lexical_util.specs.Additions.ByteRoles as bytes
@@ -48,8 +48,7 @@ own word lawful o _ byte is = is
 -- A byte that is not 0 plays the role for which it is chosen.
 cased_own : (counts : Bool) (own : ℕ) → IsTrue (allowed_ascii own) → cased counts own own ≡ true
 unfolding cased
-cased_own counts own is = and_from (not (own == 0)) _ (not_from_false _ (ne_eqb own 0 (λ zero. false≢true (sym (ap allowed_ascii zero) ∙ is))))
-    (or_left (own == own) _ (eq-eqb own own refl))
+cased_own counts own is = grind (arith, nat_tests)
 
 -- The two flags on the exponent agree.
 exponent_flags_agree : (word : ℕ) → Lawful word

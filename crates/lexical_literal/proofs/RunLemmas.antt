@@ -1,5 +1,5 @@
 -- Digit runs, byte by byte.
-use Rattle.std.proofs.Common.{ℕ, ◌≡◌, Bool, true, false, not, ◌&&◌, ◌||◌, if◌then◌else◌, List, [], ◌∷◌, ◌++◌, refl, sym, ap, ◌∙◌, arith}
+use Rattle.std.proofs.Common.{ℕ, ◌≡◌, Bool, true, false, not, ◌&&◌, ◌||◌, if◌then◌else◌, List, [], ◌∷◌, ◌++◌, refl, arith}
 use Rattle.std.proofs.lemmas.Bool.{or_right}
 use Rattle.std.proofs.lemmas.List.Folds.{list_any-append}
 use Rattle.std.specs.List.{list_any}
@@ -19,12 +19,6 @@ is_rest m part h g (b ∷ run) =
     if m.digit part b then gap_fits m part h g true && is_rest m part true false run
     else (m.separator b && (not g || m.flag (separators_in part).consecutive) && is_rest m part h true run)
 
-and_true : (x : Bool) → x ≡ (x && true)
-and_true x = grind arith
-
-or_false : (x : Bool) → (x || false) ≡ x
-or_false x = grind arith
-
 ends_with_push : (A : ByteSet) (bytes : List ℕ) (byte : ℕ) → ends_with A (bytes ++ byte ∷ []) ≡ A byte
 ends_with_push A [] byte = refl
 ends_with_push A (x ∷ []) byte = refl
@@ -38,30 +32,16 @@ module _ (m : Notation) (part : Part) where
   abbrev gap : List ℕ → Bool
   gap before = ends_with (λ other. not (D other)) before
 
-  -- One more byte: a digit if `d`, and else a separator if `s`, before a digit if `y`, where `P` says what may be there.
-  one_more : (d h g s c y f : Bool) (P R : Bool → Bool → Bool) → R (h || d) (not d) ≡ ((not (not d) || P (h || d) y) && f)
-      → (if d then (not g || P h true) && R true false else (s && (not g || c) && R h true))
-      ≡ ((not g || P h (d || y)) && ((d || (s && P h y && (c || not g))) && f))
-  one_more true true g s c y f P R more = grind arith
-  one_more true false g s c y f P R more = grind arith
-  one_more false true g s c y f P R more = grind arith
-  one_more false false g s c y f P R more = grind arith
-
   rest_is : (before after : List ℕ) → is_rest m part (list_any D before) (gap before) after
       ≡ (gap_fits m part (list_any D before) (gap before) (list_any D after) && are_fit m part before after)
-  rest_is before [] = and_true _
-  rest_is before (b ∷ after) = one_more (D b) (list_any D before) (gap before) (m.separator b) (m.flag (separators_in part).consecutive) (list_any D after)
-      (are_fit m part rest after) (is_place m part) (λ h g. is_rest m part h g after)
-      ((λ j. is_rest m part (sym seen j) (sym ended j) after) ∙ rest_is rest after
-      ∙ (λ j. gap_fits m part (seen j) (ended j) (list_any D after) && are_fit m part rest after)) where
-        rest : List ℕ
-        rest = before ++ b ∷ []
-
-        seen : list_any D rest ≡ (list_any D before || D b)
-        seen = list_any-append D before (b ∷ []) ∙ ap (λ t. list_any D before || t) (or_false (D b))
-
-        ended : gap rest ≡ not (D b)
-        ended = ends_with_push (λ other. not (D other)) before b
+  rest_is before [] = grind arith
+  rest_is before (b ∷ after) =
+      let rest = before ++ b ∷ [] in
+      let whole = list_any-append D before (b ∷ []) in
+      let seen : list_any D rest ≡ (list_any D before || D b) = grind arith in
+      let ended : gap rest ≡ not (D b) = ends_with_push (λ other. not (D other)) before b in
+      let more = rw (seen, ended) at (rest_is rest after) in
+      grind arith
 
   -- At the start of a part, what can follow is a digit run.
   pub rest_of_none : (run : List ℕ) → is_rest m part false false run ≡ are_fit m part [] run
@@ -93,23 +73,14 @@ module _ (m : Notation) (part : Part) (h g : Bool) (b : ℕ) (u : List ℕ) wher
 -- After a separator, a digit follows or the run may end.
 gap_closes : (m : Notation) (part : Part) (h : Bool) (u : List ℕ) → is_rest m part h true u ≡ true → is_open m part h (list_any (m.digit part) u) ≡ true
 gap_closes m part h [] is = or_right (is_place m part h true && false) _ is
-gap_closes m part h (b ∷ u) is = more (m.digit part b) (m.separator b) (m.flag (separators_in part).consecutive) (is_place m part h true)
-    (list_any (m.digit part) u) (is_place m part h false) _ _ is (gap_closes m part h u) where
-      more : (d s c x y z r t : Bool) → (if d then (not true || x) && r else (s && c && t)) ≡ true → (t ≡ true → ((x && y) || z) ≡ true)
-          → ((x && (d || y)) || z) ≡ true
-      more d s c x y z r t is rest = grind arith
+gap_closes m part h (b ∷ u) is = let rest = gap_closes m part h u in grind arith
 
 -- A gap that is closed later may be opened.
 pub opens : (m : Notation) (part : Part) (h next : Bool) (u : List ℕ) → is_rest m part h true u ≡ true
     → (list_any (m.digit part) u ≡ true → next ≡ true) → is_open m part h next ≡ true
-opens m part h next u is more = go (is_place m part h true) (list_any (m.digit part) u) (is_place m part h false) (gap_closes m part h u is) more where
-  go : (x y z : Bool) → ((x && y) || z) ≡ true → (y ≡ true → next ≡ true) → ((x && next) || z) ≡ true
-  go x y z is more = grind arith
+opens m part h next u is more = let closes = gap_closes m part h u is in grind arith
 
 -- A digit run that is present has a digit.
 pub digits_present : (m : Notation) (part : Part) (run : List ℕ) → is_rest m part false false run ≡ true → list_any (m.digit part) run ≡ is_present run
 digits_present m part [] fit = refl
-digits_present m part (b ∷ u) fit = more (m.digit part b) (m.separator b) true (is_place m part false true) (list_any (m.digit part) u) _ _ fit
-    (gap_closes m part false u) where
-      more : (d s c x y r t : Bool) → (if d then r else (s && c && t)) ≡ true → (t ≡ true → ((x && y) || false) ≡ true) → (d || y) ≡ true
-      more d s c x y r t fit rest = grind arith
+digits_present m part (b ∷ u) fit = let rest = gap_closes m part false u in grind arith

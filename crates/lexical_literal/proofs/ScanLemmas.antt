@@ -83,8 +83,7 @@ module _ (m : Notation) (h : HasRoles m) where
   played b _ is = grind arith
 
   unplayed : (b : ℕ) (r : Role) → role_of (class_of m b) ≡ None → m.digit parts.Fraction b ≡ m.digit parts.Integer b → role_set m r b ≡ false
-  unplayed b roles.Digit is same = grind arith
-  unplayed b _ is same = grind arith
+  unplayed b r is same = grind arith
 
   -- The role of its class is the only one of a byte.
   pub only_role : (b : ℕ) → IsOnlyRole m b (role_of (class_of m b))
@@ -94,27 +93,23 @@ module _ (m : Notation) (h : HasRoles m) where
     go (Some found) some is = ap Some (h.one found r b (played b found some) is)
 
   class_plus : (b : ℕ) → is_plus (class_of m b) ≡ (b == 43)
-  class_plus b = go (λ plus. (only_role b roles.Sign).0 (or_left _ (b == 45) plus)) where
-    go : ((b == 43) ≡ true → role_of (class_of m b) ≡ Some roles.Sign) → is_plus (class_of m b) ≡ (b == 43)
-    go sign = grind arith
+  class_plus b =
+      let sign : (b == 43) ≡ true → role_of (class_of m b) ≡ Some roles.Sign = λ plus. (only_role b roles.Sign).0 (or_left _ (b == 45) plus) in
+      grind arith
 
   class_zero : (b : ℕ) → is_zero (class_of m b) ≡ (b == 48)
-  class_zero b = go (digit parts.Integer) (digit parts.Exponent) where
-    digit : (part : Part) → (b == 48) ≡ true → m.digit part b ≡ true
-    digit part zero = ap (m.digit part) (eqb-true b 48 zero) ∙ h.zero_is_digit part
-
-    go : ((b == 48) ≡ true → m.digit parts.Integer b ≡ true) → ((b == 48) ≡ true → m.digit parts.Exponent b ≡ true)
-        → is_zero (class_of m b) ≡ (b == 48)
-    go integer exponent = grind arith
+  class_zero b =
+      let digit : (part : Part) → (b == 48) ≡ true → m.digit part b ≡ true = λ part zero. ap (m.digit part) (eqb-true b 48 zero) ∙ h.zero_is_digit part in
+      let integer = digit parts.Integer in
+      let exponent = digit parts.Exponent in
+      grind arith
 
   -- What a role says of a byte.
   pub as_digit : (part : Part) (b : ℕ) → role_in m part b ≡ Some roles.Digit → m.digit part b ≡ true
-  as_digit parts.Fraction b role = let same = h.one_mantissa b in grind arith
-  as_digit _ b role = grind arith
+  as_digit part b role = let same = h.one_mantissa b in grind arith
 
   pub digit_role : (part : Part) (b : ℕ) → m.digit part b ≡ true → role_in m part b ≡ Some roles.Digit
-  digit_role parts.Fraction b is = let same = h.one_mantissa b in grind arith
-  digit_role _ b is = grind arith
+  digit_role part b is = let same = h.one_mantissa b in grind arith
 
   pub no_digit : (part : Part) (b : ℕ) → role_in m part b ≡ Some roles.Separator → m.digit part b ≡ false
   no_digit part b role = false_from_ne_true _ (λ is. let same = sym role ∙ digit_role part b is in cc)
@@ -122,8 +117,7 @@ module _ (m : Notation) (h : HasRoles m) where
   pub as_role : (part : Part) (r : Role) (b : ℕ) → role_in m part b ≡ Some r → role_set m r b ≡ true
   as_role part r b role = played b r (go part (class_of m b) role) where
     go : (part : Part) (class : Class) → in_part part class ≡ Some r → role_of class ≡ Some r
-    go parts.Integer class is = grind arith
-    go _ class is = grind arith
+    go part class is = grind arith
 
   pub is_role : (part : Part) (r : Role) (b : ℕ) → (roles.Digit ≡ r → ⊥) → role_set m r b ≡ true → role_in m part b ≡ Some r
   is_role part r b other is = go part (class_of m b) ((only_role b r).0 is) where
@@ -133,7 +127,7 @@ module _ (m : Notation) (h : HasRoles m) where
     go part _ role = role
 
   -- What a byte makes of a summary.
-  moved : (s : Summary) (b : ℕ) (o : Option Role) → role_in m s.part b ≡ o → step m s (class_of m b) ≡ move m s (b == 43) (b == 48) o
+  pub moved : (s : Summary) (b : ℕ) (o : Option Role) → role_in m s.part b ≡ o → step m s (class_of m b) ≡ move m s (b == 43) (b == 48) o
   moved s b o role = λ j. move m s (class_plus b j) (class_zero b j) (role j)
 
   pub took : (s : Summary) (b : ℕ) (P : Option Summary → Type 0) → (P None → ⊥) → P (step m s (class_of m b)) → Took m s b P

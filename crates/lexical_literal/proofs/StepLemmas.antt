@@ -1,23 +1,27 @@
--- The digits of a part, and what follows them.
-use Rattle.std.proofs.Common.{ℕ, ◌≡◌, Bool, true, false, not, ◌==◌, ◌&&◌, ◌||◌, ◌⊎◌, inl, inr, if◌then◌else◌, List, [], ◌∷◌, ◌++◌, Some, refl, sym, ap, subst, ◌∙◌, arith}
-use Rattle.std.proofs.lemmas.Bool.{false≢true, and_parts, and_from, cases_Bool, eqb-true, or_left, or_right}
+-- Stages, and what may follow a part that ends at one.
+use Rattle.std.proofs.Common.{ℕ, ◌≡◌, Bool, true, false, not, ◌==◌, ◌&&◌, ◌||◌, if◌then◌else◌, List, [], ◌∷◌, ◌++◌, refl, ap, arith}
 use Rattle.std.specs.List.{list_any}
 use Rattle.lexical_util.specs.Ascii.{ByteSet}
-use Rattle.lexical_util.specs.declared.feature_format.roles.Role.{Role}
+use Rattle.lexical_util.specs.Roles.{signs}
 use Rattle.lexical_util.specs.declared.feature_format.roles.Role.TheVariants as roles
 use Rattle.lexical_util.specs.declared.format_flags.Part.{Part}
 use Rattle.lexical_util.specs.declared.format_flags.Part.TheVariants as parts
-use Rattle.lexical_literal.specs.Notation.{Notation, role_set}
-use Rattle.lexical_literal.specs.Literal.{is_none_or_one, has_leading_zero}
-use Rattle.lexical_literal.specs.Additions.Summary.{Cuts, has_digit, is_fresh, is_lone, is_led, is_bare, after_digit, needs_sign, may_lead, may_follow, after_mark, gap_fits, is_open, is_signed, ends, continues, takes, after, add, digits_piece}
+use Rattle.lexical_literal.specs.Notation.{Notation}
+use Rattle.lexical_literal.specs.Literal.{Literal, is_absent, is_plus, is_none_or_one, is_none_or_prefix, has_leading_zero}
+use Rattle.lexical_literal.specs.Additions.Summary.{implies, has_digit, is_fresh, is_lone, is_led, is_bare, after_digit, after_mark, after_point, is_signed, needs_sign, forbids_plus, digits_suffice, continues, may_float}
 use Rattle.lexical_literal.specs.declared.steps.Stage.{Stage}
 use Rattle.lexical_literal.specs.declared.steps.Stage.TheVariants as stages
 use Rattle.lexical_literal.specs.declared.steps.Summary.{Summary}
-use Rattle.lexical_literal.proofs.RunLemmas.{is_rest, run_with_digit, run_with_separator, digit_fits, after_run_digit, is_run_separator, separator_fits, after_run_separator, opens}
-use Rattle.lexical_literal.proofs.ScanLemmas.{HasRoles, Accepts, Arrives, plus, role_in, took, none_accepts, arrives_byte, as_digit, no_digit, as_role, is_role, digit_role}
+use Rattle.lexical_literal.proofs.RunLemmas.{is_rest}
 
 abbrev pub reading : Part → Stage → Bool → Summary
 reading part stage gap = record { part = part; stage = stage; gap = gap; ended = false }
+
+-- `begins stage` is true if the first digit of the integer follows.
+abbrev pub begins : Stage → Bool
+begins stages.Start = true
+begins stages.Empty = true
+begins _ = false
 
 -- `led_after D stage run` is true if there is a leading zero after `run`.
 abbrev pub led_after : ByteSet → Stage → List ℕ → Bool
@@ -28,294 +32,134 @@ led_after D stages.Zero run = list_any D run
 led_after D stages.Led run = true
 led_after D _ run = false
 
--- `Taken m s r text` holds if the first byte of `text` has the role `r`, is taken, and the rest is accepted.
-abbrev pub Taken : Notation → Summary → Role → List ℕ → Type 0
-Taken m s r text = (b : ℕ) × (rest : List ℕ) × (text ≡ b ∷ rest) × (role_set m r b ≡ true) × (takes m s (b == 43) r ≡ true) × Accepts m (Some (after s (b == 48) r)) rest
+-- `stage_after D stage gap run` is the stage after the bytes of `run`: digits, which are in `D`, and separators.
+abbrev pub stage_after : ByteSet → Stage → Bool → List ℕ → Stage
+stage_after D stage gap [] = stage
+stage_after D stage gap (b ∷ run) =
+    if D b then stage_after D (after_digit stage gap (b == 48)) false run else stage_after D (after_mark stage) true run
 
--- `Follows m s text` holds if `text` may follow the digits of a part.
-abbrev pub Follows : Notation → Summary → List ℕ → Type 0
-Follows m s text =
-    ((ends m s && continues m s.part s.stage roles.Suffix) ≡ true) × (is_none_or_one m.suffix text ≡ true)
-    ⊎ (Taken m s roles.Point text ⊎ (Taken m s roles.Exponent text ⊎ (Taken m s roles.Sign text ⊎ Taken m s roles.Prefix text)))
+-- `after_byte D stage gap b run digit` is the stage after `b`, a digit if `digit` is true, and the bytes of `run`.
+abbrev pub after_byte : ByteSet → Stage → Bool → ℕ → List ℕ → Bool → Stage
+after_byte D stage gap b run digit =
+    if digit then stage_after D (after_digit stage gap (b == 48)) false run else stage_after D (after_mark stage) true run
 
--- Nothing follows the suffix.
-ended : (m : Notation) → HasRoles m → (s : Summary) (text : List ℕ) → s.ended ≡ true → Accepts m (Some s) text → text ≡ []
-ended m h s [] over is = refl
-ended m h s (b ∷ text) over is = absurd (false≢true (sym (took m h s b (λ o. Accepts m o text) (none_accepts m text) is).going ∙ over))
+-- What is true of the stage `last` after `run`.
+pub record Passed (D : ByteSet) (stage : Stage) (run : List ℕ) (last : Stage) : Type 0 where
+  pub seen : has_digit last ≡ (list_any D run || has_digit stage)
+  pub counts : not (is_lone last) ≡ (list_any D run || not (is_lone stage))
+  pub led : is_led last ≡ led_after D stage run
 
-module _ (D : ByteSet) where
-  pub led_nothing : (stage : Stage) → is_led stage ≡ led_after D stage []
-  led_nothing stages.Start = refl
-  led_nothing stages.Empty = refl
-  led_nothing _ = refl
+module _ (D : ByteSet) (stage : Stage) where
+  passed_none : Passed D stage [] stage
+  passed_none = record { seen = refl; counts = refl; led = grind arith }
 
-  or_seen : (d y : Bool) → d ≡ true → true ≡ (d || y)
-  or_seen d y is = grind arith
+  module _ (b : ℕ) (run : List ℕ) (last : Stage) where
+    passed_digit : (gap : Bool) → D b ≡ true → Passed D (after_digit stage gap (b == 48)) run last → Passed D stage (b ∷ run) last
+    passed_digit gap is more = record { seen = grind arith; counts = grind arith; led = grind arith }
 
-  or_other : (d y : Bool) → d ≡ false → y ≡ (d || y)
-  or_other d y is = grind arith
+    passed_mark : D b ≡ false → Passed D (after_mark stage) run last → Passed D stage (b ∷ run) last
+    passed_mark is more = record { seen = grind arith; counts = grind arith; led = grind arith }
 
-  led_first : (gap : Bool) (b : ℕ) (run : List ℕ) → D b ≡ true → led_after D (after_digit stages.Empty gap (b == 48)) run ≡ has_leading_zero D (b ∷ run)
-  led_first gap b run is = go (b == 48) gap ∙ ap (λ t. if t then (b == 48) && list_any D run else has_leading_zero D run) (sym is) where
-    go : (t gap : Bool) → led_after D (after_digit stages.Empty gap t) run ≡ (t && list_any D run)
-    go true true = refl
-    go true false = refl
-    go false gap = refl
+pub passed : (D : ByteSet) (stage : Stage) (gap : Bool) (run : List ℕ) → Passed D stage run (stage_after D stage gap run)
+passed D stage gap [] = passed_none D stage
+passed D stage gap (b ∷ run) = go (D b) refl (λ stage gap. passed D stage gap run) where
+  go : (d : Bool) → D b ≡ d → ((stage : Stage) (gap : Bool) → Passed D stage run (stage_after D stage gap run))
+      → Passed D stage (b ∷ run) (after_byte D stage gap b run d)
+  go true is more = passed_digit D stage b run _ gap is (more (after_digit stage gap (b == 48)) false)
+  go false is more = passed_mark D stage b run _ is (more (after_mark stage) true)
 
-  led_digit : (stage : Stage) (gap : Bool) (b : ℕ) (run : List ℕ) → D b ≡ true → led_after D (after_digit stage gap (b == 48)) run ≡ led_after D stage (b ∷ run)
-  led_digit stages.Start gap b run is = led_first gap b run is
-  led_digit stages.Empty gap b run is = led_first gap b run is
-  led_digit stages.Bare gap b run is = or_seen (D b) (list_any D run) is
-  led_digit stages.Zero gap b run is = or_seen (D b) (list_any D run) is
-  led_digit _ gap b run is = refl
+-- Stages after a digit and after a separator or a sign.
+module _ (stage : Stage) where
+  pub digit_seen : (gap zero : Bool) → has_digit (after_digit stage gap zero) ≡ true
+  digit_seen gap zero = grind arith
 
-  led_separator : (stage : Stage) (b : ℕ) (run : List ℕ) → D b ≡ false → led_after D (after_mark stage) run ≡ led_after D stage (b ∷ run)
-  led_separator stages.Start b run is = ap (λ t. if t then (b == 48) && list_any D run else has_leading_zero D run) (sym is)
-  led_separator stages.Empty b run is = ap (λ t. if t then (b == 48) && list_any D run else has_leading_zero D run) (sym is)
-  led_separator stages.Bare b run is = or_other (D b) (list_any D run) is
-  led_separator stages.Zero b run is = or_other (D b) (list_any D run) is
-  led_separator _ b run is = refl
+  pub digit_settles : (gap zero : Bool) → is_fresh (after_digit stage gap zero) ≡ false
+  digit_settles gap zero = grind arith
 
-pub digit_seen : (stage : Stage) (gap zero : Bool) → has_digit (after_digit stage gap zero) ≡ true
-digit_seen stages.Start gap zero = grind arith
-digit_seen _ gap zero = grind arith
+  pub digit_begun : (gap zero : Bool) → begins (after_digit stage gap zero) ≡ false
+  digit_begun gap zero = grind arith
 
-pub same_seen : (stage : Stage) → has_digit (after_mark stage) ≡ has_digit stage
-same_seen stages.Start = refl
-same_seen _ = refl
+  pub mark_seen : has_digit (after_mark stage) ≡ has_digit stage
+  mark_seen = grind arith
 
--- After a digit, the mantissa has one.
-digit_counts : (stage : Stage) (gap zero : Bool) → is_lone (after_digit stage gap zero) ≡ false
-digit_counts stages.Start gap zero = grind arith
-digit_counts _ gap zero = grind arith
+  pub mark_settles : is_fresh (after_mark stage) ≡ false
+  mark_settles = grind arith
 
-same_counts : (stage : Stage) → is_lone (after_mark stage) ≡ is_lone stage
-same_counts stages.Start = refl
-same_counts _ = refl
+  pub mark_begun : begins (after_mark stage) ≡ begins stage
+  mark_begun = grind arith
 
--- After a digit or a separator, no sign may follow.
-pub digit_settles : (stage : Stage) (gap zero : Bool) → is_fresh (after_digit stage gap zero) ≡ false
-digit_settles stages.Start gap zero = grind arith
-digit_settles _ gap zero = grind arith
+  pub mark_bare : is_bare (after_mark stage) ≡ false
+  mark_bare = grind arith
 
-separator_settles : (stage : Stage) → is_fresh (after_mark stage) ≡ false
-separator_settles stages.Start = refl
-separator_settles _ = refl
+  pub settled : (m : Notation) (part : Part) → is_fresh stage ≡ false → is_signed m part stage ≡ true
+  settled m part is = ap (λ t. not t || not (needs_sign m part)) is
 
--- `begins stage` is true if the first digit of the integer follows.
-abbrev pub begins : Stage → Bool
-begins stages.Start = true
-begins stages.Empty = true
-begins _ = false
+  pub bare_settles : is_bare stage ≡ true → is_fresh stage ≡ false
+  bare_settles is = grind arith
 
-bare_first : (zero gap : Bool) → is_bare (after_digit stages.Empty gap zero) ≡ true → (zero ≡ true) × (gap ≡ false)
-bare_first zero gap is = grind arith
+-- What is false of two stages is false of either.
+pub either : (P : Stage → Bool) (t : Bool) (x y : Stage) → P x ≡ false → P y ≡ false → P (if t then x else y) ≡ false
+either P true x y first second = first
+either P false x y first second = second
 
--- Only a digit 0 that is first is bare.
-bare_digit : (stage : Stage) (gap : Bool) (b : ℕ) → is_bare (after_digit stage gap (b == 48)) ≡ true → (b ≡ 48) × (begins stage ≡ true) × (gap ≡ false)
-bare_digit stages.Start gap b is = let both = bare_first (b == 48) gap is in (eqb-true b 48 both.0, refl, both.1)
-bare_digit stages.Empty gap b is = let both = bare_first (b == 48) gap is in (eqb-true b 48 both.0, refl, both.1)
-bare_digit stages.Bare gap b is = absurd (false≢true is)
-bare_digit _ gap b is = absurd (false≢true is)
+-- `stage_at stage sign prefix` is the stage after a sign and a prefix, and `gap_at gap prefix` tells whether a gap is before it.
+abbrev pub stage_at : Stage → List ℕ → List ℕ → Stage
+stage_at stage sign prefix = if is_absent prefix then (if is_absent sign then stage else after_mark stage) else stages.Free
 
-begins_without : (stage : Stage) → has_digit stage ≡ true → begins stage ≡ true → ⊥
-begins_without stages.Start digit is = grind arith
-begins_without _ digit is = grind arith
+abbrev pub gap_at : Bool → List ℕ → Bool
+gap_at gap prefix = is_absent prefix && gap
 
-bare_separator : (stage : Stage) → is_bare (after_mark stage) ≡ true → ⊥
-bare_separator stages.Start is = grind arith
-bare_separator _ is = grind arith
+module _ (m : Notation) where
+  -- `sign_fits m part stage sign` is true if `sign` may follow in `part` at `stage`.
+  abbrev pub sign_fits : Part → Stage → List ℕ → Bool
+  sign_fits part stage sign = is_none_or_one signs sign
+      && (implies (forbids_plus m part) (not (is_plus sign)) && (if is_absent sign then is_signed m part stage else is_fresh stage))
 
--- What has been read of the digits of a part.
-pub record Run (m : Notation) (part : Part) (stage : Stage) (gap : Bool) (text : List ℕ) : Type 0 where
-  pub run : List ℕ
-  pub rest : List ℕ
-  pub last : Stage
-  pub last_gap : Bool
-  pub whole : text ≡ run ++ rest
-  pub seen : has_digit last ≡ (list_any (m.digit part) run || has_digit stage)
-  pub led : is_led last ≡ led_after (m.digit part) stage run
-  pub fit : gap_fits m part (has_digit last) last_gap false ≡ true → is_rest m part (has_digit stage) gap run ≡ true
-  pub counts : not (is_lone last) ≡ (list_any (m.digit part) run || not (is_lone stage))
-  pub signed : is_signed m part last ≡ true → is_signed m part stage ≡ true
-  pub fresh_is : is_fresh last ≡ true → (is_fresh stage ≡ true) × (run ≡ []) × (last ≡ stage) × (last_gap ≡ gap)
-  pub bare_is : is_bare last ≡ true → (is_bare stage ≡ true) × (run ≡ []) ⊎ (run ≡ 48 ∷ []) × (begins stage ≡ true) × (gap ≡ false)
-  pub follows : Follows m (reading part last last_gap) rest
+  -- `prefix_fits m stage gap prefix` is true if `prefix` may follow, or what is left of it if its zero has been read.
+  abbrev pub prefix_fits : Stage → Bool → List ℕ → Bool
+  prefix_fits stage gap [] = true
+  prefix_fits stage gap (b ∷ []) = is_bare stage && m.prefix b
+  prefix_fits stage gap (z ∷ b ∷ more) = (begins stage && not gap) && is_none_or_prefix m.prefix (z ∷ b ∷ more)
 
-module _ (m : Notation) (part : Part) where
-  abbrev D : ByteSet
-  D = m.digit part
+  -- `digits_fit m part stage digits end` is true if `digits` may be the digits of `part`, and `end` is true of the stage after
+  -- them, begun with `stage`.
+  abbrev pub digits_fit : Part → Stage → List ℕ → (Stage → Bool) → Bool
+  digits_fit part stage digits end = is_rest m part false false digits && end (stage_after (m.digit part) stage false digits)
 
-  any_digit : (d y s z : Bool) → d ≡ true → s ≡ true → (y || s) ≡ ((d || y) || z)
-  any_digit d y s z is seen = grind arith
+  -- `ends_exponent m l last` is true if the parts of `l` behind the exponent digits, which end at the stage `last`, may follow them.
+  abbrev pub ends_exponent : Literal → Stage → Bool
+  ends_exponent l last = digits_suffice m parts.Exponent last && is_none_or_one m.suffix l.suffix
 
-  any_other : (d y s z : Bool) → d ≡ false → s ≡ z → (y || s) ≡ ((d || y) || z)
-  any_other d y s z is same = grind arith
+  -- `ends_mantissa m l stop scale` is the same for the mantissa, if a suffix may follow it if `stop` is true, and an exponent if
+  -- `scale` is true.
+  abbrev pub ends_mantissa : Literal → Bool → Bool → Bool
+  ends_mantissa l stop scale = is_none_or_one m.exponent_character l.exponent_character && (if is_absent l.exponent_character
+      then stop && ((is_absent l.exponent_sign && is_absent l.exponent) && is_none_or_one m.suffix l.suffix)
+      else scale && (sign_fits parts.Exponent stages.Mark l.exponent_sign
+      && digits_fit parts.Exponent (stage_at stages.Mark l.exponent_sign []) l.exponent (ends_exponent l)))
 
-  seen_digit : (stage : Stage) (gap : Bool) (b : ℕ) (run : List ℕ) → D b ≡ true
-      → (list_any D run || has_digit (after_digit stage gap (b == 48))) ≡ (list_any D (b ∷ run) || has_digit stage)
-  seen_digit stage gap b run is = any_digit (D b) (list_any D run) (has_digit (after_digit stage gap (b == 48))) (has_digit stage) is (digit_seen stage gap (b == 48))
+  -- `fraction_fits m l last` is true if a point and a fraction may follow the integer digits, which end at the stage `last`.
+  abbrev pub fraction_fits : Literal → Stage → Bool
+  fraction_fits l last = if is_absent l.point then is_absent l.fraction
+      else may_float m last && digits_fit parts.Fraction (after_point (has_digit last)) l.fraction (digits_suffice m parts.Fraction)
 
-  counts_digit : (stage : Stage) (gap : Bool) (b : ℕ) (run : List ℕ) → D b ≡ true
-      → (list_any D run || not (is_lone (after_digit stage gap (b == 48)))) ≡ (list_any D (b ∷ run) || not (is_lone stage))
-  counts_digit stage gap b run is = any_digit (D b) (list_any D run) _ (not (is_lone stage)) is (ap not (digit_counts stage gap (b == 48)))
+  -- `stops m l last` is true if a suffix may follow the mantissa, and `scales m l last` if an exponent may.
+  abbrev pub stops : Literal → Stage → Bool
+  stops l last = if is_absent l.point then continues m parts.Integer last roles.Suffix else continues m parts.Fraction last roles.Suffix
 
-  counts_separator : (stage : Stage) (b : ℕ) (run : List ℕ) → D b ≡ false
-      → (list_any D run || not (is_lone (after_mark stage))) ≡ (list_any D (b ∷ run) || not (is_lone stage))
-  counts_separator stage b run is = any_other (D b) (list_any D run) _ (not (is_lone stage)) is (ap not (same_counts stage))
+  abbrev pub scales : Literal → Stage → Bool
+  scales l last = if is_absent l.point then continues m parts.Integer last roles.Exponent else continues m parts.Fraction last roles.Exponent
 
-  seen_separator : (stage : Stage) (b : ℕ) (run : List ℕ) → D b ≡ false
-      → (list_any D run || has_digit (after_mark stage)) ≡ (list_any D (b ∷ run) || has_digit stage)
-  seen_separator stage b run is = any_other (D b) (list_any D run) (has_digit (after_mark stage)) (has_digit stage) is (same_seen stage)
+  -- `ends_part m part l last` is true if the parts of `l` behind the digits of `part`, which end at the stage `last`, may follow them.
+  abbrev pub ends_part : Part → Literal → Stage → Bool
+  ends_part parts.Integer l last =
+      digits_suffice m parts.Integer last && (is_none_or_one m.point l.point && (fraction_fits l last && ends_mantissa l (stops l last) (scales l last)))
+  ends_part parts.Fraction l last = digits_suffice m parts.Fraction last
+      && ends_mantissa l (continues m parts.Fraction last roles.Suffix) (continues m parts.Fraction last roles.Exponent)
+  ends_part parts.Exponent l last = ends_exponent l last
 
-  abbrev Goal : Stage → Bool → List ℕ → Type 0
-  Goal stage gap text = Accepts m (Some (reading part stage gap)) text → Run m part stage gap text
-
-  here : (stage : Stage) (gap : Bool) (text : List ℕ) → Follows m (reading part stage gap) text → Run m part stage gap text
-  here stage gap text follows = record {
-    run = [];
-    rest = text;
-    last = stage;
-    last_gap = gap;
-    whole = refl;
-    seen = refl;
-    led = led_nothing D stage;
-    counts = refl;
-    fit = λ is. is;
-    signed = λ is. is;
-    fresh_is = λ is. (is, refl, refl, refl);
-    bare_is = λ is. inl (is, refl);
-    follows = follows;
-  }
-
-  follow : (stage : Stage) (run : List ℕ) → (led_after D stage run ≡ true → may_lead m ≡ true) → list_any D run ≡ true → may_follow m stage ≡ true
-  follow stages.Bare run may is = may is
-  follow stages.Zero run may is = may is
-  follow _ run may is = refl
-
-  -- `add_run part run c` counts the bytes of `run`.
-  abbrev pub add_run : Part → List ℕ → Cuts → Cuts
-  add_run parts.Integer run c = record c { integer = plus run c.integer }
-  add_run parts.Fraction run c = record c { fraction = plus run c.fraction }
-  add_run parts.Exponent run c = record c { exponent = plus run c.exponent }
-
-  add_more : (p : Part) (b : ℕ) (run : List ℕ) (c : Cuts) → add_run p run (add c (digits_piece p)) ≡ add_run p (b ∷ run) c
-  add_more parts.Integer b run c = refl
-  add_more parts.Fraction b run c = refl
-  add_more parts.Exponent b run c = refl
-
-  add_none : (p : Part) (c : Cuts) → c ≡ add_run p [] c
-  add_none parts.Integer c = refl
-  add_none parts.Fraction c = refl
-  add_none parts.Exponent c = refl
-
-  pub settled : (stage : Stage) → is_fresh stage ≡ false → is_signed m part stage ≡ true
-  settled stage is = ap (λ t. not t || not (needs_sign m part)) is
-
-  -- `Goes stage run rest c d` holds if the rest arrives after each stage that `run` may lead to.
-  abbrev Goes : Stage → List ℕ → List ℕ → Cuts → Cuts → Type 0
-  Goes stage run rest c d = (last : Stage) (gap : Bool) → has_digit last ≡ (list_any D run || has_digit stage) → is_led last ≡ led_after D stage run
-      → not (is_lone last) ≡ (list_any D run || not (is_lone stage)) → gap_fits m part (has_digit last) gap false ≡ true → is_signed m part last ≡ true
-      → Arrives m (Some (reading part last gap)) (add_run part run c) rest d
-
-  module _ (h : HasRoles m) where
-    -- What is accepted begins with digits of the part.
-    pub run_of : (stage : Stage) (gap : Bool) (text : List ℕ) → Goal stage gap text
-    run_of stage gap [] is = here stage gap [] (inl (is, refl))
-    run_of stage gap (b ∷ text) is =
-        let t = took m h (reading part stage gap) b (λ o. Accepts m o text) (none_accepts m text) is in
-        go (λ stage gap. run_of stage gap text) t.role t.plays t.taken t.rest where
-          go : ((stage : Stage) (gap : Bool) → Goal stage gap text) → (r : Role) → role_in m part b ≡ Some r
-              → takes m (reading part stage gap) (b == 43) r ≡ true → Accepts m (Some (after (reading part stage gap) (b == 48) r)) text
-              → Run m part stage gap (b ∷ text)
-          go more roles.Digit role taken is =
-              let both = and_parts (is_signed m part stage) _ taken in
-              let fits = and_parts (gap_fits m part (has_digit stage) gap true) (may_follow m stage) both.1 in
-              let digit = as_digit m h part b role in
-              let r = more (after_digit stage gap (b == 48)) false is in
-              record {
-                run = b ∷ r.run;
-                rest = r.rest;
-                last = r.last;
-                last_gap = r.last_gap;
-                whole = ap (λ t. b ∷ t) r.whole;
-                seen = r.seen ∙ seen_digit stage gap b r.run digit;
-                led = r.led ∙ led_digit D stage gap b r.run digit;
-                counts = r.counts ∙ counts_digit stage gap b r.run digit;
-                fit = λ end. run_with_digit m part (has_digit stage) gap b r.run digit fits.0
-                    (subst (λ t. is_rest m part t false r.run ≡ true) (digit_seen stage gap (b == 48)) (r.fit end));
-                signed = λ _. both.0;
-                fresh_is = λ is. absurd (false≢true (sym (digit_settles stage gap (b == 48)) ∙ (r.fresh_is is).0));
-                bare_is = λ is. elim (r.bare_is is) [
-                  | inl first ↦ let zero = bare_digit stage gap b first.0 in inr ((λ j. zero.0 j ∷ first.1 j), zero.1, zero.2)
-                  | inr other ↦ absurd (begins_without (after_digit stage gap (b == 48)) (digit_seen stage gap (b == 48)) other.1)
-                ];
-                follows = r.follows;
-              }
-          go more roles.Separator role taken is =
-              let both = and_parts (is_signed m part stage) _ taken in
-              let fits = and_parts _ (is_open m part (has_digit stage) (may_follow m stage)) both.1 in
-              let other = no_digit m h part b role in
-              let r = more (after_mark stage) true is in
-              record {
-                run = b ∷ r.run;
-                rest = r.rest;
-                last = r.last;
-                last_gap = r.last_gap;
-                whole = ap (λ t. b ∷ t) r.whole;
-                seen = r.seen ∙ seen_separator stage b r.run other;
-                led = r.led ∙ led_separator D stage b r.run other;
-                counts = r.counts ∙ counts_separator stage b r.run other;
-                fit = λ end. run_with_separator m part (has_digit stage) gap b r.run other (as_role m h part roles.Separator b role) fits.0
-                    (subst (λ t. is_rest m part t true r.run ≡ true) (same_seen stage) (r.fit end));
-                signed = λ _. both.0;
-                fresh_is = λ is. absurd (false≢true (sym (separator_settles stage) ∙ (r.fresh_is is).0));
-                bare_is = λ is. elim (r.bare_is is) [
-                  | inl first ↦ absurd (bare_separator stage first.0)
-                  | inr zero ↦ absurd (false≢true (sym zero.2))
-                ];
-                follows = r.follows;
-              }
-          go more roles.Suffix role taken is = here stage gap (b ∷ text) (inl (
-            taken,
-            subst (λ t. is_none_or_one m.suffix (b ∷ t) ≡ true) (sym (ended m h _ text refl is)) (as_role m h part roles.Suffix b role),
-          ))
-          go more roles.Point role taken is = here stage gap (b ∷ text) (inr (inl (b, text, refl, as_role m h part roles.Point b role, taken, is)))
-          go more roles.Exponent role taken is = here stage gap (b ∷ text) (inr (inr (inl (b, text, refl, as_role m h part roles.Exponent b role, taken, is))))
-          go more roles.Sign role taken is = here stage gap (b ∷ text) (inr (inr (inr (inl (b, text, refl, as_role m h part roles.Sign b role, taken, is)))))
-          go more roles.Prefix role taken is = here stage gap (b ∷ text) (inr (inr (inr (inr (b, text, refl, as_role m h part roles.Prefix b role, taken, is)))))
-
-    -- Digits of the part are taken.
-    pub run_arrives : (stage : Stage) (gap : Bool) (run rest : List ℕ) (c d : Cuts) → is_signed m part stage ≡ true
-        → is_rest m part (has_digit stage) gap run ≡ true → (led_after D stage run ≡ true → may_lead m ≡ true) → Goes stage run rest c d
-        → Arrives m (Some (reading part stage gap)) c (run ++ rest) d
-    run_arrives stage gap [] rest c d signed fit may goes =
-        subst (λ c. Arrives m (Some (reading part stage gap)) c rest d) (sym (add_none part c)) (goes stage gap refl (led_nothing D stage) refl fit signed)
-    run_arrives stage gap (b ∷ run) rest c d signed fit may goes = elim (cases_Bool (D b)) [
-      | inl digit ↦ arrives_byte m h (reading part stage gap) b roles.Digit c (run ++ rest) d refl (digit_role m h part b digit)
-          (and_from _ _ signed (and_from _ _ (digit_fits m part (has_digit stage) gap b run digit fit) (follow stage (b ∷ run) may (or_left _ _ digit))))
-          (run_arrives (after_digit stage gap (b == 48)) false run rest (add c (digits_piece part)) d (settled _ (digit_settles stage gap (b == 48)))
-          (subst (λ t. is_rest m part t false run ≡ true) (sym (digit_seen stage gap (b == 48))) (after_run_digit m part (has_digit stage) gap b run digit fit))
-          (λ led. may (sym (led_digit D stage gap b run digit) ∙ led))
-          (λ last gap' seen led counts end signed. subst (λ c. Arrives m (Some (reading part last gap')) c rest d) (sym (add_more part b run c))
-          (goes last gap' (seen ∙ seen_digit stage gap b run digit) (led ∙ led_digit D stage gap b run digit) (counts ∙ counts_digit stage gap b run digit) end signed)))
-      | inr other ↦
-          let more = after_run_separator m part (has_digit stage) gap b run other fit in
-          arrives_byte m h (reading part stage gap) b roles.Separator c (run ++ rest) d refl
-          (is_role m h part roles.Separator b (λ e. cc) (is_run_separator m part (has_digit stage) gap b run other fit))
-          (and_from _ _ signed (and_from _ _ (separator_fits m part (has_digit stage) gap b run other fit)
-          (opens m part (has_digit stage) (may_follow m stage) run more (λ some. follow stage (b ∷ run) may (or_right (D b) _ some)))))
-          (run_arrives (after_mark stage) true run rest (add c (digits_piece part)) d (settled _ (separator_settles stage))
-          (subst (λ t. is_rest m part t true run ≡ true) (sym (same_seen stage)) more)
-          (λ led. may (sym (led_separator D stage b run other) ∙ led))
-          (λ last gap' seen led counts end signed. subst (λ c. Arrives m (Some (reading part last gap')) c rest d) (sym (add_more part b run c))
-          (goes last gap' (seen ∙ seen_separator stage b run other) (led ∙ led_separator D stage b run other) (counts ∙ counts_separator stage b run other) end signed)))
-    ]
-
--- The suffix, or nothing.
-pub stop_arrives : (m : Notation) → HasRoles m → (s : Summary) (c : Cuts) (suffix : List ℕ) → s.ended ≡ false → (ends m s && continues m s.part s.stage roles.Suffix) ≡ true
-    → is_none_or_one m.suffix suffix ≡ true → Arrives m (Some s) c suffix c
-stop_arrives m h s c [] open_is is one = (or_right s.ended _ is, refl)
-stop_arrives m h s c (b ∷ []) open_is is one =
-    arrives_byte m h s b roles.Suffix c [] c open_is (is_role m h s.part roles.Suffix b (λ e. cc) one) is (refl, refl)
-stop_arrives m h s c (b ∷ x ∷ suffix) open_is is one = absurd (false≢true one)
+-- `text_after part l` is the text of the parts of `l` behind the digits of `part`.
+abbrev pub text_after : Part → Literal → List ℕ
+text_after parts.Integer l = l.point ++ (l.fraction ++ (l.exponent_character ++ (l.exponent_sign ++ (l.exponent ++ l.suffix))))
+text_after parts.Fraction l = l.exponent_character ++ (l.exponent_sign ++ (l.exponent ++ l.suffix))
+text_after parts.Exponent l = l.suffix

@@ -1,6 +1,7 @@
 -- Rows and columns of tables.
-use Rattle.std.proofs.Common.{ℕ, ◌≡◌, ◌≢◌, ◌<◌, ◌≤◌, ◌+◌, ◌*◌, ◌/◌, ◌%◌, ◌==◌, inl, inr, Bool, true, false, List, [], ◌∷◌, length, length-set, get_or, set, refl, sym, ap, subst, ◌∙◌, arith, below_more, get_or-set_other, get_or-set_same}
+use Rattle.std.proofs.Common.{ℕ, Bor, Some, ◌≡◌, ◌≢◌, ◌<◌, ◌≤◌, ◌+◌, ◌*◌, ◌/◌, ◌%◌, ◌==◌, inl, inr, Bool, true, false, List, [], ◌∷◌, length, length-set, get_or, set, refl, sym, ap, subst, ◌∙◌, arith, below_more, get_or-set_other, get_or-set_same}
 use mir.Val.{bool_byte}
+use Rattle.std.specs.Option.{ForSome}
 use Rattle.std.proofs.lemmas.Bool.{cases_eq}
 use Rattle.lexical_literal.specs.Additions.Summary.{add}
 use Rattle.lexical_literal.specs.Additions.Tables.{EachIs, piece_number, cuts_of, part_at, stage_at, summary_at}
@@ -55,6 +56,10 @@ number_back s p t part stage small =
       ends_of : (p t g e : ℕ) → e < 2 → ((p * 9 + t) * 4 + g * 2 + e) % 2 ≡ e
       ends_of p t g e ended = omega arith
 
+-- What holds of a value holds of what is borrowed of it.
+pub lent : {X : Type 0} (P : X → Type 0) (own : Bor X) → P own.now → ForSome (Some own) (λ borrowed. P borrowed.now)
+lent P own holds borrowed is = let same : own ≡ borrowed = cc in subst (λ b. P b.now) same holds
+
 -- One more byte of a piece.
 pub count_one : (counts : List ℕ) → length counts ≡ 9 → (piece : Piece)
     → add (cuts_of counts) piece ≡ cuts_of (set counts (piece_number piece) (get_or counts (piece_number piece) 0 + 1))
@@ -63,7 +68,8 @@ count_one (a ∷ b ∷ c ∷ d ∷ e ∷ f ∷ g ∷ h ∷ i ∷ []) nine _ = re
 count_one counts nine piece = absurd (omega (arith, nine))
 
 -- No piece has more bytes than have been read.
-pub small_more : (counts : List ℕ) (n k : ℕ) → k < length counts → ((j : ℕ) → get_or counts j 0 ≤ n) → (j : ℕ) → get_or (set counts k (get_or counts k 0 + 1)) j 0 ≤ n + 1
+pub small_more : (counts : List ℕ) (n k : ℕ) → k < length counts → ((j : ℕ) → get_or counts j 0 ≤ n)
+    → (j : ℕ) → get_or (set counts k (get_or counts k 0 + 1)) j 0 ≤ n + 1
 small_more counts n k inside small j = elim (cases_eq j k) [
   | inl same ↦ subst (λ i. get_or (set counts k (get_or counts k 0 + 1)) i 0 ≤ n + 1) (sym same)
       (subst (λ v. v ≤ n + 1) (sym (get_or-set_same counts k (get_or counts k 0 + 1) 0 inside)) (omega (arith, small k)))

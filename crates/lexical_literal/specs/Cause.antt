@@ -1,5 +1,5 @@
 -- Why a text is not a literal: the cause, the flags that are to blame, and the bytes to show.
-use Rattle.std.specs.Prelude.{ℕ, ◌≡◌, ◌+◌, ◌<◌, ◌==◌, ◌&&◌, ◌↔◌, ◌⊎◌, ◌||◌, not, Bool, false, if◌then◌else◌, IsTrue, List, [], ◌∷◌, ◌++◌, length, Option, Some, None}
+use Rattle.std.specs.Prelude.{ℕ, ◌≡◌, ◌+◌, ◌<◌, ◌==◌, ◌&&◌, ◌↔◌, ◌⊎◌, ◌||◌, not, Bool, false, if◌then◌else◌, IsTrue, List, [], ◌∷◌, ◌++◌, length, take, slice_get, Option, Some, None}
 use Rattle.std.specs.Int.{w128, trailing_zeros}
 use Rattle.std.specs.List.{list_any}
 use Rattle.lexical_util.specs.Ascii.{ByteSet}
@@ -7,14 +7,16 @@ use Rattle.lexical_util.specs.declared.error.Error.{Error}
 use Rattle.lexical_util.specs.declared.error.Error.TheVariants as errors
 use Rattle.lexical_util.specs.Layout as layout
 use Rattle.lexical_util.specs.Layout.{Flag, bit, separators_in}
+use Rattle.lexical_util.specs.Record.{raw}
 use Rattle.lexical_util.specs.Roles.{other_case}
 use Rattle.lexical_util.specs.declared.format_flags.Part.{Part}
 use Rattle.lexical_util.specs.declared.format_flags.Part.TheVariants as parts
-use Rattle.lexical_literal.specs.Front.{IsFront, NoLiteral}
+use Rattle.lexical_literal.specs.Front.{IsFront, IsValidUpTo, NoLiteral}
 use Rattle.lexical_literal.specs.Literal.{Literal, Reads}
 use Rattle.lexical_literal.specs.Notation.{Notation}
 use Rattle.lexical_literal.specs.declared.cause.Cause.{Cause}
 use Rattle.lexical_literal.specs.declared.cause.Cause.TheVariants as causes
+use Rattle.lexical_literal.specs.declared.cause.ReadError.{ReadError}
 use Rattle.lexical_literal.specs.declared.cause.Place.{Place}
 use Rattle.lexical_literal.specs.declared.cause.Place.TheVariants as places
 
@@ -224,3 +226,17 @@ error_of m front causes.Requirement number start = requirement_error m number st
 error_of m front (causes.Missing part) number start =
     if list_any (is_mark m) front then errors.InvalidDigit start else errors.Empty start
 error_of m front _ number start = errors.InvalidDigit start
+
+-- `IsRefusal m text error` holds if `error` says how far `text` is right, why it is no literal, which bytes to show, and which
+-- error `lexical-util` has for this.
+pub record IsRefusal (m : Notation) (text : List ℕ) (error : ReadError) : Type 0 where
+  pub valid_up_to : IsValidUpTo m text error.valid_up_to
+  pub cause : IsCause m (take error.valid_up_to text) (slice_get text error.valid_up_to) error.cause (raw error.mask).flag
+  pub span : (error.start, error.end)
+      ≡ span_of m (take error.valid_up_to text) (take (error.valid_up_to + 1) text) error.cause (lowest error.mask)
+  pub code : error.code ≡ error_of m (take error.valid_up_to text) error.cause (lowest error.mask) error.start
+
+-- `SameBlame c d a b` holds if the causes `c` and `d` are the same, and `a` and `b` are true of the same flags.
+pub record SameBlame (c d : Cause) (a b : Flag → Bool) : Type 0 where
+  pub cause : c ≡ d
+  pub flags : (f : Flag) → a f ≡ b f

@@ -1,6 +1,7 @@
 -- What a reader returns: the parts of a literal, or an error.
 use Rattle.std.specs.Prelude.{ℕ, ◌≡◌, ◌≤◌, IfErr, IfOk, IsErr, IsOkAnd, List, Result, length, take}
-use Rattle.lexical_literal.specs.Front.{IsValidUpTo, NoLiteral, ReadsFront}
+use Rattle.lexical_literal.specs.Cause.{IsRefusal}
+use Rattle.lexical_literal.specs.Front.{NoLiteral, ReadsFront}
 use Rattle.lexical_literal.specs.Literal.{Literal, Reads}
 use Rattle.lexical_literal.specs.Notation.{Notation}
 use Rattle.lexical_literal.specs.declared.read.Front.{Front}
@@ -28,8 +29,8 @@ pub record IsRead (m : Notation) (text : List ℕ) (result : Result Parts ReadEr
   pub found : IfOk result (λ parts. Reads m (literal_of parts) text)
   -- A literal has no other parts, and they are returned.
   pub only : (l : Literal) → Reads m l text → IsOkAnd result (λ parts. literal_of parts ≡ l)
-  -- An error has the length of the longest front that some literal begins with.
-  pub error : IfErr result (λ error. IsValidUpTo m text error.valid_up_to)
+  -- An error says how far the text is right, why it is not a literal, and which bytes to show.
+  pub error : IfErr result (IsRefusal m text)
 
 -- `IsReadPrefix m text result` holds if `result` has the longest front of `text` that is a literal, with its parts, or is
 -- the error of a text of which no front is a literal.
@@ -38,5 +39,5 @@ pub record IsReadPrefix (m : Notation) (text : List ℕ) (result : Result Front 
   pub found : IfOk result (λ front. ReadsFront m (literal_of front.parts) text front.size)
   -- If no front is returned, no front is a literal.
   pub none : IsErr result → (size : ℕ) → size ≤ length text → NoLiteral m (take size text)
-  -- An error has the length of the longest front that some literal begins with.
-  pub error : IfErr result (λ error. IsValidUpTo m text error.valid_up_to)
+  -- An error says how far the text is right, why it is not a literal, and which bytes to show.
+  pub error : IfErr result (IsRefusal m text)

@@ -1,13 +1,16 @@
 //! Why a text is not a literal.
 
-ghost use Rattle.std.specs.Prelude.{◌≡◌, ◌≢◌, ◌<◌, ◌^◌, ◌≤◌, ◌&&◌, ℕ, true, false, length, take, slice_get};
+ghost use Rattle.std.specs.Prelude.{◌≡◌, ◌≢◌, ◌↔◌, IsTrue, List, Option, Some, if◌then◌else◌, ◌<◌, ◌^◌, ◌≤◌, ◌&&◌, ℕ, true, false, length, take, slice_get};
 ghost use Rattle.std.specs.Bool.{beq};
-ghost use Rattle.lexical_util.specs.Layout.{Flag, part};
+ghost use Rattle.lexical_util.specs.Layout.{Flag, bit, part};
 ghost use Rattle.lexical_util.specs.Record.{raw};
 ghost use Rattle.lexical_util.specs.Roles.{other_case};
-ghost use Rattle.lexical_literal.specs.Additions.Causes.{IsLowestBit, allows, class_of_next, kind_set, without_bit};
-ghost use Rattle.lexical_literal.specs.Cause.{adding, bare, behind, binds, error_of, first_in, requirement_error, requirement_span, span_of, with_flags};
+ghost use Rattle.lexical_literal.specs.Additions.Causes.{Decides, IsLowestBit, IsReadOf, allows, class_of_next, place_of, kind_set, without_bit};
+ghost use Rattle.lexical_literal.specs.Cause.{IsCause, IsRefusal, IsRequirement, Permits, SomeFlag, adding, bare, case_set, behind, binds, error_of, first_in, requirement_error, requirement_span, span_of, with_flags};
+ghost use Rattle.lexical_literal.specs.Additions.Summary.{scan, start};
+ghost use Rattle.lexical_literal.specs.Front.{IsValidUpTo};
 ghost use Rattle.lexical_literal.specs.Notation.{notation_of};
+ghost use Rattle.lexical_literal.specs.Syntax.{IsSyntax};
 
 use crate::steps::{
     self, Class, Summary, class_of, has_digit, is_digit, is_exponent_character, is_point,
@@ -15,8 +18,9 @@ use crate::steps::{
 };
 use crate::syntax::Grammar;
 use lexical_util::error::Error;
-use lexical_util::format as flags;
+use lexical_util::format as masks;
 use lexical_util::format::Part;
+use lexical_util::laws::flags::role_facts;
 
 /// Where a digit separator is.
 #[derive(Debug, Clone, Copy, PartialEq, Eq, Hash)]
@@ -108,22 +112,22 @@ impl ReadError {
 }
 
 // The flags that require something of the parts of a literal.
-const REQUIREMENTS: u128 = flags::REQUIRED_DIGITS
-    | flags::NO_POSITIVE_MANTISSA_SIGN
-    | flags::REQUIRED_MANTISSA_SIGN
-    | flags::NO_EXPONENT_NOTATION
-    | flags::NO_POSITIVE_EXPONENT_SIGN
-    | flags::REQUIRED_EXPONENT_SIGN
-    | flags::NO_EXPONENT_WITHOUT_FRACTION
-    | flags::NO_INTEGER_LEADING_ZEROS
-    | flags::NO_FLOAT_LEADING_ZEROS
-    | flags::REQUIRED_EXPONENT_NOTATION;
+const REQUIREMENTS: u128 = masks::REQUIRED_DIGITS
+    | masks::NO_POSITIVE_MANTISSA_SIGN
+    | masks::REQUIRED_MANTISSA_SIGN
+    | masks::NO_EXPONENT_NOTATION
+    | masks::NO_POSITIVE_EXPONENT_SIGN
+    | masks::REQUIRED_EXPONENT_SIGN
+    | masks::NO_EXPONENT_WITHOUT_FRACTION
+    | masks::NO_INTEGER_LEADING_ZEROS
+    | masks::NO_FLOAT_LEADING_ZEROS
+    | masks::REQUIRED_EXPONENT_NOTATION;
 
 // The flags that allow a digit separator in a number.
-const SEPARATORS: u128 = flags::INTERNAL_DIGIT_SEPARATOR
-    | flags::LEADING_DIGIT_SEPARATOR
-    | flags::TRAILING_DIGIT_SEPARATOR
-    | flags::CONSECUTIVE_DIGIT_SEPARATOR;
+const SEPARATORS: u128 = masks::INTERNAL_DIGIT_SEPARATOR
+    | masks::LEADING_DIGIT_SEPARATOR
+    | masks::TRAILING_DIGIT_SEPARATOR
+    | masks::CONSECUTIVE_DIGIT_SEPARATOR;
 
 // A cause, and the flags that are to blame.
 #[derive(Clone, Copy)]
@@ -157,9 +161,11 @@ impl Stop {
 
     // Returns those of `candidates` that allow the text to go on, or do not, with the flags of `mask`.
     const fn flags_that(self, allow: bool, candidates: u128, mask: u128) -> u128
-        requires { candidates < 2 ^ 44 }
-        ensures { (f : Flag) → (raw result).flag f ≡ ((raw candidates).flag f
+        requires small { candidates < 2 ^ 44 }
+        requires flags { (k : ℕ) → part candidates k 1 ≡ 1 → (f : Flag) × (bit f ≡ k) }
+        ensures each { (f : Flag) → (raw result).flag f ≡ ((raw candidates).flag f
             && beq (allows (adding f (with_flags (notation_of self.grammar) (raw mask).flag)) self.read self.next) allow) }
+        ensures some { result ≢ 0 → SomeFlag (raw result).flag }
     {
         let mut found = 0;
         let mut bit: u32 = 0;
@@ -190,18 +196,6 @@ impl Stop {
         0
     }
 
-    // Returns the flags that are set and require something.
-    const fn binding(self) -> u128
-        ensures flags { (f : Flag) → (raw result).flag f ≡ binds (notation_of self.grammar) f }
-        ensures small { result < 2 ^ 44 }
-    {
-        if needs_exponent(self.grammar) {
-            self.grammar.word & (REQUIREMENTS & !flags::NO_INTEGER_LEADING_ZEROS)
-        } else {
-            self.grammar.word & REQUIREMENTS
-        }
-    }
-
     // Returns the flags without requirements.
     const fn bare(self) -> u128
         ensures { (f : Flag) → (raw result).flag f ≡ (bare (notation_of self.grammar)).flag f }
@@ -209,8 +203,26 @@ impl Stop {
         self.grammar.word & !REQUIREMENTS
     }
 
+    // Returns the flags that are set and require something.
+    const fn binding(self) -> u128
+        ensures each { (f : Flag) → (raw result).flag f ≡ binds (notation_of self.grammar) f }
+        ensures small { result < 2 ^ 44 }
+        ensures flags { (k : ℕ) → part result k 1 ≡ 1 → (f : Flag) × (bit f ≡ k) }
+    {
+        if needs_exponent(self.grammar) {
+            self.grammar.word & (REQUIREMENTS & !masks::NO_INTEGER_LEADING_ZEROS)
+        } else {
+            self.grammar.word & REQUIREMENTS
+        }
+    }
+
     // Returns the flags to blame for a requirement.
-    const fn requirements(self) -> u128 {
+    const fn requirements(self) -> u128
+        requires allowed { allows (bare (notation_of self.grammar)) self.read self.next ≡ true }
+        requires refused { allows (notation_of self.grammar) self.read self.next ≡ false }
+        ensures { (front : List ℕ) → (next : Option ℕ) → Decides (notation_of self.grammar) self.read self.next front next
+            → IsRequirement (notation_of self.grammar) front next (raw result).flag }
+    {
         let alone = self.flags_that(false, self.binding(), self.bare());
         if alone == 0 {
             self.lowest_without(self.grammar.word & REQUIREMENTS)
@@ -220,7 +232,11 @@ impl Stop {
     }
 
     // Returns the flags each of which would allow a separator that is not allowed.
-    const fn separators(self) -> u128 {
+    const fn separators(self) -> u128
+        ensures each { (front : List ℕ) → (byte : ℕ) → Decides (notation_of self.grammar) self.read self.next front (Some byte)
+            → (f : Flag) → IsTrue ((raw result).flag f) ↔ Permits (notation_of self.grammar) front byte f }
+        ensures some { result ≢ 0 → SomeFlag (raw result).flag }
+    {
         if self.allows(self.bare() | SEPARATORS) {
             self.flags_that(true, SEPARATORS, self.bare())
         } else {
@@ -228,22 +244,13 @@ impl Stop {
         }
     }
 
-    // Returns the flag by which the case of a letter counts that may stand here in the class of its other case.
-    const fn case_flag(self) -> u128 {
-        if !self.allows(self.bare()) {
-            return 0;
-        }
-        match self.next {
-            Some(Class::ExponentCharacter) => flags::CASE_SENSITIVE_EXPONENT,
-            Some(Class::Prefix) => flags::CASE_SENSITIVE_BASE_PREFIX,
-            Some(Class::Suffix) => flags::CASE_SENSITIVE_BASE_SUFFIX,
-            _ => 0,
-        }
-    }
-
     // Returns where a separator is not allowed.
-    const fn place(self) -> Place {
-        if self.read.gap && matches!(self.next, Some(Class::Separator)) {
+    const fn place(self) -> Place
+        ensures { result ≡ place_of (notation_of self.grammar) self.read self.next }
+    {
+        let is_consecutive = self.read.gap
+            && !self.grammar.view().separators(self.read.part).consecutive;
+        if is_consecutive && matches!(self.next, Some(Class::Separator)) {
             Place::Consecutive
         } else if has_digit(self.read.stage) {
             Place::AfterDigit
@@ -252,32 +259,58 @@ impl Stop {
         }
     }
 
+    // Returns the flag by which the case of `other` counts, if it may be next.
+    const fn case_flag(self, other: u8) -> u128
+        ensures each { (f : Flag) → (raw result).flag f
+            ≡ (allows (bare (notation_of self.grammar)) self.read self.next && case_set f (notation_of self.grammar) other) }
+        ensures some { result ≢ 0 → SomeFlag (raw result).flag }
+    {
+        if self.allows(self.bare()) {
+            case_mask(self.grammar, other)
+        } else {
+            0
+        }
+    }
+
     // Returns why `byte` cannot follow, if no requirement is the cause.
-    const fn wrong(self, byte: u8) -> Blame {
+    const fn wrong(self, byte: u8) -> Blame
+        requires next { self.next ≡ class_of_next (notation_of self.grammar) (Some byte) }
+        requires refused { allows (bare (notation_of self.grammar)) self.read self.next ≡ false }
+        ensures { (front : List ℕ) → IsReadOf (notation_of self.grammar) self.read front
+            → IsCause (notation_of self.grammar) front (Some byte) result.cause (raw result.mask).flag }
+    {
         let separators = self.separators();
         if separators != 0 {
-            let cause = Cause::Separator(self.read.part, self.place());
             return Blame {
-                cause,
+                cause: Cause::Separator(self.read.part, self.place()),
                 mask: separators,
             };
         }
-        let mut other = self;
-        other.next = Some(class_of(self.grammar, other_case(byte)));
-        let mask = other.case_flag();
+        let other = other_case(byte);
+        let mask = Stop {
+            grammar: self.grammar,
+            read: self.read,
+            next: class_of_next(self.grammar, Some(other)),
+        }
+        .case_flag(other);
         let cause = if mask == 0 { Cause::Byte } else { Cause::Case };
         Blame { cause, mask }
     }
 
     // Returns the cause.
-    const fn blame(self, byte: Option<u8>) -> Blame {
+    const fn blame(self, next: Option<u8>) -> Blame
+        requires next { self.next ≡ class_of_next (notation_of self.grammar) next }
+        requires refused { allows (notation_of self.grammar) self.read self.next ≡ false }
+        ensures { (front : List ℕ) → IsReadOf (notation_of self.grammar) self.read front
+            → IsCause (notation_of self.grammar) front next result.cause (raw result.mask).flag }
+    {
         if self.allows(self.bare()) {
             return Blame {
                 cause: Cause::Requirement,
                 mask: self.requirements(),
             };
         }
-        match byte {
+        match next {
             None => Blame {
                 cause: Cause::Missing(self.read.part),
                 mask: 0,
@@ -285,6 +318,30 @@ impl Stop {
             Some(byte) => self.wrong(byte),
         }
     }
+}
+
+// Returns `flag` if `is_set` is true, and 0 otherwise.
+const fn flag_if(is_set: bool, flag: u128) -> u128
+    ensures { result ≡ (if is_set then flag else 0) }
+{
+    if is_set { flag } else { 0 }
+}
+
+// Returns the flags by which the case of `byte` counts.
+const fn case_mask(grammar: Grammar, byte: u8) -> u128
+    ensures each { (f : Flag) → (raw result).flag f ≡ case_set f (notation_of grammar) byte }
+    ensures some { result ≢ 0 → SomeFlag (raw result).flag }
+{
+    flag_if(
+        is_exponent_character(grammar, byte),
+        masks::CASE_SENSITIVE_EXPONENT,
+    ) | flag_if(
+        grammar.view().is_base_prefix(byte),
+        masks::CASE_SENSITIVE_BASE_PREFIX,
+    ) | flag_if(
+        grammar.view().is_base_suffix(byte),
+        masks::CASE_SENSITIVE_BASE_SUFFIX,
+    )
 }
 
 // Returns the other case of a letter, or the byte itself if it is not a letter.
@@ -476,9 +533,13 @@ const fn class_of_next(grammar: Grammar, next: Option<u8>) -> Option<Class>
 // Returns why `text` is not a literal, of which `size` bytes can be read, which makes `read` of them.
 #[cold]
 pub(crate) const fn refusal(grammar: Grammar, text: &[u8], size: usize, read: Summary) -> ReadError
-    requires { size ≤ length text.now }
-    ensures { result.valid_up_to ≡ size }
+    requires syntax { IsSyntax grammar }
+    requires valid { IsValidUpTo (notation_of grammar) text.now size }
+    requires read { scan (notation_of grammar) (Some start) (take size text.now) ≡ Some read }
+    requires refused { allows (notation_of grammar) read (class_of_next (notation_of grammar) (slice_get text.now size)) ≡ false }
+    ensures { IsRefusal (notation_of grammar) text.now result }
 {
+    role_facts();
     let byte = byte_at(text, size);
     let stop = Stop {
         grammar,

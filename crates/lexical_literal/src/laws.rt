@@ -1,14 +1,16 @@
 //! Theorems on literals. Each is a clause of a function with an empty body.
 
-ghost use Rattle.std.specs.Prelude.{◌≡◌, ◌≢◌, ◌↔◌, ◌&&◌, ◌||◌, ◌∷◌, ℕ, IsFalse, IsTrue, List, Option, not};
+ghost use Rattle.std.specs.Prelude.{◌≡◌, ◌≢◌, ◌↔◌, ◌&&◌, ◌||◌, ◌∷◌, ℕ, Bool, IsFalse, IsTrue, List, Option, not};
 ghost use Rattle.lexical_util.specs.Layout as layout;
 ghost use Rattle.lexical_util.specs.Layout.{Flag};
 ghost use Rattle.lexical_util.specs.NormalForm.{normal_form_of};
 ghost use Rattle.lexical_util.specs.declared.format_flags.Part.{Part};
+ghost use Rattle.lexical_literal.specs.Cause.{IsCause, SameBlame};
 ghost use Rattle.lexical_literal.specs.Literal.{Literal, Reads, requirement};
-ghost use Rattle.lexical_literal.specs.Notation.{notation_of};
+ghost use Rattle.lexical_literal.specs.Notation.{Notation, notation_of};
 ghost use Rattle.lexical_literal.specs.Readings.{AllIn, PartsHaveRoles};
 ghost use Rattle.lexical_literal.specs.Syntax.{IsSyntax};
+ghost use Rattle.lexical_literal.specs.declared.cause.Cause.{Cause};
 ghost use Rattle.lexical_literal.specs.declared.syntax.Grammar.{Grammar};
 ghost use Rattle.lexical_literal.specs.declared.syntax.Options.{Options};
 
@@ -33,6 +35,10 @@ pub fn literal_facts()
     // their own part.
     ensures roles { (g : Grammar) → (l : Literal) → (text : List ℕ) → Reads (notation_of g) l text
         → PartsHaveRoles (notation_of g) l }
+
+    // A refusal has one cause, and the same flags are to blame.
+    ensures one_cause { (m : Notation) → (front : List ℕ) → (next : Option ℕ) → (cause other : Cause) → (a b : Flag → Bool)
+        → IsCause m front next cause a → IsCause m front next other b → SameBlame cause other a b }
 
     // A literal is as each flag that is set requires.
     ensures requirements { (g : Grammar) → (l : Literal) → (text : List ℕ) → Reads (notation_of g) l text

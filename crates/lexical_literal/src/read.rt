@@ -1,12 +1,12 @@
 //! Calls that read literals, and the parts that they find.
 
-ghost use Rattle.std.specs.Prelude.{◌≡◌, ◌++◌, ◌<◌, ℕ, IsTrue, List, length};
+ghost use Rattle.std.specs.Prelude.{◌≡◌, ◌≢◌, ◌++◌, ◌<◌, ◌≤◌, ℕ, List, Some, length, take};
 ghost use Rattle.lexical_literal.specs.Additions.Summary.{HasLengths, class_of, is_complete};
 ghost use Rattle.lexical_literal.specs.Additions.Tables.{HasTables, IsStep, cuts_of, summary_at};
 ghost use Rattle.std.specs.Option.{ForSome};
-ghost use Rattle.lexical_literal.specs.Additions.Longest.{IsLongest};
-ghost use Rattle.lexical_literal.specs.Front.{IsValidUpTo};
-ghost use Rattle.lexical_literal.specs.Literal.{Literal, Reads, text_of};
+ghost use Rattle.lexical_literal.specs.Additions.Longest.{IsScanned};
+ghost use Rattle.lexical_literal.specs.Literal.{Literal, text_of};
+ghost use Rattle.lexical_literal.specs.Cause.{IsRefusal};
 ghost use Rattle.lexical_literal.specs.Notation.{notation_of};
 ghost use Rattle.lexical_literal.specs.Parts.{IsRead, IsReadPrefix, literal_of};
 ghost use Rattle.lexical_literal.specs.Syntax.{IsSyntax};
@@ -134,15 +134,14 @@ impl Reader {
     }
 }
 
-// The length of the longest front that some literal begins with, its row, the lengths of its parts, and whether the whole
-// text is a literal; if they are looked for, also the length of the longest front that is a literal, or 0 if none is.
+// The length of the longest front of a text that some literal begins with, its row, the length of the longest front that is
+// a literal, and the lengths of the parts of what has been read.
 #[derive(Clone, Copy)]
 struct Scanned {
     valid_up_to: usize,
     row: u8,
+    literal: Option<usize>,
     counts: [usize; 9],
-    is_literal: bool,
-    literal: usize,
 }
 
 // Returns the parts of the literal `text`, or how far it is right.
@@ -156,12 +155,10 @@ fn read<'a>(
     requires tables { ForSome tables (λ tables. HasTables (notation_of grammar) tables.now) }
     ensures { IsRead (notation_of grammar) text.now result }
 {
-    let scanned = scan(grammar, tables, text, false);
-    if scanned.is_literal {
-        Ok(cut(text, scanned.counts))
-    } else {
-        let read = summary_at(scanned.row);
-        Err(refusal(grammar, text, scanned.valid_up_to, read))
+    let scanned = scan(grammar, tables, text);
+    match scanned.literal {
+        Some(size) if size == text.len() => Ok(cut(text, scanned.counts)),
+        _ => Err(refuse(grammar, text, scanned)),
     }
 }
 
@@ -176,20 +173,45 @@ fn read_prefix<'a>(
     requires tables { ForSome tables (λ tables. HasTables (notation_of grammar) tables.now) }
     ensures { IsReadPrefix (notation_of grammar) text.now result }
 {
-    let fronts = scan(grammar, tables, text, true);
-    if fronts.literal == 0 {
-        let read = summary_at(fronts.row);
-        Err(refusal(grammar, text, fronts.valid_up_to, read))
-    } else {
-        let (front, _) = split_front(text, fronts.literal);
-        Ok(Front {
-            parts: cut(front, scan(grammar, tables, front, false).counts),
-            size: fronts.literal,
-        })
+    let scanned = scan(grammar, tables, text);
+    let Some(size) = scanned.literal else {
+        return Err(refuse(grammar, text, scanned));
+    };
+    let front = front_of(text, size);
+    if size == scanned.valid_up_to {
+        return Ok(Front {
+            parts: cut(front, scanned.counts),
+            size,
+        });
+    }
+    match read(grammar, tables, front) {
+        Ok(parts) => Ok(Front { parts, size }),
+        Err(error) => Err(error),
     }
 }
 
+// Returns why `text` is not a literal.
+const fn refuse(grammar: Grammar, text: &[u8], scanned: Scanned) -> ReadError
+    requires syntax { IsSyntax grammar }
+    requires scanned { IsScanned (notation_of grammar) text.now scanned }
+    requires refused { scanned.literal ≢ Some (length text.now) }
+    ensures { IsRefusal (notation_of grammar) text.now result }
+{
+    let read = summary_at(scanned.row);
+    refusal(grammar, text, scanned.valid_up_to, read)
+}
+
+// Returns the first `size` bytes.
+#[inline(always)]
+fn front_of<'a>(text: &'a [u8], size: usize) -> &'a [u8]
+    requires { size ≤ length text.now }
+    ensures { result.now ≡ take size text.now }
+{
+    text.split_at(size).0
+}
+
 // Splits off the first `size` bytes.
+#[inline(always)]
 fn split_front<'a>(text: &'a [u8], size: usize) -> (&'a [u8], &'a [u8])
     requires { (x : List ℕ) × (rest : List ℕ) × (text.now ≡ x ++ rest) × (length x ≡ size) }
     ensures { (x rest : List ℕ) → text.now ≡ x ++ rest → length x ≡ size
@@ -199,6 +221,7 @@ fn split_front<'a>(text: &'a [u8], size: usize) -> (&'a [u8], &'a [u8])
 }
 
 // Splits `text` into parts with the lengths `counts`. The zero of a prefix is counted as a digit of the integer.
+#[inline(always)]
 fn cut<'a>(text: &'a [u8], counts: [usize; 9]) -> Parts<'a>
     requires { (l : Literal) × (text.now ≡ text_of l) × HasLengths l (cuts_of counts) }
     ensures { (l : Literal) → text.now ≡ text_of l → HasLengths l (cuts_of counts) → literal_of result ≡ l }
@@ -224,46 +247,39 @@ fn cut<'a>(text: &'a [u8], counts: [usize; 9]) -> Parts<'a>
     }
 }
 
-// Reads `text` until no literal begins with what has been read, and looks for fronts that are literals if `fronts` is true.
+// Reads `text` until no literal begins with what has been read.
 #[inline(always)]
-const fn scan(grammar: Grammar, tables: Option<&Tables>, text: &[u8], fronts: bool) -> Scanned
+const fn scan(grammar: Grammar, tables: Option<&Tables>, text: &[u8]) -> Scanned
     requires syntax { IsSyntax grammar }
     requires tables { ForSome tables (λ tables. HasTables (notation_of grammar) tables.now) }
-    ensures error { IsValidUpTo (notation_of grammar) text.now result.valid_up_to }
-    ensures row { result.row < 108 }
-    ensures literal { IsTrue result.is_literal → (l : Literal) × Reads (notation_of grammar) l text.now }
-    ensures counted { (l : Literal) → Reads (notation_of grammar) l text.now
-        → IsTrue result.is_literal × HasLengths l (cuts_of result.counts) }
-    ensures longest { IsTrue fronts → IsLongest (notation_of grammar) text.now result.literal }
+    ensures { IsScanned (notation_of grammar) text.now result }
 {
     role_facts();
     let mut row = START;
     let mut counts = [0; 9];
-    let mut literal = 0;
+    let mut literal = None;
     let mut index = 0;
     while index < text.len() {
         let Some(next) = step_by(grammar, tables, row, text[index]) else {
             return Scanned {
                 valid_up_to: index,
                 row,
-                counts,
-                is_literal: false,
                 literal,
+                counts,
             };
         };
         row = next.row;
         counts[piece_number(next.piece)] += 1;
-        if fronts && is_complete_by(grammar, tables, row) {
-            literal = index + 1;
+        if is_complete_by(grammar, tables, row) {
+            literal = Some(index + 1);
         }
         index += 1;
     }
     Scanned {
-        valid_up_to: text.len(),
+        valid_up_to: index,
         row,
-        counts,
-        is_literal: is_complete_by(grammar, tables, row),
         literal,
+        counts,
     }
 }
 

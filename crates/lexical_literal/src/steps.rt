@@ -65,14 +65,6 @@ pub(crate) struct Summary {
     pub(crate) ended: bool, // Whether the suffix has been read.
 }
 
-// A number with a suffix, behind which nothing follows.
-pub(crate) const FINISHED: Summary = Summary {
-    part: Part::Exponent,
-    stage: Stage::Digits,
-    gap: false,
-    ended: true,
-};
-
 // What one byte makes of what has been read.
 #[derive(Clone, Copy)]
 pub(crate) struct Move {
@@ -319,33 +311,31 @@ const fn takes(grammar: Grammar, read: Summary, plus: bool, role: Role) -> bool
 const fn after(read: Summary, zero: bool, role: Role) -> Summary
     ensures { result ≡ after read zero role }
 {
-    let Summary {
-        part,
-        gap,
-        ended,
-        ..
-    } = read;
+    let part = read.part;
     let (part, stage) = match (role, read.stage) {
-        (Role::Digit, Stage::Start | Stage::Empty) if zero && gap => (part, Stage::Zero),
+        (Role::Digit, Stage::Start | Stage::Empty) if zero && read.gap => (part, Stage::Zero),
         (Role::Digit, Stage::Start | Stage::Empty) if zero => (part, Stage::Bare),
         (Role::Digit, Stage::Bare | Stage::Zero | Stage::Led) => (part, Stage::Led),
         (Role::Digit, _) => (part, Stage::Digits),
         (Role::Separator | Role::Sign, Stage::Start) => (part, Stage::Empty),
         (Role::Separator | Role::Sign, Stage::Mark) => (part, Stage::Free),
         (Role::Separator | Role::Sign, Stage::Bare) => (part, Stage::Zero),
-        (Role::Separator | Role::Sign, stage) => (part, stage),
+        (Role::Separator | Role::Sign | Role::Suffix, stage) => (part, stage),
         (Role::Prefix, _) => (part, Stage::Free),
         (Role::Point, stage) if has_digit(stage) => (Part::Fraction, Stage::Free),
         (Role::Point, _) => (Part::Fraction, Stage::Lone),
         (Role::Exponent, _) => (Part::Exponent, Stage::Mark),
-        (Role::Suffix, _) => return FINISHED,
     };
-    let gap = matches!(role, Role::Separator) || (matches!(role, Role::Sign) && gap);
+    let gap = match role {
+        Role::Separator => true,
+        Role::Sign | Role::Suffix => read.gap,
+        _ => false,
+    };
     Summary {
         part,
         stage,
         gap,
-        ended,
+        ended: read.ended || matches!(role, Role::Suffix),
     }
 }
 

@@ -103,15 +103,14 @@ impl Reader {
     }
 }
 
-// The length of the longest front that some literal begins with, its row, the lengths of its parts, and whether the whole
-// text is a literal; if they are looked for, also the length of the longest front that is a literal, or 0 if none is.
+// The length of the longest front of a text that some literal begins with, its row, the length of the longest front that is
+// a literal, and the lengths of the parts of what has been read.
 #[derive(Clone, Copy)]
 struct Scanned {
     valid_up_to: usize,
     row: u8,
+    literal: Option<usize>,
     counts: [usize; 9],
-    is_literal: bool,
-    literal: usize,
 }
 
 // Returns the parts of the literal `text`, or how far it is right.
@@ -121,12 +120,10 @@ const fn read<'a>(
     tables: Option<&Tables>,
     text: &'a [u8],
 ) -> Result<Parts<'a>, ReadError> {
-    let scanned = scan(grammar, tables, text, false);
-    if scanned.is_literal {
-        Ok(cut(text, scanned.counts))
-    } else {
-        let read = summary_at(scanned.row);
-        Err(refusal(grammar, text, scanned.valid_up_to, read))
+    let scanned = scan(grammar, tables, text);
+    match scanned.literal {
+        Some(size) if size == text.len() => Ok(cut(text, scanned.counts)),
+        _ => Err(refuse(grammar, text, scanned)),
     }
 }
 
@@ -137,25 +134,43 @@ const fn read_prefix<'a>(
     tables: Option<&Tables>,
     text: &'a [u8],
 ) -> Result<Front<'a>, ReadError> {
-    let fronts = scan(grammar, tables, text, true);
-    if fronts.literal == 0 {
-        let read = summary_at(fronts.row);
-        Err(refusal(grammar, text, fronts.valid_up_to, read))
-    } else {
-        let (front, _) = split_front(text, fronts.literal);
-        Ok(Front {
-            parts: cut(front, scan(grammar, tables, front, false).counts),
-            size: fronts.literal,
-        })
+    let scanned = scan(grammar, tables, text);
+    let Some(size) = scanned.literal else {
+        return Err(refuse(grammar, text, scanned));
+    };
+    let front = front_of(text, size);
+    if size == scanned.valid_up_to {
+        return Ok(Front {
+            parts: cut(front, scanned.counts),
+            size,
+        });
+    }
+    match read(grammar, tables, front) {
+        Ok(parts) => Ok(Front { parts, size }),
+        Err(error) => Err(error),
     }
 }
 
+// Returns why `text` is not a literal.
+const fn refuse(grammar: Grammar, text: &[u8], scanned: Scanned) -> ReadError {
+    let read = summary_at(scanned.row);
+    refusal(grammar, text, scanned.valid_up_to, read)
+}
+
+// Returns the first `size` bytes.
+#[inline(always)]
+const fn front_of<'a>(text: &'a [u8], size: usize) -> &'a [u8] {
+    text.split_at(size).0
+}
+
 // Splits off the first `size` bytes.
+#[inline(always)]
 const fn split_front<'a>(text: &'a [u8], size: usize) -> (&'a [u8], &'a [u8]) {
     text.split_at(size)
 }
 
 // Splits `text` into parts with the lengths `counts`. The zero of a prefix is counted as a digit of the integer.
+#[inline(always)]
 const fn cut<'a>(text: &'a [u8], counts: [usize; 9]) -> Parts<'a> {
     let (sign, after_sign) = split_front(text, counts[0]);
     let (prefix, after_prefix) = split_front(after_sign, counts[1] + counts[1]);
@@ -178,36 +193,34 @@ const fn cut<'a>(text: &'a [u8], counts: [usize; 9]) -> Parts<'a> {
     }
 }
 
-// Reads `text` until no literal begins with what has been read, and looks for fronts that are literals if `fronts` is true.
+// Reads `text` until no literal begins with what has been read.
 #[inline(always)]
-const fn scan(grammar: Grammar, tables: Option<&Tables>, text: &[u8], fronts: bool) -> Scanned {
+const fn scan(grammar: Grammar, tables: Option<&Tables>, text: &[u8]) -> Scanned {
     let mut row = START;
     let mut counts = [0; 9];
-    let mut literal = 0;
+    let mut literal = None;
     let mut index = 0;
     while index < text.len() {
         let Some(next) = step_by(grammar, tables, row, text[index]) else {
             return Scanned {
                 valid_up_to: index,
                 row,
-                counts,
-                is_literal: false,
                 literal,
+                counts,
             };
         };
         row = next.row;
         counts[piece_number(next.piece)] += 1;
-        if fronts && is_complete_by(grammar, tables, row) {
-            literal = index + 1;
+        if is_complete_by(grammar, tables, row) {
+            literal = Some(index + 1);
         }
         index += 1;
     }
     Scanned {
-        valid_up_to: text.len(),
+        valid_up_to: index,
         row,
-        counts,
-        is_literal: is_complete_by(grammar, tables, row),
         literal,
+        counts,
     }
 }
 

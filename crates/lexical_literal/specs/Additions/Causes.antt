@@ -1,14 +1,17 @@
 -- What decides the cause of a refusal, computed from what has been read.
-use Rattle.std.specs.Prelude.{ℕ, ◌≡◌, ◌<◌, ◌==◌, ◌&&◌, ◌||◌, ◌↔◌, IsTrue, List, not, Bool, true, false, Option, Some, None, is_some}
+use Rattle.std.specs.Prelude.{ℕ, ◌≡◌, ◌<◌, ◌==◌, ◌&&◌, ◌||◌, ◌↔◌, IsTrue, List, not, if◌then◌else◌, Bool, true, false, Option, Some, None, is_some}
 use Rattle.lexical_util.specs.Ascii.{ByteSet}
-use Rattle.lexical_util.specs.Layout.{Flag, bit, part}
+use Rattle.lexical_util.specs.Layout.{Flag, bit, part, separators_in}
 use Rattle.lexical_util.specs.declared.format_flags.Part.TheVariants as parts
-use Rattle.lexical_literal.specs.Cause.{Allows, is_mark, is_one_of, requirement_flags, with_flags}
+use Rattle.lexical_literal.specs.Cause.{Allows, is_mark, is_one_of, last_part, requirement_flags, with_flags}
 use Rattle.lexical_literal.specs.Notation.{Notation}
-use Rattle.lexical_literal.specs.Additions.Summary.{class_of, is_complete, step}
+use Rattle.lexical_literal.specs.Additions.Summary.{class_of, has_digit, is_complete, step}
 use Rattle.lexical_literal.specs.declared.cause.Kind.{Kind}
 use Rattle.lexical_literal.specs.declared.cause.Kind.TheVariants as kinds
+use Rattle.lexical_literal.specs.declared.cause.Place.{Place}
+use Rattle.lexical_literal.specs.declared.cause.Place.TheVariants as places
 use Rattle.lexical_literal.specs.declared.steps.Class.{Class}
+use Rattle.lexical_literal.specs.declared.steps.Class.TheVariants as classes
 use Rattle.lexical_literal.specs.declared.steps.Summary.{Summary}
 
 -- `allows m s next` is true if a byte of the class `next` may follow, or if a literal has been read, where `next` is `None`.
@@ -51,3 +54,19 @@ Decides m s class front next = (A : Flag → Bool) → IsWeaker m A → (allows 
 abbrev pub class_of_next : Notation → Option ℕ → Option Class
 class_of_next m None = None
 class_of_next m (Some byte) = Some (class_of m byte)
+
+-- `place_by digit` is after a digit if `digit` is true, and before digits otherwise.
+abbrev pub place_by : Bool → Place
+place_by digit = if digit then places.AfterDigit else places.BeforeDigits
+
+-- `IsReadOf m s front` holds if what is allowed after `s` is what is allowed after `front`, and if `s` is in the part that
+-- `front` ends in, unless a suffix has been read.
+pub record IsReadOf (m : Notation) (s : Summary) (front : List ℕ) : Type 0 where
+  pub decides : (next : Option ℕ) → Decides m s (class_of_next m next) front next
+  pub part : s.ended ≡ false → s.part ≡ last_part m front
+
+-- `place_of m s next` is where `m` does not allow a separator after `s`, before a byte of the class `next`.
+abbrev pub place_of : Notation → Summary → Option Class → Place
+place_of m s (Some classes.Separator) =
+    if s.gap && not (m.flag (separators_in s.part).consecutive) then places.Consecutive else place_by (has_digit s.stage)
+place_of m s next = place_by (has_digit s.stage)

@@ -45,8 +45,7 @@ role_of classes.Plus = Some roles.Sign
 role_of classes.Minus = Some roles.Sign
 role_of _ = Some roles.Digit
 
--- `in_part part class` is the role of a byte of `class` after a front that ends in `part`, where digits are those of the
--- radix of `part`.
+-- `in_part part class` is the role of a byte of `class` after a front that ends in `part`, where digits are those of the radix of `part`.
 abbrev pub in_part : Part → Class → Option Role
 in_part part classes.Other = None
 in_part parts.Exponent classes.MantissaDigit = None
@@ -103,9 +102,7 @@ needs_exponent m = m.flag layout.required_exponent_notation && not m.integers_on
 
 -- `may_lead m` is true if some literal has a leading zero.
 abbrev pub may_lead : Notation → Bool
-may_lead m =
-    (not m.integers_only && not (m.flag layout.no_float_leading_zeros))
-    || (not (m.flag layout.no_integer_leading_zeros) && not (needs_exponent m))
+may_lead m = (not m.integers_only && not (m.flag layout.no_float_leading_zeros)) || (not (m.flag layout.no_integer_leading_zeros) && not (needs_exponent m))
 
 -- `may_follow m stage` is true if another digit may follow.
 abbrev pub may_follow : Notation → Stage → Bool
@@ -129,8 +126,8 @@ after_mark stages.Mark = stages.Free
 after_mark stages.Bare = stages.Zero
 after_mark stage = stage
 
--- `gap_fits m part digit gap next` is true if there is no gap, or if a separator may be where it is: after a digit of `part`
--- if `digit` is true, and before one if `next` is true.
+-- `gap_fits m part digit gap next` is true if there is no gap, or if a separator may be where it is: after a digit of `part` if `digit` is true, and before one
+-- if `next` is true.
 abbrev pub gap_fits : Notation → Part → Bool → Bool → Bool → Bool
 gap_fits m part digit gap next = not gap || is_place m part digit next
 
@@ -138,8 +135,8 @@ gap_fits m part digit gap next = not gap || is_place m part digit next
 abbrev pub is_open : Notation → Part → Bool → Bool → Bool
 is_open m part digit next = (is_place m part digit true && next) || is_place m part digit false
 
--- `needs_sign m part` is true if a sign is required before the digits of `part`, and `forbids_plus m part` if it must not be
--- a plus sign. No sign may be before a fraction.
+-- `needs_sign m part` is true if a sign is required before the digits of `part`, and `forbids_plus m part` if it must not be a plus sign. No sign may be before
+-- a fraction.
 abbrev pub needs_sign : Notation → Part → Bool
 needs_sign m parts.Exponent = m.flag layout.required_exponent_sign
 needs_sign m _ = m.flag layout.required_mantissa_sign
@@ -163,8 +160,7 @@ digits_suffice m parts.Exponent stage = implies (m.flag layout.required_exponent
 abbrev pub may_float : Notation → Stage → Bool
 may_float m stage = implies (m.flag layout.no_float_leading_zeros) (not (is_led stage))
 
--- `continues m part stage role` is true if a byte with the role `role` may follow `part`. A literal may stop where the suffix
--- may follow.
+-- `continues m part stage role` is true if a byte with the role `role` may follow `part`. A literal may stop where the suffix may follow.
 abbrev pub continues : Notation → Part → Stage → Role → Bool
 continues m parts.Integer stage roles.Point = may_float m stage
 continues m parts.Integer stage roles.Exponent =
@@ -185,8 +181,7 @@ ends m s = is_signed m s.part s.stage && (gap_fits m s.part (has_digit s.stage) 
 abbrev pub is_complete : Notation → Summary → Bool
 is_complete m s = s.ended || (ends m s && continues m s.part s.stage roles.Suffix)
 
--- `takes m s plus role` is true if some literal goes on with a byte that has the role `role`, and is a plus sign if `plus`
--- is true.
+-- `takes m s plus role` is true if some literal goes on with a byte that has the role `role`, and is a plus sign if `plus` is true.
 abbrev pub takes : Notation → Summary → Bool → Role → Bool
 takes m s plus roles.Digit = is_signed m s.part s.stage && (gap_fits m s.part (has_digit s.stage) s.gap true && may_follow m s.stage)
 takes m s plus roles.Separator = is_signed m s.part s.stage && ((not s.gap || m.flag (separators_in s.part).consecutive)
@@ -199,10 +194,6 @@ takes m s plus role = ends m s && continues m s.part s.stage role
 abbrev pub after_point : Bool → Stage
 after_point digit = if digit then stages.Free else stages.Lone
 
--- `finished` is the summary of a number with a suffix, behind which nothing follows.
-abbrev pub finished : Summary
-finished = record { part = parts.Exponent; stage = stages.Digits; gap = false; ended = true }
-
 -- `after s zero role` is the summary after a byte that has the role `role`, and is the digit 0 if `zero` is true.
 abbrev pub after : Summary → Bool → Role → Summary
 after s zero roles.Digit = record s { stage = after_digit s.stage s.gap zero; gap = false }
@@ -211,7 +202,7 @@ after s zero roles.Sign = record s { stage = after_mark s.stage }
 after s zero roles.Prefix = record s { stage = stages.Free; gap = false }
 after s zero roles.Point = record s { part = parts.Fraction; stage = after_point (has_digit s.stage); gap = false }
 after s zero roles.Exponent = record s { part = parts.Exponent; stage = stages.Mark; gap = false }
-after s zero roles.Suffix = finished
+after s zero roles.Suffix = record s { ended = true }
 
 -- `move m s plus zero role` is the summary after a byte with this role, or `None` if no literal begins so.
 abbrev pub move : Notation → Summary → Bool → Bool → Option Role → Option Summary
@@ -239,8 +230,7 @@ piece_of part roles.Point = pieces.Point
 piece_of part roles.Exponent = pieces.ExponentCharacter
 piece_of part roles.Suffix = pieces.Suffix
 
--- `Cuts` has the number of bytes of each piece that has been read. The zero of a prefix counts as a digit of the integer,
--- and the suffix does not count.
+-- `Cuts` has the number of bytes of each piece that has been read. The zero of a prefix counts as a digit of the integer, and the suffix does not count.
 pub record Cuts : Type 0 where
   pub sign : ℕ
   pub prefix : ℕ

@@ -1,6 +1,6 @@
 //! Special values: signs, letter case, and separators, also one that is a letter of a spelling.
 
-use lexical_literal::specials::{Sign, Specials, Spelling};
+use lexical_literal::specials::{Sign, Special, Specials, Spelling};
 use lexical_literal::syntax::Syntax;
 
 const PLUS: Option<Sign> = Some(Sign::Plus);
@@ -29,13 +29,15 @@ const CASED_I: u128 = 0x00000A00_00000069_00001000_0000080C;
 
 const LETTER_N: u128 = 0x00000A00_0000006E_00001000_0000000C;
 
+const RADIX_36: u128 = 0x00002400_00000000_00000000_0000000C;
+
 // A word, a text, and the special value that the text is, if any.
 #[rattlefmt::skip]
-const ROWS: [(u128, &str, Option<(Option<Sign>, Spelling)>); 46] = [
-    (DECIMAL, "NaN", Some((None, Spelling::Nan))),
-    (DECIMAL, "nan", Some((None, Spelling::Nan))),
-    (DECIMAL, "+inf", Some((PLUS, Spelling::Inf))),
-    (DECIMAL, "-INFINITY", Some((MINUS, Spelling::Infinity))),
+const ROWS: [(u128, &str, Option<Special>); 46] = [
+    (DECIMAL, "NaN", Some(Special { sign: None, spelling: Spelling::Nan })),
+    (DECIMAL, "nan", Some(Special { sign: None, spelling: Spelling::Nan })),
+    (DECIMAL, "+inf", Some(Special { sign: PLUS, spelling: Spelling::Inf })),
+    (DECIMAL, "-INFINITY", Some(Special { sign: MINUS, spelling: Spelling::Infinity })),
     (DECIMAL, "infi", None),
     (DECIMAL, "na", None),
     (DECIMAL, "", None),
@@ -43,41 +45,41 @@ const ROWS: [(u128, &str, Option<(Option<Sign>, Spelling)>); 46] = [
     (DECIMAL, "+-inf", None),
     (DECIMAL, "N__a_N_", None),
     (NO_PLUS, "+nan", None),
-    (NO_PLUS, "-nan", Some((MINUS, Spelling::Nan))),
-    (NO_PLUS, "nan", Some((None, Spelling::Nan))),
+    (NO_PLUS, "-nan", Some(Special { sign: MINUS, spelling: Spelling::Nan })),
+    (NO_PLUS, "nan", Some(Special { sign: None, spelling: Spelling::Nan })),
     (SIGNED, "nan", None),
-    (SIGNED, "+nan", Some((PLUS, Spelling::Nan))),
+    (SIGNED, "+nan", Some(Special { sign: PLUS, spelling: Spelling::Nan })),
     (NO_SPECIAL, "NaN", None),
     (NO_SPECIAL, "inf", None),
-    (CASED, "NaN", Some((None, Spelling::Nan))),
+    (CASED, "NaN", Some(Special { sign: None, spelling: Spelling::Nan })),
     (CASED, "nan", None),
     (IN_INTEGERS, "N_aN", None),
-    (UNDERSCORE, "N__a_N_", Some((None, Spelling::Nan))),
-    (UNDERSCORE, "+__inf", Some((PLUS, Spelling::Inf))),
+    (UNDERSCORE, "N__a_N_", Some(Special { sign: None, spelling: Spelling::Nan })),
+    (UNDERSCORE, "+__inf", Some(Special { sign: PLUS, spelling: Spelling::Inf })),
     (UNDERSCORE, "_+inf", None),
     (UNDERSCORE, "___", None),
-    (LETTER_I, "inf", Some((None, Spelling::Inf))),
-    (LETTER_I, "INF", Some((None, Spelling::Inf))),
-    (LETTER_I, "iNF", Some((None, Spelling::Inf))),
-    (LETTER_I, "iinf", Some((None, Spelling::Inf))),
-    (LETTER_I, "iINF", Some((None, Spelling::Inf))),
-    (LETTER_I, "iINiFi", Some((None, Spelling::Inf))),
+    (LETTER_I, "inf", Some(Special { sign: None, spelling: Spelling::Inf })),
+    (LETTER_I, "INF", Some(Special { sign: None, spelling: Spelling::Inf })),
+    (LETTER_I, "iNF", Some(Special { sign: None, spelling: Spelling::Inf })),
+    (LETTER_I, "iinf", Some(Special { sign: None, spelling: Spelling::Inf })),
+    (LETTER_I, "iINF", Some(Special { sign: None, spelling: Spelling::Inf })),
+    (LETTER_I, "iINiFi", Some(Special { sign: None, spelling: Spelling::Inf })),
     (LETTER_I, "IINF", None),
     (LETTER_I, "nf", None),
-    (LETTER_I, "iNfiiInItiy", Some((None, Spelling::Infinity))),
+    (LETTER_I, "iNfiiInItiy", Some(Special { sign: None, spelling: Spelling::Infinity })),
     (LETTER_I, "infnity", None),
-    (CASED_I, "iinf", Some((None, Spelling::Inf))),
+    (CASED_I, "iinf", Some(Special { sign: None, spelling: Spelling::Inf })),
     (CASED_I, "iNF", None),
-    (LETTER_N, "nan", Some((None, Spelling::Nan))),
-    (LETTER_N, "nNaN", Some((None, Spelling::Nan))),
-    (LETTER_N, "nannN", Some((None, Spelling::Nan))),
+    (LETTER_N, "nan", Some(Special { sign: None, spelling: Spelling::Nan })),
+    (LETTER_N, "nNaN", Some(Special { sign: None, spelling: Spelling::Nan })),
+    (LETTER_N, "nannN", Some(Special { sign: None, spelling: Spelling::Nan })),
     (LETTER_N, "NNan", None),
     (LETTER_N, "a", None),
     (LETTER_N, "inFnN", None),
-    (LETTER_N, "iNnfn", Some((None, Spelling::Inf))),
-    (LETTER_N, "inf", Some((None, Spelling::Inf))),
+    (LETTER_N, "iNnfn", Some(Special { sign: None, spelling: Spelling::Inf })),
+    (LETTER_N, "inf", Some(Special { sign: None, spelling: Spelling::Inf })),
     (LETTER_N, "if", None),
-    (0x00002400_00000000_00000000_0000000C, "inf", Some((None, Spelling::Inf))),
+    (RADIX_36, "inf", Some(Special { sign: None, spelling: Spelling::Inf })),
 ];
 
 #[test]
@@ -92,8 +94,7 @@ fn a_special_value_is_a_sign_and_a_spelling(rt: HostRuntime) {
             assert!(rt; false, "{word:#034X}");
             return;
         };
-        let found = specials.read(&syntax, text.as_bytes());
-        assert!(rt; found.map(|found| (found.sign, found.spelling)) == *want, "{text}");
+        assert!(rt; specials.read(&syntax, text.as_bytes()) == *want, "{text}");
     }
 }
 
@@ -108,9 +109,15 @@ fn the_first_spelling_that_is_not_empty_matches(rt: HostRuntime) {
         inf: Some(b""),
         infinity: Some(b"+oo"),
     };
+    let mut want = Special {
+        sign: None,
+        spelling: Spelling::Infinity,
+    };
     assert!(rt; specials.read(&syntax, b"").is_none());
-    assert!(rt; specials.read(&syntax, b"+oo").is_some_and(|found| found.sign.is_none()));
-    assert!(rt; specials.read(&syntax, b"++oo").is_some_and(|found| found.sign == PLUS));
+    assert!(rt; specials.read(&syntax, b"+oo") == Some(want));
+    want.sign = PLUS;
+    assert!(rt; specials.read(&syntax, b"++oo") == Some(want));
     specials.inf = Some(b"+oo");
-    assert!(rt; specials.read(&syntax, b"+oo").is_some_and(|found| found.spelling == Spelling::Inf));
+    want.spelling = Spelling::Inf;
+    assert!(rt; specials.read(&syntax, b"++oo") == Some(want));
 }

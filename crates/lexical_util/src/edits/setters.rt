@@ -1,13 +1,13 @@
 //! Setters and their calls as values.
 
-ghost use Rattle.std.specs.Prelude.{◌≡◌, ◌↔◌, Bool, IfSome, IsSome, min, if◌then◌else◌};
+ghost use Rattle.std.specs.Prelude.{◌≡◌, ◌↔◌, Bool, MatchOption, min, if◌then◌else◌};
 ghost use Rattle.lexical_flags.specs.Record.{raw};
 ghost use Rattle.lexical_builder.specs.Writes.{flags_with};
 ghost use Rattle.lexical_util.specs.Edits.{flags_of, writes_of};
 ghost use Rattle.lexical_util.specs.Groups.{any_flag};
 ghost use Rattle.lexical_util.specs.Additions.EditMasks.{argument_byte, mask_of_setter, mask_of_edit};
 ghost use Rattle.lexical_util.specs.Additions.FieldEdits.{field_edits};
-ghost use Rattle.lexical_util.specs.Additions.Settings.{name_of, setter_of, kind_of, takes_flag};
+ghost use Rattle.lexical_util.specs.Additions.Settings.{name_of, setter_of, kind_of, takes_flag, IsNoName};
 ghost use Rattle.lexical_util.specs.declared.edits.setters.Edit.TheVariants as edits;
 
 use crate::feature_format::NumberFormat;
@@ -306,8 +306,7 @@ impl FlagSetter {
 // Returns a setter with the given name, or `None` if there is none.
 #[tactic(auto, unfolding(crate::specs::Additions::Settings::name_of))]
 fn named(name: &str) -> Option<Setter>
-    ensures name { IfSome result (λ setter. name_of setter ≡ name.now) }
-    ensures found { (setter : Setter) → name_of setter ≡ name.now → IsSome result }
+    ensures { MatchOption result (IsNoName name.now) (λ setter. name.now ≡ name_of setter) }
 {
     macro_rules! setters {
         (($name:ident)

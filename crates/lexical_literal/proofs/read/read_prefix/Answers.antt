@@ -1,56 +1,43 @@
 -- The longest front that is a literal, and its parts.
-use Rattle.std.proofs.Common.{◌≡◌, ◌<◌, take, drop, take-append-drop, inl, inr, refl, sym, subst, arith, ◌∙◌}
-use Rattle.std.proofs.lemmas.Bool.{cases_lt, false≢true}
-use Rattle.std.proofs.lemmas.List.{length-take-le}
-use Rattle.lexical_literal.specs.Front.{IsValidUpTo, NoLiteral}
+use Rattle.std.proofs.Common.{take, sym, subst, ◌∙◌}
 use Rattle.lexical_literal.specs.Literal.{Reads}
 use Rattle.lexical_literal.specs.Notation.{notation_of}
+use Rattle.lexical_literal.specs.Parts.{literal_of}
+use Rattle.lexical_literal.proofs.LongestLemmas.{right_front, prefix_read}
 use Rattle.lexical_literal.proofs.read.read_prefix.Goals as goal
 
-pub split_front-requires : goal.split_front-requires
-split_front-requires c =
-    let end = c.scan-fronts.result.literal in
-    let text = c.args.text.now in
-    (take end text, drop end text, sym (take-append-drop end text), length-take-le end text (c.scan-fronts.ensures.longest refl).within)
+pub front_of-front-requires : goal.front_of-front-requires
+front_of-front-requires c = (c.scan-scanned.ensures.longest.found c.in-Some.size c.in-Some.is).0
 
 pub cut-requires : goal.cut-requires
 cut-requires c =
-    let end = c.scan-fronts.result.literal in
-    let text = c.args.text.now in
-    let longest = c.scan-fronts.ensures.longest refl in
-    let some : 0 < end = omega arith in
-    let found = longest.found some in
-    let is = (c.split_front.ensures (take end text) (drop end text) (sym (take-append-drop end text)) (length-take-le end text longest.within)).0 in
-    let whole = is ∙ found.1.whole in
-    (found.0, whole, (c.scan.ensures.counted found.0 (record { whole = whole; literal = found.1.literal })).1)
+    let found = right_front _ _ _ c.scan-scanned.ensures c.in-Some.size c.in-Some.is c.if-size-scanned.true in
+    (found.0, c.front_of-front.ensures ∙ found.1.whole, found.2)
 
-pub returns-then-fronts-eq0 : goal.returns-then-fronts-eq0
-returns-then-fronts-eq0 c = record {
+pub returns-then-size-scanned : goal.returns-then-size-scanned
+returns-then-size-scanned c =
+    let is = c.scan-scanned.ensures in
+    let found = right_front _ _ _ is c.in-Some.size c.in-Some.is c.if-size-scanned.true in
+    prefix_read _ _ _ is c.in-Some.size c.in-Some.is c.cut.result
+    (subst (λ l. Reads (notation_of c.args.grammar) l (take c.in-Some.size c.args.text.now))
+    (sym (c.cut.ensures found.0 (c.front_of-front.ensures ∙ found.1.whole) found.2)) found.1)
+
+pub returns-in-Ok : goal.returns-in-Ok
+returns-in-Ok c =
+    prefix_read _ _ _ c.scan-scanned.ensures c.in-Some.size c.in-Some.is c.in-Ok.parts
+    (subst (Reads (notation_of c.args.grammar) (literal_of c.in-Ok.parts)) c.front_of-front.ensures c.in-Ok.ensures.found)
+
+pub returns-in-Err : goal.returns-in-Err
+returns-in-Err c =
+    let found = c.scan-scanned.ensures.longest.found c.in-Some.size c.in-Some.is in
+    absurd (c.in-Err.ensures.only found.1 (subst (Reads (notation_of c.args.grammar) found.1) (sym c.front_of-front.ensures) found.2))
+
+pub refuse-requires-clause-refused : goal.refuse-requires-clause-refused
+refuse-requires-clause-refused c whole = c.in_default.not-Some _ whole
+
+pub returns-in_default : goal.returns-in_default
+returns-in_default c = record {
   found = tt;
-  none = λ err size below. elim (cases_lt c.scan-fronts.result.literal size) [
-    | inl past ↦ (c.scan-fronts.ensures.longest refl).no_longer size past below
-    | inr none ↦ let zero : 0 ≡ size = omega arith in
-        subst (λ n. NoLiteral (notation_of c.args.grammar) (take n c.args.text.now)) zero (c.scan-fronts.ensures.longest refl).not_empty
-  ];
-  error = subst (IsValidUpTo (notation_of c.args.grammar) c.args.text.now) (sym c.refusal.ensures) c.scan-fronts.ensures.error;
+  none = λ err size below. c.scan-scanned.ensures.longest.no_longer size below (λ other same. absurd (c.in_default.not-Some other same));
+  error = c.refuse.ensures;
 }
-
-pub returns-else-fronts-eq0 : goal.returns-else-fronts-eq0
-returns-else-fronts-eq0 c =
-    let end = c.scan-fronts.result.literal in
-    let text = c.args.text.now in
-    let longest = c.scan-fronts.ensures.longest refl in
-    let some : 0 < end = omega arith in
-    let found = longest.found some in
-    let is = (c.split_front.ensures (take end text) (drop end text) (sym (take-append-drop end text)) (length-take-le end text longest.within)).0 in
-    let whole = is ∙ found.1.whole in
-    record {
-      found = record {
-        within = longest.within;
-        reads = subst (λ l. Reads (notation_of c.args.grammar) l (take end text))
-            (sym (c.cut.ensures found.0 whole (c.scan.ensures.counted found.0 (record { whole = whole; literal = found.1.literal })).1)) found.1;
-        no_longer = longest.no_longer;
-      };
-      none = λ err. absurd (false≢true err);
-      error = tt;
-    }

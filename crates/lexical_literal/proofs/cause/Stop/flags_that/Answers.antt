@@ -1,9 +1,10 @@
 -- Each bit has been tested.
-use Rattle.std.proofs.Common.{◌≡◌, ◌^◌, ◌&&◌, ◌||◌, ◌==◌, Bool, true, false, bit_or, ap, ◌∙◌, arith}
+use Rattle.std.proofs.Common.{◌≡◌, ◌^◌, ◌&&◌, ◌||◌, ◌==◌, Bool, true, false, bit_and, bit_or, ap, ◌∙◌, arith}
 use Rattle.lexical_util.specs.Layout.{bit}
 use Rattle.lexical_util.specs.Record.{raw}
+use Rattle.std.proofs.lemmas.Bool.{eq-eqb, or_right}
 use Rattle.lexical_literal.specs.Notation.{notation_of}
-use Rattle.lexical_literal.proofs.CauseLemmas.{flag_or, flag_pow, shifted, as_tested, as_unset, tried_more}
+use Rattle.lexical_literal.proofs.CauseLemmas.{flag_or, flag_pow, shifted, is_set, as_tested, as_unset, tried_more}
 use Rattle.lexical_literal.proofs.cause.Stop.flags_that.Goals as goal
 use Rattle.lexical_literal.proofs.cause.Stop.flags_that.Goals.{then-candidates-flag-ne0+then-allows-allow, else-candidates-flag-ne0, else-candidates-flag-ne0-via-then-candidates-flag-ne0+else-allows-allow, else-candidates-flag-ne0-via-else-candidates-flag-ne0}
 
@@ -37,5 +38,16 @@ loop-bit-preserved c =
             ])
             (c.loop-bit.invariant.each f)
             (ap (λ n. (raw n).flag f) w.found-is ∙ none_added ((raw found).flag f) (bit f == k))
+      ];
+      some = λ some. elim c.if-candidates-flag-ne0.branch [
+        | then-candidates-flag-ne0+then-allows-allow w ↦
+            let owner = c.requires.flags k (is_set c.args.candidates k (λ none. w.if-candidates-flag-ne0.true (ap (bit_and c.args.candidates) (shifted k small) ∙ none))) in (
+              owner.0,
+              ap (λ n. (raw n).flag owner.0) (w.found-is ∙ ap (bit_or found) (shifted k small)) ∙ flag_or owner.0 found (2 ^ k)
+                  ∙ or_right ((raw found).flag owner.0) _ (flag_pow owner.0 k ∙ eq-eqb (bit owner.0) k owner.1),
+            )
+        | else-candidates-flag-ne0 w ↦
+            let before = c.loop-bit.invariant.some (λ none. some (w.found-is ∙ none)) in
+            (before.0, ap (λ n. (raw n).flag before.0) w.found-is ∙ before.1)
       ];
     }
