@@ -1,7 +1,11 @@
 -- Where a separator is not allowed.
-use Rattle.std.proofs.Common.{◌≡◌, Bool, true, false, not, ◌==◌, ◌&&◌, ◌||◌, if◌then◌else◌, Option, Some, None, inl, inr, refl, sym, ap, ◌∙◌, arith}
+use Rattle.std.proofs.Common.{◌≡◌, Bool, true, false, not, ◌==◌, ◌&&◌, ◌||◌, if◌then◌else◌, Option, Some, None, inl, inr, refl, sym, ap, ◌∙◌, arith, ℕ, ◌<◌, ◌≤◌, ◌+◌, ◌^◌}
 use Rattle.std.proofs.lemmas.Bool.{false≢true, and_from, and_parts, cases_Bool, eqb-true, false_from_ne_true, or_left, or_right}
+use Rattle.std.proofs.lemmas.Bool.Decides.{nat_tests}
 use Rattle.std.specs.Prelude.{is_some}
+use Rattle.lexical_util.specs.Record.{raw}
+use Rattle.lexical_literal.proofs.BlameLemmas.{mask_flag}
+use Rattle.lexical_literal.proofs.CauseLemmas.{flag_pow}
 use Rattle.lexical_util.specs.Layout as layout
 use Rattle.lexical_util.specs.Layout.{Flag, bit, separators_in}
 use Rattle.lexical_util.specs.declared.feature_format.roles.Role.{Role}
@@ -11,7 +15,7 @@ use Rattle.lexical_util.specs.declared.format_flags.Part.TheVariants as parts
 use Rattle.lexical_literal.specs.Notation.{Notation}
 use Rattle.lexical_literal.specs.Run.{is_place}
 use Rattle.lexical_literal.specs.Cause.{adding, bare, is_at, is_one_of, requirement_flags, separator_flags}
-use Rattle.lexical_literal.specs.Additions.Causes.{allows, place_by, place_of}
+use Rattle.lexical_literal.specs.Additions.Causes.{allows, mask_at, place_by, place_of}
 use Rattle.lexical_literal.specs.Additions.Summary.{implies, forbids_plus, has_digit, is_fresh, is_lone, is_led, may_follow, gap_fits, is_open, is_signed, digits_suffice, continues, takes, move, is_plus, is_zero, in_part, after}
 use Rattle.lexical_literal.specs.declared.cause.Place.{Place}
 use Rattle.lexical_literal.specs.declared.cause.Place.TheVariants as places
@@ -31,6 +35,41 @@ differ S A B F is none = grind arith
 
 differ_end : (S A B F C : Bool) → ((S && (A && F)) && C) ≡ true → ((S && (B && F)) && C) ≡ false → (A ≡ true) × (B ≡ false)
 differ_end S A B F C is none = grind arith
+
+-- The flags of a place allow separators, and are those of its mask.
+pub separates_at : (place : Place) (part : Part) (f : Flag) → is_at place part f ≡ true → is_one_of separator_flags f ≡ true
+separates_at places.BeforeDigits parts.Integer f is = grind (arith, nat_tests)
+separates_at _ _ f is = grind (arith, nat_tests)
+
+one_flag : (k n : ℕ) → (n == k) ≡ ((k == n) || false)
+one_flag k n = grind (arith, nat_tests)
+
+pub mask_is : (place : Place) (part : Part) (f : Flag) → (raw (mask_at place part)).flag f ≡ is_at place part f
+mask_is places.BeforeDigits part f = flag_pow f (bit (separators_in part).leading) ∙ one_flag (bit (separators_in part).leading) (bit f)
+mask_is places.Consecutive part f = flag_pow f (bit (separators_in part).consecutive) ∙ one_flag (bit (separators_in part).consecutive) (bit f)
+mask_is places.AfterDigit parts.Integer layout.required_integer_digits = refl
+mask_is places.AfterDigit parts.Integer _ = refl
+mask_is places.AfterDigit parts.Fraction layout.required_integer_digits = refl
+mask_is places.AfterDigit parts.Fraction _ = refl
+mask_is places.AfterDigit parts.Exponent layout.required_integer_digits = refl
+mask_is places.AfterDigit parts.Exponent _ = refl
+
+-- Each bit of the mask is a flag.
+pub mask_flags : (place : Place) (part : Part) (k : ℕ) → layout.part (mask_at place part) k 1 ≡ 1 → (f : Flag) × (bit f ≡ k)
+mask_flags places.BeforeDigits parts.Integer = mask_flag (2 ^ 35) (omega arith) refl
+mask_flags places.BeforeDigits parts.Fraction = mask_flag (2 ^ 36) (omega arith) refl
+mask_flags places.BeforeDigits parts.Exponent = mask_flag (2 ^ 37) (omega arith) refl
+mask_flags places.AfterDigit parts.Integer = mask_flag (2 ^ 32 + 2 ^ 38) (omega arith) refl
+mask_flags places.AfterDigit parts.Fraction = mask_flag (2 ^ 33 + 2 ^ 39) (omega arith) refl
+mask_flags places.AfterDigit parts.Exponent = mask_flag (2 ^ 34 + 2 ^ 40) (omega arith) refl
+mask_flags places.Consecutive parts.Integer = mask_flag (2 ^ 41) (omega arith) refl
+mask_flags places.Consecutive parts.Fraction = mask_flag (2 ^ 42) (omega arith) refl
+mask_flags places.Consecutive parts.Exponent = mask_flag (2 ^ 43) (omega arith) refl
+
+pub from_32 : (place : Place) (part : Part) (f : Flag) → is_at place part f ≡ true → (32 ≤ bit f) × (bit f < 44)
+from_32 place part f is = inside (separates_at place part f is) where
+  inside : is_one_of separator_flags f ≡ true → (32 ≤ bit f) × (bit f < 44)
+  inside is = grind (arith, nat_tests)
 
 module _ (m : Notation) (f : Flag) (separates : is_one_of separator_flags f ≡ true) where
   abbrev b : Notation
