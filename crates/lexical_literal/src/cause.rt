@@ -18,7 +18,7 @@ use crate::steps::{
 };
 use crate::syntax::Grammar;
 use lexical_util::error::Error;
-use lexical_util::format as flags;
+use lexical_util::format as bits;
 use lexical_util::format::Part;
 use lexical_util::laws::flags::role_facts;
 
@@ -112,16 +112,16 @@ impl ReadError {
 }
 
 // The flags that require something of the parts of a literal.
-const REQUIREMENTS: u128 = flags::REQUIRED_DIGITS
-    | flags::NO_POSITIVE_MANTISSA_SIGN
-    | flags::REQUIRED_MANTISSA_SIGN
-    | flags::NO_EXPONENT_NOTATION
-    | flags::NO_POSITIVE_EXPONENT_SIGN
-    | flags::REQUIRED_EXPONENT_SIGN
-    | flags::NO_EXPONENT_WITHOUT_FRACTION
-    | flags::NO_INTEGER_LEADING_ZEROS
-    | flags::NO_FLOAT_LEADING_ZEROS
-    | flags::REQUIRED_EXPONENT_NOTATION;
+const REQUIREMENTS: u128 = bits::REQUIRED_DIGITS
+    | bits::NO_POSITIVE_MANTISSA_SIGN
+    | bits::REQUIRED_MANTISSA_SIGN
+    | bits::NO_EXPONENT_NOTATION
+    | bits::NO_POSITIVE_EXPONENT_SIGN
+    | bits::REQUIRED_EXPONENT_SIGN
+    | bits::NO_EXPONENT_WITHOUT_FRACTION
+    | bits::NO_INTEGER_LEADING_ZEROS
+    | bits::NO_FLOAT_LEADING_ZEROS
+    | bits::REQUIRED_EXPONENT_NOTATION;
 
 // A cause, and the flags that are to blame.
 #[derive(Clone, Copy)]
@@ -212,7 +212,7 @@ impl Stop {
         ensures flags { (k : ℕ) → part result k 1 ≡ 1 → (f : Flag) × (bit f ≡ k) }
     {
         if needs_exponent(self.grammar) {
-            self.grammar.word & (REQUIREMENTS & !flags::NO_INTEGER_LEADING_ZEROS)
+            self.grammar.word & (REQUIREMENTS & !bits::NO_INTEGER_LEADING_ZEROS)
         } else {
             self.grammar.word & REQUIREMENTS
         }
@@ -327,21 +327,21 @@ const fn separators_at(place: Place, part: Part) -> u128
     ensures { result ≡ mask_at place part }
 {
     match (place, part) {
-        (Place::BeforeDigits, Part::Integer) => flags::INTEGER_LEADING_DIGIT_SEPARATOR,
-        (Place::BeforeDigits, Part::Fraction) => flags::FRACTION_LEADING_DIGIT_SEPARATOR,
-        (Place::BeforeDigits, Part::Exponent) => flags::EXPONENT_LEADING_DIGIT_SEPARATOR,
+        (Place::BeforeDigits, Part::Integer) => bits::INTEGER_LEADING_DIGIT_SEPARATOR,
+        (Place::BeforeDigits, Part::Fraction) => bits::FRACTION_LEADING_DIGIT_SEPARATOR,
+        (Place::BeforeDigits, Part::Exponent) => bits::EXPONENT_LEADING_DIGIT_SEPARATOR,
         (Place::AfterDigit, Part::Integer) => {
-            flags::INTEGER_INTERNAL_DIGIT_SEPARATOR | flags::INTEGER_TRAILING_DIGIT_SEPARATOR
+            bits::INTEGER_INTERNAL_DIGIT_SEPARATOR | bits::INTEGER_TRAILING_DIGIT_SEPARATOR
         }
         (Place::AfterDigit, Part::Fraction) => {
-            flags::FRACTION_INTERNAL_DIGIT_SEPARATOR | flags::FRACTION_TRAILING_DIGIT_SEPARATOR
+            bits::FRACTION_INTERNAL_DIGIT_SEPARATOR | bits::FRACTION_TRAILING_DIGIT_SEPARATOR
         }
         (Place::AfterDigit, Part::Exponent) => {
-            flags::EXPONENT_INTERNAL_DIGIT_SEPARATOR | flags::EXPONENT_TRAILING_DIGIT_SEPARATOR
+            bits::EXPONENT_INTERNAL_DIGIT_SEPARATOR | bits::EXPONENT_TRAILING_DIGIT_SEPARATOR
         }
-        (Place::Consecutive, Part::Integer) => flags::INTEGER_CONSECUTIVE_DIGIT_SEPARATOR,
-        (Place::Consecutive, Part::Fraction) => flags::FRACTION_CONSECUTIVE_DIGIT_SEPARATOR,
-        (Place::Consecutive, Part::Exponent) => flags::EXPONENT_CONSECUTIVE_DIGIT_SEPARATOR,
+        (Place::Consecutive, Part::Integer) => bits::INTEGER_CONSECUTIVE_DIGIT_SEPARATOR,
+        (Place::Consecutive, Part::Fraction) => bits::FRACTION_CONSECUTIVE_DIGIT_SEPARATOR,
+        (Place::Consecutive, Part::Exponent) => bits::EXPONENT_CONSECUTIVE_DIGIT_SEPARATOR,
     }
 }
 
@@ -359,13 +359,13 @@ const fn case_mask(grammar: Grammar, byte: u8) -> u128
 {
     flag_if(
         is_exponent_character(grammar, byte),
-        flags::CASE_SENSITIVE_EXPONENT,
+        bits::CASE_SENSITIVE_EXPONENT,
     ) | flag_if(
         grammar.view().is_base_prefix(byte),
-        flags::CASE_SENSITIVE_BASE_PREFIX,
+        bits::CASE_SENSITIVE_BASE_PREFIX,
     ) | flag_if(
         grammar.view().is_base_suffix(byte),
-        flags::CASE_SENSITIVE_BASE_SUFFIX,
+        bits::CASE_SENSITIVE_BASE_SUFFIX,
     )
 }
 

@@ -8,7 +8,7 @@ use crate::literal::steps::{
     Summary,
 };
 use crate::literal::syntax::Grammar;
-use crate::word as flags;
+use crate::word as bits;
 use crate::word::Part;
 
 /// Where a digit separator is.
@@ -91,22 +91,16 @@ impl ReadError {
 }
 
 // The flags that require something of the parts of a literal.
-const REQUIREMENTS: u128 = flags::REQUIRED_DIGITS
-    | flags::NO_POSITIVE_MANTISSA_SIGN
-    | flags::REQUIRED_MANTISSA_SIGN
-    | flags::NO_EXPONENT_NOTATION
-    | flags::NO_POSITIVE_EXPONENT_SIGN
-    | flags::REQUIRED_EXPONENT_SIGN
-    | flags::NO_EXPONENT_WITHOUT_FRACTION
-    | flags::NO_INTEGER_LEADING_ZEROS
-    | flags::NO_FLOAT_LEADING_ZEROS
-    | flags::REQUIRED_EXPONENT_NOTATION;
-
-// The flags that allow a digit separator in a number.
-const SEPARATORS: u128 = flags::INTERNAL_DIGIT_SEPARATOR
-    | flags::LEADING_DIGIT_SEPARATOR
-    | flags::TRAILING_DIGIT_SEPARATOR
-    | flags::CONSECUTIVE_DIGIT_SEPARATOR;
+const REQUIREMENTS: u128 = bits::REQUIRED_DIGITS
+    | bits::NO_POSITIVE_MANTISSA_SIGN
+    | bits::REQUIRED_MANTISSA_SIGN
+    | bits::NO_EXPONENT_NOTATION
+    | bits::NO_POSITIVE_EXPONENT_SIGN
+    | bits::REQUIRED_EXPONENT_SIGN
+    | bits::NO_EXPONENT_WITHOUT_FRACTION
+    | bits::NO_INTEGER_LEADING_ZEROS
+    | bits::NO_FLOAT_LEADING_ZEROS
+    | bits::REQUIRED_EXPONENT_NOTATION;
 
 // A cause, and the flags that are to blame.
 #[derive(Clone, Copy)]
@@ -136,11 +130,19 @@ impl Stop {
         }
     }
 
-    // Returns those of `candidates` that allow the text to go on, or do not, with the flags of `mask`.
-    const fn flags_that(self, allow: bool, candidates: u128, mask: u128) -> u128 {
+    // Returns those of `candidates`, from bit `first` to below bit `end`, that allow the text to go on, or do not, with the
+    // flags of `mask`.
+    const fn flags_that(
+        self,
+        allow: bool,
+        candidates: u128,
+        mask: u128,
+        first: u32,
+        end: u32,
+    ) -> u128 {
         let mut found = 0;
-        let mut bit: u32 = 0;
-        while bit < 44 {
+        let mut bit = first;
+        while bit < end {
             let flag = 1u128 << bit;
             if candidates & flag != 0 && self.allows(mask | flag) == allow {
                 found |= flag;
@@ -163,23 +165,23 @@ impl Stop {
         0
     }
 
-    // Returns the flags that are set and require something.
-    const fn binding(self) -> u128 {
-        if needs_exponent(self.grammar) {
-            self.grammar.word & (REQUIREMENTS & !flags::NO_INTEGER_LEADING_ZEROS)
-        } else {
-            self.grammar.word & REQUIREMENTS
-        }
-    }
-
     // Returns the flags without requirements.
     const fn bare(self) -> u128 {
         self.grammar.word & !REQUIREMENTS
     }
 
+    // Returns the flags that are set and require something.
+    const fn binding(self) -> u128 {
+        if needs_exponent(self.grammar) {
+            self.grammar.word & (REQUIREMENTS & !bits::NO_INTEGER_LEADING_ZEROS)
+        } else {
+            self.grammar.word & REQUIREMENTS
+        }
+    }
+
     // Returns the flags to blame for a requirement.
     const fn requirements(self) -> u128 {
-        let alone = self.flags_that(false, self.binding(), self.bare());
+        let alone = self.flags_that(false, self.binding(), self.bare(), 0, 15);
         if alone == 0 {
             self.lowest_without(self.grammar.word & REQUIREMENTS)
         } else {
@@ -189,29 +191,15 @@ impl Stop {
 
     // Returns the flags each of which would allow a separator that is not allowed.
     const fn separators(self) -> u128 {
-        if self.allows(self.bare() | SEPARATORS) {
-            self.flags_that(true, SEPARATORS, self.bare())
-        } else {
-            0
-        }
-    }
-
-    // Returns the flag by which the case of a letter counts that may stand here in the class of its other case.
-    const fn case_flag(self) -> u128 {
-        if !self.allows(self.bare()) {
-            return 0;
-        }
-        match self.next {
-            Some(Class::ExponentCharacter) => flags::CASE_SENSITIVE_EXPONENT,
-            Some(Class::Prefix) => flags::CASE_SENSITIVE_BASE_PREFIX,
-            Some(Class::Suffix) => flags::CASE_SENSITIVE_BASE_SUFFIX,
-            _ => 0,
-        }
+        let candidates = separators_at(self.place(), self.read.part);
+        self.flags_that(true, candidates, self.bare(), 32, 44)
     }
 
     // Returns where a separator is not allowed.
     const fn place(self) -> Place {
-        if self.read.gap && matches!(self.next, Some(Class::Separator)) {
+        let is_consecutive =
+            self.read.gap && !self.grammar.view().separators(self.read.part).consecutive;
+        if is_consecutive && matches!(self.next, Some(Class::Separator)) {
             Place::Consecutive
         } else if has_digit(self.read.stage) {
             Place::AfterDigit
@@ -220,32 +208,44 @@ impl Stop {
         }
     }
 
+    // Returns the flag by which the case of `other` counts, if it may be next.
+    const fn case_flag(self, other: u8) -> u128 {
+        if self.allows(self.bare()) {
+            case_mask(self.grammar, other)
+        } else {
+            0
+        }
+    }
+
     // Returns why `byte` cannot follow, if no requirement is the cause.
     const fn wrong(self, byte: u8) -> Blame {
         let separators = self.separators();
         if separators != 0 {
-            let cause = Cause::Separator(self.read.part, self.place());
             return Blame {
-                cause,
+                cause: Cause::Separator(self.read.part, self.place()),
                 mask: separators,
             };
         }
-        let mut other = self;
-        other.next = Some(class_of(self.grammar, other_case(byte)));
-        let mask = other.case_flag();
+        let other = other_case(byte);
+        let mask = Stop {
+            grammar: self.grammar,
+            read: self.read,
+            next: class_of_next(self.grammar, Some(other)),
+        }
+        .case_flag(other);
         let cause = if mask == 0 { Cause::Byte } else { Cause::Case };
         Blame { cause, mask }
     }
 
     // Returns the cause.
-    const fn blame(self, byte: Option<u8>) -> Blame {
+    const fn blame(self, next: Option<u8>) -> Blame {
         if self.allows(self.bare()) {
             return Blame {
                 cause: Cause::Requirement,
                 mask: self.requirements(),
             };
         }
-        match byte {
+        match next {
             None => Blame {
                 cause: Cause::Missing(self.read.part),
                 mask: 0,
@@ -253,6 +253,50 @@ impl Stop {
             Some(byte) => self.wrong(byte),
         }
     }
+}
+
+// Returns the flags that allow a digit separator in `part` at `place`.
+const fn separators_at(place: Place, part: Part) -> u128 {
+    match (place, part) {
+        (Place::BeforeDigits, Part::Integer) => bits::INTEGER_LEADING_DIGIT_SEPARATOR,
+        (Place::BeforeDigits, Part::Fraction) => bits::FRACTION_LEADING_DIGIT_SEPARATOR,
+        (Place::BeforeDigits, Part::Exponent) => bits::EXPONENT_LEADING_DIGIT_SEPARATOR,
+        (Place::AfterDigit, Part::Integer) => {
+            bits::INTEGER_INTERNAL_DIGIT_SEPARATOR | bits::INTEGER_TRAILING_DIGIT_SEPARATOR
+        }
+        (Place::AfterDigit, Part::Fraction) => {
+            bits::FRACTION_INTERNAL_DIGIT_SEPARATOR | bits::FRACTION_TRAILING_DIGIT_SEPARATOR
+        }
+        (Place::AfterDigit, Part::Exponent) => {
+            bits::EXPONENT_INTERNAL_DIGIT_SEPARATOR | bits::EXPONENT_TRAILING_DIGIT_SEPARATOR
+        }
+        (Place::Consecutive, Part::Integer) => bits::INTEGER_CONSECUTIVE_DIGIT_SEPARATOR,
+        (Place::Consecutive, Part::Fraction) => bits::FRACTION_CONSECUTIVE_DIGIT_SEPARATOR,
+        (Place::Consecutive, Part::Exponent) => bits::EXPONENT_CONSECUTIVE_DIGIT_SEPARATOR,
+    }
+}
+
+// Returns `flag` if `is_set` is true, and 0 otherwise.
+const fn flag_if(is_set: bool, flag: u128) -> u128 {
+    if is_set {
+        flag
+    } else {
+        0
+    }
+}
+
+// Returns the flags by which the case of `byte` counts.
+const fn case_mask(grammar: Grammar, byte: u8) -> u128 {
+    flag_if(
+        is_exponent_character(grammar, byte),
+        bits::CASE_SENSITIVE_EXPONENT,
+    ) | flag_if(
+        grammar.view().is_base_prefix(byte),
+        bits::CASE_SENSITIVE_BASE_PREFIX,
+    ) | flag_if(
+        grammar.view().is_base_suffix(byte),
+        bits::CASE_SENSITIVE_BASE_SUFFIX,
+    )
 }
 
 // Returns the other case of a letter, or the byte itself if it is not a letter.
