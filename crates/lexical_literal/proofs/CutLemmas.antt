@@ -1,21 +1,21 @@
 -- A text that is accepted, cut into parts.
 use Rattle.std.proofs.Common.{ℕ, ◌≡◌, Bool, true, false, not, ◌==◌, ◌&&◌, ◌||◌, List, [], ◌∷◌, ◌++◌, Some, refl, sym, ap, subst, ◌∙◌, arith}
-use Rattle.std.proofs.lemmas.Bool.{false≢true, and_parts, and_from, and_right}
+use Rattle.std.proofs.lemmas.Bool.{false≢true, and_parts, and_from}
 use Rattle.lexical_util.specs.Layout.{separators_in}
 use Rattle.lexical_util.specs.Roles.{signs}
 use Rattle.lexical_util.specs.declared.feature_format.roles.Role.{Role}
 use Rattle.lexical_util.specs.declared.feature_format.roles.Role.TheVariants as roles
 use Rattle.lexical_util.specs.declared.format_flags.Part.{Part}
 use Rattle.lexical_util.specs.declared.format_flags.Part.TheVariants as parts
-use Rattle.lexical_literal.specs.Notation.{Notation}
-use Rattle.lexical_literal.specs.Literal.{Literal, is_absent, is_none_or_one}
+use Rattle.lexical_literal.specs.Notation.{Notation, role_set}
+use Rattle.lexical_literal.specs.Literal.{Literal, is_none_or_one}
 use Rattle.lexical_literal.specs.Additions.Summary.{implies, has_digit, is_fresh, is_bare, after_digit, after_mark, after_point, is_open, may_follow, is_signed, forbids_plus, gap_fits, digits_suffice, ends, continues, may_float, takes, after}
 use Rattle.lexical_literal.specs.declared.steps.Stage.{Stage}
 use Rattle.lexical_literal.specs.declared.steps.Stage.TheVariants as stages
 use Rattle.lexical_literal.specs.declared.steps.Summary.{Summary}
 use Rattle.lexical_literal.proofs.RunLemmas.{is_rest, run_with_digit, run_with_separator}
 use Rattle.lexical_literal.proofs.ScanLemmas.{HasRoles, Accepts, took, none_accepts, role_in, as_digit, no_digit, as_role}
-use Rattle.lexical_literal.proofs.StepLemmas.{reading, begins, stage_after, after_byte, digit_seen, digit_settles, digit_begun, mark_seen, mark_settles, mark_bare, settled, bare_settles, either, stage_at, gap_at, sign_fits, prefix_fits, ends_part, text_after}
+use Rattle.lexical_literal.proofs.StepLemmas.{reading, begins, stage_after, after_byte, stage_at, gap_at, sign_fits, prefix_fits, ends_part, text_after}
 
 -- A sign, a prefix, digits, and the parts of `more` behind the digits of `part`.
 pub record Found (m : Notation) (part : Part) (stage : Stage) (gap : Bool) (sign prefix text : List ℕ) : Type 0 where
@@ -37,22 +37,15 @@ abbrev pub only : List ℕ → Literal
 only x = record { sign = []; prefix = []; integer = []; point = []; fraction = []; exponent_character = []; exponent_sign = []; exponent = []; suffix = x }
 
 module _ (m : Notation) where
-  -- After a digit, a separator or a sign, no sign follows.
-  no_sign : (part : Part) (stage : Stage) (sign : List ℕ) → is_fresh stage ≡ false → sign_fits m part stage sign ≡ true → sign ≡ []
-  no_sign part stage sign over is = grind arith
-
-  no_prefix : (stage : Stage) (gap : Bool) (prefix : List ℕ) → is_bare stage ≡ false → (begins stage && not gap) ≡ false → prefix_fits m stage gap prefix ≡ true
-      → prefix ≡ []
-  no_prefix stage gap prefix bare new is = grind arith
-
+  -- After a digit, a separator or a sign, no sign follows, and after a separator, a decimal point or an exponent character, no prefix.
   unsigned : (part : Part) (stage : Stage) (gap : Bool) (text : List ℕ) → is_fresh stage ≡ false → (cut : Cut m part stage gap text)
       → Found m part stage gap [] cut.prefix text
-  unsigned part stage gap text over cut = subst (λ s. Found m part stage gap s cut.prefix text) (no_sign part stage cut.sign over cut.found.signed) cut.found
+  unsigned part stage gap text over cut = subst (λ s. Found m part stage gap s cut.prefix text) (let signed = cut.found.signed in grind arith) cut.found
 
   unprefixed : (part : Part) (stage : Stage) (gap : Bool) (sign prefix text : List ℕ) → is_bare stage ≡ false → (begins stage && not gap) ≡ false
       → Found m part stage gap sign prefix text → Found m part stage gap sign [] text
   unprefixed part stage gap sign prefix text bare new found =
-      subst (λ x. Found m part stage gap sign x text) (no_prefix stage gap prefix bare new found.prefixed) found
+      subst (λ x. Found m part stage gap sign x text) (let prefixed = found.prefixed in grind arith) found
 
   plain : (part : Part) (stage : Stage) (gap : Bool) (text : List ℕ) → is_fresh stage ≡ false → is_bare stage ≡ false → (begins stage && not gap) ≡ false
       → Cut m part stage gap text → Found m part stage gap [] [] text
@@ -99,17 +92,15 @@ module _ (m : Notation) where
     -- A digit in front, or the zero of a prefix.
     digit_first : m.digit part b ≡ true → is_signed m part stage ≡ true → gap_fits m part (has_digit stage) gap true ≡ true
         → Cut m part (after_digit stage gap (b == 48)) false text → Cut m part stage gap (b ∷ text)
-    digit_first digit signed fits cut = go cut.prefix (unsigned part (after_digit stage gap (b == 48)) false text (digit_settles stage gap (b == 48)) cut) where
-      zero : (x : ℕ) → prefix_fits m (after_digit stage gap (b == 48)) false (x ∷ []) ≡ true → prefix_fits m stage gap (b ∷ x ∷ []) ≡ true
-      zero x is = grind arith
-
+    digit_first digit signed fits cut = go cut.prefix (unsigned part (after_digit stage gap (b == 48)) false text (grind arith) cut) where
       go : (prefix : List ℕ) → Found m part (after_digit stage gap (b == 48)) false [] prefix text → Cut m part stage gap (b ∷ text)
       go [] found = longer (after_digit stage gap (b == 48)) false true digit signed
-          (λ run is. run_with_digit m part (has_digit stage) gap b run digit fits (subst (λ t. is_rest m part t false run ≡ true) (digit_seen stage gap (b == 48)) is))
+          (λ run is. run_with_digit m part (has_digit stage) gap b run digit fits
+          (subst (λ t. is_rest m part t false run ≡ true) (grind arith) is))
           (λ run. refl) found
       go (x ∷ []) found = cut_at part stage gap (b ∷ text) [] (b ∷ x ∷ []) found.digits found.more (ap (λ t. b ∷ t) found.whole)
-          (no_sign_fits part stage signed) (zero x found.prefixed) found.run found.end
-      go (z ∷ x ∷ more) found = absurd (false≢true (sym (digit_begun stage gap (b == 48)) ∙ (and_parts _ _ (and_parts _ _ found.prefixed).0).0))
+          (no_sign_fits part stage signed) (let prefixed = found.prefixed in grind arith) found.run found.end
+      go (z ∷ x ∷ more) found = absurd (let prefixed = found.prefixed in grind arith)
 
     -- A separator in front.
     separator_first : m.digit part b ≡ false → m.separator b ≡ true → is_signed m part stage ≡ true
@@ -117,26 +108,25 @@ module _ (m : Notation) where
         → Cut m part (after_mark stage) true text → Cut m part stage gap (b ∷ text)
     separator_first other separator signed fits cut = longer (after_mark stage) true false other signed
         (λ run is. run_with_separator m part (has_digit stage) gap b run other separator (and_parts _ _ fits).0
-        (subst (λ t. is_rest m part t true run ≡ true) (mark_seen stage) is))
-        (λ run. refl) (plain part (after_mark stage) true text (mark_settles stage) (mark_bare stage) (and_right (begins (after_mark stage)) false refl) cut)
+        (subst (λ t. is_rest m part t true run ≡ true) (grind arith) is))
+        (λ run. refl) (plain part (after_mark stage) true text (grind arith) (grind arith) (grind arith) cut)
 
     -- A sign in front.
     sign_first : signs b ≡ true → (is_fresh stage && implies (forbids_plus m part) (not (b == 43))) ≡ true
         → Cut m part (after_mark stage) gap text → Cut m part stage gap (b ∷ text)
     sign_first one taken cut =
         let both = and_parts (is_fresh stage) _ taken in
-        let found = unsigned part (after_mark stage) gap text (mark_settles stage) cut in
-        cut_at part stage gap (b ∷ text) (b ∷ []) cut.prefix found.digits found.more (ap (λ t. b ∷ t) found.whole) (and_from _ _ one (and_from _ _ both.1 both.0))
-        (prefixed cut.prefix found.prefixed) found.run found.end where
-          prefixed : (prefix : List ℕ) → prefix_fits m (after_mark stage) gap prefix ≡ true → prefix_fits m stage gap prefix ≡ true
-          prefixed prefix is = grind arith
+        let found = unsigned part (after_mark stage) gap text (grind arith) cut in
+        cut_at part stage gap (b ∷ text) (b ∷ []) cut.prefix found.digits found.more (ap (λ t. b ∷ t) found.whole)
+        (and_from _ _ one (and_from _ _ both.1 both.0))
+        (let prefixed = found.prefixed in grind arith) found.run found.end
 
     -- A prefix in front, whose zero has been read.
     prefix_first : m.prefix b ≡ true → is_bare stage ≡ true → Cut m part stages.Free false text → Cut m part stage gap (b ∷ text)
     prefix_first prefix bare cut =
         let found = plain part stages.Free false text refl refl refl cut in
         cut_at part stage gap (b ∷ text) [] (b ∷ []) found.digits found.more (ap (λ t. b ∷ t) found.whole)
-        (no_sign_fits part stage (settled stage m part (bare_settles stage bare))) (and_from _ _ bare prefix) found.run found.end
+        (grind arith) (and_from _ _ bare prefix) found.run found.end
 
   -- A decimal point in front.
   point_first : (part : Part) (stage : Stage) (gap : Bool) (b : ℕ) (text : List ℕ) → m.point b ≡ true
@@ -144,11 +134,8 @@ module _ (m : Notation) where
       → Cut m parts.Fraction (after_point (has_digit stage)) false text → Cut m part stage gap (b ∷ text)
   point_first parts.Integer stage gap b text point is cut =
       let both = and_parts _ (may_float m stage) is in
-      let settle : (P : Stage → Bool) → P stages.Free ≡ false → P stages.Lone ≡ false → P (after_point (has_digit stage)) ≡ false =
-      λ P. either P (has_digit stage) stages.Free stages.Lone in
-      let found = plain parts.Fraction (after_point (has_digit stage)) false text (settle is_fresh refl refl) (settle is_bare refl refl)
-      (settle (λ s. begins s && true) refl refl) cut in
-      let run = subst (λ t. is_rest m parts.Fraction t false found.digits ≡ true) (settle has_digit refl refl) found.run in
+      let found = plain parts.Fraction (after_point (has_digit stage)) false text (grind arith) (grind arith) (grind arith) cut in
+      let run = subst (λ t. is_rest m parts.Fraction t false found.digits ≡ true) (grind arith) found.run in
       let fraction = and_parts _ _ found.end in
       ended_by parts.Integer stage gap (b ∷ text) (record found.more { point = b ∷ []; fraction = found.digits }) (ap (λ t. b ∷ t) found.whole) both.0
       (λ digits. and_from _ _ digits (and_from _ _ point (and_from _ _ (and_from _ _ both.1 (and_from _ _ run fraction.0)) fraction.1)))
@@ -162,7 +149,7 @@ module _ (m : Notation) where
   exponent_first part stage gap b text character is cut =
       let both = and_parts _ (continues m part stage roles.Exponent) is in
       let found = unprefixed parts.Exponent stages.Mark false cut.sign cut.prefix text refl refl cut.found in
-      let run = subst (λ t. is_rest m parts.Exponent t false found.digits ≡ true) (either has_digit (is_absent cut.sign) stages.Mark stages.Free refl refl) found.run in
+      let run = subst (λ t. is_rest m parts.Exponent t false found.digits ≡ true) (grind arith) found.run in
       let more = record found.more { point = []; fraction = []; exponent_character = b ∷ []; exponent_sign = cut.sign; exponent = found.digits } in
       ended_by part stage gap (b ∷ text) more (ap (λ t. b ∷ t) found.whole) both.0
       (λ digits. and_from _ _ digits (and_from _ _ character (and_from _ _ both.1 (and_from _ _ found.signed (and_from _ _ run found.end)))))
@@ -174,22 +161,31 @@ module _ (m : Notation) where
     ended s (b ∷ text) over is = absurd (false≢true (sym (took m h s b (λ o. Accepts m o text) (none_accepts m text) is).going ∙ over))
 
     -- What is accepted can be cut into parts.
+    abbrev CanCut : List ℕ → Type 0
+    CanCut text = (part : Part) (stage : Stage) (gap : Bool) → Accepts m (Some (reading part stage gap)) text → Cut m part stage gap text
+
     pub cut_of : (part : Part) (stage : Stage) (gap : Bool) (text : List ℕ) → Accepts m (Some (reading part stage gap)) text → Cut m part stage gap text
     cut_of part stage gap [] is = stopped part stage gap [] is refl
     cut_of part stage gap (b ∷ text) is =
         let t = took m h (reading part stage gap) b (λ o. Accepts m o text) (none_accepts m text) is in
         go t.role t.plays t.taken t.rest (λ part stage gap. cut_of part stage gap text) where
-          go : (r : Role) → role_in m part b ≡ Some r → takes m (reading part stage gap) (b == 43) r ≡ true → Accepts m (Some (after (reading part stage gap) (b == 48) r)) text
-              → ((part : Part) (stage : Stage) (gap : Bool) → Accepts m (Some (reading part stage gap)) text → Cut m part stage gap text) → Cut m part stage gap (b ∷ text)
+          plays : (r : Role) → role_in m part b ≡ Some r → role_set m r b ≡ true
+          plays r role = as_role m h part r b role
+
+          go : (r : Role) → role_in m part b ≡ Some r → takes m (reading part stage gap) (b == 43) r ≡ true
+              → Accepts m (Some (after (reading part stage gap) (b == 48) r)) text → CanCut text → Cut m part stage gap (b ∷ text)
           go roles.Digit role taken is cut =
               let both = and_parts (is_signed m part stage) _ taken in
-              digit_first part stage gap b text (as_digit m h part b role) both.0 (and_parts _ (may_follow m stage) both.1).0 (cut part (after_digit stage gap (b == 48)) false is)
+              let fits = and_parts _ (may_follow m stage) both.1 in
+              digit_first part stage gap b text (as_digit m h part b role) both.0 fits.0 (cut part (after_digit stage gap (b == 48)) false is)
           go roles.Separator role taken is cut =
               let both = and_parts (is_signed m part stage) _ taken in
-              separator_first part stage gap b text (no_digit m h part b role) (as_role m h part roles.Separator b role) both.0 both.1 (cut part (after_mark stage) true is)
-          go roles.Sign role taken is cut = sign_first part stage gap b text (as_role m h part roles.Sign b role) taken (cut part (after_mark stage) gap is)
-          go roles.Prefix role taken is cut = prefix_first part stage gap b text (as_role m h part roles.Prefix b role) taken (cut part stages.Free false is)
-          go roles.Point role taken is cut = point_first part stage gap b text (as_role m h part roles.Point b role) taken (cut parts.Fraction (after_point (has_digit stage)) false is)
-          go roles.Exponent role taken is cut = exponent_first part stage gap b text (as_role m h part roles.Exponent b role) taken (cut parts.Exponent stages.Mark false is)
+              separator_first part stage gap b text (no_digit m h part b role) (plays roles.Separator role) both.0 both.1 (cut part (after_mark stage) true is)
+          go roles.Sign role taken is cut = sign_first part stage gap b text (plays roles.Sign role) taken (cut part (after_mark stage) gap is)
+          go roles.Prefix role taken is cut = prefix_first part stage gap b text (plays roles.Prefix role) taken (cut part stages.Free false is)
+          go roles.Point role taken is cut =
+              point_first part stage gap b text (plays roles.Point role) taken (cut parts.Fraction (after_point (has_digit stage)) false is)
+          go roles.Exponent role taken is cut =
+              exponent_first part stage gap b text (plays roles.Exponent role) taken (cut parts.Exponent stages.Mark false is)
           go roles.Suffix role taken is cut = stopped part stage gap (b ∷ text) taken
-              (subst (λ t. is_none_or_one m.suffix (b ∷ t) ≡ true) (sym (ended _ text refl is)) (as_role m h part roles.Suffix b role))
+              (subst (λ t. is_none_or_one m.suffix (b ∷ t) ≡ true) (sym (ended _ text refl is)) (plays roles.Suffix role))

@@ -1,6 +1,6 @@
 -- What has been read without an error can be completed to a literal.
 use Rattle.std.proofs.Common.{ℕ, ◌≡◌, Bool, true, false, not, ◌==◌, ◌&&◌, ◌||◌, ◌⊎◌, inl, inr, List, [], ◌∷◌, ◌++◌, Some, None, refl, sym, ap, subst, ◌∙◌, arith}
-use Rattle.std.proofs.lemmas.Bool.{false≢true, and_parts, and_from, cases_Bool}
+use Rattle.std.proofs.lemmas.Bool.{false≢true, and_from, cases_Bool}
 use Rattle.lexical_util.specs.Layout as layout
 use Rattle.lexical_util.specs.declared.feature_format.roles.Role.{Role}
 use Rattle.lexical_util.specs.declared.feature_format.roles.Role.TheVariants as roles
@@ -8,12 +8,12 @@ use Rattle.lexical_util.specs.declared.format_flags.Part.{Part}
 use Rattle.lexical_util.specs.declared.format_flags.Part.TheVariants as parts
 use Rattle.lexical_literal.specs.Notation.{Notation}
 use Rattle.lexical_literal.specs.Front.{IsFront}
-use Rattle.lexical_literal.specs.Additions.Summary.{implies, has_digit, is_fresh, is_led, after_digit, after_mark, after_point, may_lead, needs_exponent, may_follow, gap_fits, digits_suffice, ends, is_open, is_signed, forbids_plus, takes, after, scan, is_accepted, start, no_cuts}
+use Rattle.lexical_literal.specs.Additions.Summary.{implies, has_digit, is_fresh, is_led, after_digit, after_mark, after_point, may_lead, needs_exponent, may_follow, gap_fits, ends, is_open, is_signed, takes, after, scan, is_accepted, start, no_cuts}
 use Rattle.lexical_literal.specs.declared.steps.Stage.{Stage}
 use Rattle.lexical_literal.specs.declared.steps.Stage.TheVariants as stages
 use Rattle.lexical_literal.specs.declared.steps.Summary.{Summary}
 use Rattle.lexical_literal.proofs.ScanLemmas.{HasRoles, IsReady, Accepts, role_in, scan_none, scan_append, took, arrives_byte, digit_role, is_role}
-use Rattle.lexical_literal.proofs.StepLemmas.{reading, digit_seen, digit_settles, mark_settles, settled}
+use Rattle.lexical_literal.proofs.StepLemmas.{reading}
 use Rattle.lexical_literal.proofs.LiteralLemmas.{literal_from, literal_arrives}
 
 -- `CanGoOn m s` holds if a gap, where there is one, can be closed, and if there is a leading zero only where one may be.
@@ -22,39 +22,18 @@ record CanGoOn (m : Notation) (s : Summary) : Type 0 where
   led : implies (is_led s.stage) (may_lead m) ≡ true
 
 module _ (m : Notation) where
-  module _ (part : Part) (stage : Stage) where
-    led_next : (gap zero : Bool) → may_follow m stage ≡ true → implies (is_led stage) (may_lead m) ≡ true → implies (is_led (after_digit stage gap zero)) (may_lead m) ≡ true
-    led_next gap zero may led = grind arith
-
-    led_kept : implies (is_led stage) (may_lead m) ≡ true → implies (is_led (after_mark stage)) (may_lead m) ≡ true
-    led_kept led = grind arith
-
-    open_next : (gap : Bool) → implies gap (is_open m part (has_digit stage) (may_follow m stage)) ≡ true
-        → implies gap (is_open m part (has_digit (after_mark stage)) (may_follow m (after_mark stage))) ≡ true
-    open_next gap is = grind arith
-
-    digits_met : has_digit stage ≡ true → digits_suffice m part stage ≡ true
-    digits_met digit = grind arith
-
-    follow : implies (has_digit stage) (may_follow m stage) ≡ true → may_follow m stage ≡ true
-    follow is = grind arith
-
-    closed : (digit gap next : Bool) → implies gap (is_open m part digit next) ≡ true
-        → ((digit ≡ true) × (gap_fits m part digit gap false ≡ true)) ⊎ ((gap_fits m part digit gap true ≡ true) × (implies digit next ≡ true))
-    closed digit gap next is = grind arith
+  closed : (part : Part) (digit gap next : Bool) → implies gap (is_open m part digit next) ≡ true
+      → ((digit ≡ true) × (gap_fits m part digit gap false ≡ true)) ⊎ ((gap_fits m part digit gap true ≡ true) × (implies digit next ≡ true))
+  closed part digit gap next is = grind arith
 
   point_unled : (digit : Bool) → implies (is_led (after_point digit)) (may_lead m) ≡ true
   point_unled digit = grind arith
 
   -- What can go on does so after each byte that is taken.
   goes_on : (s : Summary) (plus zero : Bool) (r : Role) → CanGoOn m s → takes m s plus r ≡ true → CanGoOn m (after s zero r)
-  goes_on s plus zero roles.Digit can is =
-      let may = and_parts (gap_fits m s.part (has_digit s.stage) s.gap true) (may_follow m s.stage) (and_parts (is_signed m s.part s.stage) _ is).1 in
-      record { closes = refl; led = led_next s.part s.stage s.gap zero may.1 can.led }
-  goes_on s plus zero roles.Separator can is =
-      let open_is = and_parts _ (is_open m s.part (has_digit s.stage) (may_follow m s.stage)) (and_parts (is_signed m s.part s.stage) _ is).1 in
-      record { closes = open_next s.part s.stage true open_is.1; led = led_kept s.part s.stage can.led }
-  goes_on s plus zero roles.Sign can is = record { closes = open_next s.part s.stage s.gap can.closes; led = led_kept s.part s.stage can.led }
+  goes_on s plus zero roles.Digit can is = record { closes = refl; led = grind arith }
+  goes_on s plus zero roles.Separator can is = record { closes = grind arith; led = grind arith }
+  goes_on s plus zero roles.Sign can is = record { closes = grind arith; led = grind arith }
   goes_on s plus zero roles.Point can is = record { closes = refl; led = point_unled (has_digit s.stage) }
   goes_on s plus zero roles.Suffix can is = record { closes = can.closes; led = can.led }
   goes_on s plus zero _ can is = record { closes = refl; led = refl }
@@ -83,28 +62,26 @@ module _ (m : Notation) where
     -- A digit, where one is needed.
     digit_completed : (part : Part) (stage : Stage) (gap : Bool) → is_signed m part stage ≡ true → CanGoOn m (reading part stage gap) → Finishes part
         → Completed (reading part stage gap)
-    digit_completed part stage gap signed can finishes = elim (closed part stage (has_digit stage) gap (may_follow m stage) can.closes) [
-      | inl here ↦ finishes stage gap here.0 (and_from _ _ signed (and_from _ _ here.1 (digits_met part stage here.0))) can.led
+    digit_completed part stage gap signed can finishes = elim (closed part (has_digit stage) gap (may_follow m stage) can.closes) [
+      | inl here ↦ finishes stage gap here.0 (and_from _ _ signed (and_from _ _ here.1 (let digit = here.0 in grind arith))) can.led
       | inr more ↦
-          let next = after_digit stage gap true in
-          let seen = digit_seen stage gap true in
+          let seen : has_digit (after_digit stage gap true) ≡ true = grind arith in
+          let may : may_follow m stage ≡ true = (let digit = more.1 in grind arith) in
           then_byte (reading part stage gap) 48 roles.Digit refl (digit_role m ready.roles part 48 (ready.roles.zero_is_digit part))
-          (and_from _ _ signed (and_from _ _ more.0 (follow part stage more.1)))
-          (finishes next false seen (and_from _ _ (settled next m part (digit_settles stage gap true)) (digits_met part next seen))
-          (led_next part stage gap true (follow part stage more.1) can.led))
+          (and_from _ _ signed (and_from _ _ more.0 may)) (finishes (after_digit stage gap true) false seen
+          (and_from (is_signed m part (after_digit stage gap true)) _ (grind arith) (grind arith)) (let led = can.led in grind arith))
     ]
 
     -- A sign first, where one may follow.
     part_completed : (part : Part) (stage : Stage) (gap : Bool) → CanGoOn m (reading part stage gap) → Finishes part → Completed (reading part stage gap)
     part_completed part stage gap can finishes = elim (cases_Bool (is_fresh stage)) [
-      | inl fresh ↦ then_byte (reading part stage gap) 45 roles.Sign refl (is_role m ready.roles part roles.Sign 45 (λ e. cc) refl)
-          (and_from _ _ fresh (met (forbids_plus m part)))
-          (digit_completed part (after_mark stage) gap (settled _ m part (mark_settles stage)) (goes_on (reading part stage gap) false false roles.Sign can
-          (and_from _ _ fresh (met (forbids_plus m part)))) finishes)
-      | inr over ↦ digit_completed part stage gap (settled stage m part over) can finishes
-    ] where
-      met : (f : Bool) → implies f true ≡ true
-      met f = grind arith
+      | inl fresh ↦
+          let taken : takes m (reading part stage gap) (45 == 43) roles.Sign ≡ true = grind arith in
+          then_byte (reading part stage gap) 45 roles.Sign refl (is_role m ready.roles part roles.Sign 45 (λ e. cc) refl) taken
+          (digit_completed part (after_mark stage) gap (grind arith)
+          (goes_on (reading part stage gap) false false roles.Sign can taken) finishes)
+      | inr over ↦ digit_completed part stage gap (grind arith) can finishes
+    ]
 
     exponent_finishes : Finishes parts.Exponent
     exponent_finishes stage gap digit end led = ([], and_from _ true end refl)
@@ -141,7 +118,8 @@ module _ (m : Notation) where
           let may = points (is_led stage) (m.flag layout.no_float_leading_zeros) m.integers_only point in
           then_byte (reading parts.Integer stage gap) ready.point roles.Point refl
           (is_role m ready.roles parts.Integer roles.Point ready.point (λ e. cc) (ready.has_point may.0)) (and_from _ _ end may.1)
-          (part_completed parts.Fraction (after_point (has_digit stage)) false (record { closes = refl; led = point_unled (has_digit stage) }) fraction_finishes)
+          (part_completed parts.Fraction (after_point (has_digit stage)) false
+          (record { closes = refl; led = point_unled (has_digit stage) }) fraction_finishes)
     ]
 
     completed : (part : Part) (stage : Stage) (gap ended : Bool) → CanGoOn m (record { part = part; stage = stage; gap = gap; ended = ended })
@@ -155,7 +133,8 @@ module _ (m : Notation) where
     pub front_from : (text : List ℕ) (s : Summary) → scan m (Some start) text ≡ Some s → IsFront m text
     front_from text s is =
         let more = completed s.part s.stage s.gap s.ended (all_go_on ready.roles start text s (record { closes = refl; led = refl }) is) in
-        let found = literal_from m ready.roles (text ++ more.0) (subst (λ o. is_accepted m o ≡ true) (sym (scan_append m (Some start) text more.0 ∙ ap (λ o. scan m o more.0) is)) more.1) in
+        let found = literal_from m ready.roles (text ++ more.0) (subst (λ o. is_accepted m o ≡ true)
+        (sym (scan_append m (Some start) text more.0 ∙ ap (λ o. scan m o more.0) is)) more.1) in
         record { more = more.0; literal = found.0; reads = found.1 }
 
     -- A front of a literal is read.

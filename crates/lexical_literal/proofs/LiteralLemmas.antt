@@ -11,13 +11,13 @@ use Rattle.lexical_util.specs.declared.format_flags.Part.{Part}
 use Rattle.lexical_util.specs.declared.format_flags.Part.TheVariants as parts
 use Rattle.lexical_literal.specs.Notation.{Notation}
 use Rattle.lexical_literal.specs.Run.{is_run}
-use Rattle.lexical_literal.specs.Literal.{Literal, IsLiteral, Reads, text_of, is_present, is_absent, is_plus, is_none_or_one, is_none_or_prefix, has_leading_zero, is_zero_led}
+use Rattle.lexical_literal.specs.Literal.{Literal, IsLiteral, Reads, text_of, is_present, is_absent, is_plus, is_none_or_one, is_none_or_prefix, is_zero_led}
 use Rattle.lexical_literal.specs.Additions.Summary.{Cuts, implies, has_digit, is_fresh, is_lone, is_led, after_digit, after_mark, after_point, may_follow, may_lead, is_signed, forbids_plus, gap_fits, digits_suffice, ends, continues, may_float, add, count, digits_piece, start, no_cuts}
 use Rattle.lexical_literal.specs.declared.steps.Stage.{Stage}
 use Rattle.lexical_literal.specs.declared.steps.Stage.TheVariants as stages
 use Rattle.lexical_literal.proofs.RunLemmas.{is_rest, rest_of_none, digits_present, digit_fits, after_run_digit, is_run_separator, separator_fits, after_run_separator, opens}
 use Rattle.lexical_literal.proofs.ScanLemmas.{HasRoles, Accepts, Arrives, plus, arrives_byte, digit_role, is_role}
-use Rattle.lexical_literal.proofs.StepLemmas.{reading, led_after, stage_after, after_byte, passed, digit_seen, digit_settles, mark_seen, mark_settles, settled, either, stage_at, sign_fits, prefix_fits, digits_fit, ends_exponent, ends_mantissa, fraction_fits, stops, scales, ends_part, text_after}
+use Rattle.lexical_literal.proofs.StepLemmas.{reading, led_after, stage_after, after_byte, passed, stage_at, sign_fits, prefix_fits, digits_fit, ends_exponent, ends_mantissa, fraction_fits, stops, scales, ends_part, text_after}
 use Rattle.lexical_literal.proofs.CutLemmas.{cut_of}
 
 -- `is_tail bytes` has all of `bytes` but the first.
@@ -124,26 +124,11 @@ module _ (any led p one_p f fits_f k : Bool) (flag : Flag → Bool) (only : Bool
       end_facts stop scale seen counted =
           let same_digit : digit ≡ not f = seen has_fraction in let same_lone : lone ≡ not (not f || any) = counted has_fraction in grind arith
 
--- What an absent part satisfies.
-absent : (P : List ℕ → Bool) (bytes : List ℕ) → P [] ≡ true → implies (is_absent bytes) (P bytes) ≡ true
-absent P [] is = is
-absent P (b ∷ bytes) is = refl
-
 module _ (m : Notation) where
   -- Digits that are present have a digit.
   has_bytes : (part : Part) (stage : Stage) (run : List ℕ) → has_digit stage ≡ false → is_rest m part false false run ≡ true
       → has_digit (stage_after (m.digit part) stage false run) ≡ is_present run
-  has_bytes part stage run none fit = same _ _ _ _ (passed (m.digit part) stage false run).seen none (digits_present m part run fit) where
-    same : (last some before present : Bool) → last ≡ (some || before) → before ≡ false → some ≡ present → last ≡ present
-    same last some before present seen none is = grind arith
-
-  -- The stage before the integer digits.
-  first_seen : (sign prefix : List ℕ) → has_digit (stage_at stages.Start sign prefix) ≡ false
-  first_seen sign prefix = grind arith
-
-  first_led : (sign prefix run : List ℕ) → led_after (m.digit parts.Integer) (stage_at stages.Start sign prefix) run
-      ≡ (is_absent prefix && has_leading_zero (m.digit parts.Integer) run)
-  first_led sign prefix run = grind arith
+  has_bytes part stage run none fit = let seen = (passed (m.digit part) stage false run).seen in let present = digits_present m part run fit in grind arith
 
   module _ (l : Literal) where
     abbrev Tail : Bool → Bool → Type 0
@@ -167,35 +152,35 @@ module _ (m : Notation) where
     exponent_last = stage_after (m.digit parts.Exponent) (stage_at stages.Mark l.exponent_sign []) false l.exponent
 
     integer_seen : is_rest m parts.Integer false false l.integer ≡ true → has_digit integer_last ≡ is_present l.integer
-    integer_seen fit = has_bytes parts.Integer (stage_at stages.Start l.sign l.prefix) l.integer (first_seen l.sign l.prefix) fit
+    integer_seen fit = has_bytes parts.Integer (stage_at stages.Start l.sign l.prefix) l.integer (grind arith) fit
 
     integer_led : is_led integer_last ≡ is_zero_led m l
-    integer_led = (passed (m.digit parts.Integer) (stage_at stages.Start l.sign l.prefix) false l.integer).led ∙ first_led l.sign l.prefix l.integer
+    integer_led = (passed (m.digit parts.Integer) (stage_at stages.Start l.sign l.prefix) false l.integer).led ∙ grind arith
 
     fraction_seen : (any : Bool) → is_rest m parts.Fraction false false l.fraction ≡ true → has_digit (fraction_last any) ≡ is_present l.fraction
-    fraction_seen any fit = has_bytes parts.Fraction (after_point any) l.fraction (either has_digit any stages.Free stages.Lone refl refl) fit
+    fraction_seen any fit = has_bytes parts.Fraction (after_point any) l.fraction (grind arith) fit
 
     fraction_counts : (any : Bool) → is_rest m parts.Fraction false false l.fraction ≡ true → is_lone (fraction_last any) ≡ not (is_present l.fraction || any)
-    fraction_counts any fit = counted _ _ (is_present l.fraction) any (passed (m.digit parts.Fraction) (after_point any) false l.fraction).counts
-        (digits_present m parts.Fraction l.fraction fit) where
-          counted : (lone some present any : Bool) → not lone ≡ (some || not (is_lone (after_point any))) → some ≡ present → lone ≡ not (present || any)
-          counted lone some present any is same = grind arith
+    fraction_counts any fit =
+        let counts = (passed (m.digit parts.Fraction) (after_point any) false l.fraction).counts in
+        let present = digits_present m parts.Fraction l.fraction fit in
+        grind arith
 
     exponent_seen : is_rest m parts.Exponent false false l.exponent ≡ true → has_digit exponent_last ≡ is_present l.exponent
     exponent_seen fit = has_bytes parts.Exponent (stage_at stages.Mark l.exponent_sign []) l.exponent
-        (either has_digit (is_absent l.exponent_sign) stages.Mark stages.Free refl refl) fit
+        (grind arith) fit
 
     -- WHAT IS ACCEPTED IS A LITERAL
 
     tail_of : (stop scale : Bool) → ends_mantissa m l stop scale ≡ true → Tail stop scale
     tail_of stop scale is = tail_facts _ _ _ _ _ _ _ _ _ _ _ stop scale (has_digit exponent_last)
-        (absent (λ x. is_none_or_one signs x && not (is_plus x)) l.exponent_sign refl) (absent (is_rest m parts.Exponent false false) l.exponent refl) is exponent_seen
+        (grind arith) (grind arith) is exponent_seen
 
     end_of : (last : Stage) → Tail (stops m l last) (scales m l last) → digits_suffice m parts.Integer last ≡ true → is_none_or_one m.point l.point ≡ true
         → fraction_fits m l last ≡ true → End (has_digit last) (is_led last)
     end_of last tail digits point fraction =
         let any = has_digit last in
-        end_facts _ _ _ _ _ _ _ _ _ (has_digit (fraction_last any)) (is_lone (fraction_last any)) (absent (is_rest m parts.Fraction false false) l.fraction refl)
+        end_facts _ _ _ _ _ _ _ _ _ (has_digit (fraction_last any)) (is_lone (fraction_last any)) (grind arith)
         point digits fraction tail.stop tail.scale (fraction_seen any) (fraction_counts any)
 
     literal_if : sign_fits m parts.Integer stages.Start l.sign ≡ true → prefix_fits m stages.Start false l.prefix ≡ true
@@ -232,7 +217,7 @@ module _ (m : Notation) (h : HasRoles m) where
       let l : Literal = record found.more { sign = cut.sign; prefix = cut.prefix; integer = found.digits } in
       let first = stage_at stages.Start cut.sign cut.prefix in
       let no_gap = and_right (is_absent cut.prefix) false refl in
-      let run = subst (λ t. is_rest m parts.Integer t false found.digits ≡ true) (first_seen m cut.sign cut.prefix)
+      let run = subst (λ t. is_rest m parts.Integer t false found.digits ≡ true) (grind arith)
       (subst (λ g. is_rest m parts.Integer (has_digit first) g found.digits ≡ true) no_gap found.run) in
       let end = subst (λ g. ends_part m parts.Integer found.more (stage_after (m.digit parts.Integer) first g found.digits) ≡ true) no_gap found.end in
       (l, record { whole = found.whole; literal = literal_if m l found.signed found.prefixed run end })
@@ -279,24 +264,26 @@ module _ (m : Notation) (h : HasRoles m) where
         | inl digit ↦ arrives_byte m h (reading part stage gap) b roles.Digit c (run ++ rest) d refl (digit_role m h part b digit)
             (and_from _ _ signed (and_from _ _ (digit_fits m part (has_digit stage) gap b run digit fit)
             (follow (m.digit part) stage gap (b ∷ run) goes.leads (or_left _ _ digit))))
-            (run_arrives part (after_digit stage gap (b == 48)) false run rest more d (settled _ m part (digit_settles stage gap (b == 48)))
-            (subst (λ t. is_rest m part t false run ≡ true) (sym (digit_seen stage gap (b == 48)))
+            (run_arrives part (after_digit stage gap (b == 48)) false run rest more d (grind arith)
+            (subst (λ t. is_rest m part t false run ≡ true) (grind arith)
             (after_run_digit m part (has_digit stage) gap b run digit fit)) (next true digit))
         | inr other ↦
             let fits = after_run_separator m part (has_digit stage) gap b run other fit in
             arrives_byte m h (reading part stage gap) b roles.Separator c (run ++ rest) d refl
             (is_role m h part roles.Separator b (λ e. cc) (is_run_separator m part (has_digit stage) gap b run other fit))
-            (and_from _ _ signed (and_from _ _ (separator_fits m part (has_digit stage) gap b run other fit) (opens m part (has_digit stage) (may_follow m stage) run fits
+            (and_from _ _ signed (and_from _ _ (separator_fits m part (has_digit stage) gap b run other fit)
+            (opens m part (has_digit stage) (may_follow m stage) run fits
             (λ some. follow (m.digit part) stage gap (b ∷ run) goes.leads (or_right (m.digit part b) _ some)))))
-            (run_arrives part (after_mark stage) true run rest more d (settled _ m part (mark_settles stage))
-            (subst (λ t. is_rest m part t true run ≡ true) (sym (mark_seen stage)) fits) (next false other))
+            (run_arrives part (after_mark stage) true run rest more d (grind arith)
+            (subst (λ t. is_rest m part t true run ≡ true) (grind arith) fits) (next false other))
       ]
 
   -- Digits of a part without a leading zero.
   unled_arrives : (part : Part) (stage : Stage) (run rest : List ℕ) (c d : Cuts) → is_signed m part stage ≡ true → has_digit stage ≡ false
       → led_after (m.digit part) stage run ≡ false → is_rest m part false false run ≡ true
       → let last = stage_after (m.digit part) stage false run in
-      ((gap : Bool) → gap_fits m part (has_digit last) gap false ≡ true → is_signed m part last ≡ true → Arrives m (Some (reading part last gap)) (add_run part run c) rest d)
+      ((gap : Bool) → gap_fits m part (has_digit last) gap false ≡ true → is_signed m part last ≡ true
+      → Arrives m (Some (reading part last gap)) (add_run part run c) rest d)
       → Arrives m (Some (reading part stage false)) c (run ++ rest) d
   unled_arrives part stage run rest c d signed none unled fit goes =
       run_arrives part stage false run rest c d signed (subst (λ t. is_rest m part t false run ≡ true) (sym none) fit)
@@ -312,12 +299,14 @@ module _ (m : Notation) (h : HasRoles m) where
       let both = and_parts (signs b) _ fits in
       let taken = and_parts (implies (forbids_plus m part) (not (b == 43))) (is_fresh stage) both.1 in
       arrives_byte m h (reading part stage gap) b roles.Sign (cuts []) rest d refl (is_role m h part roles.Sign b (λ e. cc) both.0)
-      (and_from _ _ taken.1 taken.0) (subst (λ c. Arrives m (Some (reading part (after_mark stage) gap)) c rest d) (one b) (more (settled (after_mark stage) m part (mark_settles stage))))
+      (and_from _ _ taken.1 taken.0) (subst (λ c. Arrives m (Some (reading part (after_mark stage) gap)) c rest d) (one b)
+      (more (grind arith)))
   sign_arrives part stage gap (b ∷ x ∷ sign) rest cuts d fits one more = absurd (false≢true fits)
 
   -- The suffix, or nothing.
   stop_arrives : (part : Part) (stage : Stage) (gap : Bool) (c : Cuts) (suffix : List ℕ)
-      → (ends m (reading part stage gap) && continues m part stage roles.Suffix) ≡ true → is_none_or_one m.suffix suffix ≡ true → Arrives m (Some (reading part stage gap)) c suffix c
+      → (ends m (reading part stage gap) && continues m part stage roles.Suffix) ≡ true → is_none_or_one m.suffix suffix ≡ true
+      → Arrives m (Some (reading part stage gap)) c suffix c
   stop_arrives part stage gap c [] is one = (is, refl)
   stop_arrives part stage gap c (b ∷ []) is one =
       arrives_byte m h (reading part stage gap) b roles.Suffix c [] c refl (is_role m h part roles.Suffix b (λ e. cc) one) is (refl, refl)
@@ -332,11 +321,9 @@ module _ (m : Notation) (h : HasRoles m) where
       let both = and_parts (is_rest m parts.Exponent false false l.exponent) _ fits in
       let end = and_parts (digits_suffice m parts.Exponent (exponent_last m l)) _ both.1 in
       let all : Cuts = record c { exponent_sign = plus l.exponent_sign c.exponent_sign; exponent = plus l.exponent c.exponent } in
-      let first : (P : Stage → Bool) → P stages.Mark ≡ false → P stages.Free ≡ false → P (stage_at stages.Mark l.exponent_sign []) ≡ false =
-      λ P. either P (is_absent l.exponent_sign) stages.Mark stages.Free in
       sign_arrives parts.Exponent stages.Mark false l.exponent_sign (l.exponent ++ l.suffix) (λ x. record c { exponent_sign = plus x c.exponent_sign }) all
       sign (λ b. refl) (λ signed. unled_arrives parts.Exponent (stage_at stages.Mark l.exponent_sign []) l.exponent l.suffix _ all signed
-      (first has_digit refl refl) (first (λ s. led_after (m.digit parts.Exponent) s l.exponent) refl refl) both.0
+      (grind arith) (grind arith) both.0
       (λ gap closed signed. stop_arrives parts.Exponent (exponent_last m l) gap all l.suffix
       (and_from _ true (and_from _ _ signed (and_from _ _ closed end.0)) refl) end.1))
 
@@ -378,13 +365,10 @@ module _ (m : Notation) (h : HasRoles m) where
         let both = and_parts (fraction_fits m l stage) _ point.1 in
         let float = and_parts (may_float m stage) _ both.0 in
         let run = and_parts (is_rest m parts.Fraction false false fraction) _ float.1 in
-        let first : (P : Stage → Bool) → P stages.Free ≡ false → P stages.Lone ≡ false → P (after_point (has_digit stage)) ≡ false =
-        λ P. either P (has_digit stage) stages.Free stages.Lone in
         arrives_byte m h (reading parts.Integer stage gap) b roles.Point c (fraction ++ text_after parts.Fraction l) (end_cuts l c) refl
         (is_role m h parts.Integer roles.Point b (λ e. cc) point.0) (and_from _ _ end float.0)
         (unled_arrives parts.Fraction (after_point (has_digit stage)) fraction (text_after parts.Fraction l) more (end_cuts l c)
-        (settled _ m parts.Fraction (first is_fresh refl refl)) (first has_digit refl refl)
-        (first (λ s. led_after (m.digit parts.Fraction) s fraction) refl refl) run.0
+        (grind arith) (grind arith) (grind arith) run.0
         (λ gap closed signed. tail_arrives l parts.Fraction (fraction_last m l (has_digit stage)) gap (record more { fraction = plus fraction c.fraction })
         (and_from _ _ signed (and_from _ _ closed run.1)) both.1))
     go (b ∷ x ∷ point) fraction fits = absurd (false≢true fits)
@@ -437,7 +421,7 @@ module _ (m : Notation) (h : HasRoles m) where
         sign_arrives parts.Integer stages.Start false l.sign _ (λ x. record no_cuts { sign = plus x 0 }) (cuts_of l) (grind arith) (λ b. refl)
         (λ signed. prefix_arrives (stage_at stages.Start l.sign []) l.prefix _ signs (cuts_of l) (grind arith) (grind arith) signed is.prefix
         (λ signed. run_arrives parts.Integer (stage_at stages.Start l.sign l.prefix) false l.integer _ dressed (cuts_of l) signed
-        (subst (λ t. is_rest m parts.Integer t false l.integer ≡ true) (sym (first_seen m l.sign l.prefix)) (run parts.Integer l.integer is.integer)) (record {
+        (subst (λ t. is_rest m parts.Integer t false l.integer ≡ true) (grind arith) (run parts.Integer l.integer is.integer)) (record {
           leads = λ led. leads _ _ _ _ _ _ _ _ _ end (grind arith) led;
           arrives = λ gap closed signed. end_arrives l (integer_last m l) gap (record dressed { integer = plus l.integer (plus (is_tail l.prefix) 0) })
               (and_from _ _ signed (and_from _ _ closed end.integer_digits)) ends_well;

@@ -1,5 +1,5 @@
 -- Stages, and what may follow a part that ends at one.
-use Rattle.std.proofs.Common.{ℕ, ◌≡◌, Bool, true, false, not, ◌==◌, ◌&&◌, ◌||◌, if◌then◌else◌, List, [], ◌∷◌, ◌++◌, refl, ap, arith}
+use Rattle.std.proofs.Common.{ℕ, ◌≡◌, Bool, true, false, not, ◌==◌, ◌&&◌, ◌||◌, if◌then◌else◌, List, [], ◌∷◌, ◌++◌, refl, arith}
 use Rattle.std.specs.List.{list_any}
 use Rattle.lexical_util.specs.Ascii.{ByteSet}
 use Rattle.lexical_util.specs.Roles.{signs}
@@ -8,7 +8,7 @@ use Rattle.lexical_util.specs.declared.format_flags.Part.{Part}
 use Rattle.lexical_util.specs.declared.format_flags.Part.TheVariants as parts
 use Rattle.lexical_literal.specs.Notation.{Notation}
 use Rattle.lexical_literal.specs.Literal.{Literal, is_absent, is_plus, is_none_or_one, is_none_or_prefix, has_leading_zero}
-use Rattle.lexical_literal.specs.Additions.Summary.{implies, has_digit, is_fresh, is_lone, is_led, is_bare, after_digit, after_mark, after_point, is_signed, needs_sign, forbids_plus, digits_suffice, continues, may_float}
+use Rattle.lexical_literal.specs.Additions.Summary.{implies, has_digit, is_fresh, is_lone, is_led, is_bare, after_digit, after_mark, after_point, is_signed, forbids_plus, digits_suffice, continues, may_float}
 use Rattle.lexical_literal.specs.declared.steps.Stage.{Stage}
 use Rattle.lexical_literal.specs.declared.steps.Stage.TheVariants as stages
 use Rattle.lexical_literal.specs.declared.steps.Summary.{Summary}
@@ -67,40 +67,6 @@ passed D stage gap (b ∷ run) = go (D b) refl (λ stage gap. passed D stage gap
       → Passed D stage (b ∷ run) (after_byte D stage gap b run d)
   go true is more = passed_digit D stage b run _ gap is (more (after_digit stage gap (b == 48)) false)
   go false is more = passed_mark D stage b run _ is (more (after_mark stage) true)
-
--- Stages after a digit and after a separator or a sign.
-module _ (stage : Stage) where
-  pub digit_seen : (gap zero : Bool) → has_digit (after_digit stage gap zero) ≡ true
-  digit_seen gap zero = grind arith
-
-  pub digit_settles : (gap zero : Bool) → is_fresh (after_digit stage gap zero) ≡ false
-  digit_settles gap zero = grind arith
-
-  pub digit_begun : (gap zero : Bool) → begins (after_digit stage gap zero) ≡ false
-  digit_begun gap zero = grind arith
-
-  pub mark_seen : has_digit (after_mark stage) ≡ has_digit stage
-  mark_seen = grind arith
-
-  pub mark_settles : is_fresh (after_mark stage) ≡ false
-  mark_settles = grind arith
-
-  pub mark_begun : begins (after_mark stage) ≡ begins stage
-  mark_begun = grind arith
-
-  pub mark_bare : is_bare (after_mark stage) ≡ false
-  mark_bare = grind arith
-
-  pub settled : (m : Notation) (part : Part) → is_fresh stage ≡ false → is_signed m part stage ≡ true
-  settled m part is = ap (λ t. not t || not (needs_sign m part)) is
-
-  pub bare_settles : is_bare stage ≡ true → is_fresh stage ≡ false
-  bare_settles is = grind arith
-
--- What is false of two stages is false of either.
-pub either : (P : Stage → Bool) (t : Bool) (x y : Stage) → P x ≡ false → P y ≡ false → P (if t then x else y) ≡ false
-either P true x y first second = first
-either P false x y first second = second
 
 -- `stage_at stage sign prefix` is the stage after a sign and a prefix, and `gap_at gap prefix` tells whether a gap is before it.
 abbrev pub stage_at : Stage → List ℕ → List ℕ → Stage

@@ -16,7 +16,8 @@ use Rattle.lexical_literal.proofs.LiteralLemmas.{literal_from, literal_arrives}
 
 module _ (m : Notation) (h : HasRoles m) where
   -- A text is a literal exactly if it is accepted.
-  literal_exactly : (text : List ℕ) (refused : Bool) → is_accepted m (scan m (Some start) text) ≡ not refused → ((l : Literal) × Reads m l text) ↔ IsFalse refused
+  literal_exactly : (text : List ℕ) (refused : Bool) → is_accepted m (scan m (Some start) text) ≡ not refused
+      → ((l : Literal) × Reads m l text) ↔ IsFalse refused
   literal_exactly text refused same = (
     λ (l, reads). known refused (sym same ∙ ap (λ t. is_accepted m (scan m (Some start) t)) reads.whole ∙ (literal_arrives m h l reads.literal).0),
     λ none. literal_from m h text (same ∙ ap not none),
@@ -31,20 +32,23 @@ module _ (m : Notation) (h : HasRoles m) where
     complete : (i z e : Bool) → (implies i true && (not e && implies z true)) ≡ not e
     complete i z e = grind arith
   more_digits (b ∷ digits) all =
-      ap (λ o. is_accepted m (scan m o digits)) (moved m h (reading parts.Integer stages.Digits false) b (Some roles.Digit) (digit_role m h parts.Integer b all.0))
-      ∙ more_digits digits all.1
+      ap (λ o. is_accepted m (scan m o digits)) (moved m h (reading parts.Integer stages.Digits false) b (Some roles.Digit)
+      (digit_role m h parts.Integer b all.0)) ∙ more_digits digits all.1
 
   module _ (first : ℕ) (digits : List ℕ) (not_zero : first ≢ 48) (all : AllIn (m.digit parts.Integer) (first ∷ digits)) where
     -- The first digit, which is not 0.
-    first_digit : (stage : Stage) → step m (reading parts.Integer stage false) (class_of m first) ≡ move m (reading parts.Integer stage false) (first == 43) false (Some roles.Digit)
+    first_digit : (stage : Stage) → let s = reading parts.Integer stage false in step m s (class_of m first) ≡ move m s (first == 43) false (Some roles.Digit)
     first_digit stage = moved m h (reading parts.Integer stage false) first (Some roles.Digit) (digit_role m h parts.Integer first all.0)
         ∙ ap (λ z. move m (reading parts.Integer stage false) (first == 43) z (Some roles.Digit)) (ne_eqb first 48 not_zero)
 
-    pub digits_read : ((l : Literal) × Reads m l (first ∷ digits)) ↔ IsFalse (m.flag layout.required_mantissa_sign || (m.flag layout.required_exponent_notation && not m.integers_only))
-    digits_read = literal_exactly (first ∷ digits) _ (ap (λ o. is_accepted m (scan m o digits)) (first_digit stages.Start) ∙ go (m.flag layout.required_mantissa_sign)) where
-      go : (signed : Bool) → is_accepted m (scan m (if not signed && true then Some (reading parts.Integer stages.Digits false) else None) digits) ≡ not (signed || needs_exponent m)
-      go true = ap (is_accepted m) (scan_none m digits)
-      go false = more_digits digits all.1
+    pub digits_read : ((l : Literal) × Reads m l (first ∷ digits))
+        ↔ IsFalse (m.flag layout.required_mantissa_sign || (m.flag layout.required_exponent_notation && not m.integers_only))
+    digits_read = literal_exactly (first ∷ digits) _
+        (ap (λ o. is_accepted m (scan m o digits)) (first_digit stages.Start) ∙ go (m.flag layout.required_mantissa_sign)) where
+          go : (signed : Bool) → is_accepted m (scan m (if not signed && true then Some (reading parts.Integer stages.Digits false) else None) digits)
+              ≡ not (signed || needs_exponent m)
+          go true = ap (is_accepted m) (scan_none m digits)
+          go false = more_digits digits all.1
 
     pub negative_read : ((l : Literal) × Reads m l (45 ∷ first ∷ digits)) ↔ IsFalse (m.flag layout.required_exponent_notation && not m.integers_only)
     negative_read = literal_exactly (45 ∷ first ∷ digits) _ (
@@ -52,6 +56,7 @@ module _ (m : Notation) (h : HasRoles m) where
         ∙ go (m.flag layout.no_positive_mantissa_sign))
         ∙ ap (λ o. is_accepted m (scan m o digits)) (first_digit stages.Empty) ∙ more_digits digits all.1
         ) where
-          go : (plus : Bool) → (if implies plus true then Some (reading parts.Integer stages.Empty false) else None) ≡ Some (reading parts.Integer stages.Empty false)
+          go : (plus : Bool) → (if implies plus true then Some (reading parts.Integer stages.Empty false) else None)
+              ≡ Some (reading parts.Integer stages.Empty false)
           go true = refl
           go false = refl

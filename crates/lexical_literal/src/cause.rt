@@ -18,7 +18,7 @@ use crate::steps::{
 };
 use crate::syntax::Grammar;
 use lexical_util::error::Error;
-use lexical_util::format as bits;
+use lexical_util::format as masks;
 use lexical_util::format::Part;
 use lexical_util::laws::flags::role_facts;
 
@@ -112,16 +112,16 @@ impl ReadError {
 }
 
 // The flags that require something of the parts of a literal.
-const REQUIREMENTS: u128 = bits::REQUIRED_DIGITS
-    | bits::NO_POSITIVE_MANTISSA_SIGN
-    | bits::REQUIRED_MANTISSA_SIGN
-    | bits::NO_EXPONENT_NOTATION
-    | bits::NO_POSITIVE_EXPONENT_SIGN
-    | bits::REQUIRED_EXPONENT_SIGN
-    | bits::NO_EXPONENT_WITHOUT_FRACTION
-    | bits::NO_INTEGER_LEADING_ZEROS
-    | bits::NO_FLOAT_LEADING_ZEROS
-    | bits::REQUIRED_EXPONENT_NOTATION;
+const REQUIREMENTS: u128 = masks::REQUIRED_DIGITS
+    | masks::NO_POSITIVE_MANTISSA_SIGN
+    | masks::REQUIRED_MANTISSA_SIGN
+    | masks::NO_EXPONENT_NOTATION
+    | masks::NO_POSITIVE_EXPONENT_SIGN
+    | masks::REQUIRED_EXPONENT_SIGN
+    | masks::NO_EXPONENT_WITHOUT_FRACTION
+    | masks::NO_INTEGER_LEADING_ZEROS
+    | masks::NO_FLOAT_LEADING_ZEROS
+    | masks::REQUIRED_EXPONENT_NOTATION;
 
 // A cause, and the flags that are to blame.
 #[derive(Clone, Copy)]
@@ -212,7 +212,7 @@ impl Stop {
         ensures flags { (k : ℕ) → part result k 1 ≡ 1 → (f : Flag) × (bit f ≡ k) }
     {
         if needs_exponent(self.grammar) {
-            self.grammar.word & (REQUIREMENTS & !bits::NO_INTEGER_LEADING_ZEROS)
+            self.grammar.word & (REQUIREMENTS & !masks::NO_INTEGER_LEADING_ZEROS)
         } else {
             self.grammar.word & REQUIREMENTS
         }
@@ -327,21 +327,21 @@ const fn separators_at(place: Place, part: Part) -> u128
     ensures { result ≡ mask_at place part }
 {
     match (place, part) {
-        (Place::BeforeDigits, Part::Integer) => bits::INTEGER_LEADING_DIGIT_SEPARATOR,
-        (Place::BeforeDigits, Part::Fraction) => bits::FRACTION_LEADING_DIGIT_SEPARATOR,
-        (Place::BeforeDigits, Part::Exponent) => bits::EXPONENT_LEADING_DIGIT_SEPARATOR,
+        (Place::BeforeDigits, Part::Integer) => masks::INTEGER_LEADING_DIGIT_SEPARATOR,
+        (Place::BeforeDigits, Part::Fraction) => masks::FRACTION_LEADING_DIGIT_SEPARATOR,
+        (Place::BeforeDigits, Part::Exponent) => masks::EXPONENT_LEADING_DIGIT_SEPARATOR,
         (Place::AfterDigit, Part::Integer) => {
-            bits::INTEGER_INTERNAL_DIGIT_SEPARATOR | bits::INTEGER_TRAILING_DIGIT_SEPARATOR
+            masks::INTEGER_INTERNAL_DIGIT_SEPARATOR | masks::INTEGER_TRAILING_DIGIT_SEPARATOR
         }
         (Place::AfterDigit, Part::Fraction) => {
-            bits::FRACTION_INTERNAL_DIGIT_SEPARATOR | bits::FRACTION_TRAILING_DIGIT_SEPARATOR
+            masks::FRACTION_INTERNAL_DIGIT_SEPARATOR | masks::FRACTION_TRAILING_DIGIT_SEPARATOR
         }
         (Place::AfterDigit, Part::Exponent) => {
-            bits::EXPONENT_INTERNAL_DIGIT_SEPARATOR | bits::EXPONENT_TRAILING_DIGIT_SEPARATOR
+            masks::EXPONENT_INTERNAL_DIGIT_SEPARATOR | masks::EXPONENT_TRAILING_DIGIT_SEPARATOR
         }
-        (Place::Consecutive, Part::Integer) => bits::INTEGER_CONSECUTIVE_DIGIT_SEPARATOR,
-        (Place::Consecutive, Part::Fraction) => bits::FRACTION_CONSECUTIVE_DIGIT_SEPARATOR,
-        (Place::Consecutive, Part::Exponent) => bits::EXPONENT_CONSECUTIVE_DIGIT_SEPARATOR,
+        (Place::Consecutive, Part::Integer) => masks::INTEGER_CONSECUTIVE_DIGIT_SEPARATOR,
+        (Place::Consecutive, Part::Fraction) => masks::FRACTION_CONSECUTIVE_DIGIT_SEPARATOR,
+        (Place::Consecutive, Part::Exponent) => masks::EXPONENT_CONSECUTIVE_DIGIT_SEPARATOR,
     }
 }
 
@@ -359,13 +359,13 @@ const fn case_mask(grammar: Grammar, byte: u8) -> u128
 {
     flag_if(
         is_exponent_character(grammar, byte),
-        bits::CASE_SENSITIVE_EXPONENT,
+        masks::CASE_SENSITIVE_EXPONENT,
     ) | flag_if(
         grammar.view().is_base_prefix(byte),
-        bits::CASE_SENSITIVE_BASE_PREFIX,
+        masks::CASE_SENSITIVE_BASE_PREFIX,
     ) | flag_if(
         grammar.view().is_base_suffix(byte),
-        bits::CASE_SENSITIVE_BASE_SUFFIX,
+        masks::CASE_SENSITIVE_BASE_SUFFIX,
     )
 }
 

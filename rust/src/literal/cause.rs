@@ -8,7 +8,7 @@ use crate::literal::steps::{
     Summary,
 };
 use crate::literal::syntax::Grammar;
-use crate::word as bits;
+use crate::word as masks;
 use crate::word::Part;
 
 /// Where a digit separator is.
@@ -91,16 +91,16 @@ impl ReadError {
 }
 
 // The flags that require something of the parts of a literal.
-const REQUIREMENTS: u128 = bits::REQUIRED_DIGITS
-    | bits::NO_POSITIVE_MANTISSA_SIGN
-    | bits::REQUIRED_MANTISSA_SIGN
-    | bits::NO_EXPONENT_NOTATION
-    | bits::NO_POSITIVE_EXPONENT_SIGN
-    | bits::REQUIRED_EXPONENT_SIGN
-    | bits::NO_EXPONENT_WITHOUT_FRACTION
-    | bits::NO_INTEGER_LEADING_ZEROS
-    | bits::NO_FLOAT_LEADING_ZEROS
-    | bits::REQUIRED_EXPONENT_NOTATION;
+const REQUIREMENTS: u128 = masks::REQUIRED_DIGITS
+    | masks::NO_POSITIVE_MANTISSA_SIGN
+    | masks::REQUIRED_MANTISSA_SIGN
+    | masks::NO_EXPONENT_NOTATION
+    | masks::NO_POSITIVE_EXPONENT_SIGN
+    | masks::REQUIRED_EXPONENT_SIGN
+    | masks::NO_EXPONENT_WITHOUT_FRACTION
+    | masks::NO_INTEGER_LEADING_ZEROS
+    | masks::NO_FLOAT_LEADING_ZEROS
+    | masks::REQUIRED_EXPONENT_NOTATION;
 
 // A cause, and the flags that are to blame.
 #[derive(Clone, Copy)]
@@ -173,7 +173,7 @@ impl Stop {
     // Returns the flags that are set and require something.
     const fn binding(self) -> u128 {
         if needs_exponent(self.grammar) {
-            self.grammar.word & (REQUIREMENTS & !bits::NO_INTEGER_LEADING_ZEROS)
+            self.grammar.word & (REQUIREMENTS & !masks::NO_INTEGER_LEADING_ZEROS)
         } else {
             self.grammar.word & REQUIREMENTS
         }
@@ -258,21 +258,21 @@ impl Stop {
 // Returns the flags that allow a digit separator in `part` at `place`.
 const fn separators_at(place: Place, part: Part) -> u128 {
     match (place, part) {
-        (Place::BeforeDigits, Part::Integer) => bits::INTEGER_LEADING_DIGIT_SEPARATOR,
-        (Place::BeforeDigits, Part::Fraction) => bits::FRACTION_LEADING_DIGIT_SEPARATOR,
-        (Place::BeforeDigits, Part::Exponent) => bits::EXPONENT_LEADING_DIGIT_SEPARATOR,
+        (Place::BeforeDigits, Part::Integer) => masks::INTEGER_LEADING_DIGIT_SEPARATOR,
+        (Place::BeforeDigits, Part::Fraction) => masks::FRACTION_LEADING_DIGIT_SEPARATOR,
+        (Place::BeforeDigits, Part::Exponent) => masks::EXPONENT_LEADING_DIGIT_SEPARATOR,
         (Place::AfterDigit, Part::Integer) => {
-            bits::INTEGER_INTERNAL_DIGIT_SEPARATOR | bits::INTEGER_TRAILING_DIGIT_SEPARATOR
+            masks::INTEGER_INTERNAL_DIGIT_SEPARATOR | masks::INTEGER_TRAILING_DIGIT_SEPARATOR
         }
         (Place::AfterDigit, Part::Fraction) => {
-            bits::FRACTION_INTERNAL_DIGIT_SEPARATOR | bits::FRACTION_TRAILING_DIGIT_SEPARATOR
+            masks::FRACTION_INTERNAL_DIGIT_SEPARATOR | masks::FRACTION_TRAILING_DIGIT_SEPARATOR
         }
         (Place::AfterDigit, Part::Exponent) => {
-            bits::EXPONENT_INTERNAL_DIGIT_SEPARATOR | bits::EXPONENT_TRAILING_DIGIT_SEPARATOR
+            masks::EXPONENT_INTERNAL_DIGIT_SEPARATOR | masks::EXPONENT_TRAILING_DIGIT_SEPARATOR
         }
-        (Place::Consecutive, Part::Integer) => bits::INTEGER_CONSECUTIVE_DIGIT_SEPARATOR,
-        (Place::Consecutive, Part::Fraction) => bits::FRACTION_CONSECUTIVE_DIGIT_SEPARATOR,
-        (Place::Consecutive, Part::Exponent) => bits::EXPONENT_CONSECUTIVE_DIGIT_SEPARATOR,
+        (Place::Consecutive, Part::Integer) => masks::INTEGER_CONSECUTIVE_DIGIT_SEPARATOR,
+        (Place::Consecutive, Part::Fraction) => masks::FRACTION_CONSECUTIVE_DIGIT_SEPARATOR,
+        (Place::Consecutive, Part::Exponent) => masks::EXPONENT_CONSECUTIVE_DIGIT_SEPARATOR,
     }
 }
 
@@ -289,13 +289,13 @@ const fn flag_if(is_set: bool, flag: u128) -> u128 {
 const fn case_mask(grammar: Grammar, byte: u8) -> u128 {
     flag_if(
         is_exponent_character(grammar, byte),
-        bits::CASE_SENSITIVE_EXPONENT,
+        masks::CASE_SENSITIVE_EXPONENT,
     ) | flag_if(
         grammar.view().is_base_prefix(byte),
-        bits::CASE_SENSITIVE_BASE_PREFIX,
+        masks::CASE_SENSITIVE_BASE_PREFIX,
     ) | flag_if(
         grammar.view().is_base_suffix(byte),
-        bits::CASE_SENSITIVE_BASE_SUFFIX,
+        masks::CASE_SENSITIVE_BASE_SUFFIX,
     )
 }
 
