@@ -1,6 +1,8 @@
 -- The flags that are found are to blame.
-use Rattle.std.proofs.Common.{ℕ, ◌≡◌, ◌<◌, ◌≤◌, ◌/◌, ◌%◌, ◌^◌, ◌↔◌, min, Bool, true, false, not, ◌==◌, ◌&&◌, ◌||◌, inl, inr, IsTrue, bit_and, List, [], ◌∷◌, Option, Some, refl, sym, ap, subst, ◌∙◌, arith}
-use Rattle.std.proofs.lemmas.Bool.{false≢true, and_parts, and_from, or_cases, or_left, or_right, cases_Bool, cases_lt, eq-eqb, eqb-true, agree_below, agree_below_at}
+use Rattle.std.proofs.Common.{ℕ, ◌≡◌, ◌<◌, ◌≤◌, ◌/◌, ◌%◌, ◌^◌, ◌↔◌, min, Bool, true, false, not, ◌==◌, ◌&&◌, ◌||◌, inl, inr, IsTrue, bit_and, List, []}
+use Rattle.std.proofs.Common.{◌∷◌, Option, Some, refl, sym, ap, subst, ◌∙◌, arith}
+use Rattle.std.proofs.lemmas.Bool.{false≢true, and_parts, and_from, or_cases, or_left, or_right, cases_Bool, cases_lt, eq-eqb, eqb-true, agree_below}
+use Rattle.std.proofs.lemmas.Bool.{agree_below_at}
 use Rattle.std.proofs.lemmas.Bool.Decides.{nat_tests}
 use Rattle.std.proofs.lemmas.Nat.Bits.{bit_at_and}
 use Rattle.std.proofs.Math.Nat.{div-eq_of_lt, pow-le-pow_right}
@@ -10,7 +12,8 @@ use Rattle.lexical_util.specs.Layout as layout
 use Rattle.lexical_util.specs.Layout.{Flag, bit, flags, part}
 use Rattle.lexical_util.specs.Record.{raw}
 use Rattle.lexical_literal.specs.Notation.{Notation}
-use Rattle.lexical_literal.specs.Cause.{Allows, IsLowest, IsRequirement, Permits, RefusesAlone, Releases, SomeFlag, adding, bare, binds, is_one_of, requirement_flags, separator_flags, with_flags, without}
+use Rattle.lexical_literal.specs.Cause.{Allows, IsLowest, IsRequirement, Permits, RefusesAlone, Releases, SomeFlag, adding, bare, binds, is_one_of}
+use Rattle.lexical_literal.specs.Cause.{requirement_flags, separator_flags, with_flags, without}
 use Rattle.lexical_literal.specs.Additions.Causes.{Decides, IsLowestBit, IsWeaker, allows, without_bit}
 use Rattle.lexical_literal.specs.declared.steps.Class.{Class}
 use Rattle.lexical_literal.specs.declared.steps.Summary.{Summary}
@@ -31,7 +34,8 @@ flags_in mask = filter (λ g. part mask (bit g) 1 == 1) flags
 pub mask_flag : (mask : ℕ) → mask < 2 ^ 44 → agree_below (λ k. part mask k 1 == 1) (λ k. list_any (λ g. bit g == k) (flags_in mask)) 44 ≡ true
     → (k : ℕ) → part mask k 1 ≡ 1 → (f : Flag) × (bit f ≡ k)
 mask_flag mask small agree k one = elim (cases_lt k 44) [
-  | inl below ↦ find (flags_in mask) k (sym (agree_below_at (λ k. part mask k 1 == 1) (λ k. list_any (λ g. bit g == k) (flags_in mask)) 44 k agree below) ∙ ap (λ n. n == 1) one)
+  | inl below ↦ find (flags_in mask) k (sym (agree_below_at (λ k. part mask k 1 == 1) (λ k. list_any (λ g. bit g == k) (flags_in mask)) 44 k agree below)
+      ∙ ap (λ n. n == 1) one)
   | inr high ↦
       let wide : 2 ^ 44 ≤ 2 ^ k = pow-le-pow_right {n = 2} (omega arith) high in
       let none : mask / 2 ^ k ≡ 0 = div-eq_of_lt (omega (arith, wide)) in
@@ -229,8 +233,11 @@ module _ (m : Notation) where
           → (f : Flag) → ((at f && beq (allows (adding f (bare m)) s class) true) ≡ true) ↔ Permits m front byte f
       each_permits at separates found f = (
         λ is.
-            let both = and_parts (at f) _ is in
-            (separates f both.0, to_next (adding f (bare m)) ((decides _ (permits_weaker f (separates f both.0))).0 (is_true (allows (adding f (bare m)) s class) both.1))),
+            let both = and_parts (at f) _ is in (
+              separates f both.0,
+              to_next (adding f (bare m))
+                  ((decides _ (permits_weaker f (separates f both.0))).0 (is_true (allows (adding f (bare m)) s class) both.1)),
+            ),
         λ permits.
             let allowed = (decides _ (permits_weaker f permits.0)).1 (from_next (adding f (bare m)) permits.1) in
             and_from _ _ (found f permits.0 allowed) (as_true (allows (adding f (bare m)) s class) allowed),

@@ -1,5 +1,6 @@
 -- What has been read decides what a notation allows, with other flags too.
-use Rattle.std.proofs.Common.{ℕ, ◌≡◌, ◌↔◌, Bool, true, false, not, ◌==◌, ◌&&◌, ◌||◌, if◌then◌else◌, inl, inr, IsTrue, List, [], ◌∷◌, ◌++◌, Option, Some, None, refl, sym, ap, ◌∙◌, arith}
+use Rattle.std.proofs.Common.{ℕ, ◌≡◌, ◌↔◌, Bool, true, false, not, ◌==◌, ◌&&◌, ◌||◌, if◌then◌else◌, inl, inr, IsTrue, List, [], ◌∷◌, ◌++◌, Option, Some}
+use Rattle.std.proofs.Common.{None, refl, sym, ap, ◌∙◌, arith}
 use Rattle.std.proofs.lemmas.Bool.{false≢true, and_parts, and_from, cases_Bool, false_from_ne_true}
 use Rattle.std.specs.Prelude.{is_some}
 use Rattle.lexical_util.specs.Layout as layout
@@ -169,9 +170,11 @@ module _ (m : Notation) (A : Flag → Bool) where
     taken false y u more is_s is_r = absurd (gone m s is_s)
 
     go : ((t : Summary) → scan m (Some t) text ≡ Some s → scan n (Some t) text ≡ Some r → s ≡ r) → (o : Option Role)
-        → scan m (move m t (is_plus (class_of m b)) (is_zero (class_of m b)) o) text ≡ Some s → scan n (move n t (is_plus (class_of m b)) (is_zero (class_of m b)) o) text ≡ Some r → s ≡ r
+        → scan m (move m t (is_plus (class_of m b)) (is_zero (class_of m b)) o) text ≡ Some s
+        → scan n (move n t (is_plus (class_of m b)) (is_zero (class_of m b)) o) text ≡ Some r → s ≡ r
     go more None is_s is_r = absurd (gone m s is_s)
-    go more (Some role) is_s is_r = taken (not t.ended && takes m t (is_plus (class_of m b)) role) (not t.ended && takes n t (is_plus (class_of m b)) role) (after t (is_zero (class_of m b)) role)
+    go more (Some role) is_s is_r = taken (not t.ended && takes m t (is_plus (class_of m b)) role) (not t.ended && takes n t (is_plus (class_of m b)) role)
+        (after t (is_zero (class_of m b)) role)
         (more (after t (is_zero (class_of m b)) role)) is_s is_r
 
   some_of : (o : Option Summary) → (o ≡ None → ⊥) → (u : Summary) × (o ≡ Some u)
@@ -199,7 +202,8 @@ module _ (m : Notation) (A : Flag → Bool) where
     pub decided : (next : Option ℕ) → (allows n s (class_of_next m next) ≡ true) ↔ Allows n front next
     decided None = (
       λ is. literal_from n (other_roles ready.roles) front (ap (is_accepted n) read_too ∙ is),
-      λ l. sym (ap (is_accepted n) read_too) ∙ ap (λ t. is_accepted n (scan n (Some start) t)) l.1.whole ∙ (literal_arrives n (other_roles ready.roles) l.0 l.1.literal).0,
+      λ l. sym (ap (is_accepted n) read_too) ∙ ap (λ t. is_accepted n (scan n (Some start) t)) l.1.whole
+          ∙ (literal_arrives n (other_roles ready.roles) l.0 l.1.literal).0,
     )
     decided (Some b) = (
       λ is. let some = is_some_of (step n s (class_of m b)) is in

@@ -7,7 +7,9 @@ use Rattle.std.proofs.lemmas.Bool.{eq-eqb, or_right}
 use Rattle.lexical_literal.specs.Notation.{notation_of}
 use Rattle.lexical_literal.proofs.CauseLemmas.{flag_zero, flag_or, flag_pow, shifted, is_set, as_tested, as_unset, tried_more}
 use Rattle.lexical_literal.proofs.cause.Stop.flags_that.Goals as goal
-use Rattle.lexical_literal.proofs.cause.Stop.flags_that.Goals.{then-candidates-flag-ne0+then-allows-allow, else-candidates-flag-ne0, else-candidates-flag-ne0-via-then-candidates-flag-ne0+else-allows-allow, else-candidates-flag-ne0-via-else-candidates-flag-ne0}
+use Rattle.lexical_literal.proofs.cause.Stop.flags_that.Goals.{then-candidates-flag-ne0+then-allows-allow, else-candidates-flag-ne0}
+use Rattle.lexical_literal.proofs.cause.Stop.flags_that.Goals.{else-candidates-flag-ne0-via-then-candidates-flag-ne0+else-allows-allow}
+use Rattle.lexical_literal.proofs.cause.Stop.flags_that.Goals.{else-candidates-flag-ne0-via-else-candidates-flag-ne0}
 
 none_added : (old t : Bool) → old ≡ (old || (t && false))
 none_added old t = grind arith
@@ -57,7 +59,8 @@ loop-bit-preserved c =
       ];
       some = λ some. elim c.if-candidates-flag-ne0.branch [
         | then-candidates-flag-ne0+then-allows-allow w ↦
-            let owner = c.requires.flags k (is_set c.args.candidates k (λ none. w.if-candidates-flag-ne0.true (ap (bit_and c.args.candidates) (shifted k small) ∙ none))) in (
+            let owner = c.requires.flags k (is_set c.args.candidates k (λ none. w.if-candidates-flag-ne0.true (ap (bit_and c.args.candidates)
+            (shifted k small) ∙ none))) in (
               owner.0,
               ap (λ n. (raw n).flag owner.0) (w.found-is ∙ ap (bit_or found) (shifted k small)) ∙ flag_or owner.0 found (2 ^ k)
                   ∙ or_right ((raw found).flag owner.0) _ (flag_pow owner.0 k ∙ eq-eqb (bit owner.0) k owner.1),

@@ -36,5 +36,6 @@ returns-else-alone-eq0 c front next decides =
     let s = c.args.self.read in
     let class = c.args.self.next in
     all_alone m s class front next decides c.flags_that-alone.result c.requires.allowed
-    (λ f. c.flags_that-alone.ensures.each f ∙ (λ j. c.binding.ensures.each f j && beq (allows (adding f (as_bare m c.bare.result c.bare.ensures j)) s class) false))
+    (λ f. c.flags_that-alone.ensures.each f
+    ∙ (λ j. c.binding.ensures.each f j && beq (allows (adding f (as_bare m c.bare.result c.bare.ensures j)) s class) false))
     (c.flags_that-alone.ensures.some c.if-alone-eq0.false)
