@@ -143,9 +143,6 @@ without_shifted m mask k small = λ j. with_flags m (λ g. both g j) where
   both g = ap (λ n. (raw (bit_and mask (bit_not w128 n))).flag g) (shifted k small) ∙ flag_and g mask (bit_not w128 (2 ^ k))
       ∙ ap (λ t. (raw mask).flag g && t) (flag_not g (2 ^ k) (pow_below k 128 (omega arith)) ∙ ap not (flag_pow g k))
 
-and_false : (a : Bool) → (a && false) ≡ false
-and_false a = grind arith
-
 module _ (m : Notation) (s : Summary) (next : Option Class) (candidates mask : ℕ) (allow : Bool) (k : ℕ) (small : k < 44) (f : Flag) (same : bit f ≡ k) where
   abbrev tested : Bool
   tested = (raw candidates).flag f && beq (allows (adding f (with_flags m (raw mask).flag)) s next) allow

@@ -1,11 +1,11 @@
 -- Where a separator is not allowed.
-use Rattle.std.proofs.Common.{◌≡◌, Bool, true, false, not, ◌==◌, ◌&&◌, ◌||◌, if◌then◌else◌, Option, Some, None, inl, inr, refl, sym, ap, ◌∙◌, arith, ℕ}
-use Rattle.std.proofs.Common.{◌<◌, ◌≤◌, ◌+◌, ◌^◌}
+use Rattle.std.proofs.Common.{bit_and, ◌≡◌, Bool, true, false, not, ◌==◌, ◌&&◌, ◌||◌, if◌then◌else◌, Option, Some, None, inl, inr, refl, sym, ap, ◌∙◌, arith, ℕ}
+use Rattle.std.proofs.Common.{◌<◌, ◌≤◌}
 use Rattle.std.proofs.lemmas.Bool.{false≢true, and_from, and_parts, cases_Bool, eqb-true, false_from_ne_true, or_left, or_right}
 use Rattle.std.proofs.lemmas.Bool.Decides.{nat_tests}
 use Rattle.std.specs.Prelude.{is_some}
 use Rattle.lexical_util.specs.Record.{raw}
-use Rattle.lexical_literal.proofs.BlameLemmas.{mask_flag}
+use Rattle.lexical_literal.proofs.BlameLemmas.{mask_flag, of_mask}
 use Rattle.lexical_literal.proofs.CauseLemmas.{flag_pow}
 use Rattle.lexical_util.specs.Layout as layout
 use Rattle.lexical_util.specs.Layout.{Flag, bit, separators_in}
@@ -57,16 +57,17 @@ mask_is places.AfterDigit parts.Exponent layout.required_integer_digits = refl
 mask_is places.AfterDigit parts.Exponent _ = refl
 
 -- Each bit of the mask is a flag.
+one_mask : (place : Place) (part : Part) → bit_and (mask_at place part) 0xFFF_0000_0000 ≡ mask_at place part
+one_mask places.BeforeDigits parts.Integer = refl
+one_mask places.BeforeDigits _ = refl
+one_mask places.AfterDigit parts.Integer = refl
+one_mask places.AfterDigit _ = refl
+one_mask places.Consecutive parts.Integer = refl
+one_mask places.Consecutive _ = refl
+
 pub mask_flags : (place : Place) (part : Part) (k : ℕ) → layout.part (mask_at place part) k 1 ≡ 1 → (f : Flag) × (bit f ≡ k)
-mask_flags places.BeforeDigits parts.Integer = mask_flag (2 ^ 35) (omega arith) refl
-mask_flags places.BeforeDigits parts.Fraction = mask_flag (2 ^ 36) (omega arith) refl
-mask_flags places.BeforeDigits parts.Exponent = mask_flag (2 ^ 37) (omega arith) refl
-mask_flags places.AfterDigit parts.Integer = mask_flag (2 ^ 32 + 2 ^ 38) (omega arith) refl
-mask_flags places.AfterDigit parts.Fraction = mask_flag (2 ^ 33 + 2 ^ 39) (omega arith) refl
-mask_flags places.AfterDigit parts.Exponent = mask_flag (2 ^ 34 + 2 ^ 40) (omega arith) refl
-mask_flags places.Consecutive parts.Integer = mask_flag (2 ^ 41) (omega arith) refl
-mask_flags places.Consecutive parts.Fraction = mask_flag (2 ^ 42) (omega arith) refl
-mask_flags places.Consecutive parts.Exponent = mask_flag (2 ^ 43) (omega arith) refl
+mask_flags place part k is = mask_flag 0xFFF_0000_0000 (omega arith) refl k
+    (of_mask (mask_at place part) 0xFFF_0000_0000 k (ap (λ n. layout.part n k 1) (one_mask place part) ∙ is))
 
 pub from_32 : (place : Place) (part : Part) (f : Flag) → is_at place part f ≡ true → (32 ≤ bit f) × (bit f < 44)
 from_32 place part f is = inside (separates_at place part f is) where

@@ -1,7 +1,7 @@
 -- What has been read decides what a notation allows, with other flags too.
 use Rattle.std.proofs.Common.{ℕ, ◌≡◌, ◌↔◌, Bool, true, false, not, ◌==◌, ◌&&◌, ◌||◌, if◌then◌else◌, inl, inr, IsTrue, List, [], ◌∷◌, ◌++◌, Option, Some}
 use Rattle.std.proofs.Common.{None, refl, sym, ap, ◌∙◌, arith}
-use Rattle.std.proofs.lemmas.Bool.{false≢true, and_parts, and_from, cases_Bool, false_from_ne_true}
+use Rattle.std.proofs.lemmas.Bool.{or_cases, false≢true, and_parts, and_from, cases_Bool, false_from_ne_true}
 use Rattle.std.specs.Prelude.{is_some}
 use Rattle.lexical_util.specs.Layout as layout
 use Rattle.lexical_util.specs.Layout.{Flag, bit, flags, separators_in}
@@ -84,34 +84,29 @@ module _ (m : Notation) (A : Flag → Bool) where
           (λ is. weaker.no_more layout.required_exponent_notation (and_from _ true is refl)) ready.agree;
     }
 
-    drop_false : (a : Bool) → (a || false) ≡ true → a ≡ true
-    drop_false a is = grind arith
-
-    internal : (part : Part) → m.flag (separators_in part).internal ≡ true → A (separators_in part).internal ≡ true
-    internal parts.Integer is = drop_false _ (weaker.no_less layout.integer_internal_digit_separator is)
-    internal parts.Fraction is = drop_false _ (weaker.no_less layout.fraction_internal_digit_separator is)
-    internal parts.Exponent is = drop_false _ (weaker.no_less layout.exponent_internal_digit_separator is)
-
-    leading : (part : Part) → m.flag (separators_in part).leading ≡ true → A (separators_in part).leading ≡ true
-    leading parts.Integer is = drop_false _ (weaker.no_less layout.integer_leading_digit_separator is)
-    leading parts.Fraction is = drop_false _ (weaker.no_less layout.fraction_leading_digit_separator is)
-    leading parts.Exponent is = drop_false _ (weaker.no_less layout.exponent_leading_digit_separator is)
-
-    trailing : (part : Part) → m.flag (separators_in part).trailing ≡ true → A (separators_in part).trailing ≡ true
-    trailing parts.Integer is = drop_false _ (weaker.no_less layout.integer_trailing_digit_separator is)
-    trailing parts.Fraction is = drop_false _ (weaker.no_less layout.fraction_trailing_digit_separator is)
-    trailing parts.Exponent is = drop_false _ (weaker.no_less layout.exponent_trailing_digit_separator is)
+    -- A separator flag that is set stays so.
+    kept : (f : Flag) → is_one_of separator_flags f ≡ true → m.flag f ≡ true → A f ≡ true
+    kept f separates set = elim (or_cases (A f) _ (weaker.no_less f set)) [
+      | inl is ↦ is
+      | inr requires ↦ absurd (false≢true (sym (apart f) ∙ and_from _ _ requires separates))
+    ]
 
     consecutive : (part : Part) → m.flag (separators_in part).consecutive ≡ true → A (separators_in part).consecutive ≡ true
-    consecutive parts.Integer is = drop_false _ (weaker.no_less layout.integer_consecutive_digit_separator is)
-    consecutive parts.Fraction is = drop_false _ (weaker.no_less layout.fraction_consecutive_digit_separator is)
-    consecutive parts.Exponent is = drop_false _ (weaker.no_less layout.exponent_consecutive_digit_separator is)
+    consecutive parts.Integer is = kept layout.integer_consecutive_digit_separator refl is
+    consecutive parts.Fraction is = kept layout.fraction_consecutive_digit_separator refl is
+    consecutive parts.Exponent is = kept layout.exponent_consecutive_digit_separator refl is
 
     more_places : (part : Part) (x y : Bool) → is_place m part x y ≡ true → is_place n part x y ≡ true
-    more_places part true true is = internal part is
-    more_places part false true is = leading part is
-    more_places part true false is = trailing part is
     more_places part false false is = is
+    more_places parts.Integer true true is = kept layout.integer_internal_digit_separator refl is
+    more_places parts.Integer false true is = kept layout.integer_leading_digit_separator refl is
+    more_places parts.Integer true false is = kept layout.integer_trailing_digit_separator refl is
+    more_places parts.Fraction true true is = kept layout.fraction_internal_digit_separator refl is
+    more_places parts.Fraction false true is = kept layout.fraction_leading_digit_separator refl is
+    more_places parts.Fraction true false is = kept layout.fraction_trailing_digit_separator refl is
+    more_places parts.Exponent true true is = kept layout.exponent_internal_digit_separator refl is
+    more_places parts.Exponent false true is = kept layout.exponent_leading_digit_separator refl is
+    more_places parts.Exponent true false is = kept layout.exponent_trailing_digit_separator refl is
 
     fits_more : (d s p q c e f : Bool) → (p ≡ true → q ≡ true) → (c ≡ true → e ≡ true) → (d || (s && p && (c || f))) ≡ true
         → (d || (s && q && (e || f))) ≡ true
