@@ -1,5 +1,6 @@
 -- The flags of masks, and the bytes to show.
-use Rattle.std.proofs.Common.{ℕ, ◌≡◌, ◌≢◌, ◌<◌, ◌+◌, ◌-◌, ◌*◌, ◌%◌, ◌^◌, suc, ◌==◌, ◌&&◌, ◌||◌, min, max, not, nat_lt, Bool, true, false, inl, inr, if◌then◌else◌, bit_and, bit_or, Option, List, [], ◌∷◌, ◌++◌, length, refl, sym, ap, ◌∙◌, arith}
+use Rattle.std.proofs.Common.{ℕ, ◌≡◌, ◌≢◌, ◌<◌, ◌+◌, ◌-◌, ◌*◌, ◌%◌, ◌^◌, suc, ◌==◌, ◌&&◌, ◌||◌, min, max, not, nat_lt, Bool, true, false, inl, inr}
+use Rattle.std.proofs.Common.{if◌then◌else◌, bit_and, bit_or, Option, List, [], ◌∷◌, ◌++◌, length, refl, sym, ap, ◌∙◌, arith}
 use Rattle.std.proofs.lemmas.Bool.{eq-eqb, ne_eqb, cases_eq, cases_lt}
 use Rattle.std.proofs.lemmas.Bool.Decides.{nat_tests}
 use Rattle.std.proofs.lemmas.List.Folds.{list_any-append}
@@ -85,7 +86,8 @@ module _ (m : Notation) (byte : ℕ) where
   if_flag f true k = flag_pow f k
   if_flag f false k = flag_zero f
 
-  picks : (f : Flag) → (((m.exponent_character byte && (bit f == 15)) || (m.prefix byte && (bit f == 16))) || (m.suffix byte && (bit f == 17))) ≡ case_set f m byte
+  picks : (f : Flag)
+      → (((m.exponent_character byte && (bit f == 15)) || (m.prefix byte && (bit f == 16))) || (m.suffix byte && (bit f == 17))) ≡ case_set f m byte
   picks layout.required_integer_digits = grind arith
   picks _ = grind arith
 
@@ -97,7 +99,8 @@ module _ (m : Notation) (byte : ℕ) where
 
   pub case_some : case_mask_of (m.exponent_character byte) (m.prefix byte) (m.suffix byte) ≢ 0 → (f : Flag) × (case_set f m byte ≡ true)
   case_some some = go (m.exponent_character byte) (m.prefix byte) (m.suffix byte) refl refl refl some where
-    go : (a b c : Bool) → m.exponent_character byte ≡ a → m.prefix byte ≡ b → m.suffix byte ≡ c → case_mask_of a b c ≢ 0 → (f : Flag) × (case_set f m byte ≡ true)
+    go : (a b c : Bool) → m.exponent_character byte ≡ a → m.prefix byte ≡ b → m.suffix byte ≡ c → case_mask_of a b c ≢ 0
+        → (f : Flag) × (case_set f m byte ≡ true)
     go true b c is_a is_b is_c some = (layout.case_sensitive_exponent, is_a)
     go false true c is_a is_b is_c some = (layout.case_sensitive_base_prefix, is_b)
     go false false true is_a is_b is_c some = (layout.case_sensitive_base_suffix, is_c)
@@ -126,7 +129,8 @@ swap : (a b : Bool) → (a || b) ≡ (b || a)
 swap a b = grind arith
 
 -- One more flag in a mask, or one less.
-pub with_shifted : (m : Notation) (mask k : ℕ) → k < 44 → with_flags m (raw (bit_or mask (1 * 2 ^ k % 2 ^ 128))).flag ≡ with_bit k (with_flags m (raw mask).flag)
+pub with_shifted : (m : Notation) (mask k : ℕ) → k < 44
+    → with_flags m (raw (bit_or mask (1 * 2 ^ k % 2 ^ 128))).flag ≡ with_bit k (with_flags m (raw mask).flag)
 with_shifted m mask k small = λ j. with_flags m (λ g. both g j) where
   both : (g : Flag) → (raw (bit_or mask (1 * 2 ^ k % 2 ^ 128))).flag g ≡ ((bit g == k) || (raw mask).flag g)
   both g = ap (λ n. (raw (bit_or mask n)).flag g) (shifted k small) ∙ flag_or g mask (2 ^ k) ∙ ap (λ t. (raw mask).flag g || t) (flag_pow g k)
@@ -138,9 +142,6 @@ without_shifted m mask k small = λ j. with_flags m (λ g. both g j) where
   both : (g : Flag) → (raw (bit_and mask (bit_not w128 (1 * 2 ^ k % 2 ^ 128)))).flag g ≡ ((raw mask).flag g && not (bit g == k))
   both g = ap (λ n. (raw (bit_and mask (bit_not w128 n))).flag g) (shifted k small) ∙ flag_and g mask (bit_not w128 (2 ^ k))
       ∙ ap (λ t. (raw mask).flag g && t) (flag_not g (2 ^ k) (pow_below k 128 (omega arith)) ∙ ap not (flag_pow g k))
-
-and_false : (a : Bool) → (a && false) ≡ false
-and_false a = grind arith
 
 module _ (m : Notation) (s : Summary) (next : Option Class) (candidates mask : ℕ) (allow : Bool) (k : ℕ) (small : k < 44) (f : Flag) (same : bit f ≡ k) where
   abbrev tested : Bool

@@ -13,7 +13,9 @@ use Rattle.lexical_literal.specs.Notation.{Notation}
 use Rattle.lexical_literal.specs.Run.{is_place}
 use Rattle.lexical_literal.specs.Cause.{adding, bare, binds, is_one_of, requirement_flags, without}
 use Rattle.lexical_literal.specs.Additions.Causes.{allows}
-use Rattle.lexical_literal.specs.Additions.Summary.{implies, forbids_plus, has_digit, is_fresh, is_lone, is_led, needs_exponent, may_lead, may_follow, gap_fits, is_open, is_signed, digits_suffice, may_float, continues, ends, takes, move, is_plus, is_zero, in_part, after}
+use Rattle.lexical_literal.specs.Additions.Summary.{implies, forbids_plus, has_digit, is_fresh, is_lone, is_led, needs_exponent, may_lead, may_follow}
+use Rattle.lexical_literal.specs.Additions.Summary.{gap_fits, is_open, is_signed, digits_suffice, may_float, continues, ends, takes, move, is_plus}
+use Rattle.lexical_literal.specs.Additions.Summary.{is_zero, in_part, after}
 use Rattle.lexical_literal.specs.declared.steps.Class.{Class}
 use Rattle.lexical_literal.specs.declared.steps.Stage.{Stage}
 use Rattle.lexical_literal.specs.declared.steps.Stage.TheVariants as stages
@@ -51,8 +53,10 @@ module _ (m : Notation) where
   suffices : (part : Part) (stage : Stage) → Alone (λ n. digits_suffice n part stage) → digits_suffice m part stage ≡ true
   suffices parts.Integer stage a = by layout.required_integer_digits refl refl (λ t. implies t (has_digit stage)) a
   suffices parts.Fraction stage a = and_from _ _
-      (by layout.required_fraction_digits refl refl (λ t. implies t (has_digit stage)) (left (λ n. implies (n.flag layout.required_fraction_digits) (has_digit stage)) _ a))
-      (by layout.required_mantissa_digits refl refl (λ t. implies t (not (is_lone stage))) (right _ (λ n. implies (n.flag layout.required_mantissa_digits) (not (is_lone stage))) a))
+      (by layout.required_fraction_digits refl refl (λ t. implies t (has_digit stage)) (left (λ n. implies (n.flag layout.required_fraction_digits)
+      (has_digit stage)) _ a))
+      (by layout.required_mantissa_digits refl refl (λ t. implies t (not (is_lone stage))) (right _ (λ n. implies (n.flag layout.required_mantissa_digits)
+      (not (is_lone stage))) a))
   suffices parts.Exponent stage a = by layout.required_exponent_digits refl refl (λ t. implies t (has_digit stage)) a
 
   same_place : (part : Part) (x y : Bool) → is_place (bare m) part x y ≡ is_place m part x y
@@ -83,10 +87,12 @@ module _ (m : Notation) where
   continued parts.Integer stage roles.Exponent a =
       let rest = right (λ n. not (n.flag layout.no_exponent_notation)) (λ n. may_float n stage
       && (implies (n.flag layout.required_mantissa_digits) (has_digit stage) && not (n.flag layout.no_exponent_without_fraction))) a in
-      let more = right (λ n. may_float n stage) (λ n. implies (n.flag layout.required_mantissa_digits) (has_digit stage) && not (n.flag layout.no_exponent_without_fraction)) rest in
+      let more = right (λ n. may_float n stage) (λ n. implies (n.flag layout.required_mantissa_digits)
+      (has_digit stage) && not (n.flag layout.no_exponent_without_fraction)) rest in
       and_from _ _ (by layout.no_exponent_notation refl refl not (left (λ n. not (n.flag layout.no_exponent_notation)) _ a))
       (and_from _ _ (floats stage (left (λ n. may_float n stage) _ rest))
-      (and_from _ _ (by layout.required_mantissa_digits refl refl (λ t. implies t (has_digit stage)) (left (λ n. implies (n.flag layout.required_mantissa_digits) (has_digit stage)) _ more))
+      (and_from _ _ (by layout.required_mantissa_digits refl refl (λ t. implies t (has_digit stage))
+      (left (λ n. implies (n.flag layout.required_mantissa_digits) (has_digit stage)) _ more))
       (by layout.no_exponent_without_fraction refl refl not (right _ (λ n. not (n.flag layout.no_exponent_without_fraction)) more))))
   continued parts.Integer stage roles.Suffix a =
       let rest = right (λ n. not (needs_exponent n)) (λ n. has_digit stage && implies (n.flag layout.no_integer_leading_zeros) (not (is_led stage))) a in
@@ -122,7 +128,8 @@ module _ (m : Notation) where
   leads : Alone may_lead → Joint may_lead
   leads a = elim (cases_Bool m.integers_only) [
     | inl only ↦ elim (cases_Bool (m.flag layout.no_integer_leading_zeros)) [
-      | inl set ↦ absurd (refused (only_one.flag layout.no_float_leading_zeros) (only_one.flag layout.required_exponent_notation) m.integers_only only (a.each layout.no_integer_leading_zeros (and_from _ _ set (binds_only _ m.integers_only only))))
+      | inl set ↦ absurd (refused (only_one.flag layout.no_float_leading_zeros)
+          (only_one.flag layout.required_exponent_notation) m.integers_only only (a.each layout.no_integer_leading_zeros (and_from _ _ set (binds_only _ m.integers_only only))))
       | inr off ↦ inl (unset _ (m.flag layout.no_float_leading_zeros) (m.flag layout.required_exponent_notation) _ only off)
     ]
     | inr floats ↦ elim (cases_Bool (m.flag layout.no_float_leading_zeros)) [
@@ -168,7 +175,8 @@ module _ (m : Notation) where
   digit_joint : (s : Summary) (plus : Bool) → Alone (λ n. takes n s plus roles.Digit) → Joint (λ n. takes n s plus roles.Digit)
   digit_joint s plus a =
       let rest = right (λ n. is_signed n s.part s.stage) (λ n. gap_fits n s.part (has_digit s.stage) s.gap true && may_follow n s.stage) a in
-      let sign = signed s.part s.stage (left (λ n. is_signed n s.part s.stage) (λ n. gap_fits n s.part (has_digit s.stage) s.gap true && may_follow n s.stage) a) in
+      let sign = signed s.part s.stage (left (λ n. is_signed n s.part s.stage)
+      (λ n. gap_fits n s.part (has_digit s.stage) s.gap true && may_follow n s.stage) a) in
       let gap : gap_fits m s.part (has_digit s.stage) s.gap true ≡ true = ap (λ t. not s.gap || t) (sym (same_place s.part (has_digit s.stage) true))
       ∙ (left (λ n. gap_fits n s.part (has_digit s.stage) s.gap true) (λ n. may_follow n s.stage) rest).free in
       elim (follows s.stage (right (λ n. gap_fits n s.part (has_digit s.stage) s.gap true) (λ n. may_follow n s.stage) rest)) [
@@ -192,7 +200,8 @@ module _ (m : Notation) where
   trailing_not f requires parts.Fraction = grind (arith, nat_tests)
   trailing_not f requires parts.Exponent = grind (arith, nat_tests)
 
-  behind_adding : (f : Flag) → is_one_of requirement_flags f ≡ true → (part : Part) (digit : Bool) → is_place (adding f (bare m)) part digit false ≡ is_place m part digit false
+  behind_adding : (f : Flag) → is_one_of requirement_flags f ≡ true → (part : Part) (digit : Bool)
+      → is_place (adding f (bare m)) part digit false ≡ is_place m part digit false
   behind_adding f requires part true = ap (λ t. t || (bare m).flag (separators_in part).trailing) (trailing_not f requires part) ∙ same_place part true false
   behind_adding f requires part false = refl
 
@@ -209,7 +218,8 @@ module _ (m : Notation) where
       let free = and_parts (not s.gap || (bare m).flag (separators_in s.part).consecutive) _ (right (λ n. is_signed n s.part s.stage) (separated s) a).free in
       let gap : (not s.gap || m.flag (separators_in s.part).consecutive) ≡ true = ap (λ t. not s.gap || t) (sym (same_consecutive s.part)) ∙ free.0 in
       let some : (is_place m s.part digit true || is_place m s.part digit false) ≡ true =
-      or_both _ _ _ _ (sym (same_place s.part digit true)) (sym (same_place s.part digit false)) ∙ open_free (is_place (bare m) s.part digit true) (is_place (bare m) s.part digit false) (may_follow (bare m) s.stage) free.1 in
+      or_both _ _ _ _ (sym (same_place s.part digit true)) (sym (same_place s.part digit false))
+      ∙ open_free (is_place (bare m) s.part digit true) (is_place (bare m) s.part digit false) (may_follow (bare m) s.stage) free.1 in
       let less_gap = if_more (not s.gap) _ _ (consecutive_less s.part) gap in
       elim (cases_Bool (is_place m s.part digit false)) [
         | inl trailing ↦ inl (and_from _ _ sign (and_from _ _ gap (or_right (is_place m s.part digit true && may_follow m s.stage) _ trailing)))
@@ -220,7 +230,8 @@ module _ (m : Notation) where
               free = closed (is_place (bare m) s.part digit true) _ (is_place (bare m) s.part digit false) (same_place s.part digit false ∙ none) free.1;
               each = λ f is.
                   let requires = (and_parts (is_one_of requirement_flags f) _ (and_parts (m.flag f) _ is).1).0 in
-                  closed (is_place (adding f (bare m)) s.part digit true) _ (is_place (adding f (bare m)) s.part digit false) (behind_adding f requires s.part digit ∙ none)
+                  closed (is_place (adding f (bare m)) s.part digit true) _ (is_place (adding f (bare m)) s.part digit false)
+                  (behind_adding f requires s.part digit ∙ none)
                   (and_parts (not s.gap || (adding f (bare m)).flag (separators_in s.part).consecutive) _ (each.each f is)).1;
             } in
             elim (follows s.stage follow) [
@@ -228,7 +239,8 @@ module _ (m : Notation) where
               | inr both ↦ inr (
                 both.0,
                 and_from _ _ (signed_less s.part s.stage sign) (and_from _ _ less_gap
-                    (open_next (is_place less s.part digit true) (is_place less s.part digit false) _ (or_left _ _ (place_less s.part digit true inside)) both.1)),
+                    (open_next (is_place less s.part digit true)
+                    (is_place less s.part digit false) _ (or_left _ _ (place_less s.part digit true inside)) both.1)),
               )
             ]
       ]
@@ -256,7 +268,8 @@ module _ (m : Notation) where
   step_joint : (s : Summary) (plus zero : Bool) (o : Option Role) → Alone (λ n. is_some (move n s plus zero o)) → Joint (λ n. is_some (move n s plus zero o))
   step_joint s plus zero None a = absurd (false≢true a.free)
   step_joint s plus zero (Some role) a =
-      let both = mapped (λ n. is_some (move n s plus zero (Some role))) (λ n. not s.ended && takes n s plus role) (λ n. some_if (not s.ended && takes n s plus role) (after s zero role)) a in
+      let both = mapped (λ n. is_some (move n s plus zero (Some role))) (λ n. not s.ended && takes n s plus role)
+      (λ n. some_if (not s.ended && takes n s plus role) (after s zero role)) a in
       let going = (left (λ n. not s.ended) (λ n. takes n s plus role) both).free in
       elim (takes_joint s plus role (right (λ n. not s.ended) (λ n. takes n s plus role) both)) [
         | inl is ↦ inl (some_if (not s.ended && takes m s plus role) (after s zero role) ∙ and_from _ _ going is)
@@ -267,6 +280,7 @@ module _ (m : Notation) where
   pub joint : (s : Summary) (next : Option Class) → Alone (λ n. allows n s next) → Joint (λ n. allows n s next)
   joint s (Some class) a = step_joint s (is_plus class) (is_zero class) (in_part s.part class) a
   joint s None a = inl (whole_text s.ended a) where
-    whole_text : (e : Bool) → Alone (λ n. e || (ends n s && continues n s.part s.stage roles.Suffix)) → (e || (ends m s && continues m s.part s.stage roles.Suffix)) ≡ true
+    whole_text : (e : Bool) → Alone (λ n. e || (ends n s && continues n s.part s.stage roles.Suffix))
+        → (e || (ends m s && continues m s.part s.stage roles.Suffix)) ≡ true
     whole_text true a = refl
     whole_text false a = goes_on s roles.Suffix a

@@ -32,9 +32,12 @@ two_bits P j k n first second is = elim (or_cases (j == n) _ is) [
 ]
 
 from_flag : (place : Place) (part : Part) (f : Flag) → is_at place part f ≡ true → (place ≡ place_from (bit f)) × (part ≡ part_from (bit f))
-from_flag places.BeforeDigits parts.Integer f is = one_bit (λ n. (places.BeforeDigits ≡ place_from n) × (parts.Integer ≡ part_from n)) 35 (bit f) (refl, refl) is
-from_flag places.BeforeDigits parts.Fraction f is = one_bit (λ n. (places.BeforeDigits ≡ place_from n) × (parts.Fraction ≡ part_from n)) 36 (bit f) (refl, refl) is
-from_flag places.BeforeDigits parts.Exponent f is = one_bit (λ n. (places.BeforeDigits ≡ place_from n) × (parts.Exponent ≡ part_from n)) 37 (bit f) (refl, refl) is
+from_flag places.BeforeDigits parts.Integer f is = one_bit (λ n. (places.BeforeDigits ≡ place_from n) × (parts.Integer ≡ part_from n)) 35 (bit f)
+    (refl, refl) is
+from_flag places.BeforeDigits parts.Fraction f is = one_bit (λ n. (places.BeforeDigits ≡ place_from n) × (parts.Fraction ≡ part_from n)) 36 (bit f)
+    (refl, refl) is
+from_flag places.BeforeDigits parts.Exponent f is = one_bit (λ n. (places.BeforeDigits ≡ place_from n) × (parts.Exponent ≡ part_from n)) 37 (bit f)
+    (refl, refl) is
 from_flag places.AfterDigit parts.Integer f is =
     two_bits (λ n. (places.AfterDigit ≡ place_from n) × (parts.Integer ≡ part_from n)) 32 38 (bit f) (refl, refl) (refl, refl) is
 from_flag places.AfterDigit parts.Fraction f is =
@@ -42,8 +45,10 @@ from_flag places.AfterDigit parts.Fraction f is =
 from_flag places.AfterDigit parts.Exponent f is =
     two_bits (λ n. (places.AfterDigit ≡ place_from n) × (parts.Exponent ≡ part_from n)) 34 40 (bit f) (refl, refl) (refl, refl) is
 from_flag places.Consecutive parts.Integer f is = one_bit (λ n. (places.Consecutive ≡ place_from n) × (parts.Integer ≡ part_from n)) 41 (bit f) (refl, refl) is
-from_flag places.Consecutive parts.Fraction f is = one_bit (λ n. (places.Consecutive ≡ place_from n) × (parts.Fraction ≡ part_from n)) 42 (bit f) (refl, refl) is
-from_flag places.Consecutive parts.Exponent f is = one_bit (λ n. (places.Consecutive ≡ place_from n) × (parts.Exponent ≡ part_from n)) 43 (bit f) (refl, refl) is
+from_flag places.Consecutive parts.Fraction f is = one_bit (λ n. (places.Consecutive ≡ place_from n) × (parts.Fraction ≡ part_from n)) 42 (bit f)
+    (refl, refl) is
+from_flag places.Consecutive parts.Exponent f is = one_bit (λ n. (places.Consecutive ≡ place_from n) × (parts.Exponent ≡ part_from n)) 43 (bit f)
+    (refl, refl) is
 
 -- Two truth values that are equivalent to one fact are the same.
 same_truth : {X : Type 0} (a b : Bool) → (a ≡ true) ↔ X → (b ≡ true) ↔ X → a ≡ b

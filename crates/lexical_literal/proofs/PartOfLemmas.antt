@@ -68,7 +68,8 @@ module _ (m : Notation) (h : HasRoles m) where
       ∙ sym (λ j. if plays_no t.part b roles.Point roles.Exponent plays (λ e. cc) j || list_any m.exponent_character text then parts.Exponent
       else (if is_exponent (integer j) then parts.Exponent else (if as_role m h t.part roles.Point b plays j || list_any m.point text then parts.Fraction else integer j)))
   moves t b text last roles.Exponent plays taken going rest =
-      the_exponent (list_any m.exponent_character text) (if is_exponent t.part then parts.Exponent else (if m.point b || list_any m.point text then parts.Fraction else t.part))
+      the_exponent (list_any m.exponent_character text)
+      (if is_exponent t.part then parts.Exponent else (if m.point b || list_any m.point text then parts.Fraction else t.part))
       ∙ sym (λ j. if as_role m h t.part roles.Exponent b plays j || list_any m.exponent_character text then parts.Exponent
       else (if is_exponent t.part then parts.Exponent else (if m.point b || list_any m.point text then parts.Fraction else t.part)))
   moves t b text last roles.Suffix plays taken going rest = absurd (false≢true (sym going ∙ over t text last rest))

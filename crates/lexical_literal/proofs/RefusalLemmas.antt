@@ -1,6 +1,7 @@
 -- What has been read decides what a notation allows, with other flags too.
-use Rattle.std.proofs.Common.{ℕ, ◌≡◌, ◌↔◌, Bool, true, false, not, ◌==◌, ◌&&◌, ◌||◌, if◌then◌else◌, inl, inr, IsTrue, List, [], ◌∷◌, ◌++◌, Option, Some, None, refl, sym, ap, ◌∙◌, arith}
-use Rattle.std.proofs.lemmas.Bool.{false≢true, and_parts, and_from, cases_Bool, false_from_ne_true}
+use Rattle.std.proofs.Common.{ℕ, ◌≡◌, ◌↔◌, Bool, true, false, not, ◌==◌, ◌&&◌, ◌||◌, if◌then◌else◌, inl, inr, IsTrue, List, [], ◌∷◌, ◌++◌, Option, Some}
+use Rattle.std.proofs.Common.{None, refl, sym, ap, ◌∙◌, arith}
+use Rattle.std.proofs.lemmas.Bool.{or_cases, false≢true, and_parts, and_from, cases_Bool, false_from_ne_true}
 use Rattle.std.specs.Prelude.{is_some}
 use Rattle.lexical_util.specs.Layout as layout
 use Rattle.lexical_util.specs.Layout.{Flag, bit, flags, separators_in}
@@ -83,34 +84,29 @@ module _ (m : Notation) (A : Flag → Bool) where
           (λ is. weaker.no_more layout.required_exponent_notation (and_from _ true is refl)) ready.agree;
     }
 
-    drop_false : (a : Bool) → (a || false) ≡ true → a ≡ true
-    drop_false a is = grind arith
-
-    internal : (part : Part) → m.flag (separators_in part).internal ≡ true → A (separators_in part).internal ≡ true
-    internal parts.Integer is = drop_false _ (weaker.no_less layout.integer_internal_digit_separator is)
-    internal parts.Fraction is = drop_false _ (weaker.no_less layout.fraction_internal_digit_separator is)
-    internal parts.Exponent is = drop_false _ (weaker.no_less layout.exponent_internal_digit_separator is)
-
-    leading : (part : Part) → m.flag (separators_in part).leading ≡ true → A (separators_in part).leading ≡ true
-    leading parts.Integer is = drop_false _ (weaker.no_less layout.integer_leading_digit_separator is)
-    leading parts.Fraction is = drop_false _ (weaker.no_less layout.fraction_leading_digit_separator is)
-    leading parts.Exponent is = drop_false _ (weaker.no_less layout.exponent_leading_digit_separator is)
-
-    trailing : (part : Part) → m.flag (separators_in part).trailing ≡ true → A (separators_in part).trailing ≡ true
-    trailing parts.Integer is = drop_false _ (weaker.no_less layout.integer_trailing_digit_separator is)
-    trailing parts.Fraction is = drop_false _ (weaker.no_less layout.fraction_trailing_digit_separator is)
-    trailing parts.Exponent is = drop_false _ (weaker.no_less layout.exponent_trailing_digit_separator is)
+    -- A separator flag that is set stays so.
+    kept : (f : Flag) → is_one_of separator_flags f ≡ true → m.flag f ≡ true → A f ≡ true
+    kept f separates set = elim (or_cases (A f) _ (weaker.no_less f set)) [
+      | inl is ↦ is
+      | inr requires ↦ absurd (false≢true (sym (apart f) ∙ and_from _ _ requires separates))
+    ]
 
     consecutive : (part : Part) → m.flag (separators_in part).consecutive ≡ true → A (separators_in part).consecutive ≡ true
-    consecutive parts.Integer is = drop_false _ (weaker.no_less layout.integer_consecutive_digit_separator is)
-    consecutive parts.Fraction is = drop_false _ (weaker.no_less layout.fraction_consecutive_digit_separator is)
-    consecutive parts.Exponent is = drop_false _ (weaker.no_less layout.exponent_consecutive_digit_separator is)
+    consecutive parts.Integer is = kept layout.integer_consecutive_digit_separator refl is
+    consecutive parts.Fraction is = kept layout.fraction_consecutive_digit_separator refl is
+    consecutive parts.Exponent is = kept layout.exponent_consecutive_digit_separator refl is
 
     more_places : (part : Part) (x y : Bool) → is_place m part x y ≡ true → is_place n part x y ≡ true
-    more_places part true true is = internal part is
-    more_places part false true is = leading part is
-    more_places part true false is = trailing part is
     more_places part false false is = is
+    more_places parts.Integer true true is = kept layout.integer_internal_digit_separator refl is
+    more_places parts.Integer false true is = kept layout.integer_leading_digit_separator refl is
+    more_places parts.Integer true false is = kept layout.integer_trailing_digit_separator refl is
+    more_places parts.Fraction true true is = kept layout.fraction_internal_digit_separator refl is
+    more_places parts.Fraction false true is = kept layout.fraction_leading_digit_separator refl is
+    more_places parts.Fraction true false is = kept layout.fraction_trailing_digit_separator refl is
+    more_places parts.Exponent true true is = kept layout.exponent_internal_digit_separator refl is
+    more_places parts.Exponent false true is = kept layout.exponent_leading_digit_separator refl is
+    more_places parts.Exponent true false is = kept layout.exponent_trailing_digit_separator refl is
 
     fits_more : (d s p q c e f : Bool) → (p ≡ true → q ≡ true) → (c ≡ true → e ≡ true) → (d || (s && p && (c || f))) ≡ true
         → (d || (s && q && (e || f))) ≡ true
@@ -169,9 +165,11 @@ module _ (m : Notation) (A : Flag → Bool) where
     taken false y u more is_s is_r = absurd (gone m s is_s)
 
     go : ((t : Summary) → scan m (Some t) text ≡ Some s → scan n (Some t) text ≡ Some r → s ≡ r) → (o : Option Role)
-        → scan m (move m t (is_plus (class_of m b)) (is_zero (class_of m b)) o) text ≡ Some s → scan n (move n t (is_plus (class_of m b)) (is_zero (class_of m b)) o) text ≡ Some r → s ≡ r
+        → scan m (move m t (is_plus (class_of m b)) (is_zero (class_of m b)) o) text ≡ Some s
+        → scan n (move n t (is_plus (class_of m b)) (is_zero (class_of m b)) o) text ≡ Some r → s ≡ r
     go more None is_s is_r = absurd (gone m s is_s)
-    go more (Some role) is_s is_r = taken (not t.ended && takes m t (is_plus (class_of m b)) role) (not t.ended && takes n t (is_plus (class_of m b)) role) (after t (is_zero (class_of m b)) role)
+    go more (Some role) is_s is_r = taken (not t.ended && takes m t (is_plus (class_of m b)) role) (not t.ended && takes n t (is_plus (class_of m b)) role)
+        (after t (is_zero (class_of m b)) role)
         (more (after t (is_zero (class_of m b)) role)) is_s is_r
 
   some_of : (o : Option Summary) → (o ≡ None → ⊥) → (u : Summary) × (o ≡ Some u)
@@ -199,7 +197,8 @@ module _ (m : Notation) (A : Flag → Bool) where
     pub decided : (next : Option ℕ) → (allows n s (class_of_next m next) ≡ true) ↔ Allows n front next
     decided None = (
       λ is. literal_from n (other_roles ready.roles) front (ap (is_accepted n) read_too ∙ is),
-      λ l. sym (ap (is_accepted n) read_too) ∙ ap (λ t. is_accepted n (scan n (Some start) t)) l.1.whole ∙ (literal_arrives n (other_roles ready.roles) l.0 l.1.literal).0,
+      λ l. sym (ap (is_accepted n) read_too) ∙ ap (λ t. is_accepted n (scan n (Some start) t)) l.1.whole
+          ∙ (literal_arrives n (other_roles ready.roles) l.0 l.1.literal).0,
     )
     decided (Some b) = (
       λ is. let some = is_some_of (step n s (class_of m b)) is in

@@ -27,7 +27,8 @@ returns c =
     } in
     let stop : take c.if-size-text.end text ≡ take (size + 1) text = elim c.if-size-text.branch [
       | then-size-text w ↦ ap (λ n. take n text) w.end-is
-      | else-size-text w ↦ ap (λ n. take n text) w.end-is ∙ take_all size text w.if-size-text.false ∙ sym (take_all (size + 1) text (omega (arith, w.if-size-text.false)))
+      | else-size-text w ↦ ap (λ n. take n text) w.end-is ∙ take_all size text w.if-size-text.false
+          ∙ sym (take_all (size + 1) text (omega (arith, w.if-size-text.false)))
     ] in
     record {
       valid_up_to = c.requires.valid;
