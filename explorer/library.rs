@@ -1,5 +1,5 @@
-//! The library for the page, as WebAssembly: calls of the crate `peltzivar`. A call reads a text from `INPUT`, writes its
-//! answer to `OUTPUT` as JSON, and returns how many bytes the answer has. A word has two halves of 64 bits.
+//! The library for the page, as WebAssembly: calls of the crate `peltzivar`. A call reads a text from `INPUT`, writes
+//! its answer to `OUTPUT` as JSON, and returns how many bytes the answer has. A word has two halves of 64 bits.
 #![no_std]
 
 use core::fmt::{self, Display, Write};
