@@ -36,3 +36,14 @@ pub extern "C" fn __multi3(a: u128, b: u128) -> u128 {
     let high = high.wrapping_add(a_low.wrapping_mul(b_high)).wrapping_add(a_high.wrapping_mul(b_low));
     (other << 32 | low & LOW) as u128 | (high as u128) << 64
 }
+
+/// Returns a number of 128 bits, shifted left by fewer than 128 bits.
+#[unsafe(no_mangle)]
+pub extern "C" fn __ashlti3(value: u128, count: u32) -> u128 {
+    let (low, high) = (value as u64, (value >> 64) as u64);
+    let (low, high) = match count < 64 {
+        true => (low << count, high << count | low >> 1 >> (63 - count)),
+        false => (0, low << (count - 64)),
+    };
+    low as u128 | (high as u128) << 64
+}

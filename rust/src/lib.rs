@@ -1,7 +1,7 @@
 //! A number format states how numbers may be written: their radix, prefix, signs and digit separators. Here, a format
 //! is a `u128` that holds flags and six bytes. This crate is for code that parses, writes or checks numbers. It
-//! builds, reads, checks and edits formats, explains why a format is not lawful, and finds the parts of numbers. It does
-//! not compute their values.
+//! builds, reads, checks and edits formats, explains why a format is not lawful, and finds the parts of a number, or
+//! why a text is not one. It does not compute values of numbers.
 //!
 //! The [`u128`] is called the *format word*. It can be a const generic argument. The word is *lawful* if it satisfies
 //! every [`Rule`]: each radix is between 2 and 36, no two flags contradict each other, each character is allowed ASCII
@@ -45,6 +45,7 @@
 //! | write a format as a constant | [`NumberFormatBuilder`] and its [`build_or_panic`][NumberFormatBuilder::build_or_panic] |
 //! | take a checked format as an argument | [`Format`] |
 //! | read numbers | [`Syntax`][literal::Syntax], or a [`Reader`][literal::Reader] for many texts; [`Specials`][literal::Specials] for NaN and infinity; [`FormatView::mantissa_digit`] for the value of a digit |
+//! | report why a text is not a number | [`ReadError`][literal::ReadError] |
 //! | write a reader of your own | [`FormatView::is_separator`], [`separators`][FormatView::separators], [`role_of`][FormatView::role_of] |
 //! | read the fields of any word, lawful or not | [`FormatView`]; [`NumberFormat`] for a word that is known at compile time |
 //! | parse settings | `str::parse` for each [`Edit`], or [`Edit::flag`] and [`Edit::byte`]; [`collect`][Iterator::collect] to turn edits into a builder, and [`build_format`][NumberFormatBuilder::build_format] to check it |

@@ -1,8 +1,8 @@
-//! Literals: the texts that are numbers of a format, their parts, and the calls that read them.
+//! Literals: the texts that are numbers of a format, their parts, the calls that read them, and why a text is not one.
 //!
 //! A [`Syntax`] is a lawful format with an exponent character and a decimal point or, for integers alone, without both.
-//! A [`Reader`] has tables of a syntax, so that it reads a text in less time. Special values, such as NaN and infinity,
-//! are not literals: [`Specials`] reads them.
+//! A [`Reader`] has tables of a syntax, so that it reads a text in less time. A [`ReadError`] has the cause of a
+//! refusal, and the flags to blame. NaN and infinity are not literals: [`Specials`] reads them.
 //!
 //! ```
 //! use peltzivar::format::STANDARD;
