@@ -37,7 +37,7 @@ pub enum Place {
 /// Why a text is not a literal. Another cause may follow when this one is mended.
 #[derive(Debug, Clone, Copy, PartialEq, Eq, Hash)]
 pub enum Cause {
-    /// Flags are set that require something that the text does not have.
+    /// Flags are set whose requirements the text does not satisfy.
     Requirement,
     /// A digit separator is not allowed in this part at this place.
     Separator(Part, Place),
