@@ -62,11 +62,8 @@ impl FormatError {
             Cause::Text => all,
             Cause::Word(word) => reasons(word),
             Cause::Options(word, exponent, decimal_point) => {
-                let found = options_reasons(word, exponent, decimal_point);
-                let mut index = 0;
-                while index < found.len() {
-                    all[index] = found[index];
-                    index += 1;
+                if let Some(front) = all.first_chunk_mut() {
+                    *front = options_reasons(word, exponent, decimal_point);
                 }
                 all
             }
@@ -84,13 +81,27 @@ impl FormatError {
         None
     }
 
+    /// Returns the text that `Display` prints. A `const fn` can panic with it, so that a compile error has the reason:
+    ///
+    /// ```compile_fail,E0080
+    /// const FORMAT: peltzivar::Format = match peltzivar::Format::new(0) {
+    ///     Ok(format) => format,
+    ///     Err(error) => panic!("{}", error.text().as_str()), // the mantissa radix 0 is not between 2 and 36
+    /// };
+    /// ```
+    #[must_use]
+    pub const fn text(&self) -> ShortText {
+        match (self.first_reason(), self.code.index()) {
+            (Some(reason), _) => reason.text(),
+            (None, Some(0 | 1)) => ShortText::of("a format word begins with `0x`"),
+            (None, _) => self.code.text(),
+        }
+    }
+
     /// Returns the text of a panic: the description of the error, a colon, and the first reason as a sentence.
     pub(crate) const fn message(&self) -> ShortText {
-        let message = ShortText::of(self.code.description());
-        match self.first_reason() {
-            Some(reason) => message.and(": ").and(reason.text().as_str()),
-            None => message,
-        }
+        let description = ShortText::of(self.code.description());
+        description.and(": ").and(self.text().as_str())
     }
 }
 
@@ -98,11 +109,7 @@ impl core::error::Error for FormatError {}
 
 impl fmt::Display for FormatError {
     fn fmt(&self, f: &mut fmt::Formatter<'_>) -> fmt::Result {
-        match (self.first_reason(), self.code.index()) {
-            (Some(reason), _) => fmt::Display::fmt(&reason, f),
-            (None, Some(0 | 1)) => f.write_str("a format word begins with `0x`"),
-            (None, _) => fmt::Display::fmt(&self.code, f),
-        }
+        f.pad(self.text().as_str())
     }
 }
 

@@ -42,7 +42,7 @@
 //!
 //! | To | Use |
 //! |---|---|
-//! | write a format as a constant | [`NumberFormatBuilder`] and its [`build_or_panic`][NumberFormatBuilder::build_or_panic] |
+//! | write a format as a constant | [`NumberFormatBuilder`] and its [`build_format_or_panic`][NumberFormatBuilder::build_format_or_panic], or [`build_or_panic`][NumberFormatBuilder::build_or_panic] for the word |
 //! | take a checked format as an argument | [`Format`] |
 //! | read numbers | [`Syntax`][literal::Syntax], or a [`Reader`][literal::Reader] for many texts; [`Specials`][literal::Specials] for NaN and infinity; [`FormatView::mantissa_digit`] for the value of a digit |
 //! | report why a text is not a number | [`ReadError`][literal::ReadError] |
@@ -75,8 +75,8 @@
 //! documentation, `Proved of the source` heads what the contracts of a call state.
 //!
 //! The following parts are written by hand: [`Format`], [`NumberFormat`], the iterators and conversions, `Display`,
-//! `FromStr` and `Debug` of words, `Display` of [`ReadError`][literal::ReadError], `build_or_panic`, and the tests of
-//! slices in [`ascii`]. A build of this crate proves nothing. You trust the program that generated the files, the
+//! `FromStr` and `Debug` of words, `Display` of [`ReadError`][literal::ReadError], the methods that panic, and the tests
+//! of slices in [`ascii`]. A build of this crate proves nothing. You trust the program that generated the files, the
 //! handwritten parts, and `rustc`.
 #![no_std]
 #![forbid(unsafe_code)]
@@ -131,5 +131,7 @@ pub use format_flags::{Part, Rule};
 pub use lawful::Format;
 #[doc(inline)]
 pub use reasons::{Byte, Cause, NamedByte, Note, Radixes, Reason};
+#[doc(inline)]
+pub use short_text::ShortText;
 #[doc(inline)]
 pub use view::{FormatView, Role, Separators};

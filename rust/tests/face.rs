@@ -13,7 +13,9 @@ const _: () = {
     let Ok(format) = NumberFormatBuilder::from_word(STANDARD).build_format() else { panic!() };
     let normal = format.normal_form();
     assert!(normal.word() != STANDARD && normal.view().check().is_ok() && normal.check_options(b'e', b'.').is_ok());
-    assert!(matches!(Format::new(0), Err(error) if matches!(error.code(), Error::InvalidMantissaRadix)));
+    let Err(error) = Format::new(0) else { panic!() };
+    assert!(matches!(error.code(), Error::InvalidMantissaRadix));
+    assert!(matches!(error.text().as_str().as_bytes(), b"the mantissa radix 0 is not between 2 and 36"));
 };
 
 /// Random words, random words with lawful radixes, and words near the standard format.
@@ -112,19 +114,25 @@ fn edits_make_the_fields_of_their_word() {
     }
 }
 
-/// A panic has the description of the first broken rule, and the first reason, also where the reason prints any byte.
+/// Calls a function, and returns its value, or the text with which it panics.
+fn stopped<T>(call: impl FnOnce() -> T + panic::UnwindSafe) -> Result<T, String> {
+    panic::catch_unwind(call).map_err(|text| *text.downcast::<String>().expect("a text"))
+}
+
+/// The panic for a word has the description of the first broken rule, and the first reason. The panic for a format has
+/// the reason alone. A reason may print any byte.
 #[test]
 fn an_unlawful_constant_stops_with_its_reason() {
     panic::set_hook(Box::new(|_| {}));
     let twice = (0..=255).map(|byte| STANDARD | byte << BASE_PREFIX_SHIFT | byte << BASE_SUFFIX_SHIFT);
     for word in words().step_by(7).chain(twice) {
         let builder = NumberFormatBuilder::from_word(word);
-        let stopped = panic::catch_unwind(|| builder.build_or_panic());
-        let error = builder.build_strict().map_err(|error| {
-            let reason = builder.view().reasons().next().expect("a reason");
-            format!("{}: {reason}", error.description())
-        });
-        assert_eq!(stopped.map_err(|text| *text.downcast::<String>().expect("a text")), error, "{word:#034X}");
+        let reason = builder.view().reasons().next().map(|reason| reason.to_string());
+        let format = builder.build_format().map_err(|error| (error.code(), reason.expect("a reason")));
+        let with_code = |(code, reason): (Error, String)| format!("{}: {reason}", code.description());
+        let wanted = format.clone().map(|format| format.word()).map_err(with_code);
+        assert_eq!(stopped(|| builder.build_or_panic()), wanted, "{word:#034X}");
+        assert_eq!(stopped(|| builder.build_format_or_panic()), format.map_err(|error| error.1), "{word:#034X}");
     }
 }
 
@@ -148,7 +156,8 @@ fn an_error_states_its_cause() {
     ];
     for (error, code, count, printed) in rows {
         let error = error.expect(printed);
-        assert_eq!((error.code(), error.reasons().count(), &*error.to_string()), (code, count, printed));
+        assert_eq!((error.code(), error.reasons().count(), error.text().as_str()), (code, count, printed));
+        assert_eq!(error.to_string(), printed);
         assert_eq!(Error::from(error), code);
         let debug = format!("FormatError {{ code: {code:?}, message: \"{printed}\" }}");
         assert_eq!(format!("{error:?}"), debug);
