@@ -9,7 +9,7 @@ use crate::short_text::ShortText;
 /// Why a word is not a [`Format`][crate::Format], why a text is not one, or why a format does not accept options.
 ///
 /// `Display` prints the first of the [`reasons`][Self::reasons]. If there are none, it prints that a word begins with
-/// `0x` if the text does not, and otherwise the [`code`][Self::code].
+/// `0x` if the text does not, or what options are, and otherwise the [`code`][Self::code].
 ///
 /// ```
 /// use core::num::NonZeroU8;
@@ -31,6 +31,8 @@ pub struct FormatError {
 pub(crate) enum Cause {
     /// A text that is not a word.
     Text,
+    /// A text of options, of which one is missing or is not a byte.
+    Bytes,
     /// A word that is not lawful.
     Word(u128),
     /// An exponent character and a decimal point beside a word.
@@ -59,7 +61,7 @@ impl FormatError {
     const fn candidates(&self) -> [Option<Reason>; MAX_REASONS] {
         let mut all = [None; MAX_REASONS];
         match self.cause {
-            Cause::Text => all,
+            Cause::Text | Cause::Bytes => all,
             Cause::Word(word) => reasons(word),
             Cause::Options(word, exponent, decimal_point) => {
                 if let Some(front) = all.first_chunk_mut() {
@@ -91,10 +93,11 @@ impl FormatError {
     /// ```
     #[must_use]
     pub const fn text(&self) -> ShortText {
-        match (self.first_reason(), self.code.index()) {
-            (Some(reason), _) => reason.text(),
-            (None, Some(0 | 1)) => ShortText::of("a format word begins with `0x`"),
-            (None, _) => self.code.text(),
+        match (self.first_reason(), self.cause, self.code.index()) {
+            (Some(reason), ..) => reason.text(),
+            (None, Cause::Bytes, _) => ShortText::of("options are two numbers from 0 to 255"),
+            (None, _, Some(0 | 1)) => ShortText::of("a format word begins with `0x`"),
+            (None, ..) => self.code.text(),
         }
     }
 

@@ -52,7 +52,7 @@
 //! | report the problems with a word | [`FormatError`], [`FormatView::reasons`], [`Reason::mask`], [`FormatView::notes`] |
 //! | derive a format from another | [`NumberFormatBuilder::from`], or [`edits::edit_word`] |
 //! | compare two formats | [`Format::normal_form`], [`edits::same_format`] |
-//! | store words as text | `Display` and `FromStr` of [`Format`] and [`FormatView`] |
+//! | store words as text | `Display` and `FromStr` of [`Format`], [`FormatView`] and [`Syntax`][literal::Syntax] |
 //! | convert words that `lexical-util` stored | [`edits::migrate`] |
 //!
 //! # From `lexical-util`
@@ -75,9 +75,9 @@
 //! documentation, `Proved of the source` heads what the contracts of a call state.
 //!
 //! The following parts are written by hand: [`Format`], [`NumberFormat`], the iterators and conversions, `Display`,
-//! `FromStr` and `Debug` of words, `Display` of [`ReadError`][literal::ReadError], the methods that panic, and the tests
-//! of slices in [`ascii`]. A build of this crate proves nothing. You trust the program that generated the files, the
-//! handwritten parts, and `rustc`.
+//! `FromStr` and `Debug` of words and syntaxes, the syntax of a [`Format`], `Display` of
+//! [`ReadError`][literal::ReadError], the methods that panic, and the tests of slices in [`ascii`]. A build of this crate
+//! proves nothing. You trust the program that generated the files, the handwritten parts, and `rustc`.
 #![no_std]
 #![forbid(unsafe_code)]
 

@@ -3,6 +3,7 @@
 
 use peltzivar::edits::{apply_all, edits_of, same_format};
 use peltzivar::format::{options_error, NumberFormatBuilder, BASE_PREFIX_SHIFT, BASE_SUFFIX_SHIFT, STANDARD};
+use peltzivar::literal::Syntax;
 use peltzivar::reasons::{notes, reasons};
 use peltzivar::{Error, FlagSetter, Format, FormatView, Rule};
 use std::num::NonZeroU8;
@@ -16,6 +17,13 @@ const _: () = {
     let Err(error) = Format::new(0) else { panic!() };
     assert!(matches!(error.code(), Error::InvalidMantissaRadix));
     assert!(matches!(error.text().as_str().as_bytes(), b"the mantissa radix 0 is not between 2 and 36"));
+};
+
+/// A syntax is known then, too, and is small.
+const _: () = {
+    let syntax = Syntax::new_or_panic(NumberFormatBuilder::new().build_format_or_panic(), b'e', b'.');
+    assert!(matches!(syntax.options(), Some(options) if options.exponent == b'e' && options.point == b'.'));
+    assert!(Syntax::integers_of(Format::of::<STANDARD>()).options().is_none() && size_of::<Syntax>() <= 32);
 };
 
 /// Random words, random words with lawful radixes, and words near the standard format.
@@ -211,4 +219,64 @@ fn setters_of_flags_are_parsed() {
         assert_eq!(error, Err("unknown setting name".to_string()), "{name}");
     }
     assert_eq!(format!("{:>12}", FlagSetter::NoSpecial), "  no_special");
+}
+
+#[test]
+fn a_syntax_is_a_format_with_options_that_fit_its_normal_form() {
+    panic::set_hook(Box::new(|_| {}));
+    let mut syntaxes = Vec::new();
+    for format in words().filter_map(|word| Format::new(word).ok()) {
+        let normal = format.normal_form();
+        let integers = Syntax::integers_of(format);
+        assert_eq!((integers.format(), integers.options()), (normal.view(), None));
+        assert_eq!((integers.to_string(), normal.to_string().parse()), (normal.to_string(), Ok(integers)));
+        syntaxes.push((normal, None, integers));
+        for [exponent, point] in [*b"e.", *b"p,", *b"x.", *b"5.", *b"^-", *b"^^", *b"\0."] {
+            let (syntax, text) = (Syntax::of(format, exponent, point), format!("{normal} {exponent} {point}"));
+            assert_eq!(syntax.map(|it| it.to_string()), normal.check_options(exponent, point).map(|()| text.clone()));
+            assert_eq!(text.parse(), syntax);
+            let text = syntax.map_err(|error| error.to_string());
+            assert_eq!(stopped(|| Syntax::new_or_panic(format, exponent, point)), text);
+            syntaxes.extend(syntax.map(|it| (normal, Some((exponent, point)), it)));
+        }
+    }
+    // The formats and the options decide the order.
+    syntaxes.sort();
+    assert!(syntaxes.is_sorted_by_key(|syntax| syntax.2));
+}
+
+#[test]
+fn syntaxes_are_parsed() {
+    const OPTION: &str = "options are two numbers from 0 to 255";
+    const INTEGERS: &str = "0x0A0A0A0000000000000000000000000C";
+    const NUMBERS: &str = "0x0A0A0A0000000000000000000000000C 101 46";
+    #[rustfmt::skip]
+    let rows = [
+        ("0x00000A0000000000000000000000000C", Ok(INTEGERS)),
+        ("0x0A0A0A0000000000000000000000000C", Ok(INTEGERS)),
+        ("0x00000a0000000000000000000000000c 101 046", Ok(NUMBERS)),
+        // No flag allows the separator, so that it may be the decimal point.
+        ("0x00000A000000002E000000000000000C 101 46", Ok(NUMBERS)),
+        ("0x00000A0000000000000000000000000C 101", Err((Error::InvalidDigit(38), OPTION))),
+        ("0x00000A0000000000000000000000000C ", Err((Error::InvalidDigit(35), OPTION))),
+        ("0x00000A0000000000000000000000000C 101 ", Err((Error::InvalidDigit(39), OPTION))),
+        ("0x00000A0000000000000000000000000C  101 46", Err((Error::InvalidDigit(35), OPTION))),
+        ("0x00000A0000000000000000000000000C e .", Err((Error::InvalidDigit(35), OPTION))),
+        ("0x00000A0000000000000000000000000C 101 46 1", Err((Error::InvalidDigit(39), OPTION))),
+        ("0x00000A0000000000000000000000000C 256 46", Err((Error::InvalidDigit(35), OPTION))),
+        ("0x00000A0000000000000000000000000C 101 1000", Err((Error::InvalidDigit(39), OPTION))),
+        ("0x00000A0000000000000000000000000C 101 101",
+            Err((Error::InvalidPunctuation, "the exponent character 'e' and the decimal point 'e' are the same"))),
+        ("0x0 101", Err((Error::InvalidMantissaRadix, "the mantissa radix 0 is not between 2 and 36"))),
+        ("0x1g 101 46", Err((Error::InvalidDigit(3), "lexical parse error: 'invalid digit found' at index 3"))),
+        (" 0xC", Err((Error::Empty(0), "a format word begins with `0x`"))),
+    ];
+    for (text, wanted) in rows {
+        let syntax = text.parse::<Syntax>().map(|syntax| syntax.to_string());
+        let wanted = wanted.map_err(|(code, printed)| (code, printed.to_string()));
+        let found = syntax.as_deref().map_err(|error| (error.code(), error.to_string()));
+        assert_eq!(found, wanted, "{text}");
+    }
+    let [integers, numbers] = [INTEGERS, NUMBERS].map(|text| text.parse::<Syntax>().expect(text));
+    assert!(integers < numbers);
 }
