@@ -230,10 +230,11 @@ error_of m front (causes.Missing part) number start =
     if list_any (is_mark m) front then errors.InvalidDigit start else errors.Empty start
 error_of m front _ number start = errors.InvalidDigit start
 
--- `IsRefusal m text error` holds if `error` says how far `text` is right, why it is no literal, which bytes to show, and which
--- error `lexical-util` has for this.
+-- `IsRefusal m text error` holds if `error` says how far `text` is right, which byte cannot follow, why `text` is not a
+-- literal, which bytes to show, and which error `lexical-util` has for this.
 pub record IsRefusal (m : Notation) (text : List ℕ) (error : ReadError) : Type 0 where
   pub valid_up_to : IsValidUpTo m text error.valid_up_to
+  pub byte : error.byte ≡ slice_get text error.valid_up_to
   pub cause : IsCause m (take error.valid_up_to text) (slice_get text error.valid_up_to) error.cause (raw error.mask).flag
   pub span : (error.start, error.end)
       ≡ span_of m (take error.valid_up_to text) (take (error.valid_up_to + 1) text) error.cause (lowest error.mask)

@@ -32,6 +32,7 @@ returns c =
     ] in
     record {
       valid_up_to = c.requires.valid;
+      byte = c.byte_at-byte.ensures;
       cause = subst (λ next. IsCause m front next cause (raw mask).flag) c.byte_at-byte.ensures (c.blame-cause.ensures front is_read);
       span = c.span-start.ensures ∙ ap (λ stop. span_of m front stop cause (lowest mask)) stop;
       code = c.error.ensures;
