@@ -1,10 +1,12 @@
 -- Fronts of a text, and where the loop is left.
-use Rattle.std.proofs.Common.{ℕ, Bool, Option, if◌then◌else◌, ◌≡◌, ◌<◌, ◌≤◌, ◌+◌, suc, inl, inr, true, false, not, List, [], ◌∷◌, ◌++◌, length, get_or, take, drop, Some, None, Ok, refl, sym, ap, subst, append_assoc, append-nil, take-append-drop, ◌∙◌, arith}
-use Rattle.std.proofs.lemmas.Bool.{false≢true, false_from_ne_true, cases_lt, and_parts}
+use Rattle.std.proofs.Common.{ℕ, Bool, Option, if◌then◌else◌, ◌≡◌, ◌<◌, ◌≤◌, ◌+◌, inl, inr, true, false, not, List, [], ◌∷◌, ◌++◌}
+use Rattle.std.proofs.Common.{length, get_or, take, drop, Some, None, Ok, refl, sym, ap, subst, append_assoc, append-nil, take-append-drop, ◌∙◌, arith}
+use Rattle.std.proofs.lemmas.Bool.{false≢true, false_from_ne_true, cases_lt}
 use Rattle.std.proofs.lemmas.List.{take-take, take_more, take_all}
 use Rattle.lexical_literal.specs.Notation.{Notation}
 use Rattle.lexical_literal.specs.Literal.{Literal, IsLiteral, Reads, is_none_or_prefix}
-use Rattle.lexical_literal.specs.Additions.Summary.{Cuts, class_of, in_part, scan, step, is_accepted, is_complete, needs_exponent, ends, tally, count, start, no_cuts, HasLengths}
+use Rattle.lexical_literal.specs.Additions.Summary.{Cuts, class_of, in_part, scan, step, is_accepted, is_complete}
+use Rattle.lexical_literal.specs.Additions.Summary.{ends, tally, count, start, no_cuts, HasLengths}
 use Rattle.lexical_literal.specs.Front.{IsFront, IsValidUpTo, NoLiteral}
 use Rattle.lexical_literal.specs.Additions.Longest.{IsLongest, IsScanned}
 use Rattle.lexical_literal.specs.Additions.Tables as tables
@@ -21,25 +23,21 @@ front_shorter m text k n below is = record {
   more = drop k (take n text) ++ is.more;
   literal = is.literal;
   reads = record {
-    whole = sym (append_assoc (take k text) (drop k (take n text)) is.more)
-        ∙ ap (λ t. t ++ is.more) (ap (λ t. t ++ drop k (take n text)) (sym (take-take k n text below)) ∙ take-append-drop k (take n text))
-        ∙ is.reads.whole;
+    whole = rw (← append_assoc (take k text) (drop k (take n text)) is.more, ← take-take k n text below, take-append-drop k (take n text)) is.reads.whole;
     literal = is.reads.literal;
   };
 }
 
 plus_is : (bytes : List ℕ) (n : ℕ) → length bytes + n ≡ plus bytes n
 plus_is [] n = omega arith
-plus_is (b ∷ bytes) n = add_one (length bytes) n ∙ plus_is bytes (n + 1) where
-  add_one : (k n : ℕ) → suc k + n ≡ k + (n + 1)
-  add_one k n = omega arith
+plus_is (b ∷ bytes) n = omega (arith, plus_is bytes (n + 1))
 
 -- The lengths that are counted are those of the parts.
 pub has_lengths : (m : Notation) → HasRoles m → (l : Literal) → IsLiteral m l → HasLengths l (cuts_of l)
 has_lengths m h l is = record {
   sign = from_zero l.sign;
   prefix = prefix l.prefix is.prefix;
-  integer = integer l.prefix is.prefix;
+  integer = plus_is l.integer (plus (is_tail l.prefix) 0);
   point = from_zero l.point;
   fraction = from_zero l.fraction;
   exponent_character = from_zero l.exponent_character;
@@ -47,18 +45,13 @@ has_lengths m h l is = record {
   exponent = from_zero l.exponent;
 } where
   from_zero : (bytes : List ℕ) → length bytes ≡ plus bytes 0
-  from_zero bytes = zero (length bytes) ∙ plus_is bytes 0 where
-    zero : (k : ℕ) → k ≡ k + 0
-    zero k = omega arith
+  from_zero bytes = omega (arith, plus_is bytes 0)
 
   prefix : (x : List ℕ) → is_none_or_prefix m.prefix x ≡ true → length x ≡ plus (is_tail x) 0 + plus (is_tail x) 0
   prefix [] one = refl
   prefix (z ∷ []) one = cc
   prefix (z ∷ b ∷ []) one = refl
   prefix (z ∷ b ∷ c ∷ x) one = cc
-
-  integer : (x : List ℕ) → is_none_or_prefix m.prefix x ≡ true → length l.integer + plus (is_tail x) 0 ≡ plus l.integer (plus (is_tail x) 0)
-  integer x one = plus_is l.integer (plus (is_tail x) 0)
 
 -- `HasRead m text i s c longest` holds if the first `i` bytes of `text` have the summary `s` and parts with the lengths `c`,
 -- and if `longest` is their longest front that is a literal.
@@ -80,6 +73,13 @@ module _ (m : Notation) (text : List ℕ) where
     }))
     | inr below ↦ below
   ]
+
+  -- Where the longest literal is shorter, the front is none.
+  none_at : (n : ℕ) (longest : Option ℕ) → IsLongest m text n longest → (longest ≡ Some n → ⊥) → NoLiteral m (take n text)
+  none_at n longest is other = is.no_longer n (omega arith) (λ size found. elim (cases_lt size n) [
+    | inl small ↦ small
+    | inr large ↦ let same : size ≡ n = omega (arith, (is.found size found).0) in absurd (other (found ∙ ap Some same))
+  ])
 
   module _ (scanned : Scanned) (is : IsScanned m text scanned) where
     -- Where a literal ends at the first wrong byte, its parts have been counted.
@@ -109,19 +109,14 @@ module _ (m : Notation) (text : List ℕ) where
           (subst (Reads m l) (sym (take_all (length text) text (omega arith))) reads)
 
     pub none_whole : (scanned.literal ≡ Some (length text) → ⊥) → NoLiteral m text
-    none_whole other = subst (NoLiteral m) (take_all (length text) text (omega arith)) (is.longest.no_longer (length text) (omega arith) (λ size found.
-        let below = (is.longest.found size found).0 in
-        elim (cases_lt size (length text)) [
-          | inl small ↦ small
-          | inr large ↦ let same : size ≡ length text = omega arith in absurd (other (found ∙ ap Some same))
-        ]))
+    none_whole other = subst (NoLiteral m) (take_all (length text) text (omega arith)) (none_at (length text) scanned.literal is.longest other)
 
 module _ (m : Notation) (ready : IsReady m) (text : List ℕ) where
   accepted : (n : ℕ) (l : Literal) → Reads m l (take n text) → is_accepted m (scan m (Some start) (take n text)) ≡ true
-  accepted n l reads = ap (λ t. is_accepted m (scan m (Some start) t)) reads.whole ∙ (literal_arrives m ready.roles l reads.literal).0
+  accepted n l reads = rw (reads.whole) (literal_arrives m ready.roles l reads.literal).0
 
   none_complete : is_complete m start ≡ true → ⊥
-  none_complete is = false≢true (and_parts (not (needs_exponent m)) false (and_parts (ends m start) _ is).1).1
+  none_complete is = grind arith
 
   pub read_nothing : HasRead m text 0 start no_cuts None
   read_nothing = record {
@@ -131,15 +126,14 @@ module _ (m : Notation) (ready : IsReady m) (text : List ℕ) where
     counted = refl;
     longest_is = record {
       found = λ size is. cc;
-      no_longer = λ more over past l reads. let none : more ≡ 0 = omega arith in
-          none_complete (accepted 0 l (subst (λ n. Reads m l (take n text)) none reads));
+      no_longer = λ more over past l reads.
+          let none : more ≡ 0 = omega arith in none_complete (accepted 0 l (subst (λ n. Reads m l (take n text)) none reads));
     };
   }
 
   module _ (i : ℕ) (s : Summary) (c : Cuts) (longest : Option ℕ) (has : HasRead m text i s c longest) where
     next_scan : i < length text → scan m (Some start) (take (i + 1) text) ≡ step m s (class_of m (get_or text i 0))
-    next_scan inside = ap (scan m (Some start)) (take_more text i 0 inside) ∙ scan_append m (Some start) (take i text) (get_or text i 0 ∷ [])
-        ∙ ap (λ o. scan m o (get_or text i 0 ∷ [])) has.read
+    next_scan inside = rw (take_more text i 0 inside, scan_append m (Some start) (take i text) (get_or text i 0 ∷ []), has.read) refl
 
     next_longest : (t : Summary) → scan m (Some start) (take (i + 1) text) ≡ Some t
         → IsLongest m text (i + 1) (if is_complete m t then Some (i + 1) else longest)
@@ -147,8 +141,7 @@ module _ (m : Notation) (ready : IsReady m) (text : List ℕ) where
       go : (is : Bool) → is_complete m t ≡ is → IsLongest m text (i + 1) (if is then Some (i + 1) else longest)
       go true complete = record {
         found = λ size is. let same : i + 1 ≡ size = cc in
-            subst (λ n. (n ≤ i + 1) × (l : Literal) × Reads m l (take n text)) same
-            (let l = literal_from m ready.roles (take (i + 1) text) (ap (is_accepted m) read ∙ complete) in (omega arith, l.0, l.1));
+            rw (← same) (let l = literal_from m ready.roles (take (i + 1) text) (ap (is_accepted m) read ∙ complete) in (omega arith, l.0, l.1));
         no_longer = λ more over past. absurd (let low : i + 1 < more = past (i + 1) refl in omega arith);
       }
       go false incomplete = record {
@@ -167,8 +160,7 @@ module _ (m : Notation) (ready : IsReady m) (text : List ℕ) where
       ready = ready;
       within = omega arith;
       read = next_scan inside ∙ taken;
-      counted = ap (tally m (Some start) no_cuts) (take_more text i 0 inside) ∙ tally_append m (Some start) no_cuts (take i text) (get_or text i 0 ∷ [])
-          ∙ (λ j. tally m (has.read j) (has.counted j) (get_or text i 0 ∷ [])) ∙ counted;
+      counted = rw (take_more text i 0 inside, tally_append m (Some start) no_cuts (take i text) (get_or text i 0 ∷ []), has.read, has.counted) counted;
       longest_is = next_longest t (next_scan inside ∙ taken);
     }
 
@@ -191,12 +183,8 @@ module _ (m : Notation) (ready : IsReady m) (text : List ℕ) where
     pub not_complete : length text ≤ i → (longest ≡ Some (length text) → ⊥) → is_complete m s ≡ false
     not_complete end other = false_from_ne_true _ (λ complete.
         let l = literal_from m ready.roles (take i text) (ap (is_accepted m) has.read ∙ complete) in
-        has.longest_is.no_longer i (omega arith) (λ size found.
-        let below = (has.longest_is.found size found).0 in
-        elim (cases_lt size i) [
-          | inl small ↦ small
-          | inr large ↦ let same : size ≡ length text = omega (arith, end, has.within) in absurd (other (found ∙ ap Some same))
-        ]) l.0 l.1)
+        let all : i ≡ length text = omega (arith, has.within) in
+        none_at m text i longest has.longest_is (λ found. other (found ∙ ap Some all)) l.0 l.1)
 
     pub longest_from : IsValidUpTo m text i → IsLongest m text (length text) longest
     longest_from wrong = record {
@@ -241,6 +229,4 @@ module _ (m : Notation) (ready : IsReady m) (text : List ℕ) where
         same_part (b ∷ x) [] X Y same e = cc
         same_part (b ∷ x) (c ∷ y) X Y same e =
             let head : b ≡ c = cc in
-            let rest : x ++ X ≡ y ++ Y = cc in
-            let more = same_part x y X Y (omega (arith, same)) rest in
-            ((λ j. head j ∷ more.0 j), more.1)
+            let more = same_part x y X Y (omega (arith, same)) cc in ((λ j. head j ∷ more.0 j), more.1)

@@ -1,7 +1,7 @@
 -- What has been read decides what a notation allows, with other flags too.
-use Rattle.std.proofs.Common.{ℕ, ◌≡◌, ◌↔◌, Bool, true, false, not, ◌==◌, ◌&&◌, ◌||◌, if◌then◌else◌, inl, inr, IsTrue, List, [], ◌∷◌, ◌++◌, Option, Some}
-use Rattle.std.proofs.Common.{None, refl, sym, ap, ◌∙◌, arith}
-use Rattle.std.proofs.lemmas.Bool.{or_cases, false≢true, and_parts, and_from, cases_Bool, false_from_ne_true}
+use Rattle.std.proofs.Common.{ℕ, ◌≡◌, ◌↔◌, Bool, true, false, not, ◌==◌, ◌&&◌, ◌||◌, if◌then◌else◌, IsTrue, List, [], ◌∷◌, ◌++◌}
+use Rattle.std.proofs.Common.{Option, Some, None, refl, sym, ap, subst, ◌∙◌, arith}
+use Rattle.std.proofs.lemmas.Bool.{false≢true, and_parts, and_from}
 use Rattle.std.specs.Prelude.{is_some}
 use Rattle.lexical_util.specs.Layout as layout
 use Rattle.lexical_util.specs.Layout.{Flag, bit, flags, separators_in}
@@ -15,11 +15,12 @@ use Rattle.lexical_literal.specs.Literal.{Literal, IsLiteral, requirement}
 use Rattle.lexical_literal.specs.Front.{IsFront}
 use Rattle.lexical_literal.specs.Cause.{Allows, is_one_of, requirement_flags, separator_flags, with_flags}
 use Rattle.lexical_literal.specs.Additions.Causes.{class_of_next, IsWeaker, allows}
-use Rattle.lexical_literal.specs.Additions.Summary.{is_plus, is_zero, in_part, takes, after, move, scan, class_of, step, is_accepted, start}
+use Rattle.lexical_literal.specs.Additions.Summary.{after, scan, class_of, step, is_accepted, start}
 use Rattle.lexical_literal.specs.declared.steps.Summary.{Summary}
-use Rattle.lexical_literal.proofs.ScanLemmas.{HasRoles, IsReady, scan_none, scan_append}
+use Rattle.lexical_literal.proofs.ScanLemmas.{HasRoles, IsReady, scan_append, took}
 use Rattle.lexical_literal.proofs.LiteralLemmas.{literal_from, literal_arrives}
 use Rattle.lexical_literal.proofs.FrontLemmas.{front_from, front_is_read}
+use Rattle.lexical_literal.proofs.PartOfLemmas.{none_after}
 
 -- FLAGS
 
@@ -40,11 +41,6 @@ pub apart : (f : Flag) → (is_one_of requirement_flags f && is_one_of separator
 apart layout.required_integer_digits = refl
 apart _ = refl
 
--- Other flags require nothing.
-free_flag : (m : Notation) (l : Literal) (f : Flag) → is_one_of requirement_flags f ≡ false → requirement f m l ≡ true
-free_flag m l layout.required_integer_digits is = absurd (false≢true (sym is))
-free_flag m l _ is = grind arith
-
 -- FEWER REQUIREMENTS
 
 module _ (m : Notation) (A : Flag → Bool) where
@@ -63,16 +59,7 @@ module _ (m : Notation) (A : Flag → Bool) where
     integers = h.integers;
   }
 
-  same_requirement : (l : Literal) (f : Flag) → requirement f n l ≡ requirement f m l
-  same_requirement l layout.required_integer_digits = refl
-  same_requirement l _ = refl
-
   module _ (weaker : IsWeaker m A) where
-    agrees : (a c : Bool) → (IsTrue a → IsTrue (m.flag layout.no_exponent_notation)) → (IsTrue c → IsTrue (m.flag layout.required_exponent_notation))
-        → (m.flag layout.no_exponent_notation && m.flag layout.required_exponent_notation) ≡ false → (a && c) ≡ false
-    agrees a c one two not_both = false_from_ne_true _ (λ both.
-        let is = and_parts a c both in false≢true (sym not_both ∙ and_from _ _ (one is.0) (two is.1)))
-
     pub other_ready : IsReady m → IsReady n
     other_ready ready = record {
       roles = other_roles ready.roles;
@@ -80,33 +67,22 @@ module _ (m : Notation) (A : Flag → Bool) where
       point = ready.point;
       has_exponent = ready.has_exponent;
       has_point = ready.has_point;
-      agree = agrees _ _ (λ is. weaker.no_more layout.no_exponent_notation (and_from _ true is refl))
-          (λ is. weaker.no_more layout.required_exponent_notation (and_from _ true is refl)) ready.agree;
+      agree =
+          let none = weaker.no_more layout.no_exponent_notation in let needs = weaker.no_more layout.required_exponent_notation in
+          let apart = ready.agree in grind arith;
     }
 
-    -- A separator flag that is set stays so.
-    kept : (f : Flag) → is_one_of separator_flags f ≡ true → m.flag f ≡ true → A f ≡ true
-    kept f separates set = elim (or_cases (A f) _ (weaker.no_less f set)) [
-      | inl is ↦ is
-      | inr requires ↦ absurd (false≢true (sym (apart f) ∙ and_from _ _ requires separates))
-    ]
+    -- A flag that requires nothing is kept.
+    kept : (f : Flag) → (not (is_one_of requirement_flags f) && m.flag f && not (A f)) ≡ false
+    kept f = let more = weaker.no_less f in grind arith
 
     consecutive : (part : Part) → m.flag (separators_in part).consecutive ≡ true → A (separators_in part).consecutive ≡ true
-    consecutive parts.Integer is = kept layout.integer_consecutive_digit_separator refl is
-    consecutive parts.Fraction is = kept layout.fraction_consecutive_digit_separator refl is
-    consecutive parts.Exponent is = kept layout.exponent_consecutive_digit_separator refl is
+    consecutive part is = let same = kept (separators_in part).consecutive in grind arith
 
     more_places : (part : Part) (x y : Bool) → is_place m part x y ≡ true → is_place n part x y ≡ true
-    more_places part false false is = is
-    more_places parts.Integer true true is = kept layout.integer_internal_digit_separator refl is
-    more_places parts.Integer false true is = kept layout.integer_leading_digit_separator refl is
-    more_places parts.Integer true false is = kept layout.integer_trailing_digit_separator refl is
-    more_places parts.Fraction true true is = kept layout.fraction_internal_digit_separator refl is
-    more_places parts.Fraction false true is = kept layout.fraction_leading_digit_separator refl is
-    more_places parts.Fraction true false is = kept layout.fraction_trailing_digit_separator refl is
-    more_places parts.Exponent true true is = kept layout.exponent_internal_digit_separator refl is
-    more_places parts.Exponent false true is = kept layout.exponent_leading_digit_separator refl is
-    more_places parts.Exponent true false is = kept layout.exponent_trailing_digit_separator refl is
+    more_places part x y is =
+        let leading = kept (separators_in part).leading in let internal = kept (separators_in part).internal in
+        let trailing = kept (separators_in part).trailing in grind arith
 
     fits_more : (d s p q c e f : Bool) → (p ≡ true → q ≡ true) → (c ≡ true → e ≡ true) → (d || (s && p && (c || f))) ≡ true
         → (d || (s && q && (e || f))) ≡ true
@@ -120,10 +96,8 @@ module _ (m : Notation) (A : Flag → Bool) where
         (all_fit part (before ++ b ∷ []) after both.1)
 
     as_required : (l : Literal) (f : Flag) → (IsTrue (m.flag f) → IsTrue (requirement f m l)) → IsTrue (A f) → IsTrue (requirement f n l)
-    as_required l f required is = elim (cases_Bool (is_one_of requirement_flags f)) [
-      | inl one ↦ same_requirement l f ∙ required (weaker.no_more f (and_from _ _ is one))
-      | inr none ↦ free_flag n l f none
-    ]
+    as_required l layout.required_integer_digits required is = required (weaker.no_more layout.required_integer_digits (and_from _ true is refl))
+    as_required l f required is = let more = weaker.no_more f in grind arith
 
     literal_too : (l : Literal) → IsLiteral m l → IsLiteral n l
     literal_too l is = record {
@@ -143,7 +117,8 @@ module _ (m : Notation) (A : Flag → Bool) where
     }
 
     front_too : (text : List ℕ) → IsFront m text → IsFront n text
-    front_too text is = record { more = is.more; literal = is.literal; reads = record { whole = is.reads.whole; literal = literal_too is.literal is.reads.literal } }
+    front_too text is =
+        record { more = is.more; literal = is.literal; reads = record { whole = is.reads.whole; literal = literal_too is.literal is.reads.literal } }
 
     -- What is allowed stays so.
     pub allowed_too : (front : List ℕ) (next : Option ℕ) → Allows m front next → Allows n front next
@@ -152,25 +127,13 @@ module _ (m : Notation) (A : Flag → Bool) where
 
   -- THE SAME SUMMARY
 
-  same_last : (t : Summary) (text : List ℕ) (s r : Summary) → scan m (Some t) text ≡ Some s → scan n (Some t) text ≡ Some r → s ≡ r
-  same_last t [] s r is_s is_r = cc
-  same_last t (b ∷ text) s r is_s is_r = go (λ t. same_last t text s r) (in_part t.part (class_of m b)) is_s is_r where
-    gone : (k : Notation) (u : Summary) → scan k None text ≡ Some u → ⊥
-    gone k u is = let none = scan_none k text in cc
-
-    taken : (x y : Bool) (u : Summary) → (scan m (Some u) text ≡ Some s → scan n (Some u) text ≡ Some r → s ≡ r)
-        → scan m (if x then Some u else None) text ≡ Some s → scan n (if y then Some u else None) text ≡ Some r → s ≡ r
-    taken true true u more is_s is_r = more is_s is_r
-    taken true false u more is_s is_r = absurd (gone n r is_r)
-    taken false y u more is_s is_r = absurd (gone m s is_s)
-
-    go : ((t : Summary) → scan m (Some t) text ≡ Some s → scan n (Some t) text ≡ Some r → s ≡ r) → (o : Option Role)
-        → scan m (move m t (is_plus (class_of m b)) (is_zero (class_of m b)) o) text ≡ Some s
-        → scan n (move n t (is_plus (class_of m b)) (is_zero (class_of m b)) o) text ≡ Some r → s ≡ r
-    go more None is_s is_r = absurd (gone m s is_s)
-    go more (Some role) is_s is_r = taken (not t.ended && takes m t (is_plus (class_of m b)) role) (not t.ended && takes n t (is_plus (class_of m b)) role)
-        (after t (is_zero (class_of m b)) role)
-        (more (after t (is_zero (class_of m b)) role)) is_s is_r
+  same_last : HasRoles m → (t : Summary) (text : List ℕ) (s r : Summary) → scan m (Some t) text ≡ Some s → scan n (Some t) text ≡ Some r → s ≡ r
+  same_last h t [] s r is_s is_r = cc
+  same_last h t (b ∷ text) s r is_s is_r =
+      let one = took m h t b (λ o. scan m o text ≡ Some s) (none_after m text s) is_s in
+      let two = took n (other_roles h) t b (λ o. scan n o text ≡ Some r) (none_after n text r) is_r in
+      let same : two.role ≡ one.role = let first = one.plays in let second = two.plays in cc in
+      same_last h (after t (b == 48) one.role) text s r one.rest (subst (λ x. scan n (Some (after t (b == 48) x)) text ≡ Some r) same two.rest)
 
   some_of : (o : Option Summary) → (o ≡ None → ⊥) → (u : Summary) × (o ≡ Some u)
   some_of None some = absurd (some refl)
@@ -181,27 +144,18 @@ module _ (m : Notation) (A : Flag → Bool) where
     read_too =
         let front_is = front_too weaker front (front_from m ready front s read) in
         let some = some_of (scan n (Some start) front) (front_is_read n (other_ready weaker ready) front front_is) in
-        some.1 ∙ ap Some (sym (same_last start front s some.0 read some.1))
+        some.1 ∙ ap Some (sym (same_last ready.roles start front s some.0 read some.1))
 
     one_more : (b : ℕ) → scan n (Some start) (front ++ b ∷ []) ≡ step n s (class_of m b)
     one_more b = scan_append n (Some start) front (b ∷ []) ∙ ap (λ o. scan n o (b ∷ [])) read_too
 
-    is_some_of : (o : Option Summary) → is_some o ≡ true → (u : Summary) × (o ≡ Some u)
-    is_some_of None is = absurd (false≢true is)
-    is_some_of (Some u) is = (u, refl)
-
-    not_none : (o : Option Summary) → (o ≡ None → ⊥) → is_some o ≡ true
-    not_none None some = absurd (some refl)
-    not_none (Some u) some = refl
-
     pub decided : (next : Option ℕ) → (allows n s (class_of_next m next) ≡ true) ↔ Allows n front next
     decided None = (
       λ is. literal_from n (other_roles ready.roles) front (ap (is_accepted n) read_too ∙ is),
-      λ l. sym (ap (is_accepted n) read_too) ∙ ap (λ t. is_accepted n (scan n (Some start) t)) l.1.whole
-          ∙ (literal_arrives n (other_roles ready.roles) l.0 l.1.literal).0,
+      λ l. sym (ap (is_accepted n) read_too) ∙ rw (l.1.whole) (literal_arrives n (other_roles ready.roles) l.0 l.1.literal).0,
     )
     decided (Some b) = (
-      λ is. let some = is_some_of (step n s (class_of m b)) is in
+      λ is. let some = some_of (step n s (class_of m b)) (λ none. false≢true (sym (ap is_some none) ∙ is)) in
           front_from n (other_ready weaker ready) (front ++ b ∷ []) some.0 (one_more b ∙ some.1),
-      λ front_is. not_none (step n s (class_of m b)) (λ none. front_is_read n (other_ready weaker ready) (front ++ b ∷ []) front_is (one_more b ∙ none)),
+      λ is. ap is_some (some_of (step n s (class_of m b)) (λ none. front_is_read n (other_ready weaker ready) (front ++ b ∷ []) is (one_more b ∙ none))).1,
     )
