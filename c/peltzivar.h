@@ -252,7 +252,9 @@ PELTZIVAR_API peltzivar_word peltzivar_note_mask(const peltzivar_fields *fields,
 /* Checks whether an exponent character and a decimal point fit a word, lawful or not. Both must be punctuation. Neither
  * may match a byte that the other option, the digit separator, the base prefix or the base suffix matches. The decimal
  * point matches only itself. If the exponent character is a letter, it matches both cases of the letter unless
- * case_sensitive_exponent is set. PELTZIVAR_RULE_PUNCTUATION_DIFFERS states which bytes the others match.
+ * case_sensitive_exponent is set. PELTZIVAR_RULE_PUNCTUATION_DIFFERS states which bytes the others match. Of a lawful
+ * word, literal::Syntax::new of the Rust crate accepts more: it checks the normal form, in which a digit separator that
+ * no flag allows is absent.
  * Returns PELTZIVAR_SUCCESS, or the first of these errors that applies: PELTZIVAR_INVALID_EXPONENT_SYMBOL or
  * PELTZIVAR_INVALID_DECIMAL_POINT if this option is not punctuation, or PELTZIVAR_INVALID_PUNCTUATION. */
 PELTZIVAR_MUST_USE PELTZIVAR_API peltzivar_error peltzivar_check_options(

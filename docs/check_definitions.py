@@ -6,16 +6,18 @@
     docs/check_definitions.py --unaided    names the public functions that are proved without a folder in proofs/
 
 A contract cites the definitions that the `use` lines of its file bring, and a definition also those of its own file. A
-definition is found by its name and that of its file. The status is 1 if a call reaches a constant of the program, or an
-addition: a definition in a folder of specs/ or in Private.antt. Such definitions serve other calls.
+definition is found by its name and that of its file. `Specials::read` is the call of this type, and `read` that of all
+other types. The status is 1 if a call reaches a constant of the program, or an addition: a definition in a folder of
+specs/ or in Private.antt. Such definitions serve other calls.
 """
 import graphlib
+import itertools
 import pathlib
 import re
 import sys
 
 CALLS = """edit_word normal_form format_error check build_strict is_built edits_of is_valid_options_punctuation
-options_error migrate same_format apply read read_prefix""".split()
+options_error migrate same_format apply read read_prefix Specials::read""".split()
 CRATES = ["lexical_base", "lexical_flags", "lexical_builder", "lexical_util", "lexical_literal"]
 TOP = pathlib.Path(__file__).resolve().parent.parent
 USE = re.compile(r"^ *(?:ghost )?(?:unfoldable )?(?:pub )?use Rattle\.([\w.]+?)(?: as (\w+)|\.\{(.*)\})?;?$", re.M)
@@ -35,20 +37,25 @@ def imports(text):
 
 
 class File:
-    """A file of definitions: the first comment, the imports, and the lines of each definition."""
+    """A file of definitions: the first comment, the imports, and the lines of each definition and of its module."""
 
     def __init__(self, path):
         text = path.read_text()
         self.path, self.imports, self.lines = path.relative_to(TOP), imports(text), {}
         self.is_addition = path.parent.name != "specs" or path.stem == "Private"
-        self.header, comment, name = re.match(r"(?:--.*\n)*", text)[0].splitlines(), [], ""
+        self.header, self.module = re.match(r"(?:--.*\n)*", text)[0].splitlines(), {}
+        module, comment, name = (), [], ""
         for line in text.splitlines()[len(self.header):]:
-            if line.startswith("-- "):
+            module = () if line[:1].strip() else module
+            inner = line.removeprefix("  ") if module else line
+            if inner.startswith("-- "):
                 comment.append(line)
+            elif inner.startswith("module "):
+                module, comment = ("", *comment, line), []
             elif line and not re.match(r"(unfoldable )?(pub )?(use|mod) ", line):
-                name = found[1] if (found := DEFINES.match(line)) else name
+                name = found[1] if (found := DEFINES.match(inner)) else name
                 self.lines.setdefault(name, []).extend([*comment, line])
-                comment = []
+                self.module[name], comment = module, []
 
 
 FILES = [File(path) for path in sorted(TOP.glob("crates/lexical_*/specs/**/*.antt"))]
@@ -98,12 +105,20 @@ def reading_order():
     return sorted(order, key=lambda file: CRATES.index(file.path.parts[1]))
 
 
+def owner(source, found):
+    """Returns the type of a function that was found in a source, or an empty text if it has none."""
+    owners = re.findall(r"^impl(?:<.*?>)? (\w+)", source[: found.start()], re.M)
+    return owners[-1] if owners and found[0].startswith(" ") else ""
+
+
 def contracts(call):
-    """Yields the path, the signature with the clauses, and the clauses of each public function with this name."""
+    """Yields the path, the signature with the clauses, and the clauses of each public function that is this call."""
     for path, source in SOURCES.items():
-        for name, text in FUNCTION.findall(source):
-            if name == call:
-                yield path, f"fn {call}{text}", re.split(r"^ *(?=requires|ensures)", text, maxsplit=1, flags=re.M)[-1]
+        for found in FUNCTION.finditer(source):
+            name, text = found.groups()
+            typed = f"{owner(source, found)}::{name}"
+            if call == (typed if typed in CALLS else name):
+                yield path, f"fn {name}{text}", re.split(r"^ *(?=requires|ensures)", text, maxsplit=1, flags=re.M)[-1]
 
 
 def text_of(call):
@@ -114,7 +129,8 @@ def text_of(call):
     for file in reading_order():
         names = [name for name in file.lines if f"{file.path.stem}.{name}" in reached]
         lines += [f"==== {file.path}", *file.header] if names else []
-        lines += [line for name in names for line in ["", *file.lines[name]]]
+        for module, inner in itertools.groupby(names, file.module.get):
+            lines += [*module, *(line for name in inner for line in ["", *file.lines[name]])]
     lines += [line for path, text, _ in found for line in [f"==== {path}", *text.splitlines()]]
     unfit = [f"it reaches {name} by {above}" for name, above in reached.items()
              if name not in FILE_OF or FILE_OF[name].is_addition]
@@ -126,8 +142,7 @@ def unaided():
     for path, source in SOURCES.items():
         _, crate, _, *module = path.with_suffix("").parts
         for found in FUNCTION.finditer(source):
-            owner = re.findall(r"^impl(?:<.*?>)? (\w+)", source[: found.start()], re.M)[-1:]
-            names = [*(owner if found[0].startswith(" ") else module), found[1]]
+            names = [*([it] if (it := owner(source, found)) else module), found[1]]
             folders = TOP.glob(f"crates/{crate}/proofs/**/{'/'.join(names)}/")
             if "ensures" in found[2] and not found[0].endswith("{}") and not any(folders):
                 yield f"{crate} {'::'.join(names)}"

@@ -17,7 +17,6 @@ HERE = pathlib.Path(__file__).resolve().parent
 TOP = HERE.parent
 PAGE = HERE / "index.html"
 FORMAT = (TOP / "docs/FORMAT.md").read_text()
-READER = TOP / "bench/rust/src/reader.rs"
 SCRIPTS = ("library", "element", "number", "bits", "controls", "code", "report", "literal", "page")
 MOST_BYTES = 250_000
 TARGET = "wasm32-unknown-unknown"
@@ -106,7 +105,7 @@ def data():
 def hash_of(wasm):
     """Returns a hash of the WebAssembly and its sources. Comments and blank lines of the sources do not count."""
     whole = hashlib.sha256(json.dumps([wasm, OPTIONS]).encode())
-    for path in [HERE / "builtins.rs", HERE / "library.rs", *sorted((TOP / "rust/src").rglob("*.rs")), READER]:
+    for path in [HERE / "builtins.rs", HERE / "library.rs", *sorted((TOP / "rust/src").rglob("*.rs"))]:
         lines = [line.strip() for line in path.read_text().splitlines()]
         code = [line for line in lines if line and not line.startswith("//")]
         if code:

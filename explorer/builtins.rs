@@ -36,3 +36,10 @@ pub extern "C" fn __multi3(a: u128, b: u128) -> u128 {
     let high = high.wrapping_add(a_low.wrapping_mul(b_high)).wrapping_add(a_high.wrapping_mul(b_low));
     (other << 32 | low & LOW) as u128 | (high as u128) << 64
 }
+
+/// Returns a number of 128 bits, shifted left by fewer than 128 bits: multiplied by a power of two.
+#[unsafe(no_mangle)]
+pub extern "C" fn __ashlti3(value: u128, count: u32) -> u128 {
+    let power = (1u64 << (count % 64)) as u128;
+    __multi3(value, if count < 64 { power } else { power << 64 })
+}

@@ -53,9 +53,9 @@ class Library {
         return { ...answer, normal: BigInt(answer.normal), reasons, options, notes };
     }
 
-    /* Returns {parts} of a number, each with its kind, start and end, and {refusing}: settings that refuse it. If it is
-     * refused, these are the parts that were read, and {error, index, setting} has the index of the first wrong byte and
-     * a setting with which more is read. The index is null if the word is not lawful or an option does not fit. */
+    /* Returns {parts} of a number, each with its kind and size. If a text is refused, these are the parts of its longest
+     * front that is a number, and {error, mask, start, end, validUpTo} has the flags to blame, the bytes to mark, and how
+     * many bytes are right. If the word is not lawful or an option does not fit, there is only an error. */
     literal({ word, exponent, point }, text) {
         return this.call("literal", text, word & HALF, word >> 64n, exponent, point);
     }

@@ -1,17 +1,13 @@
-//! The library for the page, as WebAssembly: calls of the crate `peltzivar`, and of a reader of literals over it. A
-//! call reads a text from `INPUT`, writes its answer to `OUTPUT` as JSON, and returns how many bytes the answer has. A
-//! word has two halves of 64 bits.
+//! The library for the page, as WebAssembly: calls of the crate `peltzivar`. A call reads a text from `INPUT`, writes
+//! its answer to `OUTPUT` as JSON, and returns how many bytes the answer has. A word has two halves of 64 bits.
 #![no_std]
 
 use core::fmt::{self, Display, Write};
-use core::num::NonZeroU8;
 
-use peltzivar::edits::{apply, edit_word, is_built, normal_form};
+use peltzivar::edits::{apply, is_built, normal_form};
+use peltzivar::literal::{Front, Specials, Syntax};
 use peltzivar::reasons::Byte;
-use peltzivar::{Cause, Edit, Error, FlagSetter, Format, FormatView, NumberFormatBuilder, Rule};
-
-#[path = "../bench/rust/src/reader.rs"]
-mod reader;
+use peltzivar::{Cause, Edit, Error, FormatView, NumberFormatBuilder, Rule};
 
 const SIZE: usize = 1 << 16;
 
@@ -80,73 +76,56 @@ pub extern "C" fn explain(low: u64, high: u64, exponent: u8, point: u8) -> usize
     })
 }
 
-/// The names of the parts of a literal, in the order of `reader::Token`.
-const PARTS: &str = "sign special prefix integer point fraction exponent_character exponent_sign exponent_digits suffix";
+/// The spellings of special values that are read.
+const SPECIALS: Specials = Specials { nan: Some(b"NaN"), inf: Some(b"inf"), infinity: Some(b"infinity") };
 
-/// Returns the parts of a literal, and the settings of one flag that refuse it. If it is refused, returns the error, the
-/// index of the first wrong byte, which is `null` if the format or an option is wrong, and the setting to blame.
+/// Returns the parts of a number, or of the longest front of a refused text that is a number. For a refused text, also
+/// returns why and where it is refused: the error, the flags to blame, the bytes to mark, and how many bytes are right.
+/// If the word is not lawful, or if an option does not fit, only returns an error.
 #[unsafe(no_mangle)]
 pub extern "C" fn literal(low: u64, high: u64, exponent: u8, point: u8, length: usize) -> usize {
-    let word = u128::from(high) << 64 | u128::from(low);
-    let options = reader::Options { exponent, point, specials: &[b"NaN", b"inf", b"infinity"] };
+    let (word, text) = (u128::from(high) << 64 | u128::from(low), text_of(length));
     answer(|out| {
-        let Ok(format) = FormatView::new(word).check() else {
-            return out.write_str(r#"{"parts":[],"error":"not lawful","index":null}"#);
+        let Ok(syntax) = Syntax::new(word, exponent, point) else {
+            return out.write_str(r#"{"parts":[],"error":"not read"}"#);
         };
-        let (parts, _) = reader::scan(format, Some(&options), text_of(length));
-        out.write_str(r#"{"parts":"#)?;
-        let present = PARTS.split(' ').zip(parts).filter(|(_, range)| !range.is_empty());
-        list(out, present, |out, (kind, range)| {
-            write!(out, r#"{{"kind":"{kind}","start":{},"end":{}}}"#, range.start, range.end)
-        })?;
-        let Err(refusal) = reader::read(format, Some(&options), text_of(length)) else {
-            out.write_str(r#","refusing":"#)?;
-            list(out, refusing(format, &options, text_of(length)), |out, edit| write!(out, "{}", Quoted(edit)))?;
-            return out.write_str("}");
-        };
-        write!(out, r#","error":{},"index":"#, Quoted(refusal.error.description()))?;
-        match refusal.error.index() {
-            Some(index) => write!(out, "{index}")?,
-            None => out.write_str("null")?,
+        let refusal = syntax.read(text).err();
+        let special = refusal.and_then(|_| SPECIALS.read(&syntax, text));
+        match (special, syntax.read_prefix(text)) {
+            (Some(special), _) => {
+                let (sign, rest) = text.split_at(special.sign.map_or(0, |_| 1));
+                put_parts(out, &[("sign", sign), ("special", rest)])?;
+            }
+            (None, Ok(Front { parts, .. })) => put_parts(
+                out,
+                &[
+                    ("sign", parts.sign),
+                    ("prefix", parts.prefix),
+                    ("integer", parts.integer),
+                    ("point", parts.point),
+                    ("fraction", parts.fraction),
+                    ("exponent_character", parts.exponent_character),
+                    ("exponent_sign", parts.exponent_sign),
+                    ("exponent_digits", parts.exponent),
+                    ("suffix", parts.suffix),
+                ],
+            )?,
+            (None, Err(_)) => put_parts(out, &[])?,
         }
-        let byte = || byte_to_set(format, &options, text_of(length), *refusal.error.index()?);
-        if let Some(edit) = refusal.edit.or_else(byte) {
-            write!(out, r#","setting":{}"#, Quoted(edit))?;
+        if let (None, Some(error)) = (special, refusal) {
+            let (mask, (start, end), right) = (Word(error.mask()), error.span(), error.valid_up_to());
+            write!(out, r#","error":{},"mask":{mask},"start":{start},"end":{end},"validUpTo":{right}"#, Quoted(error))?;
         }
         out.write_str("}")
     })
 }
 
-/// Returns the edits of one flag after which a literal is refused.
-fn refusing(format: Format, options: &reader::Options, text: &[u8]) -> impl Iterator<Item = Edit> {
-    let flags = FlagSetter::FLAGS.iter();
-    let flips = flags.map(move |flag| Edit::Flag(*flag, !flag.is_set(format.word())));
-    flips.filter(move |edit| {
-        let edited = Format::new(edit_word(format.word(), &[*edit]));
-        edited.is_ok_and(|edited| reader::scan(edited, Some(options), text).1.is_err())
+/// Writes the parts that are present, in the order of the text.
+fn put_parts(out: &mut Answer, parts: &[(&str, &[u8])]) -> fmt::Result {
+    out.write_str(r#"{"parts":"#)?;
+    list(out, parts.iter().filter(|(_, bytes)| !bytes.is_empty()), |out, (kind, bytes)| {
+        write!(out, r#"{{"kind":"{kind}","size":{}}}"#, bytes.len())
     })
-}
-
-/// Returns an edit that takes the byte at which a text is refused: as the base suffix or prefix if it is a letter, and
-/// otherwise as the digit separator. After it and flags that allow separators, more of the text is accepted.
-fn byte_to_set(format: Format, options: &reader::Options, text: &[u8], index: usize) -> Option<Edit> {
-    let byte = NonZeroU8::new(*text.get(index)?);
-    let allowed = |position| Edit::Flag(position, true);
-    let edits = match text[index].is_ascii_alphabetic() {
-        true if index + 1 == text.len() => [Edit::BaseSuffix(byte); 4],
-        true => [Edit::BasePrefix(byte); 4],
-        false => [
-            Edit::DigitSeparator(byte),
-            allowed(FlagSetter::InternalDigitSeparator),
-            allowed(FlagSetter::LeadingDigitSeparator),
-            allowed(FlagSetter::TrailingDigitSeparator),
-        ],
-    };
-    let edited = Format::new(edit_word(format.word(), &edits)).ok()?;
-    match reader::scan(edited, Some(options), text).1 {
-        Err(error) if error.index() <= Some(&index) => None,
-        _ => Some(edits[0]),
-    }
 }
 
 /// Returns the names of the options that a reason blames, as an array in JSON.

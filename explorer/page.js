@@ -28,7 +28,7 @@ class Page {
         };
         this.controls = new Controls(library, edit);
         this.report = new Report(library, data, { use, edit, go: (name) => this.go(name) });
-        this.trial = new Trial(library, { links: (fields) => this.report.links(fields), edit });
+        this.trial = new Trial(library, { links: (fields) => this.report.links(fields), change: (word) => this.change({ word }) });
         this.cells = makeBits(library, (name) => this.controls.boxes.get(name).click());
         this.code = new Code(library);
         this.meanings = meaningsOf(library);

@@ -369,16 +369,27 @@ class Walk(unittest.TestCase):
         self.click("#read .link", "integer_internal_digit_separator")
         self.assertEqual(self.focused(), "integer_internal_digit_separator")
         self.click("#integer_internal_digit_separator")
-        self.assertEqual(self.texts("#read li > :last-child"), ["accepted", "accepted", "invalid digit found at byte 2"])
+        self.assertEqual(self.texts("#read li > :last-child"), ["accepted", "accepted", "at byte 2: no literal has the byte 195 here"])
         self.click("#read summary")
         self.click("#no_special")
         self.click("#case_sensitive_special")
         self.assertEqual(set(self.texts("#read li > :last-child")), {"not read, since the word is not lawful"})
+        self.load("#word=0x00000A0000000000000000000000101E")
+        self.type("#literal", "001\n.e5\n+Infinity\n1.")
+        self.assertEqual(self.texts("#read mark"), ["001", " ", "+", " "])
+        self.assertEqual(self.texts("#read li:first-child mark span"), ["0"])
+        self.assertEqual(self.texts("#read .bad")[:2], [
+            "at byte 1: a leading zero, which no_integer_leading_zeros forbids. More is accepted with "
+            "no_integer_leading_zeros = false set it",
+            "at byte 2: expected a digit after the decimal point, which required_fraction_digits requires. More is accepted "
+            "with required_fraction_digits = false and required_mantissa_digits = false set it"])
+        self.click("#no_positive_mantissa_sign")
+        self.assertEqual(self.texts("#read li:nth-child(3) .written span"), ["+", "Infinity"])
 
     def test_a_format_is_found_by_trying_numbers(self):
         self.type("#literal", "1_0.\n0x1_0\n1__0\n10m")
         self.find("#read .use").send_keys(Keys.ENTER)
-        for _ in range(4):
+        for _ in range(3):
             self.driver.switch_to.active_element.send_keys(Keys.ENTER)
         self.assertEqual((self.focused(), self.texts("#read .bad")), ("literal", []))
         self.assertEqual(self.value(), "0x00000A6D7800005F000002010000000C")

@@ -85,4 +85,19 @@ impl NumberFormatBuilder {
             Err(error) => panic!("{}", error.message().as_str()),
         }
     }
+
+    /// Packs the fields into a word, and returns it as a [`Format`]. Use it in constants, as `build_or_panic`.
+    ///
+    /// # Panics
+    ///
+    /// Panics if the word is not [lawful][Rule], with the text of the error of [`build_format`][Self::build_format]:
+    /// the reason alone, such as `the digit separator 'b' is a digit in radix 16`.
+    #[must_use]
+    #[track_caller]
+    pub const fn build_format_or_panic(&self) -> Format {
+        match self.build_format() {
+            Ok(format) => format,
+            Err(error) => panic!("{}", error.text().as_str()),
+        }
+    }
 }

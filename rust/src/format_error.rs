@@ -9,7 +9,7 @@ use crate::short_text::ShortText;
 /// Why a word is not a [`Format`][crate::Format], why a text is not one, or why a format does not accept options.
 ///
 /// `Display` prints the first of the [`reasons`][Self::reasons]. If there are none, it prints that a word begins with
-/// `0x` if the text does not, and otherwise the [`code`][Self::code].
+/// `0x` if the text does not, or what options are, and otherwise the [`code`][Self::code].
 ///
 /// ```
 /// use core::num::NonZeroU8;
@@ -31,6 +31,8 @@ pub struct FormatError {
 pub(crate) enum Cause {
     /// A text that is not a word.
     Text,
+    /// A text of options, of which one is missing or is not a byte.
+    Bytes,
     /// A word that is not lawful.
     Word(u128),
     /// An exponent character and a decimal point beside a word.
@@ -59,14 +61,11 @@ impl FormatError {
     const fn candidates(&self) -> [Option<Reason>; MAX_REASONS] {
         let mut all = [None; MAX_REASONS];
         match self.cause {
-            Cause::Text => all,
+            Cause::Text | Cause::Bytes => all,
             Cause::Word(word) => reasons(word),
             Cause::Options(word, exponent, decimal_point) => {
-                let found = options_reasons(word, exponent, decimal_point);
-                let mut index = 0;
-                while index < found.len() {
-                    all[index] = found[index];
-                    index += 1;
+                if let Some(front) = all.first_chunk_mut() {
+                    *front = options_reasons(word, exponent, decimal_point);
                 }
                 all
             }
@@ -84,13 +83,28 @@ impl FormatError {
         None
     }
 
+    /// Returns the text that `Display` prints. A `const fn` can panic with it, so that a compile error has the reason:
+    ///
+    /// ```compile_fail,E0080
+    /// const FORMAT: peltzivar::Format = match peltzivar::Format::new(0) {
+    ///     Ok(format) => format,
+    ///     Err(error) => panic!("{}", error.text().as_str()), // the mantissa radix 0 is not between 2 and 36
+    /// };
+    /// ```
+    #[must_use]
+    pub const fn text(&self) -> ShortText {
+        match (self.first_reason(), self.cause, self.code.index()) {
+            (Some(reason), ..) => reason.text(),
+            (None, Cause::Bytes, _) => ShortText::of("options are two numbers from 0 to 255"),
+            (None, _, Some(0 | 1)) => ShortText::of("a format word begins with `0x`"),
+            (None, ..) => self.code.text(),
+        }
+    }
+
     /// Returns the text of a panic: the description of the error, a colon, and the first reason as a sentence.
     pub(crate) const fn message(&self) -> ShortText {
-        let message = ShortText::of(self.code.description());
-        match self.first_reason() {
-            Some(reason) => message.and(": ").and(reason.text().as_str()),
-            None => message,
-        }
+        let description = ShortText::of(self.code.description());
+        description.and(": ").and(self.text().as_str())
     }
 }
 
@@ -98,11 +112,7 @@ impl core::error::Error for FormatError {}
 
 impl fmt::Display for FormatError {
     fn fmt(&self, f: &mut fmt::Formatter<'_>) -> fmt::Result {
-        match (self.first_reason(), self.code.index()) {
-            (Some(reason), _) => fmt::Display::fmt(&reason, f),
-            (None, Some(0 | 1)) => f.write_str("a format word begins with `0x`"),
-            (None, _) => fmt::Display::fmt(&self.code, f),
-        }
+        f.pad(self.text().as_str())
     }
 }
 

@@ -99,6 +99,8 @@ impl Format {
     }
 
     /// Checks the exponent character and the decimal point of a parser or writer that will use the format.
+    /// [`Syntax::new`][crate::literal::Syntax::new] accepts more: it checks the normal form, in which a digit separator
+    /// that no flag allows is absent.
     ///
     /// # Errors
     ///

@@ -1,7 +1,7 @@
 //! A number format states how numbers may be written: their radix, prefix, signs and digit separators. Here, a format
 //! is a `u128` that holds flags and six bytes. This crate is for code that parses, writes or checks numbers. It
-//! builds, reads, checks and edits formats, explains why a format is not lawful, and finds the parts of numbers. It does
-//! not compute their values.
+//! builds, reads, checks and edits formats, explains why a format is not lawful, and finds the parts of a number, or
+//! why a text is not one. It does not compute values of numbers.
 //!
 //! The [`u128`] is called the *format word*. It can be a const generic argument. The word is *lawful* if it satisfies
 //! every [`Rule`]: each radix is between 2 and 36, no two flags contradict each other, each character is allowed ASCII
@@ -42,16 +42,17 @@
 //!
 //! | To | Use |
 //! |---|---|
-//! | write a format as a constant | [`NumberFormatBuilder`] and its [`build_or_panic`][NumberFormatBuilder::build_or_panic] |
+//! | write a format as a constant | [`NumberFormatBuilder`] and its [`build_format_or_panic`][NumberFormatBuilder::build_format_or_panic], or [`build_or_panic`][NumberFormatBuilder::build_or_panic] for the word |
 //! | take a checked format as an argument | [`Format`] |
 //! | read numbers | [`Syntax`][literal::Syntax], or a [`Reader`][literal::Reader] for many texts; [`Specials`][literal::Specials] for NaN and infinity; [`FormatView::mantissa_digit`] for the value of a digit |
+//! | report why a text is not a number | [`ReadError`][literal::ReadError] |
 //! | write a reader of your own | [`FormatView::is_separator`], [`separators`][FormatView::separators], [`role_of`][FormatView::role_of] |
 //! | read the fields of any word, lawful or not | [`FormatView`]; [`NumberFormat`] for a word that is known at compile time |
 //! | parse settings | `str::parse` for each [`Edit`], or [`Edit::flag`] and [`Edit::byte`]; [`collect`][Iterator::collect] to turn edits into a builder, and [`build_format`][NumberFormatBuilder::build_format] to check it |
 //! | report the problems with a word | [`FormatError`], [`FormatView::reasons`], [`Reason::mask`], [`FormatView::notes`] |
 //! | derive a format from another | [`NumberFormatBuilder::from`], or [`edits::edit_word`] |
 //! | compare two formats | [`Format::normal_form`], [`edits::same_format`] |
-//! | store words as text | `Display` and `FromStr` of [`Format`] and [`FormatView`] |
+//! | store words as text | `Display` and `FromStr` of [`Format`], [`FormatView`] and [`Syntax`][literal::Syntax] |
 //! | convert words that `lexical-util` stored | [`edits::migrate`] |
 //!
 //! # From `lexical-util`
@@ -74,9 +75,9 @@
 //! documentation, `Proved of the source` heads what the contracts of a call state.
 //!
 //! The following parts are written by hand: [`Format`], [`NumberFormat`], the iterators and conversions, `Display`,
-//! `FromStr` and `Debug` of words, `Display` of [`ReadError`][literal::ReadError], `build_or_panic`, and the tests of
-//! slices in [`ascii`]. A build of this crate proves nothing. You trust the program that generated the files, the
-//! handwritten parts, and `rustc`.
+//! `FromStr` and `Debug` of words and syntaxes, the syntax of a [`Format`], `Display` of
+//! [`ReadError`][literal::ReadError], the methods that panic, and the tests of slices in [`ascii`]. A build of this crate
+//! proves nothing. You trust the program that generated the files, the handwritten parts, and `rustc`.
 #![no_std]
 #![forbid(unsafe_code)]
 
@@ -130,5 +131,7 @@ pub use format_flags::{Part, Rule};
 pub use lawful::Format;
 #[doc(inline)]
 pub use reasons::{Byte, Cause, NamedByte, Note, Radixes, Reason};
+#[doc(inline)]
+pub use short_text::ShortText;
 #[doc(inline)]
 pub use view::{FormatView, Role, Separators};

@@ -1,18 +1,15 @@
-//! Literals: the texts that are numbers of a format, their parts, and the calls that read them.
+//! Literals: the texts that are numbers of a format, their parts, the calls that read them, and why a text is not one.
 //!
 //! A [`Syntax`] is a lawful format with an exponent character and a decimal point or, for integers alone, without both.
-//! A [`Reader`] has tables of a syntax, so that it reads a text in less time. Special values, such as NaN and infinity,
-//! are not literals: [`Specials`] reads them.
+//! A [`Reader`] has tables of a syntax, so that it reads a text in less time. A [`ReadError`] has the cause of a
+//! refusal, and the flags to blame. NaN and infinity are not literals: [`Specials`] reads them.
 //!
 //! ```
-//! use peltzivar::format::STANDARD;
+//! use peltzivar::format::{Format, STANDARD};
 //! use peltzivar::literal::{Reader, Syntax};
 //!
 //! /// The numbers of the standard format. Its tables are made when this is compiled.
-//! static READER: Reader = match Syntax::new(STANDARD, b'e', b'.') {
-//!     Ok(syntax) => Reader::new(syntax),
-//!     Err(_) => panic!(),
-//! };
+//! static READER: Reader = Reader::new(Syntax::new_or_panic(Format::of::<STANDARD>(), b'e', b'.'));
 //! let parts = READER.read(b"-1.25e3").unwrap();
 //! assert_eq!((parts.sign, parts.integer, parts.fraction, parts.exponent), (&b"-"[..], &b"1"[..], &b"25"[..], &b"3"[..]));
 //!
@@ -37,6 +34,7 @@ mod specials;
 mod steps;
 mod syntax;
 mod tables;
+mod text;
 
 pub use cause::{Cause, Place, ReadError};
 pub use read::{Front, Parts, Reader};

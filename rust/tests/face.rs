@@ -3,6 +3,7 @@
 
 use peltzivar::edits::{apply_all, edits_of, same_format};
 use peltzivar::format::{options_error, NumberFormatBuilder, BASE_PREFIX_SHIFT, BASE_SUFFIX_SHIFT, STANDARD};
+use peltzivar::literal::Syntax;
 use peltzivar::reasons::{notes, reasons};
 use peltzivar::{Error, FlagSetter, Format, FormatView, Rule};
 use std::num::NonZeroU8;
@@ -13,7 +14,16 @@ const _: () = {
     let Ok(format) = NumberFormatBuilder::from_word(STANDARD).build_format() else { panic!() };
     let normal = format.normal_form();
     assert!(normal.word() != STANDARD && normal.view().check().is_ok() && normal.check_options(b'e', b'.').is_ok());
-    assert!(matches!(Format::new(0), Err(error) if matches!(error.code(), Error::InvalidMantissaRadix)));
+    let Err(error) = Format::new(0) else { panic!() };
+    assert!(matches!(error.code(), Error::InvalidMantissaRadix));
+    assert!(matches!(error.text().as_str().as_bytes(), b"the mantissa radix 0 is not between 2 and 36"));
+};
+
+/// A syntax is known then, too, and is small.
+const _: () = {
+    let syntax = Syntax::new_or_panic(NumberFormatBuilder::new().build_format_or_panic(), b'e', b'.');
+    assert!(matches!(syntax.options(), Some(options) if options.exponent == b'e' && options.point == b'.'));
+    assert!(Syntax::integers_of(Format::of::<STANDARD>()).options().is_none() && size_of::<Syntax>() <= 32);
 };
 
 /// Random words, random words with lawful radixes, and words near the standard format.
@@ -112,19 +122,25 @@ fn edits_make_the_fields_of_their_word() {
     }
 }
 
-/// A panic has the description of the first broken rule, and the first reason, also where the reason prints any byte.
+/// Calls a function, and returns its value, or the text with which it panics.
+fn stopped<T>(call: impl FnOnce() -> T + panic::UnwindSafe) -> Result<T, String> {
+    panic::catch_unwind(call).map_err(|text| *text.downcast::<String>().expect("a text"))
+}
+
+/// The panic for a word has the description of the first broken rule, and the first reason. The panic for a format has
+/// the reason alone. A reason may print any byte.
 #[test]
 fn an_unlawful_constant_stops_with_its_reason() {
     panic::set_hook(Box::new(|_| {}));
     let twice = (0..=255).map(|byte| STANDARD | byte << BASE_PREFIX_SHIFT | byte << BASE_SUFFIX_SHIFT);
     for word in words().step_by(7).chain(twice) {
         let builder = NumberFormatBuilder::from_word(word);
-        let stopped = panic::catch_unwind(|| builder.build_or_panic());
-        let error = builder.build_strict().map_err(|error| {
-            let reason = builder.view().reasons().next().expect("a reason");
-            format!("{}: {reason}", error.description())
-        });
-        assert_eq!(stopped.map_err(|text| *text.downcast::<String>().expect("a text")), error, "{word:#034X}");
+        let reason = builder.view().reasons().next().map(|reason| reason.to_string());
+        let format = builder.build_format().map_err(|error| (error.code(), reason.expect("a reason")));
+        let with_code = |(code, reason): (Error, String)| format!("{}: {reason}", code.description());
+        let wanted = format.clone().map(|format| format.word()).map_err(with_code);
+        assert_eq!(stopped(|| builder.build_or_panic()), wanted, "{word:#034X}");
+        assert_eq!(stopped(|| builder.build_format_or_panic()), format.map_err(|error| error.1), "{word:#034X}");
     }
 }
 
@@ -148,7 +164,8 @@ fn an_error_states_its_cause() {
     ];
     for (error, code, count, printed) in rows {
         let error = error.expect(printed);
-        assert_eq!((error.code(), error.reasons().count(), &*error.to_string()), (code, count, printed));
+        assert_eq!((error.code(), error.reasons().count(), error.text().as_str()), (code, count, printed));
+        assert_eq!(error.to_string(), printed);
         assert_eq!(Error::from(error), code);
         let debug = format!("FormatError {{ code: {code:?}, message: \"{printed}\" }}");
         assert_eq!(format!("{error:?}"), debug);
@@ -202,4 +219,64 @@ fn setters_of_flags_are_parsed() {
         assert_eq!(error, Err("unknown setting name".to_string()), "{name}");
     }
     assert_eq!(format!("{:>12}", FlagSetter::NoSpecial), "  no_special");
+}
+
+#[test]
+fn a_syntax_is_a_format_with_options_that_fit_its_normal_form() {
+    panic::set_hook(Box::new(|_| {}));
+    let mut syntaxes = Vec::new();
+    for format in words().filter_map(|word| Format::new(word).ok()) {
+        let normal = format.normal_form();
+        let integers = Syntax::integers_of(format);
+        assert_eq!((integers.format(), integers.options()), (normal.view(), None));
+        assert_eq!((integers.to_string(), normal.to_string().parse()), (normal.to_string(), Ok(integers)));
+        syntaxes.push((normal, None, integers));
+        for [exponent, point] in [*b"e.", *b"p,", *b"x.", *b"5.", *b"^-", *b"^^", *b"\0."] {
+            let (syntax, text) = (Syntax::of(format, exponent, point), format!("{normal} {exponent} {point}"));
+            assert_eq!(syntax.map(|it| it.to_string()), normal.check_options(exponent, point).map(|()| text.clone()));
+            assert_eq!(text.parse(), syntax);
+            let text = syntax.map_err(|error| error.to_string());
+            assert_eq!(stopped(|| Syntax::new_or_panic(format, exponent, point)), text);
+            syntaxes.extend(syntax.map(|it| (normal, Some((exponent, point)), it)));
+        }
+    }
+    // The formats and the options decide the order.
+    syntaxes.sort();
+    assert!(syntaxes.is_sorted_by_key(|syntax| syntax.2));
+}
+
+#[test]
+fn syntaxes_are_parsed() {
+    const OPTION: &str = "options are two numbers from 0 to 255";
+    const INTEGERS: &str = "0x0A0A0A0000000000000000000000000C";
+    const NUMBERS: &str = "0x0A0A0A0000000000000000000000000C 101 46";
+    #[rustfmt::skip]
+    let rows = [
+        ("0x00000A0000000000000000000000000C", Ok(INTEGERS)),
+        ("0x0A0A0A0000000000000000000000000C", Ok(INTEGERS)),
+        ("0x00000a0000000000000000000000000c 101 046", Ok(NUMBERS)),
+        // No flag allows the separator, so that it may be the decimal point.
+        ("0x00000A000000002E000000000000000C 101 46", Ok(NUMBERS)),
+        ("0x00000A0000000000000000000000000C 101", Err((Error::InvalidDigit(38), OPTION))),
+        ("0x00000A0000000000000000000000000C ", Err((Error::InvalidDigit(35), OPTION))),
+        ("0x00000A0000000000000000000000000C 101 ", Err((Error::InvalidDigit(39), OPTION))),
+        ("0x00000A0000000000000000000000000C  101 46", Err((Error::InvalidDigit(35), OPTION))),
+        ("0x00000A0000000000000000000000000C e .", Err((Error::InvalidDigit(35), OPTION))),
+        ("0x00000A0000000000000000000000000C 101 46 1", Err((Error::InvalidDigit(39), OPTION))),
+        ("0x00000A0000000000000000000000000C 256 46", Err((Error::InvalidDigit(35), OPTION))),
+        ("0x00000A0000000000000000000000000C 101 1000", Err((Error::InvalidDigit(39), OPTION))),
+        ("0x00000A0000000000000000000000000C 101 101",
+            Err((Error::InvalidPunctuation, "the exponent character 'e' and the decimal point 'e' are the same"))),
+        ("0x0 101", Err((Error::InvalidMantissaRadix, "the mantissa radix 0 is not between 2 and 36"))),
+        ("0x1g 101 46", Err((Error::InvalidDigit(3), "lexical parse error: 'invalid digit found' at index 3"))),
+        (" 0xC", Err((Error::Empty(0), "a format word begins with `0x`"))),
+    ];
+    for (text, wanted) in rows {
+        let syntax = text.parse::<Syntax>().map(|syntax| syntax.to_string());
+        let wanted = wanted.map_err(|(code, printed)| (code, printed.to_string()));
+        let found = syntax.as_deref().map_err(|error| (error.code(), error.to_string()));
+        assert_eq!(found, wanted, "{text}");
+    }
+    let [integers, numbers] = [INTEGERS, NUMBERS].map(|text| text.parse::<Syntax>().expect(text));
+    assert!(integers < numbers);
 }

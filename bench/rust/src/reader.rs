@@ -1,5 +1,5 @@
 //! Finds the parts of a literal, or its first wrong byte, by hand. The calls of `peltzivar::literal` are timed beside this
-//! reader, which the page still calls. It computes no value, allocates nothing and needs only `core`.
+//! reader. It computes no value, allocates nothing and needs only `core`.
 
 use core::{num::NonZeroU8, ops::Range};
 use peltzivar::edits::edit_word;

@@ -1,6 +1,9 @@
 -- The flags that are found are to blame.
-use Rattle.std.proofs.Common.{ℕ, ◌≡◌, ◌<◌, ◌≤◌, ◌/◌, ◌%◌, ◌^◌, ◌↔◌, min, Bool, true, false, not, ◌==◌, ◌&&◌, ◌||◌, inl, inr, IsTrue, bit_and, List, [], ◌∷◌, Option, Some, refl, sym, ap, subst, ◌∙◌, arith}
-use Rattle.std.proofs.lemmas.Bool.{false≢true, and_parts, and_from, or_cases, or_left, or_right, cases_Bool, cases_lt, eq-eqb, eqb-true, agree_below, agree_below_at}
+use Rattle.std.proofs.Common.{ℕ, ◌≡◌, ◌<◌, ◌≤◌, ◌/◌, ◌%◌, ◌^◌, ◌↔◌, min, Bool, true, false, not, ◌==◌, ◌&&◌, ◌||◌, inl, inr, IsTrue, bit_and, List, []}
+use Rattle.std.proofs.Common.{◌∷◌, Option, Some, refl, sym, ap, subst, ◌∙◌, arith}
+use Rattle.std.proofs.lemmas.Bool.{false≢true, and_parts, and_from, or_cases, or_left, or_right, cases_Bool, cases_lt, eq-eqb, eqb-true, agree_below}
+use Rattle.std.proofs.lemmas.Bool.{agree_below_at}
+use Rattle.std.proofs.lemmas.Bool.Decides.{nat_tests}
 use Rattle.std.proofs.lemmas.Nat.Bits.{bit_at_and}
 use Rattle.std.proofs.Math.Nat.{div-eq_of_lt, pow-le-pow_right}
 use Rattle.std.specs.Bool.{beq}
@@ -9,13 +12,14 @@ use Rattle.lexical_util.specs.Layout as layout
 use Rattle.lexical_util.specs.Layout.{Flag, bit, flags, part}
 use Rattle.lexical_util.specs.Record.{raw}
 use Rattle.lexical_literal.specs.Notation.{Notation}
-use Rattle.lexical_literal.specs.Cause.{Allows, IsLowest, IsRequirement, Permits, RefusesAlone, Releases, SomeFlag, adding, bare, binds, is_one_of, requirement_flags, separator_flags, with_flags, without}
+use Rattle.lexical_literal.specs.Cause.{Allows, IsLowest, IsRequirement, Permits, RefusesAlone, Releases, SomeFlag, adding, bare, binds, is_one_of}
+use Rattle.lexical_literal.specs.Cause.{requirement_flags, separator_flags, with_flags, without}
 use Rattle.lexical_literal.specs.Additions.Causes.{Decides, IsLowestBit, IsWeaker, allows, without_bit}
 use Rattle.lexical_literal.specs.declared.steps.Class.{Class}
 use Rattle.lexical_literal.specs.declared.steps.Summary.{Summary}
 use Rattle.lexical_literal.proofs.CauseLemmas.{bit_small, flag_and, flag_pow, requirement_mask}
 use Rattle.lexical_literal.proofs.JointLemmas.{Alone, joint}
-use Rattle.lexical_literal.proofs.RefusalLemmas.{same_flag, apart, allowed_too}
+use Rattle.lexical_literal.proofs.RefusalLemmas.{same_flag, apart}
 
 -- THE FLAGS OF A MASK
 
@@ -30,7 +34,8 @@ flags_in mask = filter (λ g. part mask (bit g) 1 == 1) flags
 pub mask_flag : (mask : ℕ) → mask < 2 ^ 44 → agree_below (λ k. part mask k 1 == 1) (λ k. list_any (λ g. bit g == k) (flags_in mask)) 44 ≡ true
     → (k : ℕ) → part mask k 1 ≡ 1 → (f : Flag) × (bit f ≡ k)
 mask_flag mask small agree k one = elim (cases_lt k 44) [
-  | inl below ↦ find (flags_in mask) k (sym (agree_below_at (λ k. part mask k 1 == 1) (λ k. list_any (λ g. bit g == k) (flags_in mask)) 44 k agree below) ∙ ap (λ n. n == 1) one)
+  | inl below ↦ find (flags_in mask) k (sym (agree_below_at (λ k. part mask k 1 == 1) (λ k. list_any (λ g. bit g == k) (flags_in mask)) 44 k agree below)
+      ∙ ap (λ n. n == 1) one)
   | inr high ↦
       let wide : 2 ^ 44 ≤ 2 ^ k = pow-le-pow_right {n = 2} (omega arith) high in
       let none : mask / 2 ^ k ≡ 0 = div-eq_of_lt (omega (arith, wide)) in
@@ -42,6 +47,10 @@ both_bits a b is small = omega arith
 
 pub of_mask : (word mask k : ℕ) → part (bit_and word mask) k 1 ≡ 1 → part mask k 1 ≡ 1
 of_mask word mask k one = both_bits _ _ (sym (bit_at_and word mask k) ∙ one) (bit_small mask k)
+
+-- What requires something is among the lowest flags.
+pub below_15 : (f : Flag) → is_one_of requirement_flags f ≡ true → bit f < 15
+below_15 f is = grind (arith, nat_tests)
 
 -- FEWER REQUIREMENTS
 
@@ -218,42 +227,21 @@ module _ (m : Notation) where
       from_next : (n : Notation) → Allows n front (Some byte) → Allows n front next
       from_next n is = subst (Allows n front) (sym is_next) is
 
-      pub each_permits : (f : Flag) → ((is_one_of separator_flags f && beq (allows (adding f (bare m)) s class) true) ≡ true) ↔ Permits m front byte f
-      each_permits f = (
+      -- `at` is true of the flags of the place where a separator is not allowed.
+      pub each_permits : (at : Flag → Bool) → ((f : Flag) → at f ≡ true → is_one_of separator_flags f ≡ true)
+          → ((f : Flag) → is_one_of separator_flags f ≡ true → allows (adding f (bare m)) s class ≡ true → at f ≡ true)
+          → (f : Flag) → ((at f && beq (allows (adding f (bare m)) s class) true) ≡ true) ↔ Permits m front byte f
+      each_permits at separates found f = (
         λ is.
-            let both = and_parts (is_one_of separator_flags f) _ is in
-            (both.0, to_next (adding f (bare m)) ((decides _ (permits_weaker f both.0)).0 (is_true (allows (adding f (bare m)) s class) both.1))),
-        λ permits. and_from _ _ permits.0 (as_true (allows (adding f (bare m)) s class) ((decides _ (permits_weaker f permits.0)).1 (from_next (adding f (bare m)) permits.1))),
+            let both = and_parts (at f) _ is in (
+              separates f both.0,
+              to_next (adding f (bare m))
+                  ((decides _ (permits_weaker f (separates f both.0))).0 (is_true (allows (adding f (bare m)) s class) both.1)),
+            ),
+        λ permits.
+            let allowed = (decides _ (permits_weaker f permits.0)).1 (from_next (adding f (bare m)) permits.1) in
+            and_from _ _ (found f permits.0 allowed) (as_true (allows (adding f (bare m)) s class) allowed),
       )
-
-      -- All separator flags allow what one of them allows.
-      abbrev pub filled : Flag → Bool
-      filled g = (bare m).flag g || is_one_of separator_flags g
-
-      not_required : (x p r : Bool) → (r && p) ≡ false → (((x && not r) || p) && r) ≡ true → ⊥
-      not_required x p r none is = grind arith
-
-      filled_weaker : IsWeaker m filled
-      filled_weaker = record {
-        no_more = λ g is. absurd (not_required (m.flag g) (is_one_of separator_flags g) (is_one_of requirement_flags g) (apart g) is);
-        no_less = λ g is. elim (or_cases ((bare m).flag g) _ (kept_bare (m.flag g) (is_one_of requirement_flags g) is)) [
-          | inl free ↦ or_left _ _ (or_left _ _ free)
-          | inr requires ↦ or_right (filled g) _ requires
-        ];
-      }
-
-      filled_more : (f : Flag) → is_one_of separator_flags f ≡ true → IsWeaker (adding f (bare m)) filled
-      filled_more f separates = record {
-        no_more = λ g is. absurd (not_required (m.flag g) (is_one_of separator_flags g) (is_one_of requirement_flags g) (apart g) is);
-        no_less = λ g is. or_left _ _ (elim (or_cases (bit g == bit f) _ is) [
-          | inl same ↦ or_right ((bare m).flag g) _ (ap (is_one_of separator_flags) (same_flag g f (eqb-true (bit g) (bit f) same)) ∙ separates)
-          | inr free ↦ or_left _ _ free
-        ]);
-      }
-
-      pub none_permits : allows (with_flags m filled) s class ≡ false → (f : Flag) → Permits m front byte f → ⊥
-      none_permits refused f permits = false≢true (sym refused
-          ∙ (decides filled filled_weaker).1 (allowed_too (adding f (bare m)) filled (filled_more f permits.0) front next (from_next (adding f (bare m)) permits.1)))
 
 -- A mask as the flags of a notation.
 pub as_bare : (m : Notation) (mask : ℕ) → ((f : Flag) → (raw mask).flag f ≡ (bare m).flag f) → with_flags m (raw mask).flag ≡ bare m

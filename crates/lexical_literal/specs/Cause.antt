@@ -1,5 +1,6 @@
 -- Why a text is not a literal: the cause, the flags that are to blame, and the bytes to show.
-use Rattle.std.specs.Prelude.{ℕ, ◌≡◌, ◌+◌, ◌<◌, ◌==◌, ◌&&◌, ◌↔◌, ◌⊎◌, ◌||◌, not, Bool, false, if◌then◌else◌, IsTrue, List, [], ◌∷◌, ◌++◌, length, take, slice_get, Option, Some, None}
+use Rattle.std.specs.Prelude.{ℕ, ◌≡◌, ◌+◌, ◌<◌, ◌==◌, ◌&&◌, ◌↔◌, ◌⊎◌, ◌||◌, not, Bool, false, if◌then◌else◌, IsTrue, List, [], ◌∷◌, ◌++◌, length, take}
+use Rattle.std.specs.Prelude.{slice_get, Option, Some, None}
 use Rattle.std.specs.Int.{w128, trailing_zeros}
 use Rattle.std.specs.List.{list_any}
 use Rattle.lexical_util.specs.Ascii.{ByteSet}
@@ -90,7 +91,8 @@ module _ (m : Notation) (front : List ℕ) (next : Option ℕ) where
     pub releases : Releases f
     pub lowest : (g : Flag) → bit g < bit f → Releases g → ⊥
 
-  -- `IsRequirement blamed` holds if the flags that are `blamed` require something, but for which `next` were allowed.
+  -- `IsRequirement blamed` holds if `next` is allowed without requirements, and if the flags that are `blamed` are those
+  -- that refuse it alone, or else the lowest one without which it is allowed.
   pub record IsRequirement (blamed : Flag → Bool) : Type 0 where
     pub allowed : Allows (bare m) front next
     pub some : SomeFlag blamed
@@ -102,7 +104,7 @@ is_at places.BeforeDigits part f = is_one_of ((separators_in part).leading ∷ [
 is_at places.AfterDigit part f = is_one_of ((separators_in part).internal ∷ (separators_in part).trailing ∷ []) f
 is_at places.Consecutive part f = is_one_of ((separators_in part).consecutive ∷ []) f
 
--- `case_set m f` is the set of the bytes whose case counts by the flag `f`.
+-- `case_set f m` is the set of the bytes whose case counts if the flag `f` is set.
 abbrev pub case_set : Flag → Notation → ByteSet
 case_set layout.case_sensitive_exponent m byte = m.exponent_character byte
 case_set layout.case_sensitive_base_prefix m byte = m.prefix byte
@@ -133,14 +135,15 @@ module _ (m : Notation) (front : List ℕ) (byte : ℕ) where
     pub each : (f : Flag) → IsTrue (blamed f) ↔ Permits f
     pub at : (f : Flag) → IsTrue (blamed f) → IsTrue (is_at place part f)
 
-  -- `IsWrongCase blamed` holds if `byte` is wrong in its case alone, which counts by the flag that is `blamed`.
+  -- `IsWrongCase blamed` holds if neither a requirement nor a separator is the cause, and if the flags that are `blamed` are
+  -- those by which the case of `byte` counts, whose other case is allowed.
   pub record IsWrongCase (blamed : Flag → Bool) : Type 0 where
     pub refused : Allows (bare m) front (Some byte) → ⊥
     pub no_separator : (f : Flag) → Permits f → ⊥
     pub some : SomeFlag blamed
     pub each : (f : Flag) → IsTrue (blamed f) ↔ IsCaseFlag f
 
-  -- `IsWrongByte blamed` holds if no flag is to blame that `byte` is wrong.
+  -- `IsWrongByte blamed` holds if no requirement is the cause, no separator and no case, and if no flag is `blamed`.
   pub record IsWrongByte (blamed : Flag → Bool) : Type 0 where
     pub refused : Allows (bare m) front (Some byte) → ⊥
     pub no_separator : (f : Flag) → Permits f → ⊥
@@ -227,10 +230,11 @@ error_of m front (causes.Missing part) number start =
     if list_any (is_mark m) front then errors.InvalidDigit start else errors.Empty start
 error_of m front _ number start = errors.InvalidDigit start
 
--- `IsRefusal m text error` holds if `error` says how far `text` is right, why it is no literal, which bytes to show, and which
--- error `lexical-util` has for this.
+-- `IsRefusal m text error` holds if `error` says how far `text` is right, which byte cannot follow, why `text` is not a
+-- literal, which bytes to show, and which error `lexical-util` has for this.
 pub record IsRefusal (m : Notation) (text : List ℕ) (error : ReadError) : Type 0 where
   pub valid_up_to : IsValidUpTo m text error.valid_up_to
+  pub byte : error.byte ≡ slice_get text error.valid_up_to
   pub cause : IsCause m (take error.valid_up_to text) (slice_get text error.valid_up_to) error.cause (raw error.mask).flag
   pub span : (error.start, error.end)
       ≡ span_of m (take error.valid_up_to text) (take (error.valid_up_to + 1) text) error.cause (lowest error.mask)

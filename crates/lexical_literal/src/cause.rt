@@ -5,8 +5,9 @@ ghost use Rattle.std.specs.Bool.{beq};
 ghost use Rattle.lexical_util.specs.Layout.{Flag, bit, part};
 ghost use Rattle.lexical_util.specs.Record.{raw};
 ghost use Rattle.lexical_util.specs.Roles.{other_case};
-ghost use Rattle.lexical_literal.specs.Additions.Causes.{Decides, IsLowestBit, IsReadOf, allows, class_of_next, place_of, kind_set, without_bit};
-ghost use Rattle.lexical_literal.specs.Cause.{IsCause, IsRefusal, IsRequirement, Permits, SomeFlag, adding, bare, case_set, behind, binds, error_of, first_in, requirement_error, requirement_span, span_of, with_flags};
+ghost use Rattle.lexical_literal.specs.Additions.Causes.{Decides, IsLowestBit, IsReadOf, allows, class_of_next, place_of, kind_set, mask_at, without_bit};
+ghost use Rattle.lexical_literal.specs.Cause.{IsCause, IsRefusal, IsRequirement, Permits, SomeFlag, adding, bare, case_set, behind, binds, error_of};
+ghost use Rattle.lexical_literal.specs.Cause.{first_in, is_at, requirement_error, requirement_span, span_of, with_flags};
 ghost use Rattle.lexical_literal.specs.Additions.Summary.{scan, start};
 ghost use Rattle.lexical_literal.specs.Front.{IsValidUpTo};
 ghost use Rattle.lexical_literal.specs.Notation.{notation_of};
@@ -36,7 +37,7 @@ pub enum Place {
 /// Why a text is not a literal. Another cause may follow when this one is mended.
 #[derive(Debug, Clone, Copy, PartialEq, Eq, Hash)]
 pub enum Cause {
-    /// Flags are set that require something that the text does not have.
+    /// Flags are set whose requirements the text does not satisfy.
     Requirement,
     /// A digit separator is not allowed in this part at this place.
     Separator(Part, Place),
@@ -123,12 +124,6 @@ const REQUIREMENTS: u128 = masks::REQUIRED_DIGITS
     | masks::NO_FLOAT_LEADING_ZEROS
     | masks::REQUIRED_EXPONENT_NOTATION;
 
-// The flags that allow a digit separator in a number.
-const SEPARATORS: u128 = masks::INTERNAL_DIGIT_SEPARATOR
-    | masks::LEADING_DIGIT_SEPARATOR
-    | masks::TRAILING_DIGIT_SEPARATOR
-    | masks::CONSECUTIVE_DIGIT_SEPARATOR;
-
 // A cause, and the flags that are to blame.
 #[derive(Clone, Copy)]
 struct Blame {
@@ -159,17 +154,26 @@ impl Stop {
         }
     }
 
-    // Returns those of `candidates` that allow the text to go on, or do not, with the flags of `mask`.
-    const fn flags_that(self, allow: bool, candidates: u128, mask: u128) -> u128
-        requires small { candidates < 2 ^ 44 }
+    // Returns those of `candidates`, from bit `first` to below bit `end`, that allow the text to go on, or do not, with the
+    // flags of `mask`.
+    const fn flags_that(
+        self,
+        allow: bool,
+        candidates: u128,
+        mask: u128,
+        first: u32,
+        end: u32,
+    ) -> u128
+        requires small { end ≤ 44 }
+        requires within { (f : Flag) → IsTrue ((raw candidates).flag f) → (first ≤ bit f) × (bit f < end) }
         requires flags { (k : ℕ) → part candidates k 1 ≡ 1 → (f : Flag) × (bit f ≡ k) }
         ensures each { (f : Flag) → (raw result).flag f ≡ ((raw candidates).flag f
             && beq (allows (adding f (with_flags (notation_of self.grammar) (raw mask).flag)) self.read self.next) allow) }
         ensures some { result ≢ 0 → SomeFlag (raw result).flag }
     {
         let mut found = 0;
-        let mut bit: u32 = 0;
-        while bit < 44 {
+        let mut bit = first;
+        while bit < end {
             let flag = 1u128 << bit;
             if candidates & flag != 0 && self.allows(mask | flag) == allow {
                 found |= flag;
@@ -206,7 +210,6 @@ impl Stop {
     // Returns the flags that are set and require something.
     const fn binding(self) -> u128
         ensures each { (f : Flag) → (raw result).flag f ≡ binds (notation_of self.grammar) f }
-        ensures small { result < 2 ^ 44 }
         ensures flags { (k : ℕ) → part result k 1 ≡ 1 → (f : Flag) × (bit f ≡ k) }
     {
         if needs_exponent(self.grammar) {
@@ -223,7 +226,7 @@ impl Stop {
         ensures { (front : List ℕ) → (next : Option ℕ) → Decides (notation_of self.grammar) self.read self.next front next
             → IsRequirement (notation_of self.grammar) front next (raw result).flag }
     {
-        let alone = self.flags_that(false, self.binding(), self.bare());
+        let alone = self.flags_that(false, self.binding(), self.bare(), 0, 15);
         if alone == 0 {
             self.lowest_without(self.grammar.word & REQUIREMENTS)
         } else {
@@ -233,15 +236,15 @@ impl Stop {
 
     // Returns the flags each of which would allow a separator that is not allowed.
     const fn separators(self) -> u128
-        ensures each { (front : List ℕ) → (byte : ℕ) → Decides (notation_of self.grammar) self.read self.next front (Some byte)
+        ensures each { (class : Class) → self.next ≡ Some class → allows (bare (notation_of self.grammar)) self.read self.next ≡ false
+            → (front : List ℕ) → (byte : ℕ) → Decides (notation_of self.grammar) self.read self.next front (Some byte)
             → (f : Flag) → IsTrue ((raw result).flag f) ↔ Permits (notation_of self.grammar) front byte f }
+        ensures at { (f : Flag) → IsTrue ((raw result).flag f)
+            → IsTrue (is_at (place_of (notation_of self.grammar) self.read self.next) self.read.part f) }
         ensures some { result ≢ 0 → SomeFlag (raw result).flag }
     {
-        if self.allows(self.bare() | SEPARATORS) {
-            self.flags_that(true, SEPARATORS, self.bare())
-        } else {
-            0
-        }
+        let candidates = separators_at(self.place(), self.read.part);
+        self.flags_that(true, candidates, self.bare(), 32, 44)
     }
 
     // Returns where a separator is not allowed.
@@ -317,6 +320,29 @@ impl Stop {
             },
             Some(byte) => self.wrong(byte),
         }
+    }
+}
+
+// Returns the flags that allow a digit separator in `part` at `place`.
+const fn separators_at(place: Place, part: Part) -> u128
+    ensures { result ≡ mask_at place part }
+{
+    match (place, part) {
+        (Place::BeforeDigits, Part::Integer) => masks::INTEGER_LEADING_DIGIT_SEPARATOR,
+        (Place::BeforeDigits, Part::Fraction) => masks::FRACTION_LEADING_DIGIT_SEPARATOR,
+        (Place::BeforeDigits, Part::Exponent) => masks::EXPONENT_LEADING_DIGIT_SEPARATOR,
+        (Place::AfterDigit, Part::Integer) => {
+            masks::INTEGER_INTERNAL_DIGIT_SEPARATOR | masks::INTEGER_TRAILING_DIGIT_SEPARATOR
+        }
+        (Place::AfterDigit, Part::Fraction) => {
+            masks::FRACTION_INTERNAL_DIGIT_SEPARATOR | masks::FRACTION_TRAILING_DIGIT_SEPARATOR
+        }
+        (Place::AfterDigit, Part::Exponent) => {
+            masks::EXPONENT_INTERNAL_DIGIT_SEPARATOR | masks::EXPONENT_TRAILING_DIGIT_SEPARATOR
+        }
+        (Place::Consecutive, Part::Integer) => masks::INTEGER_CONSECUTIVE_DIGIT_SEPARATOR,
+        (Place::Consecutive, Part::Fraction) => masks::FRACTION_CONSECUTIVE_DIGIT_SEPARATOR,
+        (Place::Consecutive, Part::Exponent) => masks::EXPONENT_CONSECUTIVE_DIGIT_SEPARATOR,
     }
 }
 

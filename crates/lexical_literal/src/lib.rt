@@ -1,7 +1,8 @@
-//! Number literals: what a literal of a format is, and calls that read one.
+//! Number literals: what a literal of a format is, calls that read one, and why a text is not one.
 //!
-//! A [`Syntax`][syntax::Syntax] reads a text, and a [`Reader`][read::Reader] many texts in less time. Special values, such
-//! as NaN and infinity, are not literals.
+//! A [`Syntax`][syntax::Syntax] reads a text, and a [`Reader`][read::Reader] many texts in less time. The error of both
+//! has the cause of a refusal. Special values, such as NaN and infinity, are not literals:
+//! [`Specials`][specials::Specials] reads them.
 #![tactic(auto)]
 
 pub mod cause;

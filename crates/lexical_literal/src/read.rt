@@ -55,7 +55,7 @@ impl Syntax {
     ///
     /// # Errors
     ///
-    /// If `text` is not a literal, returns how far it is right.
+    /// If `text` is not a literal, returns why, and how far it is right.
     pub fn read<'a>(&self, text: &'a [u8]) -> Result<Parts<'a>, ReadError>
         ensures { IsRead (notation_of self.now) text.now result }
     {
@@ -114,7 +114,7 @@ impl Reader {
     ///
     /// # Errors
     ///
-    /// If `text` is not a literal, returns how far it is right.
+    /// If `text` is not a literal, returns why, and how far it is right.
     pub fn read<'a>(&self, text: &'a [u8]) -> Result<Parts<'a>, ReadError>
         ensures { IsRead (notation_of self.now) text.now result }
     {

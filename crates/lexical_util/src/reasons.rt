@@ -200,7 +200,9 @@ pub const fn reasons(format: u128) -> [Option<Reason>; MAX_REASONS]
 /// `decimal_point`. Each possible reason has its own slot, which is `None` if it does not apply. All slots are `None` if
 /// and only if [`is_valid_options_punctuation`][flags::is_valid_options_punctuation] accepts the two.
 ///
-/// For such a reason, [`Reason::rule`] returns `None`, and [`Reason::mask`] has only bits of the format word.
+/// For such a reason, [`Reason::rule`] returns `None`, and [`Reason::mask`] has only bits of the format word. Of a
+/// lawful word, `Syntax::new` of `lexical_literal` (in plain Rust, `literal::Syntax::new`) accepts more: it checks the
+/// normal form, in which a digit separator that no flag allows is absent.
 #[must_use]
 pub const fn options_reasons(
     format: u128,

@@ -32,7 +32,9 @@ const fn is_disjoint_from_format_roles(format: u128, byte: u8, case_sensitive: b
 /// matches both cases of that letter unless `CASE_SENSITIVE_EXPONENT` is set. The base prefix and the base suffix are
 /// compared as in [`is_valid_punctuation`]. The decimal point is always case-sensitive. Every [lawful][Rule] format
 /// accepts at least one pair. With such a pair, no byte has two meanings in a number. `lexical-util` compares the raw
-/// bytes, so a letter matches only its own case there.
+/// bytes, so a letter matches only its own case there. Of a lawful word, `Syntax::new` of `lexical_literal` (in plain
+/// Rust, `literal::Syntax::new`) accepts more: it checks the normal form, in which a digit separator that no flag
+/// allows is absent.
 ///
 /// ```
 /// use peltzivar::format::{is_valid_options_punctuation, STANDARD};
@@ -67,6 +69,9 @@ pub const fn is_valid_options_punctuation(format: u128, exponent: u8, decimal_po
 /// 3. Otherwise, if the two match the same byte, or if either matches the same byte as the digit separator, the base
 ///    prefix or the base suffix, the result is `InvalidPunctuation`. [`is_valid_options_punctuation`] describes which
 ///    letters match both cases.
+///
+/// Of a lawful word, `Syntax::new` of `lexical_literal` (in plain Rust, `literal::Syntax::new`) accepts more: it checks
+/// the normal form, in which a digit separator that no flag allows is absent.
 #[must_use]
 pub const fn options_error(format: u128, exponent: u8, decimal_point: u8) -> Error {
     first_options_error(format, exponent, decimal_point)

@@ -27,7 +27,7 @@ pub enum Place {
 #[derive(Debug, Clone, Copy, PartialEq, Eq, Hash)]
 #[non_exhaustive]
 pub enum Cause {
-    /// Flags are set that require something that the text does not have.
+    /// Flags are set whose requirements the text does not satisfy.
     Requirement,
     /// A digit separator is not allowed in this part at this place.
     Separator(Part, Place),
@@ -102,12 +102,6 @@ const REQUIREMENTS: u128 = masks::REQUIRED_DIGITS
     | masks::NO_FLOAT_LEADING_ZEROS
     | masks::REQUIRED_EXPONENT_NOTATION;
 
-// The flags that allow a digit separator in a number.
-const SEPARATORS: u128 = masks::INTERNAL_DIGIT_SEPARATOR
-    | masks::LEADING_DIGIT_SEPARATOR
-    | masks::TRAILING_DIGIT_SEPARATOR
-    | masks::CONSECUTIVE_DIGIT_SEPARATOR;
-
 // A cause, and the flags that are to blame.
 #[derive(Clone, Copy)]
 struct Blame {
@@ -136,11 +130,19 @@ impl Stop {
         }
     }
 
-    // Returns those of `candidates` that allow the text to go on, or do not, with the flags of `mask`.
-    const fn flags_that(self, allow: bool, candidates: u128, mask: u128) -> u128 {
+    // Returns those of `candidates`, from bit `first` to below bit `end`, that allow the text to go on, or do not, with the
+    // flags of `mask`.
+    const fn flags_that(
+        self,
+        allow: bool,
+        candidates: u128,
+        mask: u128,
+        first: u32,
+        end: u32,
+    ) -> u128 {
         let mut found = 0;
-        let mut bit: u32 = 0;
-        while bit < 44 {
+        let mut bit = first;
+        while bit < end {
             let flag = 1u128 << bit;
             if candidates & flag != 0 && self.allows(mask | flag) == allow {
                 found |= flag;
@@ -179,7 +181,7 @@ impl Stop {
 
     // Returns the flags to blame for a requirement.
     const fn requirements(self) -> u128 {
-        let alone = self.flags_that(false, self.binding(), self.bare());
+        let alone = self.flags_that(false, self.binding(), self.bare(), 0, 15);
         if alone == 0 {
             self.lowest_without(self.grammar.word & REQUIREMENTS)
         } else {
@@ -189,11 +191,8 @@ impl Stop {
 
     // Returns the flags each of which would allow a separator that is not allowed.
     const fn separators(self) -> u128 {
-        if self.allows(self.bare() | SEPARATORS) {
-            self.flags_that(true, SEPARATORS, self.bare())
-        } else {
-            0
-        }
+        let candidates = separators_at(self.place(), self.read.part);
+        self.flags_that(true, candidates, self.bare(), 32, 44)
     }
 
     // Returns where a separator is not allowed.
@@ -253,6 +252,27 @@ impl Stop {
             },
             Some(byte) => self.wrong(byte),
         }
+    }
+}
+
+// Returns the flags that allow a digit separator in `part` at `place`.
+const fn separators_at(place: Place, part: Part) -> u128 {
+    match (place, part) {
+        (Place::BeforeDigits, Part::Integer) => masks::INTEGER_LEADING_DIGIT_SEPARATOR,
+        (Place::BeforeDigits, Part::Fraction) => masks::FRACTION_LEADING_DIGIT_SEPARATOR,
+        (Place::BeforeDigits, Part::Exponent) => masks::EXPONENT_LEADING_DIGIT_SEPARATOR,
+        (Place::AfterDigit, Part::Integer) => {
+            masks::INTEGER_INTERNAL_DIGIT_SEPARATOR | masks::INTEGER_TRAILING_DIGIT_SEPARATOR
+        }
+        (Place::AfterDigit, Part::Fraction) => {
+            masks::FRACTION_INTERNAL_DIGIT_SEPARATOR | masks::FRACTION_TRAILING_DIGIT_SEPARATOR
+        }
+        (Place::AfterDigit, Part::Exponent) => {
+            masks::EXPONENT_INTERNAL_DIGIT_SEPARATOR | masks::EXPONENT_TRAILING_DIGIT_SEPARATOR
+        }
+        (Place::Consecutive, Part::Integer) => masks::INTEGER_CONSECUTIVE_DIGIT_SEPARATOR,
+        (Place::Consecutive, Part::Fraction) => masks::FRACTION_CONSECUTIVE_DIGIT_SEPARATOR,
+        (Place::Consecutive, Part::Exponent) => masks::EXPONENT_CONSECUTIVE_DIGIT_SEPARATOR,
     }
 }
 

@@ -48,7 +48,7 @@ impl Syntax {
     ///
     /// # Errors
     ///
-    /// If `text` is not a literal, returns how far it is right.
+    /// If `text` is not a literal, returns why, and how far it is right.
     pub const fn read<'a>(&self, text: &'a [u8]) -> Result<Parts<'a>, ReadError> {
         read(self.grammar(), None, text)
     }
@@ -87,7 +87,7 @@ impl Reader {
     ///
     /// # Errors
     ///
-    /// If `text` is not a literal, returns how far it is right.
+    /// If `text` is not a literal, returns why, and how far it is right.
     pub const fn read<'a>(&self, text: &'a [u8]) -> Result<Parts<'a>, ReadError> {
         read(self.grammar, Some(&self.tables), text)
     }

@@ -1,7 +1,8 @@
 -- What decides the cause of a refusal, computed from what has been read.
-use Rattle.std.specs.Prelude.{ℕ, ◌≡◌, ◌<◌, ◌==◌, ◌&&◌, ◌||◌, ◌↔◌, IsTrue, List, not, if◌then◌else◌, Bool, true, false, Option, Some, None, is_some}
+use Rattle.std.specs.Prelude.{ℕ, ◌≡◌, ◌<◌, ◌+◌, ◌^◌, ◌==◌, ◌&&◌, ◌||◌, ◌↔◌, IsTrue, List, not, if◌then◌else◌, Bool, true, false, Option, Some, None, is_some}
 use Rattle.lexical_util.specs.Ascii.{ByteSet}
 use Rattle.lexical_util.specs.Layout.{Flag, bit, part, separators_in}
+use Rattle.lexical_util.specs.declared.format_flags.Part.{Part}
 use Rattle.lexical_util.specs.declared.format_flags.Part.TheVariants as parts
 use Rattle.lexical_literal.specs.Cause.{Allows, is_mark, is_one_of, last_part, requirement_flags, with_flags}
 use Rattle.lexical_literal.specs.Notation.{Notation}
@@ -70,3 +71,9 @@ abbrev pub place_of : Notation → Summary → Option Class → Place
 place_of m s (Some classes.Separator) =
     if s.gap && not (m.flag (separators_in s.part).consecutive) then places.Consecutive else place_by (has_digit s.stage)
 place_of m s next = place_by (has_digit s.stage)
+
+-- `mask_at place part` is the number with 1 in the bits of the flags that allow a separator in `part` at `place`.
+abbrev pub mask_at : Place → Part → ℕ
+mask_at places.BeforeDigits part = 2 ^ bit (separators_in part).leading
+mask_at places.AfterDigit part = 2 ^ bit (separators_in part).internal + 2 ^ bit (separators_in part).trailing
+mask_at places.Consecutive part = 2 ^ bit (separators_in part).consecutive

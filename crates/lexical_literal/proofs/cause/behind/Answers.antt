@@ -22,7 +22,8 @@ loop-index-preserved c =
       within = omega arith;
       last = elim c.if-is_kind.branch [
         | then-is_kind w ↦ w.found-is
-            ∙ sym (more ∙ ap (λ t. if t then length (take i text) + 1 else behind A (take i text)) (sym c.is_kind.ensures ∙ w.if-is_kind.true) ∙ ap (λ n. n + 1) size)
+            ∙ sym (more ∙ ap (λ t. if t then length (take i text) + 1 else behind A (take i text)) (sym c.is_kind.ensures ∙ w.if-is_kind.true)
+            ∙ ap (λ n. n + 1) size)
         | else-is_kind w ↦ w.found-is ∙ c.loop-index.invariant.last
             ∙ sym (more ∙ ap (λ t. if t then length (take i text) + 1 else behind A (take i text)) (sym c.is_kind.ensures ∙ w.if-is_kind.false))
       ];

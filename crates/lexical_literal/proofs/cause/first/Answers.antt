@@ -16,7 +16,8 @@ returns-then-is_kind c =
     let size : length (take i text) ≡ i = length-take-le i text (omega arith) in
     let found : first_in A (get_or text i 0 ∷ []) ≡ 0 = ap (λ t. if t then 0 else 1) (sym c.is_kind.ensures ∙ c.if-is_kind.true) in
     let more : first_in A (take (i + 1) text) ≡ i =
-    ap (first_in A) (take_more text i 0 inside) ∙ first_append A (take i text) (get_or text i 0 ∷ []) (c.loop-index.invariant.none ∙ sym size) ∙ omega (arith, found, size) in
+    ap (first_in A) (take_more text i 0 inside) ∙ first_append A (take i text) (get_or text i 0 ∷ []) (c.loop-index.invariant.none ∙ sym size)
+    ∙ omega (arith, found, size) in
     let longer : length (take (i + 1) text) ≡ i + 1 = length-take-le (i + 1) text (omega arith) in
     sym (ap (first_in A) (sym (take-append-drop (i + 1) (take c.args.end text)))
     ∙ ap (λ t. first_in A (t ++ drop (i + 1) (take c.args.end text))) (take-take (i + 1) c.args.end text (omega arith))

@@ -27,10 +27,12 @@ returns c =
     } in
     let stop : take c.if-size-text.end text ≡ take (size + 1) text = elim c.if-size-text.branch [
       | then-size-text w ↦ ap (λ n. take n text) w.end-is
-      | else-size-text w ↦ ap (λ n. take n text) w.end-is ∙ take_all size text w.if-size-text.false ∙ sym (take_all (size + 1) text (omega (arith, w.if-size-text.false)))
+      | else-size-text w ↦ ap (λ n. take n text) w.end-is ∙ take_all size text w.if-size-text.false
+          ∙ sym (take_all (size + 1) text (omega (arith, w.if-size-text.false)))
     ] in
     record {
       valid_up_to = c.requires.valid;
+      byte = c.byte_at-byte.ensures;
       cause = subst (λ next. IsCause m front next cause (raw mask).flag) c.byte_at-byte.ensures (c.blame-cause.ensures front is_read);
       span = c.span-start.ensures ∙ ap (λ stop. span_of m front stop cause (lowest mask)) stop;
       code = c.error.ensures;

@@ -1,6 +1,5 @@
 -- The lengths that were counted are those of the parts.
 use Rattle.std.proofs.Common.{◌≡◌, ◌≤◌, length, sym, subst, arith}
-use Rattle.lexical_literal.specs.Front.{IsValidUpTo}
 use Rattle.lexical_literal.specs.Literal.{Reads}
 use Rattle.lexical_literal.specs.Notation.{notation_of}
 use Rattle.lexical_literal.proofs.LongestLemmas.{whole_literal, whole_counted, none_whole}

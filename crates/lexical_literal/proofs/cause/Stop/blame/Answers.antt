@@ -42,4 +42,5 @@ returns-in-None c front is_read =
 
 pub returns-in-Some : goal.returns-in-Some
 returns-in-Some c front is_read =
-    subst (λ next. IsCause (notation_of c.args.self.grammar) front next c.wrong.result.cause (raw c.wrong.result.mask).flag) (sym c.in-Some.is) (c.wrong.ensures front is_read)
+    subst (λ next. IsCause (notation_of c.args.self.grammar) front next c.wrong.result.cause (raw c.wrong.result.mask).flag) (sym c.in-Some.is)
+    (c.wrong.ensures front is_read)

@@ -1,17 +1,16 @@
 -- A separator, the case of a letter, or a byte.
-use Rattle.std.proofs.Common.{ℕ, ◌≡◌, ◌↔◌, ◌&&◌, false, IsTrue, List, Some, sym, ap, subst, ◌∙◌}
+use Rattle.std.proofs.Common.{ℕ, ◌≡◌, ◌↔◌, ◌&&◌, IsTrue, List, Some, sym, ap, subst, ◌∙◌}
 use Rattle.std.proofs.lemmas.Bool.{false≢true, and_parts, and_from}
 use Rattle.lexical_util.specs.Layout.{Flag}
 use Rattle.lexical_util.specs.Record.{raw}
 use Rattle.lexical_util.specs.Roles.{other_case}
-use Rattle.lexical_literal.specs.Additions.Causes.{Decides, IsReadOf, allows, place_of}
+use Rattle.lexical_literal.specs.Additions.Causes.{Decides, IsReadOf, allows}
 use Rattle.lexical_literal.specs.Additions.Summary.{class_of}
-use Rattle.lexical_literal.specs.Cause.{IsCaseFlag, adding, bare, case_set, is_at}
+use Rattle.lexical_literal.specs.Cause.{IsCaseFlag, bare, case_set, is_at}
 use Rattle.lexical_literal.specs.Notation.{Notation, notation_of}
 use Rattle.lexical_literal.specs.declared.steps.Summary.{Summary}
-use Rattle.lexical_literal.proofs.BlameLemmas.{bare_weaker, permits_weaker}
+use Rattle.lexical_literal.proofs.BlameLemmas.{bare_weaker}
 use Rattle.lexical_literal.proofs.CauseLemmas.{flag_zero}
-use Rattle.lexical_literal.proofs.PlaceLemmas.{at_place}
 use Rattle.lexical_literal.proofs.cause.Stop.wrong.Goals as goal
 
 -- A flag of the mask is that of the other case of the byte.
@@ -30,15 +29,11 @@ returns-then-separators-ne0 c front is_read =
     let s = c.args.self.read in
     let byte = c.args.byte in
     let decides = subst (λ k. Decides m s k front (Some byte)) (sym c.requires.next) (is_read.decides (Some byte)) in
-    let refused : allows (bare m) s (Some (class_of m byte)) ≡ false = sym (ap (allows (bare m) s) c.requires.next) ∙ c.requires.refused in
     record {
       refused = λ allowed. false≢true (sym c.requires.refused ∙ (decides (bare m).flag (bare_weaker m)).1 allowed);
       some = c.separators-separators.ensures.some c.if-separators-ne0.true;
-      each = c.separators-separators.ensures.each front byte decides;
-      at = λ f is.
-          let permits = (c.separators-separators.ensures.each front byte decides f).0 is in
-          ap (λ p. is_at p s.part f) (c.place.ensures ∙ ap (place_of m s) c.requires.next)
-          ∙ at_place m f permits.0 s (class_of m byte) refused ((is_read.decides (Some byte) (adding f (bare m)).flag (permits_weaker m f permits.0)).1 permits.1);
+      each = c.separators-separators.ensures.each (class_of m byte) c.requires.next c.requires.refused front byte decides;
+      at = λ f is. ap (λ p. is_at p s.part f) c.place.ensures ∙ c.separators-separators.ensures.at f is;
     }
 
 pub returns-then-mask-eq0 : goal.returns-then-mask-eq0
@@ -52,7 +47,7 @@ returns-then-mask-eq0 c front is_read =
     record {
       refused = λ allowed. false≢true (sym c.requires.refused ∙ (decides (bare m).flag (bare_weaker m)).1 allowed);
       no_separator = λ f permits. false≢true (sym (ap (λ n. (raw n).flag f) c.if-separators-ne0.false ∙ flag_zero f)
-          ∙ (c.separators-separators.ensures.each front byte decides f).1 permits);
+          ∙ (c.separators-separators.ensures.each (class_of m byte) c.requires.next c.requires.refused front byte decides f).1 permits);
       no_case = λ f is. false≢true (sym (ap (λ n. (raw n).flag f) c.if-mask-eq0.true ∙ flag_zero f)
           ∙ (case_flag_is m s front byte c.case_flag-mask.result is_read f
           (c.case_flag-mask.ensures.each f ∙ (λ j. allows (bare m) s (class j) && case_set f m (c.other_case-other.ensures j)))).1 is);
@@ -70,7 +65,7 @@ returns-else-mask-eq0 c front is_read =
     record {
       refused = λ allowed. false≢true (sym c.requires.refused ∙ (decides (bare m).flag (bare_weaker m)).1 allowed);
       no_separator = λ f permits. false≢true (sym (ap (λ n. (raw n).flag f) c.if-separators-ne0.false ∙ flag_zero f)
-          ∙ (c.separators-separators.ensures.each front byte decides f).1 permits);
+          ∙ (c.separators-separators.ensures.each (class_of m byte) c.requires.next c.requires.refused front byte decides f).1 permits);
       some = c.case_flag-mask.ensures.some c.if-mask-eq0.false;
       each = λ f. case_flag_is m s front byte c.case_flag-mask.result is_read f
           (c.case_flag-mask.ensures.each f ∙ (λ j. allows (bare m) s (class j) && case_set f m (c.other_case-other.ensures j)));
