@@ -2,7 +2,6 @@
 use Rattle.std.specs.Prelude.{ℕ, ◌==◌, ◌&&◌, ◌||◌, not, ◌∷◌, [], List, Option, Some, None, Bool, false, if◌then◌else◌, option_map}
 use Rattle.std.specs.Borrow.{Bor}
 use Rattle.std.specs.Char.{to_ascii_lowercase}
-use Rattle.std.specs.List.{find}
 use Rattle.lexical_util.specs.Ascii.{ByteSet}
 use Rattle.lexical_util.specs.Layout as layout
 use Rattle.lexical_literal.specs.Literal.{is_absent, is_present}
@@ -46,12 +45,6 @@ is_spelled m [] (byte ∷ text) = special_separator m byte && is_spelled m [] te
 is_spelled m (letter ∷ word) (byte ∷ text) =
     (special_separator m byte && is_spelled m (letter ∷ word) text) || ((letter_of m letter == letter_of m byte) && is_spelled m word text)
 
--- `word_of specials spelling` is the text that `specials` has for `spelling`, or `None` if it is absent.
-abbrev pub word_of : Specials → Spelling → Option (Bor (List ℕ))
-word_of specials spellings.Nan = specials.nan
-word_of specials spellings.Inf = specials.inf
-word_of specials spellings.Infinity = specials.infinity
-
 -- `matches m word text` is true if `word` is neither absent nor empty, and `text` is spelled as `word`.
 abbrev pub matches : Notation → Option (Bor (List ℕ)) → List ℕ → Bool
 matches m None text = false
@@ -60,7 +53,9 @@ matches m (Some word) text = is_present word.now && is_spelled m word.now text
 -- `spelling_of m specials text` is the first of NaN, inf and infinity whose spelling `text` matches, or `None` if there is none.
 abbrev pub spelling_of : Notation → Specials → List ℕ → Option Spelling
 spelling_of m specials text =
-    find (λ spelling. matches m (word_of specials spelling) text) (spellings.Nan ∷ spellings.Inf ∷ spellings.Infinity ∷ [])
+    if matches m specials.nan text then Some spellings.Nan
+    else (if matches m specials.inf text then Some spellings.Inf
+    else (if matches m specials.infinity text then Some spellings.Infinity else None))
 
 -- `special_of m specials text` is the special value that `text` is, or `None` if it is none: its sign, which the format allows,
 -- and the spelling that what follows the sign matches.

@@ -6,9 +6,13 @@ use Rattle.lexical_literal.specs.Notation.{notation_of}
 use Rattle.lexical_literal.specs.Specials.{letter_of}
 use Rattle.lexical_literal.proofs.SpecialLemmas.{HasRead, Moves, fits, one_separator, none_taken, read_more, fails, at_end}
 use Rattle.lexical_literal.proofs.specials.is_spelled.Goals as goal
-use Rattle.lexical_literal.proofs.specials.is_spelled.Goals.{then-letters-word+then-is_letter+then-is_separator, then-letters-word+then-is_letter+else-is_separator+then-not-is_letter, then-letters-word+then-is_letter+else-is_separator+else-not-is_letter}
-use Rattle.lexical_literal.proofs.specials.is_spelled.Goals.{else-letters-word+then-not-is_separator+else-taken-eq0+else-not-is_letter-2, else-letters-word-via-then-letters-word+else-is_letter, else-letters-word-via-else-letters-word, else-letters-word+else-not-is_separator}
-use Rattle.lexical_literal.proofs.specials.is_spelled.Goals.{then-taken-eq0-via-then-taken-eq0, then-taken-eq0-via-else-taken-eq0+then-not-is_letter-2}
+use Rattle.lexical_literal.proofs.specials.is_spelled.Goals.{then-letters-word+then-is_letter+then-is_separator}
+use Rattle.lexical_literal.proofs.specials.is_spelled.Goals.{then-letters-word+then-is_letter+else-is_separator+then-not-is_letter}
+use Rattle.lexical_literal.proofs.specials.is_spelled.Goals.{then-letters-word+then-is_letter+else-is_separator+else-not-is_letter}
+use Rattle.lexical_literal.proofs.specials.is_spelled.Goals.{else-letters-word+then-not-is_separator+else-taken-eq0+else-not-is_letter-2}
+use Rattle.lexical_literal.proofs.specials.is_spelled.Goals.{else-letters-word-via-then-letters-word+else-is_letter, else-letters-word-via-else-letters-word}
+use Rattle.lexical_literal.proofs.specials.is_spelled.Goals.{else-letters-word+else-not-is_separator, then-taken-eq0-via-then-taken-eq0}
+use Rattle.lexical_literal.proofs.specials.is_spelled.Goals.{then-taken-eq0-via-else-taken-eq0+then-not-is_letter-2}
 
 pub loop-index-init : goal.loop-index-init
 loop-index-init c = let same = none_taken (notation_of c.args.grammar) c.digit_separator-separator.result c.args.text.now c.args.word.now in
