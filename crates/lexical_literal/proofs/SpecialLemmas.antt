@@ -1,5 +1,6 @@
 -- How a text is compared with a spelling.
-use Rattle.std.proofs.Common.{ℕ, ◌≡◌, ◌≤◌, ◌⊎◌, inl, inr, ◌+◌, ◌-◌, Bool, true, false, ◌==◌, ◌&&◌, ◌||◌, if◌then◌else◌, nat_lt, List, [], ◌∷◌, length, get_or, drop, refl, sym, ap, ◌∙◌, arith}
+use Rattle.std.proofs.Common.{ℕ, ◌≡◌, ◌≤◌, ◌⊎◌, inl, inr, ◌+◌, ◌-◌, Bool, true, false, ◌==◌, ◌&&◌}
+use Rattle.std.proofs.Common.{◌||◌, if◌then◌else◌, nat_lt, List, [], ◌∷◌, length, get_or, drop, refl, sym, ap, ◌∙◌, arith}
 use Rattle.std.proofs.lemmas.Bool.{cases_lt}
 use Rattle.std.proofs.lemmas.Bool.Decides.{nat_tests}
 use Rattle.std.proofs.lemmas.List.{drop_more, drop_all}
@@ -62,10 +63,11 @@ module _ (m : Notation) (x : ℕ) where
     | inr past ↦ ap (λ w. is_next w c more) (drop_all n word past) ∙ grind (arith, nat_tests)
   ]
 
-  -- `Moves word taken n c next_taken next` holds if the next byte is `c`, and it fits.
+  -- `Moves word taken n c next_taken next` holds if the byte `c` may follow, and makes `next_taken` of `taken` and `next` of `n`.
   abbrev pub Moves : List ℕ → (taken n c next_taken next : ℕ) → Type 0
   Moves word taken n c next_taken next =
-      ((fits word n c ≡ true) × (next ≡ n + 1) × (next_taken ≡ (if special_separator m c then taken + 1 else (if letter_of m x == letter_of m c then taken else 0))))
+      ((fits word n c ≡ true) × (next ≡ n + 1)
+      × (next_taken ≡ (if special_separator m c then taken + 1 else (if letter_of m x == letter_of m c then taken else 0))))
       ⊎ ((fits word n c ≡ false) × (next ≡ n) × (((special_separator m c ≡ true) × (next_taken ≡ taken))
       ⊎ ((special_separator m c ≡ false) × (letter_of m x ≡ letter_of m c) × (taken ≡ next_taken + 1))))
 
@@ -94,8 +96,9 @@ module _ (m : Notation) (x : ℕ) where
           let same = now.same in let first = next_at word n c (reads rest 0) in let less = fewer rest (drop n word) (taken - 1) in grind (arith, nat_tests);
     }
 
-    pub fails : (fits word n c || special_separator m c || (nat_lt 0 taken && (letter_of m x == letter_of m c))) ≡ false → false ≡ is_spelled m word text
-    fails out = let same = now.same in let first = next_at word n c (reads rest 0) in grind (arith, nat_tests)
+    pub fails : fits word n c ≡ false → special_separator m c ≡ false → (nat_lt 0 taken && (letter_of m x == letter_of m c)) ≡ false
+        → false ≡ is_spelled m word text
+    fails none kept lone = let same = now.same in let first = next_at word n c (reads rest 0) in grind (arith, nat_tests)
 
   pub at_end : (word text : List ℕ) (taken n : ℕ) → HasRead word text taken n [] → (n == length word) ≡ is_spelled m word text
   at_end word text taken n now = elim (cases_lt n (length word)) [

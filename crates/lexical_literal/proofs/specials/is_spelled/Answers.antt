@@ -1,10 +1,10 @@
 -- Each byte is the next letter, or takes the place of a separator, or is left out.
-use Rattle.std.proofs.Common.{◌≡◌, ◌∷◌, ◌+◌, false, ◌&&◌, ◌==◌, nat_lt, get_or, drop, ap, subst, arith}
+use Rattle.std.proofs.Common.{sym, ◌∙◌, get_or, ap, subst, arith}
 use Rattle.std.proofs.lemmas.Bool.Decides.{nat_tests}
 use Rattle.std.proofs.lemmas.List.{drop_more, drop_all}
 use Rattle.lexical_literal.specs.Notation.{notation_of}
 use Rattle.lexical_literal.specs.Specials.{letter_of}
-use Rattle.lexical_literal.proofs.SpecialLemmas.{HasRead, Moves, fits, one_separator, none_taken, read_more, fails, at_end}
+use Rattle.lexical_literal.proofs.SpecialLemmas.{HasRead, one_separator, none_taken, read_more, fails, at_end}
 use Rattle.lexical_literal.proofs.specials.is_spelled.Goals as goal
 use Rattle.lexical_literal.proofs.specials.is_spelled.Goals.{then-letters-word+then-is_letter+then-is_separator}
 use Rattle.lexical_literal.proofs.specials.is_spelled.Goals.{then-letters-word+then-is_letter+else-is_separator+then-not-is_letter}
@@ -15,20 +15,20 @@ use Rattle.lexical_literal.proofs.specials.is_spelled.Goals.{else-letters-word+e
 use Rattle.lexical_literal.proofs.specials.is_spelled.Goals.{then-taken-eq0-via-else-taken-eq0+then-not-is_letter-2}
 
 pub loop-index-init : goal.loop-index-init
-loop-index-init c = let same = none_taken (notation_of c.args.grammar) c.digit_separator-separator.result c.args.text.now c.args.word.now in
-    record { few = omega arith; within = omega arith; same = same }
+loop-index-init c = record {
+  few = omega arith;
+  within = omega arith;
+  same = none_taken (notation_of c.args.grammar) c.digit_separator-separator.result c.args.text.now c.args.word.now;
+}
 
 pub loop-index-preserved : goal.loop-index-preserved
 loop-index-preserved c =
-    let m = notation_of c.args.grammar in
-    let x = c.digit_separator-separator.result in
-    let word = c.args.word.now in
     let text = c.args.text.now in
     let index = c.loop-index.index in
-    let byte = get_or text index 0 in
-    let now : HasRead m x word text c.loop-index.taken c.loop-index.letters (byte ∷ drop (index + 1) text) =
-    subst (HasRead m x word text _ _) (drop_more text index 0 c.loop-index-test.true) c.loop-index.invariant in
-    let moves : Moves m x word c.loop-index.taken c.loop-index.letters byte c.if-letters-word.taken c.if-letters-word.letters = elim c.if-letters-word.branch [
+    let only = one_separator c.args.grammar (get_or text index 0) in
+    let now = subst (HasRead _ _ c.args.word.now text _ _) (drop_more text index 0 c.loop-index-test.true) c.loop-index.invariant in
+    read_more _ _ c.args.word.now text _ _ _ _ now (λ is. ap (letter_of (notation_of c.args.grammar))
+    (only is ∙ sym c.digit_separator-separator.ensures)) _ _ (elim c.if-letters-word.branch [
       | then-letters-word+then-is_letter+then-is_separator w ↦ grind (arith, nat_tests)
       | then-letters-word+then-is_letter+else-is_separator+then-not-is_letter w ↦ grind (arith, nat_tests)
       | then-letters-word+then-is_letter+else-is_separator+else-not-is_letter w ↦ grind (arith, nat_tests)
@@ -40,30 +40,21 @@ loop-index-preserved c =
         | else-letters-word-via-then-letters-word+else-is_letter v ↦ grind (arith, nat_tests)
         | else-letters-word-via-else-letters-word v ↦ grind (arith, nat_tests)
       ]
-    ] in
-    read_more m x word text c.loop-index.taken c.loop-index.letters byte (drop (index + 1) text) now
-    (λ is. let one = one_separator c.args.grammar byte is in ap (letter_of m) (grind arith)) c.if-letters-word.taken c.if-letters-word.letters moves
+    ])
 
 pub returns-then-taken-eq0 : goal.returns-then-taken-eq0
 returns-then-taken-eq0 c =
-    let m = notation_of c.args.grammar in
-    let x = c.digit_separator-separator.result in
-    let word = c.args.word.now in
     let text = c.args.text.now in
     let index = c.loop-index.index in
-    let byte = get_or text index 0 in
-    let now : HasRead m x word text c.loop-index.taken c.loop-index.letters (byte ∷ drop (index + 1) text) =
-    subst (HasRead m x word text _ _) (drop_more text index 0 c.loop-index-test.true) c.loop-index.invariant in
-    let none : fits m x word c.loop-index.letters byte ≡ false = elim c.else-letters-word.branch [
+    let now = subst (HasRead _ _ c.args.word.now text _ _) (drop_more text index 0 c.loop-index-test.true) c.loop-index.invariant in
+    fails _ _ c.args.word.now text _ _ _ _ now (elim c.else-letters-word.branch [
       | else-letters-word-via-then-letters-word+else-is_letter v ↦ grind (arith, nat_tests)
       | else-letters-word-via-else-letters-word v ↦ grind (arith, nat_tests)
-    ] in
-    let lone : (nat_lt 0 c.loop-index.taken && (letter_of m x == letter_of m byte)) ≡ false = elim c.then-taken-eq0.branch [
+    ]) (sym c.if-not-is_separator.ensures) (elim c.then-taken-eq0.branch [
       | then-taken-eq0-via-then-taken-eq0 v ↦ grind (arith, nat_tests)
       | then-taken-eq0-via-else-taken-eq0+then-not-is_letter-2 v ↦ grind (arith, nat_tests)
-    ] in
-    fails m x word text c.loop-index.taken c.loop-index.letters byte (drop (index + 1) text) now (grind (arith, nat_tests))
+    ])
 
 pub returns : goal.returns
-returns c = at_end (notation_of c.args.grammar) _ c.args.word.now c.args.text.now _ _
+returns c = at_end _ _ c.args.word.now c.args.text.now _ _
     (subst (HasRead _ _ _ _ _ _) (drop_all c.loop-index.index c.args.text.now c.loop-index-test.false) c.loop-index.invariant)
