@@ -1,10 +1,10 @@
 -- Special values: the texts that are NaN or infinity.
-use Rattle.std.specs.Prelude.{ℕ, ◌≡◌, ◌⊎◌, ◌&&◌, ◌||◌, not, ◌∷◌, ◌++◌, [], List, Option, Some, None, Bool, true, false, IsTrue, if◌then◌else◌, map}
+use Rattle.std.specs.Prelude.{ℕ, ◌==◌, ◌&&◌, ◌||◌, not, ◌∷◌, [], List, Option, Some, None, Bool, false, if◌then◌else◌, option_map}
 use Rattle.std.specs.Borrow.{Bor}
 use Rattle.std.specs.Char.{to_ascii_lowercase}
 use Rattle.lexical_util.specs.Ascii.{ByteSet}
 use Rattle.lexical_util.specs.Layout as layout
-use Rattle.lexical_literal.specs.Literal.{is_plus, is_present}
+use Rattle.lexical_literal.specs.Literal.{is_absent, is_present}
 use Rattle.lexical_literal.specs.Notation.{Notation}
 use Rattle.lexical_literal.specs.declared.specials.Sign.{Sign}
 use Rattle.lexical_literal.specs.declared.specials.Sign.TheVariants as signs
@@ -13,22 +13,21 @@ use Rattle.lexical_literal.specs.declared.specials.Specials.{Specials}
 use Rattle.lexical_literal.specs.declared.specials.Spelling.{Spelling}
 use Rattle.lexical_literal.specs.declared.specials.Spelling.TheVariants as spellings
 
--- `sign_bytes sign` is the byte of `sign`, or no byte if it is absent.
-abbrev pub sign_bytes : Option Sign → List ℕ
-sign_bytes None = []
-sign_bytes (Some signs.Plus) = 43 ∷ []
-sign_bytes (Some signs.Minus) = 45 ∷ []
+-- `sign_of text` is the sign with which `text` begins, or `None` if it begins with none.
+abbrev pub sign_of : List ℕ → Option Sign
+sign_of [] = None
+sign_of (byte ∷ rest) = if byte == 43 then Some signs.Plus else (if byte == 45 then Some signs.Minus else None)
 
--- `bytes_if_any bytes` is `bytes`, or no bytes if they are absent.
-abbrev pub bytes_if_any : Option (Bor (List ℕ)) → List ℕ
-bytes_if_any None = []
-bytes_if_any (Some bytes) = bytes.now
+-- `behind_sign text` is what follows the sign with which `text` begins, or `text` if it begins with none.
+abbrev pub behind_sign : List ℕ → List ℕ
+behind_sign [] = []
+behind_sign (byte ∷ rest) = if (byte == 43) || (byte == 45) then rest else byte ∷ rest
 
--- `word_of specials spelling` is the text that `specials` has for `spelling`, which is empty if it is absent.
-abbrev pub word_of : Specials → Spelling → List ℕ
-word_of specials spellings.Nan = bytes_if_any specials.nan
-word_of specials spellings.Inf = bytes_if_any specials.inf
-word_of specials spellings.Infinity = bytes_if_any specials.infinity
+-- `allows m sign` is true if the format allows special values, and allows them to have `sign`, or no sign if it is `None`.
+abbrev pub allows : Notation → Option Sign → Bool
+allows m None = not (m.flag layout.no_special) && not (m.flag layout.required_mantissa_sign)
+allows m (Some signs.Plus) = not (m.flag layout.no_special) && not (m.flag layout.no_positive_mantissa_sign)
+allows m (Some signs.Minus) = not (m.flag layout.no_special)
 
 -- `special_separator m` is the digit separator if special values may have it, and the empty set otherwise.
 abbrev pub special_separator : Notation → ByteSet
@@ -38,37 +37,30 @@ special_separator m byte = m.flag layout.special_digit_separator && m.separator 
 abbrev pub letter_of : Notation → ℕ → ℕ
 letter_of m byte = if m.flag layout.case_sensitive_special then byte else to_ascii_lowercase byte
 
--- `Leaves S text kept` holds if `kept` is what is left of `text` when some of its bytes that are in `S` are left out.
-abbrev pub Leaves : ByteSet → List ℕ → List ℕ → Type 0
-Leaves S [] kept = kept ≡ []
-Leaves S (byte ∷ text) kept = (IsTrue (S byte) × Leaves S text kept) ⊎ ((rest : List ℕ) × (kept ≡ byte ∷ rest) × Leaves S text rest)
-
--- `IsSpelled m word text` holds if what is left of `text` when some separators are left out is `word`, letter case aside
+-- `is_spelled m word text` is true if what is left of `text` when some separators are left out is `word`, letter case aside
 -- unless special values are case-sensitive.
-pub record IsSpelled (m : Notation) (word text : List ℕ) : Type 0 where
-  pub kept : List ℕ
-  pub left : Leaves (special_separator m) text kept
-  pub same : map (letter_of m) kept ≡ map (letter_of m) word
+abbrev pub is_spelled : Notation → List ℕ → List ℕ → Bool
+is_spelled m word [] = is_absent word
+is_spelled m [] (byte ∷ text) = special_separator m byte && is_spelled m [] text
+is_spelled m (letter ∷ word) (byte ∷ text) =
+    (special_separator m byte && is_spelled m (letter ∷ word) text) || ((letter_of m letter == letter_of m byte) && is_spelled m word text)
 
--- `allows m sign` is true if the format allows special values, and allows them to have `sign`, or no sign if it is absent.
-abbrev pub allows : Notation → Option Sign → Bool
-allows m sign =
-    not (m.flag layout.no_special)
-    && (not (m.flag layout.no_positive_mantissa_sign) || not (is_plus (sign_bytes sign)))
-    && (not (m.flag layout.required_mantissa_sign) || is_present (sign_bytes sign))
+-- `matches m word text` is true if `word` is neither absent nor empty, and `text` is spelled as `word`.
+abbrev pub matches : Notation → Option (Bor (List ℕ)) → List ℕ → Bool
+matches m None text = false
+matches m (Some word) text = is_present word.now && is_spelled m word.now text
 
--- `IsSpecial m specials special text` holds if `text` is the sign of `special`, if it has one, and then a text that is
--- spelled as `specials` says for its spelling. The sign has to be allowed, and the spelling not empty.
-pub record IsSpecial (m : Notation) (specials : Specials) (special : Special) (text : List ℕ) : Type 0 where
-  pub allowed : IsTrue (allows m special.sign)
-  pub has_word : IsTrue (is_present (word_of specials special.spelling))
-  pub rest : List ℕ
-  pub whole : text ≡ sign_bytes special.sign ++ rest
-  pub spelled : IsSpelled m (word_of specials special.spelling) rest
+-- `spelling_of m specials text` is the first of NaN, inf and infinity whose spelling `text` matches, or `None` if there is none.
+abbrev pub spelling_of : Notation → Specials → List ℕ → Option Spelling
+spelling_of m specials text =
+    if matches m specials.nan text then Some spellings.Nan
+    else (if matches m specials.inf text then Some spellings.Inf
+    else (if matches m specials.infinity text then Some spellings.Infinity else None))
 
--- `is_before first second` is true if `first` comes before `second` in the order NaN, inf, infinity.
-abbrev pub is_before : Spelling → Spelling → Bool
-is_before spellings.Nan spellings.Nan = false
-is_before spellings.Nan _ = true
-is_before spellings.Inf spellings.Infinity = true
-is_before _ _ = false
+-- `special_of m specials text` is the special value that `text` is, or `None` if it is none: its sign, which the format allows,
+-- and the spelling that what follows the sign matches.
+abbrev pub special_of : Notation → Specials → List ℕ → Option Special
+special_of m specials text =
+    if allows m (sign_of text)
+    then option_map (λ spelling. record { sign = sign_of text; spelling = spelling }) (spelling_of m specials (behind_sign text))
+    else None

@@ -2,6 +2,7 @@
 
 //! Special values: the texts that are NaN or infinity.
 
+use crate::format_flags::digit_separator;
 use crate::literal::syntax::{Grammar, Syntax};
 
 /// The spellings of special values. A spelling that is absent or empty matches no text.
@@ -48,7 +49,8 @@ impl<'a> Specials<'a> {
     /// Returns the special value that `text` is, or `None` if `text` is not a special value. If several spellings
     /// match, the first in the order NaN, inf, infinity is returned.
     ///
-    /// A special value is an optional sign, and then one of the spellings. The flags of the format decide the rest:
+    /// A special value is an optional sign, and then one of the spellings. A first byte `+` or `-` is always this sign, so
+    /// the spelling `+oo` matches `++oo`, and not `+oo`. The flags of the format decide the rest:
     ///
     /// - With `no_special`, no text is a special value.
     /// - With `no_positive_mantissa_sign`, the sign is not `+`. With `required_mantissa_sign`, there is a sign.
@@ -61,55 +63,36 @@ impl<'a> Specials<'a> {
     #[must_use]
     pub const fn read(&self, syntax: &Syntax, text: &[u8]) -> Option<Special> {
         let grammar = syntax.grammar();
-        match self.read_as(grammar, Spelling::Nan, text) {
-            Some(special) => Some(special),
-            None => match self.read_as(grammar, Spelling::Inf, text) {
-                Some(special) => Some(special),
-                None => self.read_as(grammar, Spelling::Infinity, text),
-            },
+        let (sign, rest) = split_sign(text);
+        if !allows(grammar, sign) {
+            return None;
+        }
+        match self.spelling(grammar, rest) {
+            Some(spelling) => Some(Special { sign, spelling }),
+            None => None,
         }
     }
 
-    // Returns the special value with the spelling `spelling` that `text` is, if it is one.
-    const fn read_as(&self, grammar: Grammar, spelling: Spelling, text: &[u8]) -> Option<Special> {
-        let mut special = Special {
-            sign: None,
-            spelling,
-        };
-        if self.is(grammar, special, text) {
-            return Some(special);
-        }
-        special.sign = Some(Sign::Plus);
-        if self.is(grammar, special, text) {
-            return Some(special);
-        }
-        special.sign = Some(Sign::Minus);
-        if self.is(grammar, special, text) {
-            Some(special)
+    // Returns the first spelling that `text` matches.
+    const fn spelling(&self, grammar: Grammar, text: &[u8]) -> Option<Spelling> {
+        if matches(grammar, self.nan, text) {
+            Some(Spelling::Nan)
+        } else if matches(grammar, self.inf, text) {
+            Some(Spelling::Inf)
+        } else if matches(grammar, self.infinity, text) {
+            Some(Spelling::Infinity)
         } else {
             None
         }
     }
+}
 
-    // Returns whether `text` is the special value `special`.
-    const fn is(&self, grammar: Grammar, special: Special, text: &[u8]) -> bool {
-        let word = self.word(special.spelling);
-        allows(grammar, special.sign)
-            && !matches!(word, [])
-            && is_signed(grammar, special.sign, word, text)
-    }
-
-    // Returns the text of a spelling, which is empty if it is absent.
-    const fn word(&self, spelling: Spelling) -> &'a [u8] {
-        let word = match spelling {
-            Spelling::Nan => self.nan,
-            Spelling::Inf => self.inf,
-            Spelling::Infinity => self.infinity,
-        };
-        match word {
-            Some(word) => word,
-            None => &[],
-        }
+// Returns the sign with which `text` begins, and what follows it.
+const fn split_sign(text: &[u8]) -> (Option<Sign>, &[u8]) {
+    match text {
+        [b'+', rest @ ..] => (Some(Sign::Plus), rest),
+        [b'-', rest @ ..] => (Some(Sign::Minus), rest),
+        _ => (None, text),
     }
 }
 
@@ -124,48 +107,42 @@ const fn allows(grammar: Grammar, sign: Option<Sign>) -> bool {
         }
 }
 
-// Returns whether `text` is `sign` and then a text that is spelled as `word`.
-const fn is_signed(grammar: Grammar, sign: Option<Sign>, word: &[u8], text: &[u8]) -> bool {
-    match sign {
-        None => is_spelled(grammar, word, text),
-        Some(Sign::Plus) => is_behind(grammar, b'+', word, text),
-        Some(Sign::Minus) => is_behind(grammar, b'-', word, text),
-    }
-}
-
-// Returns whether `text` is `first` and then a text that is spelled as `word`.
-const fn is_behind(grammar: Grammar, first: u8, word: &[u8], text: &[u8]) -> bool {
-    match text {
-        [] => false,
-        [byte, rest @ ..] => *byte == first && is_spelled(grammar, word, rest),
+// Returns whether there is a spelling `word` that is not empty, and `text` is spelled as it.
+const fn matches(grammar: Grammar, word: Option<&[u8]>, text: &[u8]) -> bool {
+    match word {
+        Some(word) => !matches!(word, []) && is_spelled(grammar, word, text),
+        None => false,
     }
 }
 
 // Returns whether `text` is spelled as `word`.
 //
-// What has been read may be more than one front of `word`, since a separator that is a letter of `word` may be this
-// letter or be left out. The lengths of these fronts are those from `low` to `high`, and the bytes of `word` from `low`
-// to `high` are this letter, in either case. The letter in its other case cannot be left out, which ends the shortest
-// front. Any other byte ends all fronts but the longest.
+// A separator that can be the next letter of `word` is taken for it at first. If a later byte does not fit then, but is
+// this letter in its other case, it takes the place of the separator, which is left out.
 const fn is_spelled(grammar: Grammar, word: &[u8], text: &[u8]) -> bool {
-    let mut low = 0;
-    let mut high = 0;
+    let separator = digit_separator(grammar.word);
+    let mut letters = 0;
+    // The number of separators that were taken for a letter, with no other letter behind them.
+    let mut taken = 0_usize;
     let mut index = 0;
-    while index < text.len() && low <= high {
+    while index < text.len() {
         let byte = text[index];
-        if !is_separator(grammar, byte) {
-            low = if low < high && is_letter(grammar, word[low], byte) {
-                low + 1
-            } else {
-                high + 1
-            };
-        }
-        if high < word.len() && is_letter(grammar, word[high], byte) {
-            high += 1;
+        if letters < word.len() && is_letter(grammar, word[letters], byte) {
+            letters += 1;
+            if is_separator(grammar, byte) {
+                taken += 1;
+            } else if !is_letter(grammar, separator, byte) {
+                taken = 0;
+            }
+        } else if !is_separator(grammar, byte) {
+            if taken == 0 || !is_letter(grammar, separator, byte) {
+                return false;
+            }
+            taken -= 1;
         }
         index += 1;
     }
-    low <= high && high == word.len()
+    letters == word.len()
 }
 
 // Returns whether `byte` is a digit separator that a special value may have.
