@@ -8,7 +8,7 @@ use Rattle.lexical_util.specs.declared.format_flags.Part.{Part}
 use Rattle.lexical_util.specs.declared.format_flags.Part.TheVariants as parts
 use Rattle.lexical_literal.specs.Notation.{Notation}
 use Rattle.lexical_literal.specs.Cause.{last_part}
-use Rattle.lexical_literal.specs.Additions.Summary.{after, ends, scan, start, takes}
+use Rattle.lexical_literal.specs.Additions.Summary.{after, scan, start, takes}
 use Rattle.lexical_literal.specs.declared.steps.Summary.{Summary}
 use Rattle.lexical_literal.proofs.ScanLemmas.{HasRoles, role_in, scan_none, as_role, took}
 
