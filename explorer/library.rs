@@ -86,7 +86,7 @@ const SPECIALS: Specials = Specials { nan: Some(b"NaN"), inf: Some(b"inf"), infi
 pub extern "C" fn literal(low: u64, high: u64, exponent: u8, point: u8, length: usize) -> usize {
     let (word, text) = (u128::from(high) << 64 | u128::from(low), text_of(length));
     answer(|out| {
-        let Ok(syntax) = Syntax::new(word, exponent, point) else {
+        let Ok(syntax) = Syntax::of_word(word, exponent, point) else {
             return out.write_str(r#"{"parts":[],"error":"not read"}"#);
         };
         let refusal = syntax.read(text).err();

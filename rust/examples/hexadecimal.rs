@@ -1,15 +1,15 @@
 //! A format as a constant, and the integers that it reads.
 
 use core::num::NonZeroU8;
-use peltzivar::format::NumberFormatBuilder;
 use peltzivar::literal::Syntax;
+use peltzivar::{Format, NumberFormatBuilder};
 
 /// Hexadecimal integers with separators, such as `00_ff`. A format that is not lawful does not compile.
-const HEXADECIMAL: u128 = NumberFormatBuilder::new()
+const HEXADECIMAL: Format = NumberFormatBuilder::new()
     .mantissa_radix(16)
     .digit_separator(NonZeroU8::new(b'_'))
     .internal_digit_separator(true)
-    .build_or_panic();
+    .build_format_or_panic();
 
 /// Returns the value of an integer. Returns `None` if the text is not an integer of the syntax, or if it is too large.
 fn integer(syntax: &Syntax, text: &[u8]) -> Option<i64> {
@@ -24,8 +24,8 @@ fn integer(syntax: &Syntax, text: &[u8]) -> Option<i64> {
     Some(if parts.sign == b"-" { -value } else { value })
 }
 
-fn main() -> Result<(), peltzivar::Error> {
-    let syntax = Syntax::integers(HEXADECIMAL)?;
+fn main() {
+    let syntax = Syntax::integers(HEXADECIMAL);
     assert_eq!(integer(&syntax, b"00_ff"), Some(255));
-    Ok(())
+    assert_eq!(integer(&syntax, b"00__ff"), None);
 }

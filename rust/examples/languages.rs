@@ -13,7 +13,7 @@ const LANGUAGES: [(&str, Syntax); 5] = [
     ("Ada", numbers(PLAIN.required_digits(true).digit_separator(NonZeroU8::new(b'_')).internal_digit_separator(true), b'E')),
     ("C++ hexadecimal", numbers(PLAIN.mantissa_radix(16).base_prefix(NonZeroU8::new(b'x')).required_exponent_notation(true).exponent_base(NonZeroU8::new(2))
         .exponent_radix(NonZeroU8::new(10)).digit_separator(NonZeroU8::new(b'\'')).internal_digit_separator(true), b'p')),
-    ("MASM hexadecimal", Syntax::integers_of(PLAIN.mantissa_radix(16).base_suffix(NonZeroU8::new(b'h')).build_format_or_panic())),
+    ("MASM hexadecimal", Syntax::integers(PLAIN.mantissa_radix(16).base_suffix(NonZeroU8::new(b'h')).build_format_or_panic())),
 ];
 
 #[track_caller]

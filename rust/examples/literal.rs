@@ -8,7 +8,7 @@
 
 use peltzivar::edits::byte_from_decimal;
 use peltzivar::literal::{Parts, Syntax};
-use peltzivar::{Error, FormatView};
+use peltzivar::{Format, FormatError, FormatView};
 use std::ffi::OsString;
 use std::io::{self, Write};
 use std::process::ExitCode;
@@ -45,25 +45,24 @@ fn main() -> io::Result<ExitCode> {
 }
 
 /// Returns the parts of a literal, or the line that the program prints instead.
-fn read(syntax: Result<Syntax, Error>, text: &[u8]) -> Result<Parts<'_>, String> {
+fn read(syntax: Result<Syntax, FormatError>, text: &[u8]) -> Result<Parts<'_>, String> {
     let syntax = syntax.map_err(|error| error.to_string())?;
     let parts = syntax.read(text);
     parts.map_err(|error| format!("{}: {error}", error.valid_up_to()))
 }
 
 /// Returns the syntax, or the error of its word or options, and the text. Returns `None` if an argument is malformed.
-fn parse(arguments: &[OsString]) -> Option<(Result<Syntax, Error>, &[u8])> {
+fn parse(arguments: &[OsString]) -> Option<(Result<Syntax, FormatError>, &[u8])> {
     let [word, exponent, point, text] = arguments else {
         return None;
     };
-    let word = word.to_str()?.parse::<FormatView>().ok()?.word();
+    let format = Format::new(word.to_str()?.parse::<FormatView>().ok()?.word());
     let syntax = match (exponent.to_str()?, point.to_str()?) {
-        ("none", "none") => Syntax::integers(word),
-        (exponent, point) => Syntax::new(
-            word,
-            byte_from_decimal(exponent)?,
-            byte_from_decimal(point)?,
-        ),
+        ("none", "none") => format.map(Syntax::integers),
+        (exponent, point) => {
+            let (exponent, point) = (byte_from_decimal(exponent)?, byte_from_decimal(point)?);
+            format.and_then(|format| Syntax::new(format, exponent, point))
+        }
     };
     Some((syntax, text.as_encoded_bytes()))
 }

@@ -89,7 +89,7 @@ impl<const FORMAT: u128> fmt::Debug for NumberFormat<FORMAT> {
 impl fmt::Debug for Syntax {
     fn fmt(&self, f: &mut fmt::Formatter<'_>) -> fmt::Result {
         f.debug_struct("Syntax")
-            .field("format", &self.format())
+            .field("format", &self.view())
             .field("options", &self.options())
             .finish()
     }

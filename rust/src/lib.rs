@@ -8,34 +8,7 @@
 //! and has only one role, and the *reserved* bits, which hold no field, are 0.
 //!
 //! ```
-//! use core::num::NonZeroU8;
-//! use peltzivar::format::NumberFormatBuilder;
-//! use peltzivar::literal::Syntax;
-//!
-//! /// Hexadecimal integers with separators, such as `00_ff`. A format that is not lawful does not compile.
-//! const HEXADECIMAL: u128 = NumberFormatBuilder::new()
-//!     .mantissa_radix(16)
-//!     .digit_separator(NonZeroU8::new(b'_'))
-//!     .internal_digit_separator(true)
-//!     .build_or_panic();
-//!
-//! /// Returns the value of an integer. Returns `None` if the text is not an integer of the syntax, or if it is too large.
-//! fn integer(syntax: &Syntax, text: &[u8]) -> Option<i64> {
-//!     let (format, parts) = (syntax.format(), syntax.read(text).ok()?);
-//!     let (mut value, radix) = (0i64, format.radix().into());
-//!     for &byte in parts.integer {
-//!         // A separator has no value.
-//!         if let Some(digit) = format.mantissa_digit(byte) {
-//!             value = value.checked_mul(radix)?.checked_add(digit.into())?;
-//!         }
-//!     }
-//!     Some(if parts.sign == b"-" { -value } else { value })
-//! }
-//!
-//! let syntax = Syntax::integers(HEXADECIMAL)?;
-//! assert_eq!(integer(&syntax, b"00_ff"), Some(255));
-//! assert_eq!(integer(&syntax, b"00__ff"), None);
-//! # Ok::<(), peltzivar::Error>(())
+#![doc = include_str!("../examples/hexadecimal.rs")]
 //! ```
 //!
 //! # Where to begin
@@ -75,7 +48,7 @@
 //! documentation, `Proved of the source` heads what the contracts of a call state.
 //!
 //! The following parts are written by hand: [`Format`], [`NumberFormat`], the iterators and conversions, `Display`,
-//! `FromStr` and `Debug` of words and syntaxes, the syntax of a [`Format`], `Display` of
+//! `FromStr` and `Debug` of words and syntaxes, the syntax of a [`Format`] and the format of a syntax, `Display` of
 //! [`ReadError`][literal::ReadError], the methods that panic, and the tests of slices in [`ascii`]. A build of this crate
 //! proves nothing. You trust the program that generated the files, the handwritten parts, and `rustc`.
 #![no_std]

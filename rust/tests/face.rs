@@ -23,7 +23,7 @@ const _: () = {
 const _: () = {
     let syntax = Syntax::new_or_panic(NumberFormatBuilder::new().build_format_or_panic(), b'e', b'.');
     assert!(matches!(syntax.options(), Some(options) if options.exponent == b'e' && options.point == b'.'));
-    assert!(Syntax::integers_of(Format::of::<STANDARD>()).options().is_none() && size_of::<Syntax>() <= 32);
+    assert!(Syntax::integers(Format::of::<STANDARD>()).options().is_none() && size_of::<Syntax>() <= 32);
 };
 
 /// Random words, random words with lawful radixes, and words near the standard format.
@@ -227,12 +227,12 @@ fn a_syntax_is_a_format_with_options_that_fit_its_normal_form() {
     let mut syntaxes = Vec::new();
     for format in words().filter_map(|word| Format::new(word).ok()) {
         let normal = format.normal_form();
-        let integers = Syntax::integers_of(format);
-        assert_eq!((integers.format(), integers.options()), (normal.view(), None));
+        let integers = Syntax::integers(format);
+        assert_eq!((integers.format(), integers.options()), (normal, None));
         assert_eq!((integers.to_string(), normal.to_string().parse()), (normal.to_string(), Ok(integers)));
         syntaxes.push((normal, None, integers));
         for [exponent, point] in [*b"e.", *b"p,", *b"x.", *b"5.", *b"^-", *b"^^", *b"\0."] {
-            let (syntax, text) = (Syntax::of(format, exponent, point), format!("{normal} {exponent} {point}"));
+            let (syntax, text) = (Syntax::new(format, exponent, point), format!("{normal} {exponent} {point}"));
             assert_eq!(syntax.map(|it| it.to_string()), normal.check_options(exponent, point).map(|()| text.clone()));
             assert_eq!(text.parse(), syntax);
             let text = syntax.map_err(|error| error.to_string());

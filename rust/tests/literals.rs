@@ -37,7 +37,7 @@ fn word(settings: &str) -> u128 {
 
 /// Returns the syntax of a word, with the exponent character and the decimal point of the page.
 fn syntax(word: u128) -> Syntax {
-    Syntax::new(word, b'e', b'.').unwrap()
+    Syntax::of_word(word, b'e', b'.').unwrap()
 }
 
 /// Returns the parts that are present, one after another.
@@ -158,7 +158,7 @@ fn special_values_are_known() {
 fn recipe(name: &str) -> Syntax {
     let (_, word, exponent) = RECIPES.into_iter().find(|recipe| recipe.0 == name).expect(name);
     let is_integer = name.ends_with("_INTEGER");
-    if is_integer { Syntax::integers(word) } else { Syntax::new(word, exponent, b'.') }.unwrap()
+    if is_integer { Syntax::integers_of_word(word) } else { Syntax::of_word(word, exponent, b'.') }.unwrap()
 }
 
 #[test]

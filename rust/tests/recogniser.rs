@@ -423,8 +423,8 @@ struct Comparison<'a> {
 impl<'a> Comparison<'a> {
     fn new(word: u128, syntax: Syntax<'a>, bytes: &'a [u8], longest: usize, eighths: u64) -> Self {
         let library = match syntax.options {
-            Some((exponent, point)) => literal::Syntax::new(word, exponent, point).unwrap(),
-            None => literal::Syntax::integers(word).unwrap(),
+            Some((exponent, point)) => literal::Syntax::of_word(word, exponent, point).unwrap(),
+            None => literal::Syntax::integers_of_word(word).unwrap(),
         };
         for byte in 0..=255 {
             assert_eq!(library.role_of(byte), syntax.role_of(byte), "{byte} in {}", syntax.name());

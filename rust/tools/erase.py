@@ -79,6 +79,10 @@ REPLACED = [
     ("read.rt", "\nfn cut<", "\nconst fn cut<"),
     ("read.rt", "\nfn read<", "\nconst fn read<"),
     ("read.rt", "\nfn read_prefix<", "\nconst fn read_prefix<"),
+    # Calls with these names are written by hand: they take or return a `Format`.
+    ("syntax.rt", "pub const fn new(word", "#[doc(hidden)] pub const fn of_word(word"),
+    ("syntax.rt", "pub const fn integers(word", "#[doc(hidden)] pub const fn integers_of_word(word"),
+    ("syntax.rt", "pub const fn format(&self)", "#[doc(hidden)] pub const fn view(&self)"),
 ]
 
 # Texts that plain Rust replaces in every file, wherever they occur.
@@ -110,6 +114,9 @@ ATTRIBUTES = [
     ("read.rt", "#[derive(Drop)]", "#[derive(Clone)]"),
     ("tables.rt", "#[derive(Drop)]", "#[derive(Clone)]"),
     ("cause.rt", "Eq)]\npub struct ReadError", "Eq, Hash)]\npub struct ReadError"),
+    ("syntax.rt", "Hash)]\npub struct Options", "Hash, PartialOrd, Ord)]\npub struct Options"),
+    ("syntax.rt", "Hash)]\npub struct Grammar", "Hash, PartialOrd, Ord)]\npub struct Grammar"),
+    ("syntax.rt", "Hash)]\npub struct Syntax", "Hash, PartialOrd, Ord)]\npub struct Syntax"),
 ]
 
 # Words that plain Rust must not contain. If one is left, a ghost form was not removed.

@@ -54,7 +54,7 @@ impl Data {
         let visible =
             |random: &mut Random| if random.one_in(20) { random.pick(b"\t\r\n") } else { random.byte(b' ', b'~') };
         let broken = list(random, 4096, |random| (broken(random), options(random)));
-        let json = Syntax::new(JSON, b'e', b'.').expect("a lawful format");
+        let json: Syntax = format!("0x{JSON:X} 101 46").parse().expect("a syntax");
         let literals = list(random, 4096, literal);
         let longer = literals.iter().map(|text| with_a_byte(random, text));
         let refused = longer.filter(|text| json.read(text.as_bytes()).is_err()).collect();

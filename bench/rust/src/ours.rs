@@ -58,7 +58,7 @@ fn separators_of(view: FormatView) -> u64 {
     [Part::Integer, Part::Fraction, Part::Exponent].into_iter().fold(0, of_part)
 }
 
-static SYNTAX: LazyLock<Syntax> = LazyLock::new(|| Syntax::new(JSON, b'e', b'.').expect("a lawful format"));
+static SYNTAX: LazyLock<Syntax> = LazyLock::new(|| format!("0x{JSON:X} 101 46").parse().expect("a syntax"));
 static READER: LazyLock<Reader> = LazyLock::new(|| Reader::new(*SYNTAX));
 
 #[rustfmt::skip]

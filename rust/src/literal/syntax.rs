@@ -8,7 +8,7 @@ use crate::literal::steps::{class_of, role_of};
 use crate::word::{check, options_error, FormatView, Role};
 
 /// The bytes of numbers that a format does not define.
-#[derive(Debug, Clone, Copy, PartialEq, Eq, Hash)]
+#[derive(Debug, Clone, Copy, PartialEq, Eq, Hash, PartialOrd, Ord)]
 #[non_exhaustive]
 pub struct Options {
     /// The exponent character.
@@ -18,7 +18,7 @@ pub struct Options {
 }
 
 // Any format, with any options. Without options, literals are integers alone.
-#[derive(Clone, Copy, PartialEq, Eq, Hash)]
+#[derive(Clone, Copy, PartialEq, Eq, Hash, PartialOrd, Ord)]
 pub struct Grammar {
     pub(crate) word: u128,
     pub(crate) options: Option<Options>,
@@ -33,7 +33,7 @@ impl Grammar {
 
 /// What a literal is read by: a lawful format, with an exponent character and a decimal point that fit it, or without
 /// both. Without both, literals are integers.
-#[derive(Clone, Copy, PartialEq, Eq, Hash)]
+#[derive(Clone, Copy, PartialEq, Eq, Hash, PartialOrd, Ord)]
 pub struct Syntax {
     grammar: Grammar,
 }
@@ -50,7 +50,8 @@ impl Syntax {
     ///
     /// If `word` is not lawful, returns the error of the first rule that it breaks. Otherwise, if the options do not
     /// fit the normal form of `word`, returns the [error][options_error] of the first condition that they break.
-    pub const fn new(word: u128, exponent: u8, point: u8) -> Result<Syntax, Error> {
+    #[doc(hidden)]
+    pub const fn of_word(word: u128, exponent: u8, point: u8) -> Result<Syntax, Error> {
         match check(word) {
             Err(error) => Err(error),
             Ok(_) => with_options(normal_form(word), exponent, point),
@@ -62,7 +63,8 @@ impl Syntax {
     /// # Errors
     ///
     /// If `word` is not lawful, returns the error of the first rule that it breaks.
-    pub const fn integers(word: u128) -> Result<Syntax, Error> {
+    #[doc(hidden)]
+    pub const fn integers_of_word(word: u128) -> Result<Syntax, Error> {
         match check(word) {
             Err(error) => Err(error),
             Ok(_) => Ok(Syntax {
@@ -76,7 +78,8 @@ impl Syntax {
 
     /// Returns a view of the format, which is in normal form.
     #[must_use]
-    pub const fn format(&self) -> FormatView {
+    #[doc(hidden)]
+    pub const fn view(&self) -> FormatView {
         FormatView::new(self.grammar.word)
     }
 
