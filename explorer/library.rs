@@ -3,6 +3,7 @@
 #![no_std]
 
 use core::fmt::{self, Display, Write};
+use core::ops::Range;
 
 use peltzivar::edits::{apply, is_built, normal_form};
 use peltzivar::literal::{Front, Specials, Syntax};
@@ -113,7 +114,7 @@ pub extern "C" fn literal(low: u64, high: u64, exponent: u8, point: u8, length: 
             (None, Err(_)) => put_parts(out, &[])?,
         }
         if let (None, Some(error)) = (special, refusal) {
-            let (mask, (start, end), right) = (Word(error.mask()), error.span(), error.valid_up_to());
+            let (mask, Range { start, end }, right) = (Word(error.mask()), error.span(), error.valid_up_to());
             write!(out, r#","error":{},"mask":{mask},"start":{start},"end":{end},"validUpTo":{right}"#, Quoted(error))?;
         }
         out.write_str("}")

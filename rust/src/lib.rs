@@ -48,9 +48,10 @@
 //! documentation, `Proved of the source` heads what the contracts of a call state.
 //!
 //! The following parts are written by hand: [`Format`], [`NumberFormat`], the iterators and conversions, `Display`,
-//! `FromStr` and `Debug` of words and syntaxes, the syntax of a [`Format`] and the format of a syntax, `Display` of
-//! [`ReadError`][literal::ReadError], the methods that panic, and the tests of slices in [`ascii`]. A build of this crate
-//! proves nothing. You trust the program that generated the files, the handwritten parts, and `rustc`.
+//! `FromStr` and `Debug` of words and syntaxes, the syntax of a [`Format`] and the format of a syntax, `Display`,
+//! `is_incomplete`, `span` and `settings` of [`ReadError`][literal::ReadError], the methods that panic, and the tests of
+//! slices in [`ascii`]. A build of this crate proves nothing. You trust the program that generated the files, the
+//! handwritten parts, and `rustc`.
 #![no_std]
 #![forbid(unsafe_code)]
 

@@ -57,9 +57,31 @@ fn read<'a>(reader: &Reader, syntax: Syntax, text: &'a [u8]) -> Result<Parts<'a>
     }
     match result {
         Ok(parts) => assert_eq!((Ok(parts), longest), (prefix.map(|front| front.parts), text.len())),
-        Err(error) => assert!(longest <= error.valid_up_to() && error.valid_up_to() <= text.len(), "{text:?}"),
+        Err(error) => {
+            assert!(longest <= error.valid_up_to() && error.valid_up_to() <= text.len(), "{text:?}");
+            assert_eq!(error.is_incomplete(), error.valid_up_to() == text.len(), "{text:?}");
+            assert!(text.get(error.span()).is_some(), "{text:?}: {error:?}");
+            settings_end_the_cause(error, syntax, text);
+        }
     }
     result
+}
+
+/// The settings of an error edit the flags to blame. Each edit of a separator flag ends the cause, and other edits do
+/// together: a text that is still refused has another cause.
+fn settings_end_the_cause(error: ReadError, syntax: Syntax, text: &[u8]) {
+    let settings = Vec::from_iter(error.settings());
+    assert_eq!(settings.iter().fold(0, |mask, edit| mask | edit.mask()), error.mask(), "{text:?}");
+    let size = if matches!(error.cause(), Cause::Separator(..)) { 1 } else { settings.len().max(1) };
+    for edits in settings.chunks(size) {
+        let mut builder = NumberFormatBuilder::from(syntax.format());
+        builder.extend(edits);
+        let format = builder.build_format().unwrap();
+        let edited = syntax.options().map(|it| Syntax::new(format, it.exponent, it.point).unwrap());
+        let result = edited.unwrap_or(Syntax::integers(format)).read(text);
+        let blames_both = |it: ReadError| it.valid_up_to() == error.valid_up_to() && it.mask() & error.mask() != 0;
+        assert!(!result.is_err_and(blames_both), "{text:?}: {edits:?}: {result:?}");
+    }
 }
 
 /// Each flag, by the texts in its row: with the flag, without it, and that an error blames the flag. A flag that allows
@@ -120,8 +142,7 @@ fn causes_are_those_of_the_page() {
         };
         let blamed = (0..128).filter(|bit| error.mask() >> bit & 1 == 1);
         blamed.for_each(|bit| found += &format!(" {bit}"));
-        let (start, end) = error.span();
-        let found = [found, error.valid_up_to().to_string(), format!("{start}..{end}")];
+        let found = [found, error.valid_up_to().to_string(), format!("{:?}", error.span())];
         assert_eq!(found, [cause, valid_up_to, span], "{settings}: {text}");
     }
 }

@@ -393,8 +393,8 @@ type Answer<'a> = Result<[&'a [u8]; 9], Option<Failure>>;
 /// Returns the answer of the library.
 fn answer(read: Result<literal::Parts<'_>, literal::ReadError>, has_failures: bool) -> Answer<'_> {
     let failure = |error: literal::ReadError| {
-        let (valid_up_to, cause, mask, (start, end)) = (error.valid_up_to(), error.cause(), error.mask(), error.span());
-        Failure { valid_up_to, cause, mask, span: start..end, code: error.code(), byte: error.byte() }
+        let (valid_up_to, cause, mask, span) = (error.valid_up_to(), error.cause(), error.mask(), error.span());
+        Failure { valid_up_to, cause, mask, span, code: error.code(), byte: error.byte() }
     };
     let parts = read.map_err(|error| has_failures.then(|| failure(error)))?;
     let literal::Parts { sign, prefix, integer, point, fraction, exponent_sign, exponent, suffix, .. } = parts;

@@ -79,10 +79,11 @@ REPLACED = [
     ("read.rt", "\nfn cut<", "\nconst fn cut<"),
     ("read.rt", "\nfn read<", "\nconst fn read<"),
     ("read.rt", "\nfn read_prefix<", "\nconst fn read_prefix<"),
-    # Calls with these names are written by hand: they take or return a `Format`.
+    # Calls with these names are written by hand: they take or return a `Format`, or return a range.
     ("syntax.rt", "pub const fn new(word", "#[doc(hidden)] pub const fn of_word(word"),
     ("syntax.rt", "pub const fn integers(word", "#[doc(hidden)] pub const fn integers_of_word(word"),
     ("syntax.rt", "pub const fn format(&self)", "#[doc(hidden)] pub const fn view(&self)"),
+    ("cause.rt", "pub const fn span(&self)", "#[doc(hidden)] pub const fn bounds(&self)"),
 ]
 
 # Texts that plain Rust replaces in every file, wherever they occur.

@@ -73,7 +73,8 @@ impl ReadError {
 
     /// Returns the first index and the end of the bytes to show. They may be none.
     #[must_use]
-    pub const fn span(&self) -> (usize, usize) {
+    #[doc(hidden)]
+    pub const fn bounds(&self) -> (usize, usize) {
         (self.start, self.end)
     }
 

@@ -1,11 +1,58 @@
-//! The text of a [`ReadError`], which is written by hand.
+//! What a caller makes of a [`ReadError`], and its text, which are written by hand.
 
-use core::fmt;
+use core::{fmt, ops::Range};
 
-use crate::edits::FlagSetter;
+use crate::edits::{Edit, FlagSetter};
 use crate::format_flags::Part;
 use crate::literal::{Cause, Place, ReadError};
 use crate::short_text::ShortText;
+
+impl ReadError {
+    /// Returns whether bytes are missing, so that a longer text may be a literal. Then
+    /// [`valid_up_to`][Self::valid_up_to] is the length of the text.
+    #[must_use]
+    pub const fn is_incomplete(&self) -> bool {
+        self.byte().is_none()
+    }
+
+    /// Returns the range of the bytes to show. It may be empty.
+    #[must_use]
+    pub const fn span(&self) -> Range<usize> {
+        let (start, end) = self.bounds();
+        start..end
+    }
+
+    /// Returns the edits that end the cause, one for each flag to blame. Each edit that sets a separator flag ends it
+    /// alone, and edits that clear other flags end it together. Another cause may follow. If two bytes of the syntax are
+    /// the two cases of one letter, check the edited format again: they may no longer fit. The iterator is empty for a
+    /// wrong byte and for missing digits.
+    ///
+    /// ```
+    /// use peltzivar::literal::Syntax;
+    /// use peltzivar::{Format, FormatError, NumberFormatBuilder};
+    ///
+    /// let error = Syntax::new(Format::default(), b'e', b'.')?.read(b"1e").unwrap_err();
+    /// assert!(error.is_incomplete());
+    /// let mut builder = NumberFormatBuilder::from(Format::default());
+    /// builder.extend(error.settings()); // required_exponent_digits=false
+    /// assert!(Syntax::new(builder.build_format()?, b'e', b'.')?.read(b"1e").is_ok());
+    /// # Ok::<(), FormatError>(())
+    /// ```
+    pub fn settings(&self) -> impl Iterator<Item = Edit> + Clone {
+        let is_separator = matches!(self.cause(), Cause::Separator(..));
+        self.blamed()
+            .map(move |flag| Edit::Flag(flag, is_separator))
+    }
+
+    /// Returns the flags to blame.
+    fn blamed(&self) -> impl Iterator<Item = FlagSetter> + Clone {
+        let mask = self.mask();
+        FlagSetter::FLAGS
+            .iter()
+            .copied()
+            .filter(move |flag| flag.is_set(mask))
+    }
+}
 
 impl core::error::Error for ReadError {}
 
@@ -13,19 +60,18 @@ impl core::error::Error for ReadError {}
 /// If several flags are to blame for a requirement, the sentence names the lowest.
 impl fmt::Display for ReadError {
     fn fmt(&self, f: &mut fmt::Formatter<'_>) -> fmt::Result {
-        let is_blamed = |flag: &&FlagSetter| flag.is_set(self.mask());
-        let mut blamed = FlagSetter::FLAGS.iter().filter(is_blamed);
+        let mut blamed = self.blamed();
         let text = match (self.cause(), blamed.next()) {
             (Cause::Missing(part), _) => ShortText::of(digit(part)),
             (Cause::Separator(_, place), Some(flag)) => {
                 let text = ShortText::of(separator(place)).and(", which requires ");
-                let join = |text: ShortText, other: &FlagSetter| text.and(" or ").and(other.name());
+                let join = |text: ShortText, other: FlagSetter| text.and(" or ").and(other.name());
                 blamed.fold(text.and(flag.name()), join)
             }
             (_, Some(flag)) => {
                 let is_required = flag.name().starts_with("required");
                 let verb = if is_required { " requires" } else { " forbids" };
-                let text = ShortText::of(requirement(*flag)).and(", which ");
+                let text = ShortText::of(requirement(flag)).and(", which ");
                 text.and(flag.name()).and(verb)
             }
             (_, None) => {
