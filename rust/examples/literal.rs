@@ -46,7 +46,7 @@ fn main() -> io::Result<ExitCode> {
 
 /// Returns the parts of a literal, or the line that the program prints instead.
 fn read(syntax: Result<Syntax, FormatError>, text: &[u8]) -> Result<Parts<'_>, String> {
-    let syntax = syntax.map_err(|error| error.to_string())?;
+    let syntax = syntax.map_err(|error| error.code().to_string())?;
     let parts = syntax.read(text);
     parts.map_err(|error| format!("{}: {error}", error.valid_up_to()))
 }
