@@ -1,7 +1,7 @@
 //! A recogniser of literals, written from docs/FORMAT.md alone, and the comparison of the reader with it. The recogniser
 //! tries all splits of a text into parts, all fronts of a text, and all flags.
 //!
-//! `cargo test` compares a sample. To compare all texts, which takes half an hour:
+//! `cargo test` compares a sample. To compare all texts, which takes seven minutes:
 //!
 //!     cargo test --release --test recogniser -- --ignored
 
@@ -10,11 +10,10 @@
 #[path = "../examples/recipes.rs"]
 mod recipes;
 
-use core::ops::Range;
-use peltzivar::literal::{self, Cause, Place};
-use peltzivar::{Error, Format, Part, Role};
-use recipes::RECIPES;
-use Piece::*;
+use core::{array, iter, mem, ops::Range};
+use peltzivar::literal::{self, Cause, Place, ReadError, Reader};
+use peltzivar::{format::FLAG_MASK, Error, Format, Part, Role};
+use {recipes::RECIPES, Error::*, Piece::*};
 
 #[rustfmt::skip]
 #[derive(Clone, Copy)]
@@ -25,496 +24,307 @@ const PIECES: [Piece; 9] = [Sign, Prefix, Integer, Point, Fraction, Character, E
 const PARTS: [Part; 3] = [Part::Integer, Part::Fraction, Part::Exponent];
 const PLACES: [Place; 4] = [Place::AfterDigit, Place::BeforeDigits, Place::AfterDigit, Place::Consecutive];
 
-/// Where each part of a text ends. An absent part is empty.
-#[derive(Clone, Copy, Default)]
-struct Reading([usize; 9]);
+/// Where each part of a text is. An absent part is empty.
+type Pieces = [Range<usize>; 9];
 
-impl Reading {
-    fn range(&self, piece: Piece) -> Range<usize> {
-        let at = piece as usize;
-        at.checked_sub(1).map_or(0, |before| self.0[before])..self.0[at]
-    }
+/// Why a text is not a literal: `valid_up_to`, the cause, its mask, its span, its code and the wrong byte.
+type Failure = (usize, Cause, u128, Range<usize>, Error, Option<u8>);
 
-    fn has(&self, piece: Piece) -> bool {
-        !self.range(piece).is_empty()
-    }
+fn is_set(word: u128, flag: u32) -> bool {
+    word >> flag & 1 == 1
 }
 
-/// Why a text is not a literal.
-#[derive(Clone, Debug, PartialEq)]
-struct Failure {
-    valid_up_to: usize,
-    cause: Cause,
-    mask: u128,
-    span: Range<usize>,
-    code: Error,
-    byte: Option<u8>,
+/// Returns the mask of the flags with the property `has`.
+fn mask(flags: Range<u32>, mut has: impl FnMut(u32) -> bool) -> u128 {
+    flags.filter(|&flag| has(flag)).map(|flag| 1 << flag).sum()
 }
 
-/// A lawful word in its normal form, an exponent character and a decimal point unless literals are integers alone, and
-/// what is tried after a front to find a literal that begins with it.
-#[derive(Clone, Copy)]
-struct Syntax<'a> {
+/// Returns whether `byte` is a digit of the mantissa or the exponent.
+fn is_digit(word: u128, byte: u8, piece: Piece) -> bool {
+    let radix = (word >> if let Exponent = piece { 120 } else { 104 }) as u8;
+    char::from(byte).to_digit(36).is_some_and(|value| value < radix.into())
+}
+
+/// A lawful word in its normal form, and whether literals are integers alone.
+struct Syntax {
     word: u128,
-    options: Option<(u8, u8)>,
-    more: &'a [Vec<u8>],
+    is_integers: bool,
+    roles: [Option<Role>; 256],
+    /// What can complete a front, the empty text first. No front needs a prefix or a suffix for this.
+    more: Vec<Vec<u8>>,
 }
 
-impl<'a> Syntax<'a> {
-    fn new(word: u128, options: Option<(u8, u8)>, more: &'a [Vec<u8>]) -> Self {
+impl Syntax {
+    fn new(word: u128, options: Option<(u8, u8)>) -> Self {
         let word = Format::new(word).unwrap().normal_form().word();
-        Self { word, options, more }
+        let (exponent, point) = options.unwrap_or_default();
+        let [separator, prefix, suffix] = [64, 88, 96].map(|bit| (word >> bit) as u8);
+        let matches = |byte: u8, own: u8, case| byte == own || !is_set(word, case) && byte.eq_ignore_ascii_case(&own);
+        let role_of = |byte| match byte {
+            0 => None,
+            b'+' | b'-' => Some(Role::Sign),
+            _ if is_digit(word, byte, Integer) || is_digit(word, byte, Exponent) => Some(Role::Digit),
+            _ if byte == separator => Some(Role::Separator),
+            _ if byte == point => Some(Role::Point),
+            _ if matches(byte, exponent, 15) => Some(Role::Exponent),
+            _ if matches(byte, prefix, 16) => Some(Role::Prefix),
+            _ if matches(byte, suffix, 17) => Some(Role::Suffix),
+            _ => None,
+        };
+        let mut more = vec![vec![]];
+        for byte in [b'-', b'0', point, b'0', exponent, b'-', b'0'].into_iter().filter(|&byte| byte != 0) {
+            more.extend(more.clone().into_iter().map(|text: Vec<u8>| [&text[..], &[byte]].concat()));
+        }
+        Self { word, is_integers: options.is_none(), roles: array::from_fn(|byte| role_of(byte as u8)), more }
     }
 
-    fn name(self) -> String {
-        format!("{:#034X} {:?}", self.word, self.options)
-    }
-
-    fn flag(self, flag: u32) -> bool {
-        self.word >> flag & 1 == 1
-    }
-
-    fn byte(self, bit: u32) -> u8 {
-        (self.word >> bit) as u8
-    }
-
-    fn with(self, flag: u32) -> Self {
-        Self { word: self.word | 1 << flag, ..self }
-    }
-
-    fn without(self, flags: u128) -> Self {
-        Self { word: self.word & !flags, ..self }
-    }
-
-    /// Returns the syntax with all requirements cleared. Flags 10 and 11 do nothing to literals.
-    fn bare(self) -> Self {
-        self.without(0x7FFF)
-    }
-
-    fn is_digit(self, byte: u8, piece: Piece) -> bool {
-        let radix = self.byte(if let Exponent = piece { 120 } else { 104 });
-        char::from(byte).to_digit(36).is_some_and(|value| value < radix.into())
-    }
-
-    fn role_of(self, byte: u8) -> Option<Role> {
-        let (exponent, point) = self.options.unwrap_or_default();
-        let matches = |own: u8, case: u32| byte == own || !self.flag(case) && byte.eq_ignore_ascii_case(&own);
-        Some(match byte {
-            0 => return None,
-            b'+' | b'-' => Role::Sign,
-            _ if self.is_digit(byte, Integer) || self.is_digit(byte, Exponent) => Role::Digit,
-            _ if byte == self.byte(64) => Role::Separator,
-            _ if byte == point => Role::Point,
-            _ if matches(exponent, 15) => Role::Exponent,
-            _ if matches(self.byte(88), 16) => Role::Prefix,
-            _ if matches(self.byte(96), 17) => Role::Suffix,
-            _ => return None,
-        })
-    }
-
-    fn plays(self, byte: u8, role: Role) -> bool {
-        self.role_of(byte) == Some(role)
+    fn plays(&self, byte: u8, role: Role) -> bool {
+        self.roles[usize::from(byte)] == Some(role)
     }
 
     /// Returns whether `run` is a run. Its flags are 32, 35, 38 and 41, plus `part`.
-    fn is_run(self, run: &[u8], piece: Piece, part: u32) -> bool {
-        let is_digit = |&byte: &u8| self.is_digit(byte, piece);
-        let may_separate = |at: usize| {
-            let position = match (run[..at].iter().any(is_digit), run[at..].iter().any(is_digit)) {
-                (true, true) => 32,
-                (false, _) => 35,
-                (true, false) => 38,
-            };
-            let is_consecutive = at > 0 && self.plays(run[at - 1], Role::Separator);
-            self.flag(position + part) && (!is_consecutive || self.flag(41 + part))
+    fn is_run(&self, word: u128, run: &[u8], piece: Piece, part: u32) -> bool {
+        let is_digit = |&byte: &u8| is_digit(word, byte, piece);
+        let is_separator = |at: usize| self.plays(run[at], Role::Separator);
+        let Some(first) = run.iter().position(is_digit) else { return false };
+        let last = run.iter().rposition(is_digit).unwrap_or(first);
+        let is_allowed = |at: usize| {
+            let place = [32, 35, 38][usize::from(at < first) + 2 * usize::from(at > last)];
+            is_set(word, place + part) && (at == 0 || !is_separator(at - 1) || is_set(word, 41 + part))
         };
-        let fits = |at: usize| is_digit(&run[at]) || self.plays(run[at], Role::Separator) && may_separate(at);
-        (0..run.len()).all(fits) && run.iter().any(is_digit)
+        (0..run.len()).all(|at| is_digit(&run[at]) || is_separator(at) && is_allowed(at))
     }
 
-    fn is_piece(self, piece: Piece, text: &[u8]) -> bool {
+    /// Returns whether `text` can be the part `piece` after the parts `before`.
+    fn is_piece(&self, word: u128, before: &Pieces, piece: Piece, text: &[u8]) -> bool {
+        let has = |piece: Piece| !before[piece as usize].is_empty();
         match (piece, text) {
-            (Sign | ExponentSign, &[byte]) => self.plays(byte, Role::Sign),
+            (_, []) => true,
+            (Sign, &[byte]) => self.plays(byte, Role::Sign),
             (Prefix, &[b'0', byte]) => self.plays(byte, Role::Prefix),
-            (Integer, run) => self.is_run(run, piece, 0),
-            (Fraction, run) => self.is_run(run, piece, 1),
-            (Exponent, run) => self.is_run(run, piece, 2),
+            (Integer, run) => self.is_run(word, run, piece, 0),
             (Point, &[byte]) => self.plays(byte, Role::Point),
+            (Fraction, run) => has(Point) && self.is_run(word, run, piece, 1),
             (Character, &[byte]) => self.plays(byte, Role::Exponent),
+            (ExponentSign, &[byte]) => has(Character) && self.plays(byte, Role::Sign),
+            (Exponent, run) => has(Character) && self.is_run(word, run, piece, 2),
             (Suffix, &[byte]) => self.plays(byte, Role::Suffix),
             _ => false,
         }
     }
 
-    /// Finds the splits of `text` with the parts of `reading` before the part `at`.
-    fn split(self, text: &[u8], at: usize, mut reading: Reading, found: &mut Option<Reading>) {
-        let start = if at == 0 { 0 } else { reading.0[at - 1] };
+    /// Finds the literals of `word` that are `text` and have the parts of `pieces` before `start`.
+    fn split(&self, word: u128, text: &[u8], at: usize, start: usize, pieces: &mut Pieces, found: &mut Vec<Pieces>) {
         let Some(&piece) = PIECES.get(at) else {
-            let has_number = reading.has(Integer) || reading.has(Point) || reading.has(Character);
-            if start == text.len() && has_number && self.unsatisfied(text, &reading) == 0 {
-                assert!(found.replace(reading).is_none(), "{} has {} in two ways", self.name(), text.escape_ascii());
-            }
-            return;
-        };
-        let can_be = match piece {
-            Fraction => reading.has(Point),
-            ExponentSign | Exponent => reading.has(Character),
-            _ => true,
+            let has_number = [Integer, Point, Character].iter().any(|&piece| !pieces[piece as usize].is_empty());
+            let satisfies = || self.requirements(text, pieces, 0).iter().all(|row| row.1 || !is_set(word, row.0));
+            let is_literal = start == text.len() && has_number && satisfies();
+            return found.extend(is_literal.then(|| pieces.clone()));
         };
         for end in start..=text.len() {
-            if end == start || can_be && self.is_piece(piece, &text[start..end]) {
-                reading.0[at] = end;
-                self.split(text, at + 1, reading, found);
+            if self.is_piece(word, pieces, piece, &text[start..end]) {
+                pieces[at] = start..end;
+                self.split(word, text, at + 1, end, pieces, found);
             }
         }
     }
 
-    /// Returns the set requirements that the parts of `text` do not satisfy.
-    fn unsatisfied(self, text: &[u8], reading: &Reading) -> u128 {
-        let is_float = reading.has(Point) || reading.has(Character);
-        let mut digits = text[reading.range(Integer)].iter().filter(|&&byte| self.is_digit(byte, Integer));
-        let has_leading_zero = !reading.has(Prefix) && digits.next() == Some(&b'0') && digits.next().is_some();
-        let is_satisfied = |flag: u32| match flag {
-            0 => reading.has(Integer),
-            1 => !reading.has(Point) || reading.has(Fraction),
-            2 => !reading.has(Character) || reading.has(Exponent),
-            3 => reading.has(Integer) || reading.has(Fraction),
-            4 => &text[reading.range(Sign)] != b"+",
-            5 => reading.has(Sign),
-            6 => !reading.has(Character),
-            7 => &text[reading.range(ExponentSign)] != b"+",
-            8 => !reading.has(Character) || reading.has(ExponentSign),
-            9 => !reading.has(Character) || reading.has(Point),
-            12 => is_float || !has_leading_zero,
-            13 => !is_float || !has_leading_zero,
-            14 => reading.has(Character) || self.options.is_none(),
-            _ => true,
+    /// Returns the flag of each requirement, whether the parts of `text` satisfy it, and the span and the code if they do
+    /// not and `end` is `valid_up_to`.
+    fn requirements(&self, text: &[u8], pieces: &Pieces, end: usize) -> [(u32, bool, Range<usize>, Error); 13] {
+        let [sign, prefix, integer, point, fraction, character, exponent_sign, exponent, _] = pieces;
+        let (is_plus, here) = (|sign: &Range<usize>| &text[sign.clone()] == b"+", || end..end);
+        let [has_point, has_exponent] = [!point.is_empty(), !character.is_empty()];
+        let digits = Vec::from_iter(integer.clone().filter(|&at| is_digit(self.word, text[at], Integer)));
+        let has_leading_zero = prefix.is_empty() && digits.len() > 1 && text[digits[0]] == b'0';
+        let is_float = has_point || has_exponent;
+        let first = digits.first().copied().unwrap_or_default();
+        let zeros = || first..digits.iter().rfind(|&&at| at <= end).map_or(first, |last| last + 1);
+        let positive = if self.is_integers { InvalidPositiveSign } else { InvalidPositiveMantissaSign };
+        let missing = if self.is_integers { MissingSign } else { MissingMantissaSign };
+        [
+            (0, !integer.is_empty(), here(), EmptyInteger(end)),
+            (1, !has_point || !fraction.is_empty(), here(), EmptyFraction(end)),
+            (2, !has_exponent || !exponent.is_empty(), character.end..end, EmptyExponent(end)),
+            (3, !integer.is_empty() || !fraction.is_empty(), here(), EmptyMantissa(end)),
+            (4, !is_plus(sign), sign.clone(), positive(sign.start)),
+            (5, !sign.is_empty(), here(), missing(end)),
+            (6, !has_exponent, character.clone(), InvalidExponent(character.start)),
+            (7, !is_plus(exponent_sign), exponent_sign.clone(), InvalidPositiveExponentSign(exponent_sign.start)),
+            (8, !has_exponent || !exponent_sign.is_empty(), here(), MissingExponentSign(end)),
+            (9, !has_exponent || has_point, character.clone(), ExponentWithoutFraction(character.start)),
+            (12, is_float || !has_leading_zero, zeros(), InvalidLeadingZeros(first)),
+            (13, !is_float || !has_leading_zero, zeros(), InvalidLeadingZeros(first)),
+            (14, has_exponent || self.is_integers, here(), MissingExponent(end)),
+        ]
+    }
+
+    /// Returns the parts of `text` if it is a literal of `word`.
+    fn literal(&self, word: u128, text: &[u8]) -> Option<Pieces> {
+        let mut found = Vec::new();
+        self.split(word, text, 0, 0, &mut array::from_fn(|_| 0..0), &mut found);
+        assert!(found.len() < 2, "{} in {word:#034X} has the parts {found:?}", text.escape_ascii());
+        found.pop()
+    }
+
+    /// Returns a literal of `word` that is `front` and one of `more`, and its parts.
+    fn begun(&self, word: u128, front: &[u8], more: &[Vec<u8>]) -> Option<(Vec<u8>, Pieces)> {
+        let mut texts = more.iter().map(|rest| [front, rest].concat());
+        texts.find_map(|text| self.literal(word, &text).map(|pieces| (text, pieces)))
+    }
+
+    /// Returns why `stop` is not a literal. If `is_missing`, a literal begins with it. Otherwise, none does, but one begins
+    /// with it without its last byte.
+    fn failure(&self, stop: &[u8], is_missing: bool) -> Failure {
+        let more = if is_missing { &self.more[..1] } else { &self.more };
+        let bare = self.word & !0x7FFF; // Flags 10 and 11 do nothing to literals.
+        let Some((text, pieces)) = self.begun(bare, stop, more) else {
+            return if is_missing { self.missing(stop) } else { self.misplaced(stop, bare) };
         };
-        mask((0..15).filter(|&flag| self.flag(flag) && !is_satisfied(flag)))
+        let begins = |word: u128| self.begun(word, stop, more).is_some();
+        let alone = mask(0..15, |flag| is_set(self.word, flag) && !begins(bare | 1 << flag));
+        let lowest = || 1 << (0..15).find(|flag| begins(self.word & !(1 << flag))).unwrap();
+        let hidden = u128::from(is_set(self.word, 14) && !self.is_integers) << 12;
+        let blamed = if alone == 0 { lowest() } else { alone } & !hidden;
+        let end = if is_missing { stop.len() } else { stop.len() - 1 };
+        let mut requirements = self.requirements(&text, &pieces, end).into_iter();
+        let (_, _, span, code) = requirements.find(|row| row.0 == blamed.trailing_zeros()).unwrap();
+        (end, Cause::Requirement, blamed, span, code, stop.get(end).copied())
     }
 
-    /// Returns the parts of `text` if it is a literal.
-    fn literal(self, text: &[u8]) -> Option<Reading> {
-        let mut found = None;
-        self.split(text, 0, Reading::default(), &mut found);
-        found
-    }
-
-    /// Returns the parts of a literal that begins with `front`.
-    fn begun(self, front: &[u8]) -> Option<Reading> {
-        let mut text = front.to_vec();
-        self.more.iter().find_map(|rest| {
-            text.truncate(front.len());
-            text.extend(rest);
-            self.literal(&text)
-        })
-    }
-
-    /// Returns why no literal begins with `stop`, if none does. One begins with `stop` without its last byte.
-    fn wrong(self, stop: &[u8]) -> Option<Failure> {
-        let Some(reading) = self.bare().begun(stop) else { return Some(self.misplaced(stop)) };
-        if self.begun(stop).is_some() {
-            return None;
-        }
-        let set = (0..15).filter(|&flag| self.flag(flag));
-        let alone = mask(set.clone().filter(|&flag| self.bare().with(flag).begun(stop).is_none()));
-        let lowest = || mask(set.clone().find(|&flag| self.without(1 << flag).begun(stop).is_some()).into_iter());
-        let blamed = if alone == 0 { lowest() } else { alone };
-        Some(self.requirement(stop, &reading, blamed, stop.len() - 1))
+    /// Returns why `text`, with which a literal begins, is not one of bare.
+    fn missing(&self, text: &[u8]) -> Failure {
+        let has = |role: Role| text.iter().any(|&byte| self.plays(byte, role));
+        let mut parts = [(Role::Exponent, Part::Exponent), (Role::Point, Part::Fraction)].into_iter();
+        let part = parts.find(|&(role, _)| has(role)).map_or(Part::Integer, |(_, part)| part);
+        let unsigned = text.strip_prefix(b"+").or(text.strip_prefix(b"-")).unwrap_or(text);
+        let is_empty = self.is_piece(self.word, &array::from_fn(|_| 0..0), Prefix, unsigned);
+        let (end, code) = (text.len(), if is_empty { Empty } else { InvalidDigit });
+        (end, Cause::Missing(part), 0, end..end, code(end), None)
     }
 
     /// Returns why no literal of bare begins with `stop`.
-    fn misplaced(self, stop: &[u8]) -> Failure {
-        let (at, bare) = (stop.len() - 1, self.bare());
-        let is_other = |&byte: &u8| !self.plays(byte, Role::Separator);
+    fn misplaced(&self, stop: &[u8], bare: u128) -> Failure {
+        let (last, begins) = (stop.len() - 1, |word, text: &[u8]| self.begun(word, text, &self.more).is_some());
         // Without a separator in `stop`, no flag allows it: a literal is one of bare if you leave out its separators.
-        let flags = if stop.iter().all(is_other) { 0..0 } else { 32..44 };
-        let allowing = mask(flags.filter(|&flag| !bare.flag(flag) && bare.with(flag).begun(stop).is_some()));
+        let has_separator = stop.iter().any(|&byte| self.plays(byte, Role::Separator));
+        let allowing = mask(32..44, |flag| has_separator && begins(bare | 1 << flag, stop));
         let mut changed = stop.to_vec();
-        changed[at] ^= if stop[at].is_ascii_alphabetic() { 0x20 } else { 0 };
-        let roles = [(Role::Exponent, 15), (Role::Prefix, 16), (Role::Suffix, 17)].into_iter();
-        let cases = roles.filter(|&(role, _)| self.plays(changed[at], role) && bare.begun(&changed).is_some());
-        let mask = if allowing == 0 { mask(cases.map(|(_, flag)| flag)) } else { allowing };
-        let number = mask.trailing_zeros() as usize;
+        changed[last] ^= if stop[last].is_ascii_alphabetic() { 0x20 } else { 0 };
+        let roles = [Role::Exponent, Role::Prefix, Role::Suffix];
+        let is_case = |flag: u32| self.plays(changed[last], roles[flag as usize - 15]) && begins(bare, &changed);
+        let blamed = if allowing == 0 { mask(15..18, is_case) } else { allowing };
+        let number = blamed.trailing_zeros() as usize;
         let cause = match number {
             32..44 => Cause::Separator(PARTS[(number - 32) % 3], PLACES[(number - 32) / 3]),
             128 => Cause::Byte,
             _ => Cause::Case,
         };
-        let end = if is_other(&stop[at]) { at } else { at + 1 };
-        let separators = stop[..end].iter().rposition(is_other).map_or(0, |other| other + 1)..end;
-        let span = if (32..41).contains(&number) { separators } else { at..at + 1 };
-        Failure { valid_up_to: at, cause, mask, code: Error::InvalidDigit(span.start), span, byte: Some(stop[at]) }
-    }
-
-    /// Returns why `text` is not a literal. A literal begins with it.
-    fn missing(self, text: &[u8]) -> Failure {
-        let end = text.len();
-        if let Some(reading) = self.bare().literal(text) {
-            return self.requirement(text, &reading, self.unsatisfied(text, &reading), end);
-        }
-        let has = |role: Role| text.iter().any(|&byte| self.plays(byte, role));
-        let part = match (has(Role::Exponent), has(Role::Point)) {
-            (true, _) => Part::Exponent,
-            (false, true) => Part::Fraction,
-            (false, false) => Part::Integer,
-        };
-        let unsigned = text.strip_prefix(b"+").or(text.strip_prefix(b"-")).unwrap_or(text);
-        let is_empty = unsigned.is_empty() || self.is_piece(Prefix, unsigned);
-        let code = if is_empty { Error::Empty(end) } else { Error::InvalidDigit(end) };
-        Failure { valid_up_to: end, cause: Cause::Missing(part), mask: 0, span: end..end, code, byte: None }
-    }
-
-    /// Returns the failure of `text`, which may also be stop, because of requirements. `reading` may go on after it.
-    fn requirement(self, text: &[u8], reading: &Reading, mut mask: u128, valid_up_to: usize) -> Failure {
-        let integers = self.options.is_none();
-        if self.flag(14) && !integers {
-            mask &= !(1 << 12);
-        }
-        let mut digits = reading.range(Integer).filter(|&at| at < text.len() && self.is_digit(text[at], Integer));
-        let empty = valid_up_to..valid_up_to;
-        let (span, code): (_, fn(usize) -> Error) = match mask.trailing_zeros() {
-            0 => (empty, Error::EmptyInteger),
-            1 => (empty, Error::EmptyFraction),
-            2 => (reading.range(Character).end..valid_up_to, Error::EmptyExponent),
-            3 => (empty, Error::EmptyMantissa),
-            4 if integers => (reading.range(Sign), Error::InvalidPositiveSign),
-            4 => (reading.range(Sign), Error::InvalidPositiveMantissaSign),
-            5 if integers => (empty, Error::MissingSign),
-            5 => (empty, Error::MissingMantissaSign),
-            6 => (reading.range(Character), Error::InvalidExponent),
-            7 => (reading.range(ExponentSign), Error::InvalidPositiveExponentSign),
-            8 => (empty, Error::MissingExponentSign),
-            9 => (reading.range(Character), Error::ExponentWithoutFraction),
-            14 => (empty, Error::MissingExponent),
-            _ => {
-                let first = digits.next().unwrap();
-                (first..digits.next_back().unwrap_or(first) + 1, Error::InvalidLeadingZeros)
-            }
-        };
-        let at = if mask.trailing_zeros() == 2 { valid_up_to } else { span.start };
-        let byte = text.get(valid_up_to).copied();
-        Failure { valid_up_to, cause: Cause::Requirement, mask, span, code: code(at), byte }
-    }
-
-    /// Returns what can complete a front: a sign, prefix, digits, point, exponent and suffix, each there or not.
-    fn continuations(self) -> Vec<Vec<u8>> {
-        let (exponent, point) = self.options.unwrap_or_default();
-        let texts =
-            [&[b'-'][..], &[b'0', self.byte(88)], b"0", &[point], b"0", &[exponent], b"-", b"0", &[self.byte(96)]];
-        joined(&texts.map(|text| if text.contains(&0) { vec![vec![]] } else { vec![vec![], text.to_vec()] }))
+        let end = if self.plays(stop[last], Role::Separator) { last + 1 } else { last };
+        let start = end - stop[..end].iter().rev().take_while(|&&byte| self.plays(byte, Role::Separator)).count();
+        let span = if (32..41).contains(&number) { start..end } else { last..last + 1 };
+        (last, cause, blamed, span.clone(), InvalidDigit(span.start), Some(stop[last]))
     }
 }
 
-/// Returns the mask of flags.
-fn mask(flags: impl Iterator<Item = u32>) -> u128 {
-    flags.map(|flag| 1 << flag).sum()
+/// Returns the next pseudo-random number below `bound`.
+fn below(state: &mut u64, bound: u64) -> u64 {
+    *state = state.wrapping_mul(6_364_136_223_846_793_005).wrapping_add(1_442_695_040_888_963_407);
+    (*state >> 32) % bound
 }
 
-/// Returns all texts that are one text of each list in turn. The shortest is first.
-fn joined(lists: &[Vec<Vec<u8>>]) -> Vec<Vec<u8>> {
-    let mut texts = vec![Vec::new()];
-    for list in lists {
-        texts = texts.iter().flat_map(|text| list.iter().map(move |next| [&text[..], next].concat())).collect();
-    }
-    texts.sort_by_key(|text| (text.len(), text.clone()));
-    texts.dedup();
-    texts
-}
-
-/// A generator of pseudo-random numbers, SplitMix64.
-struct Random(u64);
-
-impl Random {
-    fn next(&mut self) -> u64 {
-        self.0 = self.0.wrapping_add(0x9E37_79B9_7F4A_7C15);
-        let mixed = (self.0 ^ self.0 >> 30).wrapping_mul(0xBF58_476D_1CE4_E5B9);
-        let mixed = (mixed ^ mixed >> 27).wrapping_mul(0x94D0_49BB_1331_11EB);
-        mixed ^ mixed >> 31
-    }
-
-    fn below(&mut self, bound: u64) -> u64 {
-        self.next() % bound
-    }
-
-    /// Returns 0 at least once in three times, and otherwise an ASCII byte.
-    fn byte(&mut self) -> u64 {
-        self.below(3).min(1) * self.below(127)
-    }
-
-    /// Returns a lawful word.
-    fn word(&mut self) -> u128 {
-        loop {
-            let flags = self.next() & (self.next() | [0, u64::MAX][self.below(2) as usize]) & 0x1FFF_0003_FFFF;
-            let (separator, prefix) = (self.byte(), self.byte());
-            let suffix = if self.below(8) == 0 { prefix ^ 0x20 } else { self.byte() };
-            let [radix, base, exponent_radix] = [2 + self.below(35), self.below(37), self.below(37)];
-            let bytes = separator | prefix << 24 | suffix << 32 | radix << 40 | base << 48 | exponent_radix << 56;
-            let word = u128::from(bytes) << 64 | u128::from(flags);
-            if Format::new(word).is_ok() {
-                return word;
-            }
-        }
-    }
-
-    /// Returns an exponent character and a decimal point that fit the normal form of the word.
-    fn options(&mut self, word: u128) -> (u8, u8) {
-        let format = Format::new(word).unwrap().normal_form();
-        loop {
-            let (exponent, point) = (self.below(127) as u8, self.below(127) as u8);
-            if format.check_options(exponent, point).is_ok() {
-                return (exponent, point);
-            }
-        }
-    }
+/// Returns a pseudo-random word, which is seldom lawful.
+fn random_word(state: &mut u64) -> u128 {
+    let sparseness = 2 + 2 * below(state, 2);
+    let flags = mask(0..45, |_| below(state, sparseness) == 0) & FLAG_MASK;
+    let [separator, prefix, other] = [(); 3].map(|()| below(state, 3).min(1) * below(state, 127));
+    let suffix = if below(state, 8) == 0 { prefix ^ 0x20 } else { other };
+    let [radix, base, exponent_radix] = [(); 3].map(|()| below(state, 37));
+    let bytes = separator | prefix << 24 | suffix << 32 | radix << 40 | base << 48 | exponent_radix << 56;
+    u128::from(bytes) << 64 | flags
 }
 
 /// Returns bytes of all roles, and others that could have a role.
 fn hostile_bytes(word: u128, options: Option<(u8, u8)>) -> Vec<u8> {
     let [separator, prefix, suffix, radix, exponent_radix] = [64, 88, 96, 104, 120].map(|bit| (word >> bit) as u8);
     let digit = |value: u8| char::from_digit(value.into(), 36).map_or(b'[', |digit| digit as u8);
-    let highest = digit(radix.max(exponent_radix) - 1);
+    let last = digit(radix.max(exponent_radix) - 1);
     let (exponent, point) = options.unwrap_or((b'e', b'.'));
-    let letters = [prefix, suffix, exponent, highest].into_iter().filter(u8::is_ascii_alphabetic);
-    let mut other_cases = letters.map(|letter| letter ^ 0x20);
-    let mut bytes = vec![b'0', highest, separator, prefix, suffix, exponent, point, b'+', b'-'];
-    bytes.retain(|&byte| byte != 0);
-    bytes.extend(other_cases.next());
-    bytes.extend([0, b'1']);
-    bytes.extend(other_cases.chain([digit(radix), 0xFF, b'_', b' ']));
+    let mut cases = [prefix, suffix, exponent, last].into_iter().filter(u8::is_ascii_alphabetic).map(|own| own ^ 0x20);
+    let bytes = [b'0', last, separator, prefix, suffix, exponent, point, b'+', b'-'].into_iter();
+    let bytes = bytes.chain(cases.next()).chain([0, b'1']).chain(cases).chain([digit(radix), 0xFF, b'_', b' ']);
     let mut seen = [false; 256];
-    bytes.retain(|&byte| !core::mem::replace(&mut seen[usize::from(byte)], true));
-    bytes
+    bytes.filter(|&byte| !mem::replace(&mut seen[usize::from(byte)], true)).collect()
 }
 
-/// The parts of a literal, or why a text is none: `None` if that is not compared.
-type Answer<'a> = Result<[&'a [u8]; 9], Option<Failure>>;
-
 /// Returns the answer of the library.
-fn answer(read: Result<literal::Parts<'_>, literal::ReadError>, has_failures: bool) -> Answer<'_> {
-    let failure = |error: literal::ReadError| {
-        let (valid_up_to, cause, mask, span) = (error.valid_up_to(), error.cause(), error.mask(), error.span());
-        Failure { valid_up_to, cause, mask, span, code: error.code(), byte: error.byte() }
-    };
-    let parts = read.map_err(|error| has_failures.then(|| failure(error)))?;
+fn answer(read: Result<literal::Parts<'_>, ReadError>) -> Result<[&[u8]; 9], Failure> {
+    let parts = read.map_err(|why| (why.valid_up_to(), why.cause(), why.mask(), why.span(), why.code(), why.byte()))?;
     let literal::Parts { sign, prefix, integer, point, fraction, exponent_sign, exponent, suffix, .. } = parts;
     Ok([sign, prefix, integer, point, fraction, parts.exponent_character, exponent_sign, exponent, suffix])
 }
 
-/// The parts of the longest literal among the fronts of a text, and why a front begins no literal.
-#[derive(Default)]
-struct Seen {
-    literal: Option<Reading>,
-    wrong: Option<Failure>,
-}
-
-/// The comparison of the answers to all texts of some bytes.
-struct Comparison<'a> {
-    syntax: Syntax<'a>,
-    library: literal::Syntax,
-    reader: literal::Reader,
-    bytes: &'a [u8],
-    longest: usize,
-    /// How many of eight texts with one more byte are compared, after the first byte.
-    eighths: u64,
-    random: Random,
-}
-
-impl<'a> Comparison<'a> {
-    fn new(word: u128, syntax: Syntax<'a>, bytes: &'a [u8], longest: usize, eighths: u64) -> Self {
-        let library = match syntax.options {
-            Some((exponent, point)) => literal::Syntax::of_word(word, exponent, point).unwrap(),
-            None => literal::Syntax::integers_of_word(word).unwrap(),
-        };
-        for byte in 0..=255 {
-            assert_eq!(library.role_of(byte), syntax.role_of(byte), "{byte} in {}", syntax.name());
+/// Compares the answers to texts of up to `longest` of `bytes`: all texts of one byte, and after each text that is compared
+/// `eighths` of eight of those with one more byte.
+fn compare(word: u128, options: Option<(u8, u8)>, bytes: &[u8], longest: usize, has_failures: bool, eighths: u64) {
+    let (syntax, name) = (Syntax::new(word, options), format!("{word:#034X} {options:?}"));
+    let float = |(exponent, point)| literal::Syntax::of_word(word, exponent, point);
+    let library = options.map_or_else(|| literal::Syntax::integers_of_word(word), float).unwrap();
+    let differs = |&byte: &u8| library.role_of(byte) != syntax.roles[usize::from(byte)];
+    assert_eq!((0..=255).find(differs), None, "the first byte with another role in {name}");
+    let (reader, mut random) = (Reader::new(library), 1);
+    // With each text are the parts of its longest front that is a literal, and why a front begins no literal.
+    let mut texts = vec![(Vec::new(), None, None)];
+    while let Some((text, front, wrong)) = texts.pop() {
+        let literal = syntax.literal(syntax.word, &text);
+        let front = literal.clone().or(front);
+        let is_wrong = || has_failures && syntax.begun(syntax.word, &text, &syntax.more).is_none();
+        let wrong = wrong.or_else(|| is_wrong().then(|| syntax.failure(&text, false)));
+        let is_missing = has_failures && wrong.is_none() && literal.is_none();
+        let failure = if is_missing { Some(syntax.failure(&text, true)) } else { wrong.clone() };
+        let (read, prefix) = (reader.read(&text), reader.read_prefix(&text));
+        assert_eq!((library.read(&text), library.read_prefix(&text)), (read, prefix), "{text:?} in {name}");
+        for (read, pieces) in [(read, literal), (prefix.map(|front| front.parts), front.clone())] {
+            let wanted = pieces.map(|pieces| pieces.map(|piece| &text[piece])).ok_or(failure.clone());
+            let answer = answer(read).map_err(|failure| has_failures.then_some(failure));
+            assert_eq!(answer, wanted, "{} in {name}", text.escape_ascii());
         }
-        let (reader, random) = (literal::Reader::new(library), Random(1));
-        Self { syntax, library, reader, bytes, longest, eighths, random }
-    }
-
-    /// Compares the answers to `text`. `seen` is what its other fronts have.
-    fn compare(&self, text: &[u8], seen: &Seen) -> Seen {
-        let literal = self.syntax.literal(text);
-        let front = literal.or(seen.literal);
-        let has_failures = !self.syntax.more.is_empty();
-        let wrong = seen.wrong.clone().or_else(|| has_failures.then(|| self.syntax.wrong(text))?);
-        let failure = || wrong.clone().unwrap_or_else(|| self.syntax.missing(text));
-        let expect = |reading: Option<Reading>| match reading {
-            Some(reading) => Ok(PIECES.map(|piece| &text[reading.range(piece)])),
-            None => Err(has_failures.then(failure)),
-        };
-        for read in [self.library.read(text), self.reader.read(text)] {
-            assert_eq!(
-                answer(read, has_failures),
-                expect(literal),
-                "{} in {}",
-                text.escape_ascii(),
-                self.syntax.name()
-            );
-        }
-        for read in [self.library.read_prefix(text), self.reader.read_prefix(text)] {
-            let read = answer(read.map(|front| front.parts), has_failures);
-            assert_eq!(read, expect(front), "front of {} in {}", text.escape_ascii(), self.syntax.name());
-        }
-        Seen { literal: front, wrong }
-    }
-
-    /// Compares the answers to `text` and to texts that begin with it. `seen` is what its other fronts have.
-    fn compare_from(&mut self, text: &mut Vec<u8>, seen: &Seen) {
-        let seen = self.compare(text, seen);
-        let bytes = if text.len() < self.longest { self.bytes } else { &[] };
         for &byte in bytes {
-            if text.is_empty() || self.random.below(8) < self.eighths {
-                text.push(byte);
-                self.compare_from(text, &seen);
-                text.pop();
+            if text.len() < longest && (text.is_empty() || below(&mut random, 8) < eighths) {
+                texts.push(([&text[..], &[byte]].concat(), front.clone(), wrong.clone()));
             }
         }
     }
 }
 
-/// Compares the formats of the recipes. The texts have up to six bytes, and a front goes on with up to three.
-fn compare_recipes(eighths: u64) {
+/// Compares the formats of the recipes, and random words with random options and without.
+fn compare_all(recipe_eighths: u64, words: usize, eighths: u64) {
     for (_, word, exponent) in RECIPES {
         let options = Some((exponent, b'.'));
-        let mut bytes = hostile_bytes(word, options);
-        bytes.truncate(10);
-        let byte = Vec::from_iter(bytes.iter().map(|&byte| vec![byte]).chain([vec![]]));
-        let more = joined(&[byte.clone(), byte.clone(), byte]);
-        let syntax = Syntax::new(word, options, &more);
-        Comparison::new(word, syntax, &bytes, 6, eighths).compare_from(&mut Vec::new(), &Seen::default());
+        compare(word, options, &hostile_bytes(word, options)[..10], 6, true, recipe_eighths);
     }
-}
-
-/// Compares random words with random options and without. The texts have up to four bytes, or three where failures are
-/// compared.
-fn compare_random_words(words: usize, with_failures: usize, eighths: u64) {
-    let mut random = Random(2);
+    let mut random = 2;
     for at in 0..words {
-        let word = random.word();
-        for options in [Some(random.options(word)), None] {
+        let word = iter::repeat_with(|| random_word(&mut random)).find(|&word| Format::new(word).is_ok()).unwrap();
+        let fits = |&(exponent, point): &(u8, u8)| literal::Syntax::of_word(word, exponent, point).is_ok();
+        let some_options = || (below(&mut random, 127) as u8, below(&mut random, 127) as u8);
+        let options = iter::repeat_with(some_options).find(fits);
+        for options in [options, None] {
             let mut pool = hostile_bytes(word, options);
-            let bytes = Vec::from_iter((0..10).map(|_| pool.swap_remove(random.below(pool.len() as u64) as usize)));
-            let (more, longest) = match at < with_failures {
-                true => (Syntax::new(word, options, &[]).continuations(), 3),
-                false => (vec![], 4),
-            };
-            let syntax = Syntax::new(word, options, &more);
-            Comparison::new(word, syntax, &bytes, longest, eighths).compare_from(&mut Vec::new(), &Seen::default());
+            let bytes: [u8; 10] = array::from_fn(|_| pool.swap_remove(below(&mut random, pool.len() as u64) as usize));
+            let (longest, has_failures) = if at < 100 { (3, true) } else { (4, false) };
+            compare(word, options, &bytes, longest, has_failures, eighths);
         }
     }
 }
 
 #[test]
 fn some_answers_are_those_of_the_recogniser() {
-    compare_recipes(2);
-    compare_random_words(200, 100, 3);
+    compare_all(2, 200, 3);
 }
 
 #[test]
-#[ignore = "half an hour in release"]
+#[ignore = "seven minutes in release"]
 fn all_answers_are_those_of_the_recogniser() {
-    compare_recipes(8);
-    compare_random_words(2000, 100, 8);
+    compare_all(8, 2000, 8);
 }
