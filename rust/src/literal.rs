@@ -2,7 +2,8 @@
 //!
 //! A [`Syntax`] is a lawful format with an exponent character and a decimal point or, for integers alone, without both.
 //! A [`Reader`] has tables of a syntax, so that it reads a text in less time. A [`ReadError`] has the cause of a
-//! refusal, and the flags to blame. NaN and infinity are not literals: [`Specials`] reads them.
+//! refusal, and the flags to blame. NaN and infinity are not literals: [`Specials`] reads them. A [`Language`] has all of
+//! this for a language.
 //!
 //! ```
 //! use peltzivar::format::{Format, STANDARD};
@@ -21,6 +22,7 @@
 
 #[allow(clippy::redundant_pattern_matching, reason = "as it is proved")]
 mod cause;
+mod language;
 #[allow(clippy::needless_lifetimes, reason = "as it is proved")]
 mod read;
 mod sentence;
@@ -37,6 +39,7 @@ mod tables;
 mod text;
 
 pub use cause::{Cause, Place, ReadError};
+pub use language::{Language, Number};
 pub use read::{Front, Parts, Reader};
 pub use specials::{Sign, Special, Specials, Spelling};
 pub use syntax::{Options, Syntax};
