@@ -7,7 +7,8 @@ use peltzivar::format::{
     MANTISSA_RADIX, SPECIAL_DIGIT_SEPARATOR,
 };
 use peltzivar::literal::{Cause, ReadError, Specials, Syntax};
-use peltzivar::FormatView;
+use peltzivar::reasons::Byte;
+use peltzivar::{Cause as Problem, FormatView, Reason};
 
 /// The spellings of special values that are read.
 pub const SPECIALS: Specials = Specials { nan: Some(b"NaN"), inf: Some(b"inf"), infinity: Some(b"infinity") };
@@ -18,11 +19,21 @@ const MOST: usize = 3;
 /// How many roles of bytes a state may change.
 const MOST_ROLES: usize = 3;
 
+/// The flags that allow separators between digits, before digits and behind them, and then consecutive ones.
+const SEPARATORS: u128 = DIGIT_SEPARATOR_FLAG_MASK & !SPECIAL_DIGIT_SEPARATOR;
+
+/// The bits of no field.
+const RESERVED: u128 =
+    !(FLAG_MASK | DIGIT_SEPARATOR | BASE_PREFIX | BASE_SUFFIX | MANTISSA_RADIX | EXPONENT_BASE | EXPONENT_RADIX);
+
 /// The bytes that stand for an exponent character and a decimal point that do not fit. No number has them.
 const NO_EXPONENT: u8 = 11;
 const NO_POINT: u8 = 12;
 
-/// A format word, and the options of a parser.
+/// The usual exponent characters.
+const EXPONENTS: [u8; 3] = [b'e', b'p', b'^'];
+
+/// A format word, and the options of a parser. If both options are 0, numbers are integers alone.
 #[derive(Clone, Copy, Debug, PartialEq, Eq)]
 pub struct State {
     pub word: u128,
@@ -31,22 +42,30 @@ pub struct State {
 }
 
 impl State {
+    fn is_integers(self) -> bool {
+        self.exponent == 0 && self.point == 0
+    }
+
+    /// Returns the syntax if the word is lawful and the options fit.
+    fn exact(self) -> Option<Syntax> {
+        match self.is_integers() {
+            true => Syntax::integers_of_word(self.word).ok(),
+            false => Syntax::of_word(self.word, self.exponent, self.point).ok(),
+        }
+    }
+
     /// Returns the syntax if the word is lawful. No byte matches an option that does not fit.
     pub fn syntax(self) -> Option<Syntax> {
-        let options = [
-            (self.exponent, self.point),
-            (NO_EXPONENT, self.point),
-            (self.exponent, NO_POINT),
-            (NO_EXPONENT, NO_POINT),
-        ];
-        options.into_iter().find_map(|(exponent, point)| Syntax::of_word(self.word, exponent, point).ok())
+        let others = [(NO_EXPONENT, self.point), (self.exponent, NO_POINT), (NO_EXPONENT, NO_POINT)];
+        let others = others.into_iter().map(|(exponent, point)| Self { exponent, point, ..self });
+        self.exact().or_else(|| others.into_iter().find_map(Self::exact))
     }
 
     /// Returns the state with a fitting exponent character, if the word is lawful and the decimal point fits.
     fn fitting(self) -> Option<Self> {
-        let characters = [self.exponent, b'e', b'p', b'^'];
-        let mut states = characters.into_iter().map(|exponent| Self { exponent, ..self });
-        states.find(|it| Syntax::of_word(it.word, it.exponent, it.point).is_ok())
+        let characters = [self.exponent].into_iter().chain(EXPONENTS);
+        let mut states = characters.map(|exponent| Self { exponent, ..self });
+        states.find(|it| it.exact().is_some())
     }
 
     /// Returns the state with a byte in a field of the word.
@@ -109,6 +128,11 @@ pub fn read(syntax: &Syntax, text: &[u8]) -> Result<(), ReadError> {
     }
 }
 
+/// Returns each flag of a mask of flags, from the lowest.
+fn bits_of(flags: u128) -> impl DoubleEndedIterator<Item = u128> {
+    (0..64).map(|bit| 1u64 << bit).filter(move |&bit| flags as u64 & bit != 0).map(u128::from)
+}
+
 /// Returns the value of a letter or digit.
 fn value(byte: u8) -> Option<u8> {
     char::from(byte).to_digit(36).map(|digit| digit as u8)
@@ -149,6 +173,13 @@ impl Found {
         self
     }
 
+    /// Removes the states with which fewer lines are as expected than with the first one.
+    fn only_best(mut self) -> Self {
+        let most = self.states[0].map(|it| it.1);
+        self.states.iter_mut().for_each(|it| *it = it.filter(|it| Some(it.1) == most));
+        self
+    }
+
     /// Returns the states that are offered.
     pub fn best(&self) -> impl Iterator<Item = (State, usize)> + '_ {
         self.states.iter().copied().flatten().take(MOST)
@@ -161,20 +192,20 @@ pub fn offers(state: State, lines: &[u8], line: Line<'_>) -> Found {
     let mut found = Found::default();
     if line.is_refused {
         refusing(state, line.text, &mut found);
-    } else {
-        for roles in 0..=MOST_ROLES {
-            if found.size == 0 {
-                accepting(state, line.text, roles, &mut found);
-            }
+        return found.ranked(lines).only_best();
+    }
+    for roles in 0..=MOST_ROLES {
+        if found.size == 0 {
+            accepting(state, line.text, roles, &mut found);
         }
     }
     found.ranked(lines)
 }
 
 fn refusing(state: State, text: &[u8], found: &mut Found) {
-    for bit in (0..128).filter(|bit| FLAG_MASK >> bit & 1 == 1) {
-        let other = State { word: state.word ^ 1 << bit, ..state };
-        if Syntax::of_word(other.word, other.exponent, other.point).is_ok_and(|it| read(&it, text).is_err()) {
+    for flag in bits_of(FLAG_MASK) {
+        let other = State { word: state.word ^ flag, ..state };
+        if other.exact().is_some_and(|it| read(&it, text).is_err()) {
             found.push(other);
         }
     }
@@ -195,14 +226,13 @@ fn accepting(state: State, text: &[u8], roles: usize, found: &mut Found) {
 /// Returns the state with the flags that the text needs: without the requirements that it breaks, and with the fewest
 /// flags that allow its separators. Returns the index of the first wrong byte if no flags are to blame.
 fn settled(mut state: State, text: &[u8]) -> Result<State, usize> {
-    let allowed = state.word & DIGIT_SEPARATOR_FLAG_MASK;
-    let separator = (state.word & DIGIT_SEPARATOR) >> DIGIT_SEPARATOR.trailing_zeros();
-    if separator != 0 && text.iter().any(|&byte| u128::from(byte) == separator) {
-        state.word |= DIGIT_SEPARATOR_FLAG_MASK & !SPECIAL_DIGIT_SEPARATOR;
+    let allowed = state.word;
+    if FormatView::new(allowed).digit_separator().is_some_and(|it| text.contains(&it.get())) {
+        state.word |= SEPARATORS;
     }
-    let read_in = |state: State| match Syntax::of_word(state.word, state.exponent, state.point) {
-        Ok(syntax) => read(&syntax, text).map_err(Some),
-        Err(_) => Err(None),
+    let read_in = |state: State| match state.exact() {
+        Some(syntax) => read(&syntax, text).map_err(Some),
+        None => Err(None),
     };
     while let Err(error) = read_in(state) {
         match error {
@@ -210,9 +240,8 @@ fn settled(mut state: State, text: &[u8]) -> Result<State, usize> {
             error => return Err(error.map_or(text.len(), |it| it.valid_up_to())),
         }
     }
-    // Consecutive separators come first, then those behind digits, before digits and between them.
-    for bit in (32..44).rev().filter(|bit| allowed >> bit & 1 == 0) {
-        let without = State { word: state.word & !(1 << bit), ..state };
+    for flag in bits_of(state.word & SEPARATORS & !allowed).rev() {
+        let without = State { word: state.word & !flag, ..state };
         if read_in(without).is_ok() {
             state = without;
         }
@@ -221,8 +250,8 @@ fn settled(mut state: State, text: &[u8]) -> Result<State, usize> {
 }
 
 /// Returns the states in which the byte at an index, or the last one, gets a role, the likeliest first.
-fn candidates(state: State, text: &[u8], at: usize) -> [Option<State>; 8] {
-    let Some((&byte, rest)) = text.get(at..).and_then(<[u8]>::split_first) else { return [None; 8] };
+fn candidates(state: State, text: &[u8], at: usize) -> [Option<State>; 9] {
+    let Some((&byte, rest)) = text.get(at..).and_then(<[u8]>::split_first) else { return [None; 9] };
     let before = &text[..at];
     let [shown, same, needed] = suffixes(state, text, at);
     let radix = radix_of(text, state.radix() + 1).filter(|_| byte.is_ascii_alphanumeric());
@@ -235,6 +264,7 @@ fn candidates(state: State, text: &[u8], at: usize) -> [Option<State>; 8] {
         needed,
         is_mark(byte).then(|| state.with(DIGIT_SEPARATOR, byte)),
         radix.map(|radix| state.with_radix(radix)),
+        state.is_integers().then_some(State { exponent: b'e', point: b'.', ..state }),
     ]
 }
 
@@ -290,4 +320,39 @@ fn suffixes(state: State, text: &[u8], at: usize) -> [Option<State>; 3] {
     let needed = radix_of(digits, state.radix() + 1).filter(|_| at < digits.len());
     let with = |radix| state.with_radix(radix).with(BASE_SUFFIX, last);
     [shown.map(with), Some(state.with(BASE_SUFFIX, last)), needed.map(with)]
+}
+
+/// Returns why the word is not lawful, and why its options do not fit.
+pub fn problems(state: State) -> impl Iterator<Item = Reason> {
+    let view = FormatView::new(state.word);
+    let options = view.options_reasons(state.exponent, state.point).filter(move |_| !state.is_integers());
+    view.reasons().chain(options)
+}
+
+/// Returns whether a reason blames the exponent character, and whether it blames the decimal point.
+pub fn blamed_options(reason: Reason) -> [bool; 2] {
+    let (first, second) = match reason.cause() {
+        Problem::NotText(byte) | Problem::IsSign(byte) | Problem::IsDigit(byte, _) => (byte, byte),
+        Problem::Same(first, second) | Problem::DifferInCase { first, second, .. } => (first, second),
+        _ => return [false; 2],
+    };
+    [Byte::ExponentCharacter, Byte::DecimalPoint].map(|it| first.name == it || second.name == it)
+}
+
+/// Returns the states in which one field that a reason blames is absent or cleared, or one option is another character.
+/// In each, there are fewer problems, and this reason is not among them.
+pub fn repairs(state: State, reason: Reason) -> impl Iterator<Item = State> {
+    let [exponents, points] = blamed_options(reason);
+    let flags =
+        bits_of(reason.mask() & state.word & FLAG_MASK).map(move |flag| State { word: state.word & !flag, ..state });
+    let bytes = [DIGIT_SEPARATOR, BASE_PREFIX, BASE_SUFFIX, EXPONENT_BASE, EXPONENT_RADIX].map(|field| (field, 0));
+    let fields = bytes.into_iter().chain([(MANTISSA_RADIX, 10), (RESERVED, 0)]);
+    let fields = fields.filter(move |it| reason.mask() & it.0 != 0).map(move |(field, byte)| state.with(field, byte));
+    let is_better =
+        move |it: &State| problems(*it).count() < problems(state).count() && problems(*it).all(|it| it != reason);
+    let exponents = exponents.then_some(EXPONENTS).into_iter().flatten();
+    let exponent = exponents.map(move |exponent| State { exponent, ..state }).filter(is_better).take(1);
+    let points = points.then_some([b'.', b',']).into_iter().flatten();
+    let point = points.map(move |point| State { point, ..state }).filter(is_better).take(1);
+    exponent.chain(point).chain(fields.chain(flags).filter(is_better))
 }
