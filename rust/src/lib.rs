@@ -21,7 +21,7 @@
 //! | report why a text is not a number | [`ReadError`][literal::ReadError] |
 //! | write a reader of your own | [`FormatView::is_separator`], [`separators`][FormatView::separators], [`role_of`][FormatView::role_of] |
 //! | read the fields of any word, lawful or not | [`FormatView`]; [`NumberFormat`] for a word that is known at compile time |
-//! | parse settings | `str::parse` for each [`Edit`], or [`Edit::flag`] and [`Edit::byte`]; [`collect`][Iterator::collect] to turn edits into a builder, and [`build_format`][NumberFormatBuilder::build_format] to check it |
+//! | read a configuration | [`Settings`], which knows the lines to blame; [`Edit`] for a single setting, and [`collect`][Iterator::collect] to turn edits into a builder |
 //! | report the problems with a word | [`FormatError`], [`FormatView::reasons`], [`Reason::mask`], [`FormatView::notes`] |
 //! | derive a format from another | [`NumberFormatBuilder::from`], or [`edits::edit_word`] |
 //! | compare two formats | [`Format::normal_form`], [`edits::same_format`] |
@@ -78,6 +78,7 @@ pub mod literal;
 mod numeral;
 #[doc(hidden)]
 pub mod reasons;
+mod settings;
 #[doc(hidden)]
 pub mod short_text;
 #[expect(clippy::exhaustive_structs, reason = "written by callers")]
@@ -105,6 +106,8 @@ pub use format_flags::{Part, Rule};
 pub use lawful::Format;
 #[doc(inline)]
 pub use reasons::{Byte, Cause, NamedByte, Note, Radixes, Reason};
+#[doc(inline)]
+pub use settings::{Finding, FindingKind, Settings, SettingsError};
 #[doc(inline)]
 pub use short_text::ShortText;
 #[doc(inline)]

@@ -45,7 +45,7 @@ fn examples_end_as_their_comments_state() {
         ("face_program", 0, ""),
         ("languages -- 0x1'F.8p1", 0, "JSON: false\nPython: false\nAda: false\nC++ hexadecimal: true\nMASM hexadecimal: false\n"),
         ("languages -- -12", 0, "JSON: true\nPython: true\nAda: true\nC++ hexadecimal: false\nMASM hexadecimal: true\n"),
-        ("settings -- rust/examples/settings.txt", 0, "    word: 0x000A10007800005F000000010000000C,"),
+        ("settings -- rust/examples/settings.txt", 0, "0x100A10007800005F000000010000000C 112 46\n"),
         ("settings", 1, "\"\": No such file or directory (os error 2)\n"),
     ];
     for (example, wanted, part) in rows {
