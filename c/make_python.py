@@ -13,7 +13,7 @@ HERE = pathlib.Path(__file__).resolve().parent
 HEADER = HERE.joinpath("peltzivar.h").read_text()
 SETTERS = HERE.parent.joinpath("rust/src/format_builder/setters.rs").read_text()
 CODE = " ".join(re.sub(r"/\*.*?\*/|^#.*?$", "", HEADER, flags=re.S | re.M).split())
-STRUCTS = {f"peltzivar_{name.lower()}": f"_{name}" for name in ("Word", "Fields", "Edit", "Separators")}
+STRUCTS = {name: f"_{name[10:].title().replace('_', '')}" for name in re.findall(r"} (peltzivar_\w+);", CODE)}
 TYPES = {"bool": "c_bool", "size_t": "c_size_t", **STRUCTS}
 TYPES |= {f"uint{bits}_t": f"c_uint{bits}" for bits in (8, 32, 64)}
 TYPES |= {name: TYPES[kind] for kind, name in re.findall(r"typedef (\w+) (\w+);", CODE)}
@@ -47,9 +47,10 @@ def part(used):
     for name, pattern, meaning in (
         ("Setter", r"SET_(\w+)", "The number of each setter. A member has the name of the setter in uppercase."),
         ("Rule", r"RULE_(\w+)", "The number of each rule, in the order in which the rules are checked."),
-        ("Error", r"((?!SET_|RULE_|PART_|ROLE_)\w+)", "The number of each error, and of success, which is 0."),
+        ("Error", r"((?!SET_|RULE_|PART_|ROLE_|CAUSE_)\w+)", "The number of each error, and of success, which is 0."),
         ("Part", r"PART_(\w+)", "The parts of a number that can have digit separators."),
         ("Role", r"ROLE_((?!NONE)\w+)", "The roles of a byte in a number."),
+        ("Cause", r"CAUSE_(\w+)", "The kinds of causes why a text is not a literal."),
     ):
         yield from enumeration(name, pattern, meaning)
     for body, struct in re.findall(r"typedef struct { (.*?) } (\w+);", CODE):

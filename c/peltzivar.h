@@ -21,11 +21,13 @@
  * A setter writes a flag, a group of flags, or a byte. An edit is a setter with a value. A word is lawful if it
  * satisfies all rules below. In the repository, docs/FORMAT.md describes each field and each rule.
  *
- * An argument that is a word, an edit, a number or a byte may have any value. A pointer that is passed with a length
- * must point to an array of at least that many elements, but it may be null if the length is 0. Any other pointer must
- * point to an object of the declared type, or to an array of at least the declared size. All input must be initialised.
- * This includes *fields in peltzivar_edit_fields, since *fields is both input and output. Memory that is only output
- * need not be initialised. Memory that a function writes to must not overlap memory to which another argument points.
+ * An argument that is a word, an edit, a syntax, a number or a byte may have any value. A pointer that is passed with a
+ * length must point to an array of at least that many elements, but it may be null if the length is 0. An input array
+ * of more than PTRDIFF_MAX bytes is refused and not read. Any other pointer must point to an object of the declared
+ * type, or to an array of at least the declared size, but it may be null if the object is only output. All input must
+ * be initialised. This includes *fields in peltzivar_edit_fields, since *fields is both input and output. Memory that
+ * is only output need not be initialised. Memory that a function writes to must not overlap memory to which another
+ * argument points.
  * No function allocates memory, retains a pointer or sets errno. Several threads may call these functions at the same
  * time, provided that no call writes memory that another call reads or writes.
  *
@@ -101,8 +103,9 @@ static const peltzivar_fields PELTZIVAR_NEW_FIELDS = PELTZIVAR_NEW_FIELDS_INIT;
 #define PELTZIVAR_SOURCE_SIZE 2048
 #define PELTZIVAR_TEXT_SIZE 256
 
-/* Results for a name without a setter, and for a byte that is not a digit. */
+/* The numbers of no setter, of no part of a number, and of a byte that is not a digit. */
 #define PELTZIVAR_NO_SETTER 255
+#define PELTZIVAR_NO_PART 255
 #define PELTZIVAR_NO_DIGIT UINT32_MAX
 
 /* Returns the version of the library in the form of PELTZIVAR_VERSION_NUMBER. */
@@ -309,6 +312,79 @@ enum {
 PELTZIVAR_API peltzivar_role peltzivar_role_of(
     peltzivar_word format, uint8_t exponent, uint8_t decimal_point, uint8_t byte);
 
+/* LITERALS
+ *
+ * A literal is a text that is a number of a syntax. A syntax is a lawful word in normal form, with an exponent character
+ * and a decimal point, or with 0 for both. Then literals are integers. Each call that takes a syntax checks it. If
+ * peltzivar_syntax_check would refuse it, the call returns this error, and writes nothing. In the repository,
+ * docs/FORMAT.md defines literals, and why a text is not one. */
+typedef struct {
+    peltzivar_word format;
+    uint8_t exponent, decimal_point;
+} peltzivar_syntax;
+
+/* Writes the syntax of a word to *out and returns PELTZIVAR_SUCCESS if the word is lawful, and if the options fit its
+ * normal form or are both 0. Otherwise, leaves *out unchanged and returns the error of the first rule that the word
+ * breaks, or the error that peltzivar_check_options returns for the normal form. */
+PELTZIVAR_MUST_USE PELTZIVAR_API peltzivar_error peltzivar_syntax_check(
+    peltzivar_word format, uint8_t exponent, uint8_t decimal_point, peltzivar_syntax *out);
+
+/* The bytes of a text from the index `start` to below the index `end`. */
+typedef struct {
+    size_t start, end;
+} peltzivar_span;
+
+/* The parts of a literal, in the order of the text, and its length. An absent part is empty. The prefix includes the
+ * zero before it. The three parts with digits include digit separators, for which peltzivar_mantissa_digit and
+ * peltzivar_exponent_digit return PELTZIVAR_NO_DIGIT. */
+typedef struct {
+    peltzivar_span sign, prefix, integer, point, fraction, exponent_character, exponent_sign, exponent, suffix;
+    size_t size;
+} peltzivar_literal;
+
+/* The kinds of causes why a text is not a literal. */
+typedef uint8_t peltzivar_cause;
+enum {
+    PELTZIVAR_CAUSE_REQUIREMENT = 1, /* The text does not satisfy flags that are set. */
+    PELTZIVAR_CAUSE_SEPARATOR = 2, /* A digit separator is not allowed here. */
+    PELTZIVAR_CAUSE_CASE = 3, /* A letter has the wrong case. */
+    PELTZIVAR_CAUSE_BYTE = 4, /* A byte cannot follow the bytes before it. */
+    PELTZIVAR_CAUSE_MISSING = 5 /* Digits are missing. */
+};
+
+/* Why a text is not a literal. The first `valid_up_to` bytes are the longest beginning of the text that some literal
+ * begins with. If these are all of its bytes, bytes are missing, and a longer text may be a literal. `span` has the
+ * bytes to show, maybe none. `index` is the index for peltzivar_error_text. `mask` has the flags to blame, and `number`
+ * is the lowest as a setter. For a wrong byte and for missing digits, they are 0 and PELTZIVAR_NO_SETTER. `part` is the
+ * part of a separator or of missing digits, and otherwise PELTZIVAR_NO_PART. To end the cause, set one of the flags if
+ * it is a separator, and otherwise clear all of them. Then there may be another cause. */
+typedef struct {
+    size_t valid_up_to;
+    peltzivar_span span;
+    size_t index;
+    peltzivar_word mask;
+    peltzivar_cause cause;
+    peltzivar_setter number;
+    peltzivar_part part;
+} peltzivar_read_error;
+
+/* Reads a text of len bytes. If it is a literal, writes its parts to *literal and returns PELTZIVAR_SUCCESS. Otherwise,
+ * writes the reason to *error and returns a parse error. If the syntax is refused, or if the text is, which is
+ * PELTZIVAR_OVERFLOW, writes nothing. */
+PELTZIVAR_MUST_USE PELTZIVAR_API peltzivar_error peltzivar_read(
+    const peltzivar_syntax *syntax, const char *text, size_t len, peltzivar_literal *literal, peltzivar_read_error *error);
+
+/* Does the same for the longest beginning of the text that is a literal. What follows it may be anything. If there is
+ * none, the result and *error are those of peltzivar_read. Reads no byte behind the first that cannot follow. */
+PELTZIVAR_MUST_USE PELTZIVAR_API peltzivar_error peltzivar_read_prefix(
+    const peltzivar_syntax *syntax, const char *text, size_t len, peltzivar_literal *literal, peltzivar_read_error *error);
+
+/* Writes why peltzivar_read refuses a text or its syntax as a sentence, such as "no literal has the byte 'x' here" or
+ * "the exponent character 'e' is a digit in radix 16". The text has len bytes, and the buffer `to` has to_len bytes. If
+ * peltzivar_read accepts the text, writes an empty string. */
+PELTZIVAR_API size_t peltzivar_read_error_text(
+    const peltzivar_syntax *syntax, const char *text, size_t len, char *to, size_t to_len);
+
 #ifdef __cplusplus
 }
 #endif
@@ -393,8 +469,8 @@ enum {
 
 /* The errors: 1 to 19 are parse errors, 20 to 36 are format errors, and 37 to 48 are option errors. A parse error is
  * found in a string, a format error in a word, and an option error in the options of a parser or writer. The functions
- * above return only PELTZIVAR_SUCCESS, format errors, and the three parse errors of peltzivar_parse_word. The other
- * errors are for parsers and writers that use this library. Two rules share PELTZIVAR_INVALID_SPECIAL. */
+ * above return only PELTZIVAR_SUCCESS, parse errors and format errors. The other errors are for parsers and writers that
+ * use this library. Two rules share PELTZIVAR_INVALID_SPECIAL. */
 enum {
     PELTZIVAR_SUCCESS = 0,
     PELTZIVAR_OVERFLOW = 1,

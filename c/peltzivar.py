@@ -185,6 +185,16 @@ class Role(IntEnum):
     POINT = 7
 
 
+class Cause(IntEnum):
+    """The kinds of causes why a text is not a literal."""
+
+    REQUIREMENT = 1
+    SEPARATOR = 2
+    CASE = 3
+    BYTE = 4
+    MISSING = 5
+
+
 class _Word(Structure):
     _fields_ = [
         ("low", c_uint64),
@@ -217,6 +227,48 @@ class _Separators(Structure):
         ("leading", c_bool),
         ("trailing", c_bool),
         ("consecutive", c_bool),
+    ]
+
+
+class _Syntax(Structure):
+    _fields_ = [
+        ("format", _Word),
+        ("exponent", c_uint8),
+        ("decimal_point", c_uint8),
+    ]
+
+
+class _Span(Structure):
+    _fields_ = [
+        ("start", c_size_t),
+        ("end", c_size_t),
+    ]
+
+
+class _Literal(Structure):
+    _fields_ = [
+        ("sign", _Span),
+        ("prefix", _Span),
+        ("integer", _Span),
+        ("point", _Span),
+        ("fraction", _Span),
+        ("exponent_character", _Span),
+        ("exponent_sign", _Span),
+        ("exponent", _Span),
+        ("suffix", _Span),
+        ("size", c_size_t),
+    ]
+
+
+class _ReadError(Structure):
+    _fields_ = [
+        ("valid_up_to", c_size_t),
+        ("span", _Span),
+        ("index", c_size_t),
+        ("mask", _Word),
+        ("cause", c_uint8),
+        ("number", c_uint8),
+        ("part", c_uint8),
     ]
 
 

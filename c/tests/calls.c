@@ -1,6 +1,7 @@
 /* Calls the functions of peltzivar.h with values without a meaning, with null pointers and with buffers of any size, and
  * those that Python does not call. It compiles as C and as C++. test_python.py tests the results of the others. */
 #include "peltzivar.h"
+#include "peltzivar.h"
 
 #include <ctype.h>
 #include <stdio.h>
@@ -170,7 +171,76 @@ static void test_texts(void) {
     CHECK(WRITES("NumberFormatBuilder::new().build_or_panic()", peltzivar_source(words[0], text, sizeof text)));
 }
 
-/* A null pointer with a length of 0 is accepted as an empty array. */
+/* Returns a syntax with a prefix, a suffix and separators between digits. */
+static peltzivar_syntax new_syntax(void) {
+    const peltzivar_edit edits[] = {{PELTZIVAR_SET_BASE_PREFIX, 'x'}, {PELTZIVAR_SET_BASE_SUFFIX, 'h'},
+        {PELTZIVAR_SET_CASE_SENSITIVE_BASE_PREFIX, 1}, {PELTZIVAR_SET_DIGIT_SEPARATOR, '_'},
+        {PELTZIVAR_SET_INTERNAL_DIGIT_SEPARATOR, 1}};
+    peltzivar_syntax syntax = {{1, 2}, 3, 4};
+    peltzivar_word word;
+    CHECK(peltzivar_build(edits, 5, &word) && !peltzivar_syntax_check(word, 'e', '.', &syntax));
+    CHECK(peltzivar_same_format(word, syntax.format) && peltzivar_is_built(syntax.format));
+    CHECK(syntax.exponent == 'e' && syntax.decimal_point == '.');
+    return syntax;
+}
+
+static void test_syntaxes(void) {
+    static const peltzivar_syntax refused[] = {{{0, 0}, 0, 0}, {PELTZIVAR_STANDARD_INIT, 'e', 0}, {PELTZIVAR_STANDARD_INIT, 'e', 'E'}};
+    static const peltzivar_error errors[] = {
+        PELTZIVAR_INVALID_MANTISSA_RADIX, PELTZIVAR_INVALID_DECIMAL_POINT, PELTZIVAR_INVALID_PUNCTUATION};
+    static const char *const sentences[] = {"the mantissa radix 0 is not between 2 and 36",
+        "the decimal point 0 is not an allowed ASCII character",
+        "the exponent character 'e' and the decimal point 'E' differ only in case, which requires case_sensitive_exponent"};
+    static const peltzivar_syntax integers = {PELTZIVAR_STANDARD_INIT, 0, 0};
+    peltzivar_literal literal = {{7, 7}, {7, 7}, {7, 7}, {7, 7}, {7, 7}, {7, 7}, {7, 7}, {7, 7}, {7, 7}, 7};
+    peltzivar_read_error error = {7, {7, 7}, 7, {7, 7}, 7, 7, 7};
+    peltzivar_syntax out = {{1, 2}, 3, 4};
+    for (int i = 0; i < 3; i++) {
+        const peltzivar_syntax *const it = &refused[i];
+        CHECK(peltzivar_syntax_check(it->format, it->exponent, it->decimal_point, &out) == errors[i]);
+        CHECK(is_word(out.format, 2, 1) && out.exponent == 3 && out.decimal_point == 4);
+        CHECK(peltzivar_read(it, "1", 1, &literal, &error) == errors[i]);
+        CHECK(peltzivar_read_prefix(it, "1", 1, &literal, &error) == errors[i]);
+        CHECK(WRITES(sentences[i], peltzivar_read_error_text(it, "1", 1, text, sizeof text)));
+    }
+    CHECK(peltzivar_read(&integers, "1", SIZE_MAX, &literal, &error) == PELTZIVAR_OVERFLOW);
+    CHECK(literal.sign.start == 7 && literal.size == 7 && error.valid_up_to == 7 && error.part == 7);
+    CHECK(!peltzivar_read_prefix(&integers, "12.5", 4, &literal, &error) && literal.size == 2 && error.part == 7);
+}
+
+static void test_literals(void) {
+    static const size_t ends[] = {0, 1, 3, 6, 7, 8, 9, 10, 12, 13};
+    static const struct {
+        const char *text;
+        peltzivar_error code;
+        peltzivar_read_error wanted;
+    } rows[] = {
+        {"1e+", PELTZIVAR_EMPTY_EXPONENT, {3, {2, 3}, 3, {1 << 2, 0}, PELTZIVAR_CAUSE_REQUIREMENT, 2, PELTZIVAR_NO_PART}},
+        {"1_.5", PELTZIVAR_INVALID_DIGIT, {2, {1, 2}, 1, {UINT64_C(1) << 38, 0}, PELTZIVAR_CAUSE_SEPARATOR, 38, 0}},
+        {"0X1", PELTZIVAR_INVALID_DIGIT, {1, {1, 2}, 1, {1 << 16, 0}, PELTZIVAR_CAUSE_CASE, 16, PELTZIVAR_NO_PART}},
+        {"01x", PELTZIVAR_INVALID_DIGIT, {2, {2, 3}, 2, {0, 0}, PELTZIVAR_CAUSE_BYTE, PELTZIVAR_NO_SETTER, PELTZIVAR_NO_PART}},
+        {"1e1_", PELTZIVAR_INVALID_DIGIT, {4, {4, 4}, 4, {0, 0}, PELTZIVAR_CAUSE_MISSING, PELTZIVAR_NO_SETTER, 2}},
+    };
+    const peltzivar_syntax syntax = new_syntax();
+    peltzivar_literal it;
+    CHECK(!peltzivar_read_prefix(&syntax, "-0x1_0.5e+12h,", 14, &it, NULL) && it.size == 13);
+    const peltzivar_span parts[] = {it.sign, it.prefix, it.integer, it.point, it.fraction, it.exponent_character,
+        it.exponent_sign, it.exponent, it.suffix};
+    for (int i = 0; i < 9; i++) CHECK(parts[i].start == ends[i] && parts[i].end == ends[i + 1]);
+    for (int i = 0; i < 5; i++) {
+        const peltzivar_read_error *const wanted = &rows[i].wanted;
+        peltzivar_read_error error;
+        CHECK(peltzivar_read(&syntax, rows[i].text, strlen(rows[i].text), NULL, &error) == rows[i].code);
+        CHECK(error.valid_up_to == wanted->valid_up_to && error.index == wanted->index && error.cause == wanted->cause);
+        CHECK(error.span.start == wanted->span.start && error.span.end == wanted->span.end);
+        CHECK(is_word(error.mask, 0, wanted->mask.low) && error.number == wanted->number && error.part == wanted->part);
+    }
+    CHECK(WRITES("no literal has the byte '.' here", peltzivar_read_error_text(&syntax, "1..", 3, text, sizeof text)));
+    CHECK(WRITES("", peltzivar_read_error_text(&syntax, "1.", 2, text, sizeof text)));
+}
+
+/* A null pointer with a length of 0 is accepted as an empty array, and a null pointer to output is not written to. Input
+ * that is longer than an object can be is not read. */
 static void test_null(void) {
     peltzivar_fields fields = PELTZIVAR_NEW_FIELDS;
     peltzivar_word word = {1, 2};
@@ -187,6 +257,11 @@ static void test_null(void) {
     CHECK(peltzivar_setting_error_text(NULL, 0, NULL, 0) == strlen("expected NAME=VALUE"));
     CHECK(peltzivar_reason_text(ZERO, 0, NULL, 0) > 40 && peltzivar_note_text(&fields, 0, NULL, 0) == 0);
     CHECK(peltzivar_options_reason_text(ZERO, 'e', 'e', 0, NULL, 0) > 40);
+    CHECK(peltzivar_build(NULL, 0, NULL) && !peltzivar_parse_word("0x1", 3, NULL) && !peltzivar_build(&edit, SIZE_MAX, &word));
+    CHECK(!peltzivar_edit_fields(&fields, &edit, SIZE_MAX / 2) && !peltzivar_parse_edit("radix=2", SIZE_MAX, &edit));
+    CHECK(peltzivar_parse_word("0x1", SIZE_MAX, &word) == PELTZIVAR_OVERFLOW && edit.value == 16);
+    CHECK(peltzivar_setter_of_name("radix", SIZE_MAX) == PELTZIVAR_NO_SETTER);
+    CHECK(peltzivar_word_text(ZERO, text, SIZE_MAX) == strlen(text));
 }
 
 int main(void) {
@@ -197,6 +272,8 @@ int main(void) {
     test_indices_behind_the_last();
     test_parts();
     test_texts();
+    test_syntaxes();
+    test_literals();
     test_null();
     return failed;
 }

@@ -21,7 +21,8 @@ COMPILERS |= {"clang++": "c++11 c++14 c++17 c++20"}
 TYPES = {"peltzivar_word": "Word", "peltzivar_fields": "Fields", "peltzivar_edit": "NumberedEdit", "size_t": "usize"}
 TYPES |= {"bool": "bool", "char": "u8", "uint8_t": "u8", "uint32_t": "u32", "peltzivar_setter": "Setter"}
 TYPES |= {"peltzivar_error": "ErrorNumber", "peltzivar_part": "u8", "peltzivar_role": "Role"}
-TYPES |= {"peltzivar_separators": "Separators"}
+TYPES |= {"peltzivar_separators": "Separators", "peltzivar_syntax": "Syntax", "peltzivar_literal": "Literal"}
+TYPES |= {"peltzivar_read_error": "ReadError"}
 
 
 def run(*command, **options):
@@ -125,7 +126,7 @@ class Header(unittest.TestCase):
         self.assertEqual(self.numbers(r"ROLE_(\w+)"), {name: number for number, name in enumerate(roles)})
         errors = ["SUCCESS", *(it for it in variants("error.rs", "Error") if it != "SUCCESS")]
         numbered = {name: number for number, name in enumerate(errors)}
-        self.assertEqual(self.numbers(r"((?!SET_|RULE_|PART_|ROLE_)\w+)"), numbered)
+        self.assertEqual(self.numbers(r"((?!SET_|RULE_|PART_|ROLE_|CAUSE_)\w+)"), numbered)
 
     def test_declarations_are_those_of_the_library(self):
         sources = " ".join("".join(path.read_text() for path in sorted((TOP / "rust/capi/src").glob("*.rs"))).split())
@@ -153,7 +154,9 @@ class Header(unittest.TestCase):
             return TYPES[kind]
         if re.search(rf"\*{name}, size_t (to_)?len\b", others):
             return f"*{'const' if const else 'mut'} {TYPES[kind]}"
-        return f"Out<{TYPES[kind]}>" if name == "out" else f"&{'' if const else 'mut '}{TYPES[kind]}"
+        if const or name == "fields":
+            return f"&{'' if const else 'mut '}{TYPES[kind]}"
+        return f"Out<{TYPES[kind]}>"
 
     def test_all_versions_are_the_same(self):
         number = ctypes.CDLL(str(SHARED)).peltzivar_version()  # That of cargo.

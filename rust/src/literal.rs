@@ -21,6 +21,7 @@
 
 #[allow(clippy::redundant_pattern_matching, reason = "as it is proved")]
 mod cause;
+mod language;
 #[allow(clippy::needless_lifetimes, reason = "as it is proved")]
 mod read;
 mod sentence;
@@ -37,6 +38,7 @@ mod tables;
 mod text;
 
 pub use cause::{Cause, Place, ReadError};
+pub use language::{Language, Number};
 pub use read::{Front, Parts, Reader};
 pub use specials::{Sign, Special, Specials, Spelling};
 pub use syntax::{Options, Syntax};

@@ -19,6 +19,7 @@
 
 mod arguments;
 mod bytes;
+mod literals;
 mod numbers;
 mod reasons;
 mod settings;

@@ -18,7 +18,8 @@ pub unsafe extern "C" fn peltzivar_parse_word(
     len: usize,
     out: Out<Word>,
 ) -> ErrorNumber {
-    let text = from_utf8(input(text, len)).map_err(|_| Error::InvalidDigit(0));
+    let text = input(text, len).ok_or(Error::Overflow(0));
+    let text = text.and_then(|it| from_utf8(it).map_err(|_| Error::InvalidDigit(0)));
     let view = text.and_then(|text| text.parse::<FormatView>());
     write_word(view.map(|view| view.word()), out)
 }
