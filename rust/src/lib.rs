@@ -39,7 +39,8 @@
 //!   case-sensitive. A word in which a reserved bit is set is not lawful.
 //! - The prebuilt formats of `lexical-util`, such as `JSON`, are not included. To copy one, see `examples/recipes.rs`.
 //!
-//! [`Format`], [`FormatView`], [`FormatError`], [`edits`], [`literal`], [`Reason`], [`Note`] and [`source`] are new.
+//! [`Format`], [`FormatView`], [`FormatError`], [`edits`], [`literal`], [`Settings`], [`Reason`], [`Note`] and
+//! [`source`] are new.
 //!
 //! # What is proved
 //!
@@ -47,11 +48,11 @@
 //! contract. From this code, a program in the repository generated the files that begin with `Made by`. In the
 //! documentation, `Proved of the source` heads what the contracts of a call state.
 //!
-//! The following parts are written by hand: [`Format`], [`NumberFormat`], the iterators and conversions, `Display`,
-//! `FromStr` and `Debug` of words and syntaxes, the syntax of a [`Format`] and the format of a syntax, `Display`,
-//! `is_incomplete`, `span` and `settings` of [`ReadError`][literal::ReadError], the methods that panic, and the tests of
-//! slices in [`ascii`]. A build of this crate proves nothing. You trust the program that generated the files, the
-//! handwritten parts, and `rustc`.
+//! The following parts are written by hand: [`Format`], [`Settings`], [`NumberFormat`], the iterators and conversions,
+//! `Display`, `FromStr` and `Debug` of words and syntaxes, the syntax of a [`Format`] and the format of a syntax,
+//! `Display`, `is_incomplete`, `span` and `settings` of [`ReadError`][literal::ReadError], the methods that panic, and
+//! the tests of slices in [`ascii`]. A build of this crate proves nothing. You trust the program that generated the
+//! files, the handwritten parts, and `rustc`.
 #![no_std]
 #![forbid(unsafe_code)]
 

@@ -42,7 +42,6 @@ fn commands_print_what_pages_show() {
 fn examples_end_as_their_comments_state() {
     #[rustfmt::skip]
     let rows = [
-        ("face_program", 0, ""),
         ("languages -- 0x1'F.8p1", 0, "JSON: false\nPython: false\nAda: false\nC++ hexadecimal: true\nMASM hexadecimal: false\n"),
         ("languages -- -12", 0, "JSON: true\nPython: true\nAda: true\nC++ hexadecimal: false\nMASM hexadecimal: true\n"),
         ("settings -- rust/examples/settings.txt", 0, "0x100A10007800005F000000010000000C 112 46\n"),
