@@ -28,6 +28,8 @@
 //! | store words as text | `Display` and `FromStr` of [`Format`], [`FormatView`] and [`Syntax`][literal::Syntax] |
 //! | convert words that `lexical-util` stored | [`edits::migrate`] |
 //!
+//! `FORMAT.txt` in the package defines each flag and rule, which texts are numbers, and why a text is not one.
+//!
 //! # From `lexical-util`
 //!
 //! Modules, types and methods have the same names as in `lexical-util` 1.0.7. To migrate a program, change the name of
