@@ -59,10 +59,10 @@ def part(used):
         yield from (f'        ("{member}", {TYPES[kind]}),' for member, kind in members)
         yield "    ]"
     yield from ("", "", "_CALLS: Dict[str, Tuple[Any, List[Any]]] = {")
-    for result, call, arguments in re.findall(r"(\w+) peltzivar_(\w+)\( ?([^()]*)\);", CODE):
+    for result, call, arguments in re.findall(r"(\w+ \*?)peltzivar_(\w+)\( ?([^()]*)\);", CODE):
         kinds = [argument(it) for it in arguments.split(", ") if it != "void"]
         if call in used:
-            yield f'    "{call}": ({TYPES[result]}, [{", ".join(kinds)}]),'
+            yield f'    "{call}": ({argument(result + "result")}, [{", ".join(kinds)}]),'
     yield "}"
 
 

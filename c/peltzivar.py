@@ -278,12 +278,12 @@ _CALLS: Dict[str, Tuple[Any, List[Any]]] = {
     "check": (c_uint32, [_Word]),
     "normal_form": (_Word, [_Word]),
     "is_built": (c_bool, [_Word]),
-    "edits_of": (c_size_t, [_Word, POINTER(_Edit)]),
+    "edits_of": (c_size_t, [_Word, POINTER(_Edit), c_size_t]),
     "flag": (c_bool, [_Word, c_uint8]),
-    "parse_word": (c_uint32, [c_char_p, c_size_t, POINTER(_Word)]),
+    "parse_word": (c_uint32, [c_char_p, c_size_t, POINTER(_Word), POINTER(c_size_t)]),
     "word_text": (c_size_t, [_Word, c_char_p, c_size_t]),
     "source": (c_size_t, [_Word, c_char_p, c_size_t]),
-    "description": (c_size_t, [c_uint32, c_char_p, c_size_t]),
+    "description": (c_char_p, [c_uint32]),
     "fields_of": (_Fields, [_Word]),
     "edit_fields": (c_bool, [POINTER(_Fields), POINTER(_Edit), c_size_t]),
     "parse_edit": (c_bool, [c_char_p, c_size_t, POINTER(_Edit)]),
@@ -620,8 +620,8 @@ class FormatView:
     def parse(cls: Type[View], text: str) -> View:
         """Parses `0x` followed by 1 to 32 hexadecimal digits. Raises ValueError if the text has another form."""
         word, digits = _Word(), text.encode("utf-8", "surrogatepass")
-        if error := _library.parse_word(digits, len(digits), word):
-            raise ValueError(f"{text!r} is not a format word: {_text(_library.description, error)}")
+        if error := _library.parse_word(digits, len(digits), word, None):
+            raise ValueError(f"{text!r} is not a format word: {_library.description(error).decode()}")
         return cls(_joined(word))
 
     def mantissa_digit(self, byte: Byte) -> Optional[int]:
@@ -671,7 +671,7 @@ class FormatView:
     def edits(self) -> Tuple[Edit, ...]:
         """Returns an edit for each field of the word that differs from its default, in the order of the bits."""
         edits = (_Edit * _FIELD_COUNT)()
-        changed = _library.edits_of(self._halves(), edits)
+        changed = _library.edits_of(self._halves(), edits, len(edits))
         return tuple(Edit._of_numbers(edit) for edit in edits[:changed])
 
     def normal_form(self: View) -> View:

@@ -158,7 +158,7 @@ class Words(unittest.TestCase):
             rules = tuple(Rule)[:3] if number == "1" else (Rule(int(number)),)
             self.assertEqual([(it.text, it.rules) for it in view.reasons()], [(sentence, rules)])
             self.assertEqual(view.error(), error_of(error))
-            self.assertEqual(peltzivar._text(CALLS.description, view.error()), description)
+            self.assertEqual(CALLS.description(view.error()).decode(), description)
 
     def test_notes(self):
         self.assertEqual([it.mask for it in notes_of("digit_separator=95")], [0x1FFF << 32 | 0xFF << 64])

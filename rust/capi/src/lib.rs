@@ -20,6 +20,7 @@
 mod arguments;
 mod bytes;
 mod literals;
+mod names;
 mod numbers;
 mod reasons;
 mod settings;
