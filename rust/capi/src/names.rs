@@ -2,6 +2,7 @@
 
 use crate::numbers::{error_of, setter_number, ErrorNumber, Setter};
 use peltzivar::edits::ALL_SETTERS;
+use peltzivar::{Part, Role, Rule};
 
 /// Returns a text with a null byte or more behind it.
 const fn terminated<const SIZE: usize>(text: &str) -> [u8; SIZE] {
@@ -12,18 +13,6 @@ const fn terminated<const SIZE: usize>(text: &str) -> [u8; SIZE] {
         index += 1;
     }
     bytes
-}
-
-/// Returns texts with null bytes behind each.
-const fn all_terminated<const SIZE: usize, const COUNT: usize>(
-    texts: [&str; COUNT],
-) -> [[u8; SIZE]; COUNT] {
-    let (mut all, mut index) = ([[0; SIZE]; COUNT], 0);
-    while index < COUNT {
-        all[index] = terminated(texts[index]);
-        index += 1;
-    }
-    all
 }
 
 /// The names of setters by their numbers.
@@ -49,40 +38,33 @@ static DESCRIPTIONS: [[u8; 96]; 49] = {
 };
 
 /// The conditions of rules by their numbers.
-static CONDITIONS: [[u8; 96]; 17] = all_terminated([
-    "",
-    "the mantissa radix is between 2 and 36",
-    "the exponent base is between 2 and 36",
-    "the exponent radix is between 2 and 36",
-    "the digit separator is 0 or punctuation",
-    "the base prefix is 0 or punctuation",
-    "the base suffix is 0 or punctuation",
-    "no byte matches more than one of the digit separator, the base prefix and the base suffix",
-    "flags 6 and 14 are not both set",
-    "flags 4 and 5 are not both set",
-    "flags 7 and 8 are not both set",
-    "flags 10 and 11 are not both set",
-    "flags 10 and 44 are not both set",
-    "flag 41 is set only if flag 32, 35 or 38 is set",
-    "flag 42 is set only if flag 33, 36 or 39 is set",
-    "flag 43 is set only if flag 34, 37 or 40 is set",
-    "the reserved bits are 0",
-]);
+static CONDITIONS: [[u8; 96]; 17] = {
+    let (mut conditions, mut index) = ([[0; 96]; 17], 0);
+    while index < Rule::ALL.len() {
+        conditions[index + 1] = terminated(Rule::ALL[index].condition());
+        index += 1;
+    }
+    conditions
+};
 
 /// The names of roles by their numbers.
-static ROLES: [[u8; 10]; 8] = all_terminated([
-    "",
-    "digit",
-    "sign",
-    "separator",
-    "prefix",
-    "suffix",
-    "exponent",
-    "point",
-]);
+static ROLES: [[u8; 16]; 8] = [
+    [0; 16],
+    terminated(Role::Digit.name()),
+    terminated(Role::Sign.name()),
+    terminated(Role::Separator.name()),
+    terminated(Role::Prefix.name()),
+    terminated(Role::Suffix.name()),
+    terminated(Role::Exponent.name()),
+    terminated(Role::Point.name()),
+];
 
 /// The names of parts by their numbers.
-static PARTS: [[u8; 9]; 3] = all_terminated(["integer", "fraction", "exponent"]);
+static PARTS: [[u8; 16]; 3] = [
+    terminated(Part::Integer.name()),
+    terminated(Part::Fraction.name()),
+    terminated(Part::Exponent.name()),
+];
 
 /// Returns the text with an index, or an empty one.
 fn at<const SIZE: usize>(texts: &'static [[u8; SIZE]], index: impl TryInto<usize>) -> *const u8 {
