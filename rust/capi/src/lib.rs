@@ -19,6 +19,7 @@
 
 mod arguments;
 mod bytes;
+mod languages;
 mod literals;
 mod names;
 mod numbers;

@@ -5,11 +5,11 @@ use peltzivar::edits::ALL_SETTERS;
 use peltzivar::{Part, Role, Rule};
 
 /// Returns a text with a null byte or more behind it.
-const fn terminated<const SIZE: usize>(text: &str) -> [u8; SIZE] {
+pub const fn terminated<const SIZE: usize>(text: &[u8]) -> [u8; SIZE] {
     assert!(text.len() < SIZE);
     let (mut bytes, mut index) = ([0; SIZE], 0);
     while index < text.len() {
-        bytes[index] = text.as_bytes()[index];
+        bytes[index] = text[index];
         index += 1;
     }
     bytes
@@ -22,7 +22,7 @@ static SETTERS: [[u8; 48]; 137] = {
     while index > 0 {
         index -= 1;
         let setter = ALL_SETTERS[index];
-        names[setter_number(setter) as usize] = terminated(setter.name());
+        names[setter_number(setter) as usize] = terminated(setter.name().as_bytes());
     }
     names
 };
@@ -31,7 +31,7 @@ static SETTERS: [[u8; 48]; 137] = {
 static DESCRIPTIONS: [[u8; 96]; 49] = {
     let (mut descriptions, mut number) = ([[0; 96]; 49], 0);
     while let Some(error) = error_of(number, 0) {
-        descriptions[number as usize] = terminated(error.description());
+        descriptions[number as usize] = terminated(error.description().as_bytes());
         number += 1;
     }
     descriptions
@@ -41,7 +41,7 @@ static DESCRIPTIONS: [[u8; 96]; 49] = {
 static CONDITIONS: [[u8; 96]; 17] = {
     let (mut conditions, mut index) = ([[0; 96]; 17], 0);
     while index < Rule::ALL.len() {
-        conditions[index + 1] = terminated(Rule::ALL[index].condition());
+        conditions[index + 1] = terminated(Rule::ALL[index].condition().as_bytes());
         index += 1;
     }
     conditions
@@ -50,24 +50,27 @@ static CONDITIONS: [[u8; 96]; 17] = {
 /// The names of roles by their numbers.
 static ROLES: [[u8; 16]; 8] = [
     [0; 16],
-    terminated(Role::Digit.name()),
-    terminated(Role::Sign.name()),
-    terminated(Role::Separator.name()),
-    terminated(Role::Prefix.name()),
-    terminated(Role::Suffix.name()),
-    terminated(Role::Exponent.name()),
-    terminated(Role::Point.name()),
+    terminated(Role::Digit.name().as_bytes()),
+    terminated(Role::Sign.name().as_bytes()),
+    terminated(Role::Separator.name().as_bytes()),
+    terminated(Role::Prefix.name().as_bytes()),
+    terminated(Role::Suffix.name().as_bytes()),
+    terminated(Role::Exponent.name().as_bytes()),
+    terminated(Role::Point.name().as_bytes()),
 ];
 
 /// The names of parts by their numbers.
 static PARTS: [[u8; 16]; 3] = [
-    terminated(Part::Integer.name()),
-    terminated(Part::Fraction.name()),
-    terminated(Part::Exponent.name()),
+    terminated(Part::Integer.name().as_bytes()),
+    terminated(Part::Fraction.name().as_bytes()),
+    terminated(Part::Exponent.name().as_bytes()),
 ];
 
 /// Returns the text with an index, or an empty one.
-fn at<const SIZE: usize>(texts: &'static [[u8; SIZE]], index: impl TryInto<usize>) -> *const u8 {
+pub fn at<const SIZE: usize>(
+    texts: &'static [[u8; SIZE]],
+    index: impl TryInto<usize>,
+) -> *const u8 {
     let index = index.try_into().unwrap_or(usize::MAX);
     texts.get(index).map_or(&[0][..], |it| it).as_ptr()
 }
