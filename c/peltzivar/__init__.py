@@ -7,30 +7,35 @@
     >>> print(format)
     0x0000100078000000000000000000000C
 
-This module needs the shared library of peltzivar.h, but no other package. `make install` installs both. Otherwise, set
-PELTZIVAR_LIBRARY to the path of the library, or put it beside this file. If the library is not found, importing this
+This module needs the shared library of peltzivar.h, but no other package. `make install` and pip install both. Otherwise,
+set PELTZIVAR_LIBRARY to the path of the library, or put it beside this file. If the library is not found, importing this
 module raises an ImportError.
 
 A word is lawful if it satisfies all rules. A `FormatView` holds any word, and a `Format` holds a lawful word. In the
-repository, docs/FORMAT.md describes the fields and the rules.
+repository, docs/FORMAT.md describes the fields and the rules. A value of a wrong type raises a TypeError, and any other
+wrong value a ValueError. Both name the argument.
 """
 
 from __future__ import annotations
 
+import functools
 import operator
 import os
+import reprlib
 from ctypes import CDLL, POINTER, Structure, c_bool, c_char_p, c_size_t, c_uint8, c_uint32, c_uint64
 from ctypes import create_string_buffer
-from enum import IntEnum
+from dataclasses import dataclass
+from enum import Enum
 from itertools import count, takewhile
 from pathlib import Path
 from types import SimpleNamespace
-from typing import Any, Dict, Iterable, List, NamedTuple, Optional, Tuple, Type, TypeVar, Union
+from typing import Any, Callable, Dict, Iterable, List, Optional, Tuple, Type, TypeVar, Union, cast
 
-__all__ = ["STANDARD", "Byte", "Edit", "Error", "Format", "FormatError", "FormatView", "Note", "Part", "Reason", "Role"]
-__all__ += ["Rule", "Separators", "Setter", "Value", "notes_of"]
+__all__ = ["STANDARD", "Byte", "Edit", "Error", "Format", "FormatError", "FormatView", "Note", "OptionsError", "Part"]
+__all__ += ["Reason", "Role", "Rule", "Separators", "Setter", "Value", "notes_of"]
 
-# Made by make_python.py from peltzivar.h.
+# Made by make_python.py: constants
+__version__ = "0.6.0"
 _VERSION = 0x000600
 STANDARD = 0x00000A0000000000000000000000000C
 _NEW_FIELDS = (0xC, 0, 0, 0, 10, 0, 0)
@@ -39,8 +44,8 @@ _SOURCE_SIZE = 2048
 _TEXT_SIZE = 256
 
 
-class Setter(IntEnum):
-    """The number of each setter. A member has the name of the setter in uppercase."""
+class Setter(Enum):
+    """The setters. A member has the name of the setter in uppercase."""
 
     REQUIRED_INTEGER_DIGITS = 0
     REQUIRED_FRACTION_DIGITS = 1
@@ -89,9 +94,12 @@ class Setter(IntEnum):
     FRACTION_DIGIT_SEPARATOR_FLAGS = 135
     EXPONENT_DIGIT_SEPARATOR_FLAGS = 136
 
+    def __str__(self) -> str:
+        return self.name
 
-class Rule(IntEnum):
-    """The number of each rule, in the order in which the rules are checked."""
+
+class Rule(Enum):
+    """The rules, in the order in which they are checked."""
 
     MANTISSA_RADIX_IN_RANGE = 1
     EXPONENT_BASE_IN_RANGE = 2
@@ -110,9 +118,12 @@ class Rule(IntEnum):
     EXPONENT_CONSECUTIVE_IS_ALLOWED = 15
     RESERVED_BITS_ARE_ZERO = 16
 
+    def __str__(self) -> str:
+        return self.name
 
-class Error(IntEnum):
-    """The number of each error, and of success, which is 0."""
+
+class Error(Enum):
+    """The errors, and success, which is 0 and false."""
 
     SUCCESS = 0
     OVERFLOW = 1
@@ -164,16 +175,30 @@ class Error(IntEnum):
     INVALID_NEGATIVE_EXPONENT_BREAK = 47
     INVALID_POSITIVE_EXPONENT_BREAK = 48
 
+    def __str__(self) -> str:
+        return self.name
 
-class Part(IntEnum):
+    def __bool__(self) -> bool:
+        return self is not Error.SUCCESS
+
+    @property
+    def description(self) -> str:
+        """The description of the error in single quotes."""
+        return _text(_library.description, self.value)
+
+
+class Part(Enum):
     """The parts of a number that can have digit separators."""
 
     INTEGER = 0
     FRACTION = 1
     EXPONENT = 2
 
+    def __str__(self) -> str:
+        return self.name
 
-class Role(IntEnum):
+
+class Role(Enum):
     """The roles of a byte in a number."""
 
     DIGIT = 1
@@ -183,6 +208,9 @@ class Role(IntEnum):
     SUFFIX = 5
     EXPONENT = 6
     POINT = 7
+
+    def __str__(self) -> str:
+        return self.name
 
 
 class _Word(Structure):
@@ -221,8 +249,6 @@ class _Separators(Structure):
 
 
 _CALLS: Dict[str, Tuple[Any, List[Any]]] = {
-    "build": (c_bool, [POINTER(_Edit), c_size_t, POINTER(_Word)]),
-    "edit_word": (c_bool, [_Word, POINTER(_Edit), c_size_t, POINTER(_Word)]),
     "check": (c_uint32, [_Word]),
     "normal_form": (_Word, [_Word]),
     "is_built": (c_bool, [_Word]),
@@ -234,6 +260,7 @@ _CALLS: Dict[str, Tuple[Any, List[Any]]] = {
     "description": (c_size_t, [c_uint32, c_char_p, c_size_t]),
     "fields_of": (_Fields, [_Word]),
     "edit_fields": (c_bool, [POINTER(_Fields), POINTER(_Edit), c_size_t]),
+    "pack": (_Word, [POINTER(_Fields)]),
     "parse_edit": (c_bool, [c_char_p, c_size_t, POINTER(_Edit)]),
     "setting_error_text": (c_size_t, [c_char_p, c_size_t, c_char_p, c_size_t]),
     "edit_text": (c_size_t, [_Edit, c_char_p, c_size_t]),
@@ -253,7 +280,6 @@ _CALLS: Dict[str, Tuple[Any, List[Any]]] = {
     "is_base_suffix": (c_bool, [_Word, c_uint8]),
     "role_of": (c_uint8, [_Word, c_uint8, c_uint8, c_uint8]),
 }
-
 # End
 
 
@@ -296,14 +322,19 @@ def _load() -> Any:
 
 _library = _load()
 
-# The value of a setting. A flag or a group takes a bool. A byte takes an ASCII character, a number, or None (absent).
-Value = Union[bool, int, str, None]
-# A byte, as a number or as an ASCII character.
-Byte = Union[int, str]
+# A byte: a number from 0 to 255, or one ASCII character.
+Byte = Union[int, str, bytes]
+# The value of a setting. A flag or a group takes a bool, a radix or base a number, and another field a Byte. None is an
+# absent byte.
+Value = Union[bool, Byte, None]
 View = TypeVar("View", bound="FormatView")
+Call = TypeVar("Call", bound=Callable[..., Any])
 
 # The result of a call for a byte that is not a digit.
 _NO_DIGIT = (1 << 32) - 1
+_RADIXES = (Setter.MANTISSA_RADIX, Setter.EXPONENT_BASE, Setter.EXPONENT_RADIX)
+_BYTES = (Setter.DIGIT_SEPARATOR, Setter.BASE_PREFIX, Setter.BASE_SUFFIX)
+_SETTERS = {**{it.name.lower(): it for it in Setter}, "radix": Setter.MANTISSA_RADIX}
 
 
 def _text(call: Any, *arguments: Any, size: int = _TEXT_SIZE) -> str:
@@ -318,39 +349,53 @@ def _texts(call: Any, *of: Any) -> Iterable[str]:
     return takewhile(bool, (_text(call, *of, index) for index in count()))
 
 
-def _split(word: int) -> _Word:
-    """Returns the halves of a word."""
-    return _Word(word & (1 << 64) - 1, word >> 64)
-
-
 def _joined(halves: _Word) -> int:
     """Returns the word of two halves."""
     return int(halves.high << 64 | halves.low)
 
 
-def _value(setter: int, byte: int) -> Value:
-    """Returns the value that is written as this byte."""
-    if setter in (Setter.MANTISSA_RADIX, Setter.EXPONENT_BASE, Setter.EXPONENT_RADIX):
-        return None if byte == 0 and setter != Setter.MANTISSA_RADIX else byte
-    if setter in (Setter.DIGIT_SEPARATOR, Setter.BASE_PREFIX, Setter.BASE_SUFFIX):
-        return chr(byte) if 0 < byte < 128 else byte or None
-    return bool(byte)
+def _wrong_type(name: str, wanted: str, value: object) -> TypeError:
+    return TypeError(f"{name} is {wanted}, not {type(value).__name__}")
 
 
-def _byte(byte: Byte) -> int:
-    """Returns a byte as a number, or -1 for a number or a character that is not a byte."""
-    if isinstance(byte, str):
-        return ord(byte) if ord(byte) < 128 else -1
-    return operator.index(byte) if 0 <= operator.index(byte) < 256 else -1
+def _number(name: str, value: object, limit: int = 256, wanted: str = "a number from 0 to 255") -> int:
+    """Returns a number below the limit. Raises an error that names the argument if the value is not one."""
+    if isinstance(value, bool) or not hasattr(type(value), "__index__"):
+        raise _wrong_type(name, wanted, value)
+    number = operator.index(cast(int, value))
+    if not 0 <= number < limit:
+        raise ValueError(f"{name} is {wanted}: {number:#x}")
+    return number
 
 
-def _options(exponent: Byte, decimal_point: Byte) -> Tuple[int, int]:
-    """Returns an exponent character and a decimal point as numbers."""
-    options = _byte(exponent), _byte(decimal_point)
-    if min(options) < 0:
-        given = f"{exponent!r}, {decimal_point!r}"
-        raise ValueError(f"an option is an ASCII character or a number from 0 to 255: {given}")
-    return options
+def _byte(name: str, value: object) -> int:
+    """Returns a byte as a number. Raises an error that names the argument if the value is not a byte."""
+    wanted = "one ASCII character or a number from 0 to 255"
+    if not isinstance(value, (str, bytes)):
+        return _number(name, value, wanted=wanted)
+    if len(value) != 1 or isinstance(value, str) and not value.isascii():
+        raise ValueError(f"{name} is {wanted}: {reprlib.repr(value)}")
+    return ord(value)
+
+
+def _ascii(name: str, text: object) -> bytes:
+    """Returns a text as bytes. Raises an error that names the argument if it is not a text."""
+    if not isinstance(text, str):
+        raise _wrong_type(name, "a str", text)
+    return text.encode("utf-8", "surrogatepass")
+
+
+def _takes_fields(call: Call) -> Call:
+    """Makes a call pass its keyword arguments as edits, in order and behind its settings."""
+
+    @functools.wraps(call)
+    def calling(*settings: Any, **fields: Any) -> Any:
+        for name in fields:
+            if name not in _SETTERS:
+                raise TypeError(f"{call.__name__}() got an unexpected keyword argument {name!r}")
+        return call(*settings, *(Edit.of(name, value) for name, value in fields.items()))
+
+    return cast(Call, calling)
 
 
 class Edit:
@@ -364,19 +409,20 @@ class Edit:
     __slots__ = ("_edit",)
 
     def __init__(self, text: str) -> None:
-        self._edit = _Edit()
-        setting = text.encode("utf-8", "surrogatepass")
+        self._edit, setting = _Edit(), _ascii("a setting", text)
         if not _library.parse_edit(setting, len(setting), self._edit):
             raise ValueError(f"{text}: {_text(_library.setting_error_text, setting, len(setting))}")
 
     @classmethod
-    def of(cls, name: str, value: Value) -> Edit:
-        """Returns the edit with this setter name and this value, such as `Edit.of("digit_separator", "_")`."""
-        if isinstance(value, bool):
-            return cls(f"{name}={str(value).lower()}")
-        if isinstance(value, str):
-            return cls(f"{name}='{value}'")
-        return cls(f"{name}={'none' if value is None else operator.index(value)}")
+    def of(cls, setter: Union[Setter, str], value: Value) -> Edit:
+        """Returns the edit with this setter, or the setter with this name, and this value, such as
+        `Edit.of("digit_separator", "_")`. Raises TypeError or ValueError if the setter does not take the value."""
+        if not isinstance(setter, (Setter, str)):
+            raise _wrong_type("a setter", "a Setter or its name", setter)
+        named = setter if isinstance(setter, Setter) else _SETTERS.get(setter)
+        if named is None:
+            raise ValueError(f"unknown setting name: {reprlib.repr(setter)}")
+        return cls._of_numbers(_Edit(named.value, _number_of(named, value)))
 
     @classmethod
     def _of_numbers(cls, numbers: _Edit) -> Edit:
@@ -385,14 +431,21 @@ class Edit:
         return edit
 
     @property
-    def name(self) -> str:
-        """The name of the setter."""
-        return Setter(self._edit.setter).name.lower()
+    def setter(self) -> Setter:
+        """The setter."""
+        return Setter(self._edit.setter)
 
     @property
-    def value(self) -> Value:
+    def name(self) -> str:
+        """The name of the setter in lower case."""
+        return self.setter.name.lower()
+
+    @property
+    def value(self) -> Union[bool, int, str, None]:
         """The value: a bool, an ASCII character, a number, or None. A byte of 128 or more is a number."""
-        return _value(self._edit.setter, self._edit.value)
+        if self.setter in _RADIXES or self.setter in _BYTES:
+            return _field_of(self.setter, self._edit.value)
+        return bool(self._edit.value)
 
     @property
     def mask(self) -> int:
@@ -415,8 +468,31 @@ class Edit:
         return hash(str(self))
 
 
-class Reason(NamedTuple):
-    """A reason why a word breaks rules: its text, a mask of the bits that it blames, and the rules.
+def _number_of(setter: Setter, value: Value) -> int:
+    """Returns the number of a value. Raises an error that names the setter if it does not take the value."""
+    name = setter.name.lower()
+    if value is None and (setter in _BYTES or setter in _RADIXES[1:]):
+        return 0
+    if setter in _BYTES:
+        return _byte(name, value)
+    if setter in _RADIXES:
+        return _number(name, value)
+    if not isinstance(value, bool):
+        raise _wrong_type(name, "a bool", value)
+    return value
+
+
+def _field_of(setter: Setter, byte: int) -> Union[int, str, None]:
+    """Returns the value of a byte of a format."""
+    if setter in _BYTES:
+        return chr(byte) if 0 < byte < 128 else byte or None
+    return None if byte == 0 and setter != Setter.MANTISSA_RADIX else byte
+
+
+@dataclass(frozen=True)
+class Reason:
+    """A reason why a word breaks rules, or why options do not fit it: its text, a mask of the bits that it blames, and
+    the rules. Options break no rule.
 
     An edit is to blame if its mask has a bit in common with this mask that no later edit writes.
     """
@@ -429,7 +505,8 @@ class Reason(NamedTuple):
         return self.text
 
 
-class Note(NamedTuple):
+@dataclass(frozen=True)
+class Note:
     """A note on fields that have no effect: its text, and a mask of the bits of these fields."""
 
     text: str
@@ -439,7 +516,8 @@ class Note(NamedTuple):
         return self.text
 
 
-class Separators(NamedTuple):
+@dataclass(frozen=True)
+class Separators:
     """Where a part of a number may have digit separators: between, before and after digits, and several in a row."""
 
     internal: bool
@@ -449,12 +527,24 @@ class Separators(NamedTuple):
 
 
 class FormatError(ValueError):
-    """Raised if a word is not lawful. `view` is the view of the word, and `reasons` has each reason."""
+    """Raised if a word is not lawful. `view` is the view of the word, `error` its error, and `reasons` each reason."""
 
     def __init__(self, view: FormatView) -> None:
         super().__init__(view)
         self.view = view
+        self.error = view.error()
         self.reasons = view.reasons()
+
+    def __str__(self) -> str:
+        return "; ".join(reason.text for reason in self.reasons)
+
+
+class OptionsError(ValueError):
+    """Raised if an exponent character and a decimal point do not fit a format. `reasons` has each reason."""
+
+    def __init__(self, *reasons: Reason) -> None:
+        super().__init__(*reasons)
+        self.reasons = reasons
 
     def __str__(self) -> str:
         return "; ".join(reason.text for reason in self.reasons)
@@ -467,22 +557,30 @@ class _Field:
         self.__doc__ = meaning
 
     def __set_name__(self, owner: type, name: str) -> None:
-        self._name, self._setter = name, Setter[name.upper()]
+        self._name, self._setter = name, _SETTERS[name]
 
     def __get__(self, view: Optional[FormatView], owner: type) -> Any:
         if view is None:
             return self
-        if 64 <= self._setter < 128:
-            byte = getattr(view._fields(), self._name)
-            return byte if self._setter >= Setter.MANTISSA_RADIX else _value(self._setter, byte)
-        return bool(_library.flag(view._halves(), self._setter))
+        if self._setter in _BYTES:
+            return _field_of(self._setter, getattr(view._unpacked(), self._name))
+        if self._setter in _RADIXES:
+            return getattr(view._unpacked(), self._name)
+        return bool(_library.flag(view._halves, self._setter.value))
 
     def __set__(self, view: FormatView, value: Value) -> None:
         raise AttributeError(f"a view does not change: edit({self._name}={value!r}) returns another one")
 
+    def __repr__(self) -> str:
+        return f"<field {self._name}>"
+
 
 def _field(meaning: str) -> Any:
     return _Field(meaning)
+
+
+# The default of an argument whose field keeps its value.
+_KEPT: Any = ...
 
 
 class FormatView:
@@ -494,9 +592,9 @@ class FormatView:
     Raises ValueError if the word is negative or has more than 128 bits.
     """
 
-    __slots__ = ("_word",)
+    __slots__ = ("_word", "_halves")
 
-    # Made by make_python.py from the documentation of the setters.
+    # Made by make_python.py: attributes
     required_integer_digits: bool = _field("Whether the format requires digits before the decimal point. If so, a parser rejects `.5`.")
     required_fraction_digits: bool = _field("Whether the format requires digits after a decimal point. If so, a parser rejects `1.` but accepts `1`.")
     required_exponent_digits: bool = _field("Whether the format requires digits after an exponent character. If so, a parser rejects `1e`. The default is `true`.")
@@ -528,9 +626,9 @@ class FormatView:
     fraction_consecutive_digit_separator: bool = _field("Whether the format allows consecutive digit separators in the fraction. If so, a parser accepts several separators in a row wherever it accepts a single one: `0.1__2`, `0.__12`, `0.12__`. In a lawful format, this flag is set only if the internal, leading or trailing separator flag of the fraction is set too.")
     exponent_consecutive_digit_separator: bool = _field("Whether the format allows consecutive digit separators in the exponent. If so, a parser accepts several separators in a row wherever it accepts a single one: `1e1__2`, `1e__12`, `1e12__`. In a lawful format, this flag is set only if the internal, leading or trailing separator flag of the exponent is set too.")
     special_digit_separator: bool = _field("Whether the format allows digit separators in special values. If so, a parser accepts `N__a_N_` as `NaN`. Digit separators can be before, between and after the letters, and can be consecutive.")
-    digit_separator: Value = _field("The digit separator: the byte that separates groups of digits, such as the `_` in `1_000`.")
-    base_prefix: Value = _field("The base prefix: the byte that may follow a leading zero to indicate the radix, such as the `x` in `0x1F`.")
-    base_suffix: Value = _field("The base suffix: the byte that may follow the digits to indicate the radix, such as the `h` in `1Fh`.")
+    digit_separator: Union[str, int, None] = _field("The digit separator: the byte that separates groups of digits, such as the `_` in `1_000`.")
+    base_prefix: Union[str, int, None] = _field("The base prefix: the byte that may follow a leading zero to indicate the radix, such as the `x` in `0x1F`.")
+    base_suffix: Union[str, int, None] = _field("The base suffix: the byte that may follow the digits to indicate the radix, such as the `h` in `1Fh`.")
     mantissa_radix: int = _field("The mantissa radix: the radix of the integer and fraction digits.")
     exponent_base: int = _field("The exponent base: the base that is raised to the exponent, such as the 2 in 1 * 2^3.")
     exponent_radix: int = _field("The exponent radix: the radix of the exponent digits.")
@@ -546,85 +644,190 @@ class FormatView:
     # End
 
     def __init__(self, word: int = STANDARD) -> None:
-        self._word = operator.index(word)
-        if not 0 <= self._word < 1 << 128:
-            raise ValueError(f"a format word has 128 bits: {self._word:#x}")
+        self._word = _number("a format word", word, 1 << 128, "a number of at most 128 bits")
+        self._halves = _Word(self._word & (1 << 64) - 1, self._word >> 64)
 
     @classmethod
-    def of(cls: Type[View], *settings: Union[Edit, str], **fields: Value) -> View:
-        """Applies the settings to the default fields in order, and returns a view of the word.
+    @_takes_fields
+    def of(
+        cls: Type[View],
+        *settings: Union[Edit, str],
+        # Made by make_python.py: parameters
+        required_integer_digits: bool = _KEPT,
+        required_fraction_digits: bool = _KEPT,
+        required_exponent_digits: bool = _KEPT,
+        required_mantissa_digits: bool = _KEPT,
+        no_positive_mantissa_sign: bool = _KEPT,
+        required_mantissa_sign: bool = _KEPT,
+        no_exponent_notation: bool = _KEPT,
+        no_positive_exponent_sign: bool = _KEPT,
+        required_exponent_sign: bool = _KEPT,
+        no_exponent_without_fraction: bool = _KEPT,
+        no_special: bool = _KEPT,
+        case_sensitive_special: bool = _KEPT,
+        no_integer_leading_zeros: bool = _KEPT,
+        no_float_leading_zeros: bool = _KEPT,
+        required_exponent_notation: bool = _KEPT,
+        case_sensitive_exponent: bool = _KEPT,
+        case_sensitive_base_prefix: bool = _KEPT,
+        case_sensitive_base_suffix: bool = _KEPT,
+        integer_internal_digit_separator: bool = _KEPT,
+        fraction_internal_digit_separator: bool = _KEPT,
+        exponent_internal_digit_separator: bool = _KEPT,
+        integer_leading_digit_separator: bool = _KEPT,
+        fraction_leading_digit_separator: bool = _KEPT,
+        exponent_leading_digit_separator: bool = _KEPT,
+        integer_trailing_digit_separator: bool = _KEPT,
+        fraction_trailing_digit_separator: bool = _KEPT,
+        exponent_trailing_digit_separator: bool = _KEPT,
+        integer_consecutive_digit_separator: bool = _KEPT,
+        fraction_consecutive_digit_separator: bool = _KEPT,
+        exponent_consecutive_digit_separator: bool = _KEPT,
+        special_digit_separator: bool = _KEPT,
+        digit_separator: Optional[Byte] = _KEPT,
+        base_prefix: Optional[Byte] = _KEPT,
+        base_suffix: Optional[Byte] = _KEPT,
+        mantissa_radix: int = _KEPT,
+        exponent_base: Optional[int] = _KEPT,
+        exponent_radix: Optional[int] = _KEPT,
+        required_digits: bool = _KEPT,
+        internal_digit_separator: bool = _KEPT,
+        leading_digit_separator: bool = _KEPT,
+        trailing_digit_separator: bool = _KEPT,
+        consecutive_digit_separator: bool = _KEPT,
+        digit_separator_flags: bool = _KEPT,
+        integer_digit_separator_flags: bool = _KEPT,
+        fraction_digit_separator_flags: bool = _KEPT,
+        exponent_digit_separator_flags: bool = _KEPT,
+        radix: int = _KEPT,
+        # End
+    ) -> View:
+        """Applies the settings and then the fields, in order, to the default fields, and returns a view of the word.
 
             FormatView.of(mantissa_radix=16, base_prefix="x")
             FormatView.of("mantissa_radix=16", "base_prefix='x'")
 
-        A digit separator that no flag allows is dropped, and `notes_of` reports it. Raises ValueError if a setting is
-        invalid.
+        If no flag allows the digit separator, a `FormatView` drops it, and `notes_of` reports it. A `Format` raises a
+        ValueError then, and a FormatError if the word is not lawful.
         """
-        edits, word = _edits_of(settings, fields), _Word()
-        _library.build(edits, len(edits), word)
-        return cls(_joined(word))
+        return cls._packed(_Fields(*_NEW_FIELDS), settings)
 
     @classmethod
     def parse(cls: Type[View], text: str) -> View:
         """Parses `0x` followed by 1 to 32 hexadecimal digits. Raises ValueError if the text has another form."""
-        word, digits = _Word(), text.encode("utf-8", "surrogatepass")
+        word, digits = _Word(), _ascii("the text of a format word", text)
         if error := _library.parse_word(digits, len(digits), word):
-            raise ValueError(f"{text!r} is not a format word: {_text(_library.description, error)}")
+            raise ValueError(f"{reprlib.repr(text)} is not a format word: {Error(error).description}")
         return cls(_joined(word))
 
     def mantissa_digit(self, byte: Byte) -> Optional[int]:
         """Returns the value of a byte as a digit of the integer or the fraction, or None if it is not one."""
-        return self._digit(_library.mantissa_digit, byte)
+        digit = _library.mantissa_digit(self._halves, _byte("a byte", byte))
+        return None if digit == _NO_DIGIT else int(digit)
 
     def exponent_digit(self, byte: Byte) -> Optional[int]:
         """Returns the value of a byte as a digit of the exponent, or None if it is not one."""
-        return self._digit(_library.exponent_digit, byte)
+        digit = _library.exponent_digit(self._halves, _byte("a byte", byte))
+        return None if digit == _NO_DIGIT else int(digit)
 
     def separators(self, part: Part) -> Separators:
         """Returns where a part of a number may have digit separators, such as `separators(Part.FRACTION).internal`."""
-        allowed = _library.separators_of(self._halves(), Part(part))
+        if not isinstance(part, Part):
+            raise _wrong_type("part", "a Part", part)
+        allowed = _library.separators_of(self._halves, part.value)
         return Separators(allowed.internal, allowed.leading, allowed.trailing, allowed.consecutive)
 
     def is_separator(self, byte: Byte) -> bool:
         """Returns whether a byte is the digit separator, and some flag allows it."""
-        return self._is(_library.is_separator, byte)
+        return bool(_library.is_separator(self._halves, _byte("a byte", byte)))
 
     def is_base_prefix(self, byte: Byte) -> bool:
         """Returns whether the base prefix matches a byte. A letter matches both cases unless it is case-sensitive."""
-        return self._is(_library.is_base_prefix, byte)
+        return bool(_library.is_base_prefix(self._halves, _byte("a byte", byte)))
 
     def is_base_suffix(self, byte: Byte) -> bool:
         """Returns whether the base suffix matches a byte. A letter matches both cases unless it is case-sensitive."""
-        return self._is(_library.is_base_suffix, byte)
+        return bool(_library.is_base_suffix(self._halves, _byte("a byte", byte)))
 
-    def role_of(self, exponent: Byte, decimal_point: Byte, byte: Byte) -> Optional[Role]:
-        """Returns the first role that a byte has in numbers with these options, or None. An option that is 0 matches no
-        byte. If this is a `Format` and the options fit it, no byte has two roles."""
-        options, number = _options(exponent, decimal_point), _byte(byte)
-        role = _library.role_of(self._halves(), *options, number) if number >= 0 else 0
+    def role_of(self, byte: Byte, *, exponent: Byte = 0, point: Byte = 0) -> Optional[Role]:
+        """Returns the first role that a byte has in numbers with this exponent character and this decimal point, or
+        None. An option that is 0 matches no byte. If this is a `Format` and the options fit it, no byte has two roles.
+        """
+        options = _byte("exponent", exponent), _byte("point", point)
+        role = _library.role_of(self._halves, *options, _byte("a byte", byte))
         return Role(role) if role else None
 
-    def edit(self: View, *settings: Union[Edit, str], **fields: Value) -> View:
-        """Applies the settings to the word in order, and returns a view of the new word.
+    @_takes_fields
+    def edit(
+        self: View,
+        *settings: Union[Edit, str],
+        # Made by make_python.py: parameters
+        required_integer_digits: bool = _KEPT,
+        required_fraction_digits: bool = _KEPT,
+        required_exponent_digits: bool = _KEPT,
+        required_mantissa_digits: bool = _KEPT,
+        no_positive_mantissa_sign: bool = _KEPT,
+        required_mantissa_sign: bool = _KEPT,
+        no_exponent_notation: bool = _KEPT,
+        no_positive_exponent_sign: bool = _KEPT,
+        required_exponent_sign: bool = _KEPT,
+        no_exponent_without_fraction: bool = _KEPT,
+        no_special: bool = _KEPT,
+        case_sensitive_special: bool = _KEPT,
+        no_integer_leading_zeros: bool = _KEPT,
+        no_float_leading_zeros: bool = _KEPT,
+        required_exponent_notation: bool = _KEPT,
+        case_sensitive_exponent: bool = _KEPT,
+        case_sensitive_base_prefix: bool = _KEPT,
+        case_sensitive_base_suffix: bool = _KEPT,
+        integer_internal_digit_separator: bool = _KEPT,
+        fraction_internal_digit_separator: bool = _KEPT,
+        exponent_internal_digit_separator: bool = _KEPT,
+        integer_leading_digit_separator: bool = _KEPT,
+        fraction_leading_digit_separator: bool = _KEPT,
+        exponent_leading_digit_separator: bool = _KEPT,
+        integer_trailing_digit_separator: bool = _KEPT,
+        fraction_trailing_digit_separator: bool = _KEPT,
+        exponent_trailing_digit_separator: bool = _KEPT,
+        integer_consecutive_digit_separator: bool = _KEPT,
+        fraction_consecutive_digit_separator: bool = _KEPT,
+        exponent_consecutive_digit_separator: bool = _KEPT,
+        special_digit_separator: bool = _KEPT,
+        digit_separator: Optional[Byte] = _KEPT,
+        base_prefix: Optional[Byte] = _KEPT,
+        base_suffix: Optional[Byte] = _KEPT,
+        mantissa_radix: int = _KEPT,
+        exponent_base: Optional[int] = _KEPT,
+        exponent_radix: Optional[int] = _KEPT,
+        required_digits: bool = _KEPT,
+        internal_digit_separator: bool = _KEPT,
+        leading_digit_separator: bool = _KEPT,
+        trailing_digit_separator: bool = _KEPT,
+        consecutive_digit_separator: bool = _KEPT,
+        digit_separator_flags: bool = _KEPT,
+        integer_digit_separator_flags: bool = _KEPT,
+        fraction_digit_separator_flags: bool = _KEPT,
+        exponent_digit_separator_flags: bool = _KEPT,
+        radix: int = _KEPT,
+        # End
+    ) -> View:
+        """Applies the settings and then the fields to the word, in order, and returns a view of the new word.
 
-        Before the settings are applied, the mantissa radix replaces an absent exponent base or exponent radix. After
-        they are applied, a digit separator that no flag allows is dropped. So set a digit separator and its flags in
-        one call. Raises ValueError if a setting is invalid, and FormatError if this view is a `Format` but the new word
-        is not lawful.
+        Before that, the mantissa radix replaces an absent exponent base or exponent radix. After that, a digit separator
+        that no flag allows is dropped. So set a digit separator and its flags in one call. A `Format` raises a
+        ValueError if it would drop a separator that was passed, and a FormatError if the new word is not lawful.
         """
-        edits, word = _edits_of(settings, fields), _Word()
-        _library.edit_word(self._halves(), edits, len(edits), word)
-        return type(self)(_joined(word))
+        return self._packed(self._unpacked(), settings)
 
     def edits(self) -> Tuple[Edit, ...]:
         """Returns an edit for each field of the word that differs from its default, in the order of the bits."""
         edits = (_Edit * _FIELD_COUNT)()
-        changed = _library.edits_of(self._halves(), edits)
+        changed = _library.edits_of(self._halves, edits)
         return tuple(Edit._of_numbers(edit) for edit in edits[:changed])
 
     def normal_form(self: View) -> View:
         """Returns the normal form of the word. Equivalent words have the same normal form."""
-        return type(self)(_joined(_library.normal_form(self._halves())))
+        return type(self)(_joined(_library.normal_form(self._halves)))
 
     def check(self) -> Format:
         """Returns the word as a `Format`. Raises FormatError if the word is not lawful."""
@@ -632,46 +835,43 @@ class FormatView:
 
     def error(self) -> Error:
         """Returns the error of the first rule that the word breaks, or `Error.SUCCESS` if the word is lawful."""
-        return Error(_library.check(self._halves()))
+        return Error(_library.check(self._halves))
 
     def reasons(self) -> Tuple[Reason, ...]:
         """Returns each reason why the word is not lawful."""
-        word = self._halves()
-        return tuple(self._reason(*it) for it in enumerate(_texts(_library.reason_text, word)))
+        return tuple(self._reason(*it) for it in enumerate(_texts(_library.reason_text, self._halves)))
 
-    def options_reasons(self, exponent: Byte, decimal_point: Byte) -> Tuple[Reason, ...]:
-        """Returns each reason why an exponent character and a decimal point do not fit the word. It breaks no rule."""
-        options = self._halves(), *_options(exponent, decimal_point)
+    def options_reasons(self, exponent: Byte, point: Byte) -> Tuple[Reason, ...]:
+        """Returns each reason why an exponent character and a decimal point do not fit the word."""
+        options = self._halves, _byte("exponent", exponent), _byte("point", point)
         masks = (_joined(_library.options_reason_mask(*options, index)) for index in count())
         return tuple(Reason(text, mask, ()) for text, mask in zip(_texts(_library.options_reason_text, *options), masks))
 
     def notes(self) -> Tuple[Note, ...]:
         """Returns the notes on fields of the word that have no effect."""
-        return _notes(self._fields())
+        return _notes(self._unpacked())
 
     def source(self) -> str:
         """Returns Rust code that sets the fields of the word and packs them."""
-        return _text(_library.source, self._halves(), size=_SOURCE_SIZE)
+        return _text(_library.source, self._halves, size=_SOURCE_SIZE)
 
-    def _halves(self) -> _Word:
-        return _split(self._word)
+    @classmethod
+    def _packed(cls: Type[View], fields: _Fields, settings: Iterable[Union[Edit, str]]) -> View:
+        """Applies settings to fields, and returns a view of the word."""
+        edits = _apply(settings, fields)
+        view = cls(_joined(_library.pack(fields)))
+        is_dropped = fields.digit_separator and view.digit_separator is None
+        if is_dropped and issubclass(cls, Format) and Setter.DIGIT_SEPARATOR in [edit.setter for edit in edits]:
+            raise ValueError(f"no flag allows the digit separator {_field_of(Setter.DIGIT_SEPARATOR, fields.digit_separator)!r}")
+        return view
 
-    def _fields(self) -> Any:
-        return _library.fields_of(self._halves())
-
-    def _is(self, call: Any, byte: Byte) -> bool:
-        number = _byte(byte)
-        return number >= 0 and bool(call(self._halves(), number))
-
-    def _digit(self, call: Any, byte: Byte) -> Optional[int]:
-        number = _byte(byte)
-        digit = call(self._halves(), number) if number >= 0 else _NO_DIGIT
-        return None if digit == _NO_DIGIT else int(digit)
+    def _unpacked(self) -> _Fields:
+        return cast(_Fields, _library.fields_of(self._halves))
 
     def _reason(self, index: int, text: str) -> Reason:
-        word = self._halves()
-        rules = _library.reason_rules(word, index)
-        return Reason(text, _joined(_library.reason_mask(word, index)), tuple(it for it in Rule if rules >> it & 1))
+        rules = _library.reason_rules(self._halves, index)
+        mask = _joined(_library.reason_mask(self._halves, index))
+        return Reason(text, mask, tuple(it for it in Rule if rules >> it.value & 1))
 
     def __int__(self) -> int:
         return self._word
@@ -679,11 +879,15 @@ class FormatView:
     __index__ = __int__
 
     def __str__(self) -> str:
-        return _text(_library.word_text, self._halves())
+        return _text(_library.word_text, self._halves)
+
+    def __format__(self, specification: str) -> str:
+        """Formats the text of the word or, if the specification is one of numbers such as `#x`, the number."""
+        return format(self._word if specification.endswith(tuple("bdoxX")) else str(self), specification)
 
     def __repr__(self) -> str:
         name = type(self).__name__
-        if not _library.is_built(self._halves()):
+        if not _library.is_built(self._halves):
             return f"{name}({self})"
         return f"{name}.of({', '.join(f'{edit.name}={edit.value!r}' for edit in self.edits())})"
 
@@ -706,17 +910,69 @@ class Format(FormatView):
         if self.error():
             raise FormatError(FormatView(word))
 
-    def check_options(self, exponent: Byte, decimal_point: Byte) -> None:
-        """Raises ValueError with every reason if an exponent character and a decimal point do not fit the format."""
-        if reasons := self.options_reasons(exponent, decimal_point):
-            raise ValueError("; ".join(map(str, reasons)))
+    def check_options(self, exponent: Byte, point: Byte) -> None:
+        """Raises OptionsError with every reason if an exponent character and a decimal point do not fit the format."""
+        if reasons := self.options_reasons(exponent, point):
+            raise OptionsError(*reasons)
 
 
-def notes_of(*settings: Union[Edit, str], **fields: Value) -> Tuple[Note, ...]:
+@_takes_fields
+def notes_of(
+    *settings: Union[Edit, str],
+    # Made by make_python.py: parameters
+    required_integer_digits: bool = _KEPT,
+    required_fraction_digits: bool = _KEPT,
+    required_exponent_digits: bool = _KEPT,
+    required_mantissa_digits: bool = _KEPT,
+    no_positive_mantissa_sign: bool = _KEPT,
+    required_mantissa_sign: bool = _KEPT,
+    no_exponent_notation: bool = _KEPT,
+    no_positive_exponent_sign: bool = _KEPT,
+    required_exponent_sign: bool = _KEPT,
+    no_exponent_without_fraction: bool = _KEPT,
+    no_special: bool = _KEPT,
+    case_sensitive_special: bool = _KEPT,
+    no_integer_leading_zeros: bool = _KEPT,
+    no_float_leading_zeros: bool = _KEPT,
+    required_exponent_notation: bool = _KEPT,
+    case_sensitive_exponent: bool = _KEPT,
+    case_sensitive_base_prefix: bool = _KEPT,
+    case_sensitive_base_suffix: bool = _KEPT,
+    integer_internal_digit_separator: bool = _KEPT,
+    fraction_internal_digit_separator: bool = _KEPT,
+    exponent_internal_digit_separator: bool = _KEPT,
+    integer_leading_digit_separator: bool = _KEPT,
+    fraction_leading_digit_separator: bool = _KEPT,
+    exponent_leading_digit_separator: bool = _KEPT,
+    integer_trailing_digit_separator: bool = _KEPT,
+    fraction_trailing_digit_separator: bool = _KEPT,
+    exponent_trailing_digit_separator: bool = _KEPT,
+    integer_consecutive_digit_separator: bool = _KEPT,
+    fraction_consecutive_digit_separator: bool = _KEPT,
+    exponent_consecutive_digit_separator: bool = _KEPT,
+    special_digit_separator: bool = _KEPT,
+    digit_separator: Optional[Byte] = _KEPT,
+    base_prefix: Optional[Byte] = _KEPT,
+    base_suffix: Optional[Byte] = _KEPT,
+    mantissa_radix: int = _KEPT,
+    exponent_base: Optional[int] = _KEPT,
+    exponent_radix: Optional[int] = _KEPT,
+    required_digits: bool = _KEPT,
+    internal_digit_separator: bool = _KEPT,
+    leading_digit_separator: bool = _KEPT,
+    trailing_digit_separator: bool = _KEPT,
+    consecutive_digit_separator: bool = _KEPT,
+    digit_separator_flags: bool = _KEPT,
+    integer_digit_separator_flags: bool = _KEPT,
+    fraction_digit_separator_flags: bool = _KEPT,
+    exponent_digit_separator_flags: bool = _KEPT,
+    radix: int = _KEPT,
+    # End
+) -> Tuple[Note, ...]:
     """Returns the notes on the fields that settings write, also on a digit separator that `FormatView.of` drops."""
-    made, edits = _Fields(*_NEW_FIELDS), _edits_of(settings, fields)
-    _library.edit_fields(made, edits, len(edits))
-    return _notes(made)
+    fields = _Fields(*_NEW_FIELDS)
+    _apply(settings, fields)
+    return _notes(fields)
 
 
 def _notes(fields: _Fields) -> Tuple[Note, ...]:
@@ -725,8 +981,8 @@ def _notes(fields: _Fields) -> Tuple[Note, ...]:
     return tuple(Note(text, _joined(_library.note_mask(fields, index))) for index, text in texts)
 
 
-def _edits_of(settings: Iterable[Union[Edit, str]], fields: Dict[str, Value]) -> Any:
-    """Returns the edits of settings as an array."""
+def _apply(settings: Iterable[Union[Edit, str]], fields: _Fields) -> List[Edit]:
+    """Applies settings to fields, and returns their edits."""
     edits = [it if isinstance(it, Edit) else Edit(it) for it in settings]
-    edits += [Edit.of(name, value) for name, value in fields.items()]
-    return (_Edit * len(edits))(*(edit._edit for edit in edits))
+    _library.edit_fields(fields, (_Edit * len(edits))(*(edit._edit for edit in edits)), len(edits))
+    return edits
