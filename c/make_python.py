@@ -13,7 +13,7 @@ HERE = pathlib.Path(__file__).resolve().parent
 HEADER = HERE.joinpath("peltzivar.h").read_text()
 SETTERS = HERE.parent.joinpath("rust/src/format_builder/setters.rs").read_text()
 CODE = " ".join(re.sub(r"/\*.*?\*/|^#.*?$", "", HEADER, flags=re.S | re.M).split())
-STRUCTS = {name: f"_{name.partition('_')[2].title().replace('_', '')}" for name in re.findall(r"} (peltzivar_\w+);", CODE)}
+STRUCTS = {name: f"_{name[10:].title().replace('_', '')}" for name in re.findall(r"} (peltzivar_\w+);", CODE)}
 SET = [(name.lower(), int(bit)) for name, bit in re.findall(r"\bPELTZIVAR_SET_(\w+) = (\d+)", HEADER)]
 TYPES = {"bool": "c_bool", "size_t": "c_size_t", **STRUCTS}
 TYPES |= {f"uint{bits}_t": f"c_uint{bits}" for bits in (8, 32, 64)}
@@ -31,7 +31,13 @@ METHODS = {
     @property
     def description(self) -> str:
         """The description of the error in single quotes."""
-        return _text(_library.description, self.value)
+        return str(_library.description(self.value).decode())
+''',
+    "Rule": '''
+    @property
+    def condition(self) -> str:
+        """What the rule requires of a word."""
+        return str(_library.rule_condition(self.value).decode())
 ''',
 }
 
@@ -66,9 +72,10 @@ def constants(used):
     for row in (
         ("Setter", r"SET_(\w+)", "The setters. A member has the name of the setter in uppercase."),
         ("Rule", r"RULE_(\w+)", "The rules, in the order in which they are checked."),
-        ("Error", r"((?!SET_|RULE_|PART_|ROLE_)\w+)", "The errors, and success, which is 0 and false."),
+        ("Error", r"((?!SET_|RULE_|PART_|ROLE_|CAUSE_)\w+)", "The errors, and success, which is 0 and false."),
         ("Part", r"PART_(\w+)", "The parts of a number that can have digit separators."),
         ("Role", r"ROLE_((?!NONE)\w+)", "The roles of a byte in a number."),
+        ("Cause", r"CAUSE_(\w+)", "The kinds of causes why a text is not a literal."),
     ):
         yield from enumeration(*row)
     for body, struct in re.findall(r"typedef struct { (.*?) } (\w+);", CODE):
@@ -77,10 +84,10 @@ def constants(used):
         yield from (f'        ("{member}", {TYPES[kind]}),' for member, kind in members)
         yield "    ]"
     yield from ("", "", "_CALLS: Dict[str, Tuple[Any, List[Any]]] = {")
-    for result, call, arguments in re.findall(r"(\w+) peltzivar_(\w+)\( ?([^()]*)\);", CODE):
+    for result, call, arguments in re.findall(r"(\w+ \*?)peltzivar_(\w+)\( ?([^()]*)\);", CODE):
         kinds = [argument(it) for it in arguments.split(", ") if it != "void"]
         if call in used:
-            yield f'    "{call}": ({TYPES[result]}, [{", ".join(kinds)}]),'
+            yield f'    "{call}": ({argument(result + "result")}, [{", ".join(kinds)}]),'
     yield "}"
 
 

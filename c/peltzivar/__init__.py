@@ -121,6 +121,11 @@ class Rule(Enum):
     def __str__(self) -> str:
         return self.name
 
+    @property
+    def condition(self) -> str:
+        """What the rule requires of a word."""
+        return str(_library.rule_condition(self.value).decode())
+
 
 class Error(Enum):
     """The errors, and success, which is 0 and false."""
@@ -184,7 +189,7 @@ class Error(Enum):
     @property
     def description(self) -> str:
         """The description of the error in single quotes."""
-        return _text(_library.description, self.value)
+        return str(_library.description(self.value).decode())
 
 
 class Part(Enum):
@@ -208,6 +213,19 @@ class Role(Enum):
     SUFFIX = 5
     EXPONENT = 6
     POINT = 7
+
+    def __str__(self) -> str:
+        return self.name
+
+
+class Cause(Enum):
+    """The kinds of causes why a text is not a literal."""
+
+    REQUIREMENT = 1
+    SEPARATOR = 2
+    CASE = 3
+    BYTE = 4
+    MISSING = 5
 
     def __str__(self) -> str:
         return self.name
@@ -248,16 +266,58 @@ class _Separators(Structure):
     ]
 
 
+class _Syntax(Structure):
+    _fields_ = [
+        ("format", _Word),
+        ("exponent", c_uint8),
+        ("decimal_point", c_uint8),
+    ]
+
+
+class _Span(Structure):
+    _fields_ = [
+        ("start", c_size_t),
+        ("end", c_size_t),
+    ]
+
+
+class _Literal(Structure):
+    _fields_ = [
+        ("sign", _Span),
+        ("prefix", _Span),
+        ("integer", _Span),
+        ("point", _Span),
+        ("fraction", _Span),
+        ("exponent_character", _Span),
+        ("exponent_sign", _Span),
+        ("exponent", _Span),
+        ("suffix", _Span),
+        ("size", c_size_t),
+    ]
+
+
+class _ReadError(Structure):
+    _fields_ = [
+        ("valid_up_to", c_size_t),
+        ("span", _Span),
+        ("index", c_size_t),
+        ("mask", _Word),
+        ("cause", c_uint8),
+        ("number", c_uint8),
+        ("part", c_uint8),
+    ]
+
+
 _CALLS: Dict[str, Tuple[Any, List[Any]]] = {
     "check": (c_uint32, [_Word]),
     "normal_form": (_Word, [_Word]),
     "is_built": (c_bool, [_Word]),
-    "edits_of": (c_size_t, [_Word, POINTER(_Edit)]),
+    "edits_of": (c_size_t, [_Word, POINTER(_Edit), c_size_t]),
     "flag": (c_bool, [_Word, c_uint8]),
-    "parse_word": (c_uint32, [c_char_p, c_size_t, POINTER(_Word)]),
+    "parse_word": (c_uint32, [c_char_p, c_size_t, POINTER(_Word), POINTER(c_size_t)]),
     "word_text": (c_size_t, [_Word, c_char_p, c_size_t]),
     "source": (c_size_t, [_Word, c_char_p, c_size_t]),
-    "description": (c_size_t, [c_uint32, c_char_p, c_size_t]),
+    "description": (c_char_p, [c_uint32]),
     "fields_of": (_Fields, [_Word]),
     "edit_fields": (c_bool, [POINTER(_Fields), POINTER(_Edit), c_size_t]),
     "pack": (_Word, [POINTER(_Fields)]),
@@ -268,6 +328,7 @@ _CALLS: Dict[str, Tuple[Any, List[Any]]] = {
     "reason_text": (c_size_t, [_Word, c_size_t, c_char_p, c_size_t]),
     "reason_mask": (_Word, [_Word, c_size_t]),
     "reason_rules": (c_uint32, [_Word, c_size_t]),
+    "rule_condition": (c_char_p, [c_uint32]),
     "note_text": (c_size_t, [POINTER(_Fields), c_size_t, c_char_p, c_size_t]),
     "note_mask": (_Word, [POINTER(_Fields), c_size_t]),
     "options_reason_text": (c_size_t, [_Word, c_uint8, c_uint8, c_size_t, c_char_p, c_size_t]),
@@ -716,7 +777,7 @@ class FormatView:
     def parse(cls: Type[View], text: str) -> View:
         """Parses `0x` followed by 1 to 32 hexadecimal digits. Raises ValueError if the text has another form."""
         word, digits = _Word(), _ascii("the text of a format word", text)
-        if error := _library.parse_word(digits, len(digits), word):
+        if error := _library.parse_word(digits, len(digits), word, None):
             raise ValueError(f"{reprlib.repr(text)} is not a format word: {Error(error).description}")
         return cls(_joined(word))
 
@@ -822,7 +883,7 @@ class FormatView:
     def edits(self) -> Tuple[Edit, ...]:
         """Returns an edit for each field of the word that differs from its default, in the order of the bits."""
         edits = (_Edit * _FIELD_COUNT)()
-        changed = _library.edits_of(self._halves, edits)
+        changed = _library.edits_of(self._halves, edits, len(edits))
         return tuple(Edit._of_numbers(edit) for edit in edits[:changed])
 
     def normal_form(self: View) -> View:

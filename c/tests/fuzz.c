@@ -67,18 +67,24 @@ static peltzivar_word mixed(peltzivar_word word, peltzivar_word mask) {
 static void test_word(peltzivar_word word) {
     const peltzivar_word normal = peltzivar_normal_form(word);
     const peltzivar_fields filled = peltzivar_fields_of(word);
-    peltzivar_edit edits[PELTZIVAR_FIELD_COUNT];
     peltzivar_word other = {1, 2};
+    size_t index = 0;
     WRITE(peltzivar_word_text, word);
-    CHECK(!peltzivar_parse_word(text, strlen(text), &other) && is_same(other, word));
+    CHECK(!peltzivar_parse_word(text, strlen(text), &other, NULL) && is_same(other, word));
+    const size_t len = strlen(text);
+    text[draw() % len] = (char)draw();
+    CHECK(!peltzivar_parse_word(text, len, &other, &index) || index < len);
     CHECK(peltzivar_same_format(word, normal) && is_same(peltzivar_normal_form(normal), normal));
     CHECK(is_same(peltzivar_pack(&filled), normal) && peltzivar_is_built(normal));
     const peltzivar_error error = peltzivar_migrate(word, &other);
     CHECK(error == peltzivar_check(normal) && (error || is_same(other, normal)));
     WRITE(peltzivar_error_text, error, 7);
     WRITE(peltzivar_source, word);
-    CHECK(peltzivar_build(edits, peltzivar_edits_of(word, edits), &other));
-    CHECK(is_same(other, word) == peltzivar_is_built(word));
+    const size_t count = peltzivar_edits_of(word, NULL, 0), room = (size_t)draw() % (count + 1);
+    peltzivar_edit *const edits = malloc(count * sizeof *edits + 1);
+    CHECK(edits && peltzivar_edits_of(word, edits, count) == count && peltzivar_build(edits, count, &other));
+    CHECK(is_same(other, word) == peltzivar_is_built(word) && peltzivar_edits_of(word, edits, room) == count);
+    free(edits);
 }
 
 /* Each word with the bits of a reason breaks a rule. A lawful word has no reason. */
@@ -106,6 +112,7 @@ static void test_options(peltzivar_word word) {
     const peltzivar_word mask = peltzivar_options_reason_mask(word, exponent, point, 0);
     CHECK(!*text == !peltzivar_check_options(word, exponent, point));
     CHECK(!*text || peltzivar_check_options(mixed(word, mask), exponent, point));
+    CHECK(!*text == !peltzivar_options_reason_roles(word, exponent, point, 0));
 }
 
 /* The role of a byte agrees with the other calls. */
@@ -125,8 +132,8 @@ static void test_roles(peltzivar_word word) {
 static void test_settings(void) {
     const peltzivar_edit edit = draw_edit();
     peltzivar_edit read = {7, 9};
-    WRITE(peltzivar_setter_name, edit.setter);
-    CHECK(!*text || peltzivar_setter_of_name(text, strlen(text)) == edit.setter);
+    const char *const name = peltzivar_setter_name(edit.setter);
+    CHECK(!*name || peltzivar_setter_of_name(name, strlen(name)) == edit.setter);
     WRITE(peltzivar_edit_text, edit);
     const size_t len = strlen(text);
     for (uint64_t count = draw() % 3; count > 0 && len; count--) text[draw() % len] = (char)draw();
@@ -135,6 +142,8 @@ static void test_settings(void) {
     const bool is_read = peltzivar_parse_edit(setting, len, &read);
     WRITE(peltzivar_setting_error_text, setting, len);
     CHECK(is_read == !*text && (is_read || (read.setter == 7 && read.value == 9)));
+    const char *const value = memchr(setting, '=', len);
+    if (value) CHECK(peltzivar_parse_byte(value + 1, len - (size_t)(value + 1 - setting), &read.value) || !is_read || read.value < 2);
     free(setting);
 }
 

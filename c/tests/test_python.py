@@ -28,7 +28,7 @@ PAGE = (TOP / "docs/FORMAT.md").read_text()
 FLAGS = re.findall(r"^\| (\d+) \| `(\w+)` \| (?:true|false) \|", PAGE, re.M)
 GROUPS = re.findall(r"^\| `(\w+)` \| (\d[\d ]*) \|", PAGE, re.M)
 BYTES = re.findall(r"^\| (\d+) to \d+ \| `(\w+)` \|", PAGE, re.M)
-RULES = re.findall(r"^\| (\d+) \| .* \| `(Invalid\w+)` \| `+('.*')`+ \| `(\w+)` \| (.*) \|$", PAGE, re.M)
+RULES = re.findall(r"^\| (\d+) \| (.*) \| `(Invalid\w+)` \| `+('.*')`+ \| `(\w+)` \| (.*) \|$", PAGE, re.M)
 CALLS = peltzivar._library
 ERROR_TEXT = ctypes.CDLL(CALLS.path).peltzivar_error_text
 ERROR_TEXT.argtypes = [ctypes.c_uint32, ctypes.c_size_t, ctypes.c_char_p, ctypes.c_size_t]
@@ -175,11 +175,12 @@ class Words(unittest.TestCase):
 
     def test_the_words_of_format_that_break_one_rule(self):
         self.assertEqual([int(number) for number, *_ in RULES], [it.value for it in Rule])
-        for number, error, description, word, sentence in RULES:
+        for number, condition, error, description, word, sentence in RULES:
             view = FormatView.parse(word)
             rules = tuple(Rule)[:3] if number == "1" else (Rule(int(number)),)
             self.assertEqual([(it.text, it.rules) for it in view.reasons()], [(sentence, rules)])
             self.assertEqual((view.error(), view.error().description), (error_of(error), description))
+            self.assertEqual(rules[0].condition, condition)
 
     def test_notes(self):
         self.assertEqual([it.mask for it in notes_of("digit_separator=95")], [0x1FFF << 32 | 0xFF << 64])

@@ -6,8 +6,8 @@
 mod recipes;
 
 use peltzivar::format::{CASE_SENSITIVE_SPECIAL, DIGIT_SEPARATOR_FLAG_MASK, NO_SPECIAL};
-use peltzivar::literal::{Cause, Parts, ReadError, Reader, Sign, Special, Specials, Spelling, Syntax};
-use peltzivar::{Edit, FlagSetter, FormatView, NumberFormatBuilder};
+use peltzivar::literal::{Cause, Literal, ReadError, Reader, Sign, Special, Specials, Spelling, Syntax};
+use peltzivar::{Edit, FlagSetter, FormatView, NumberFormatBuilder, Part};
 use recipes::RECIPES;
 
 const PAGE: &str = include_str!("../../docs/FORMAT.md");
@@ -41,22 +41,34 @@ fn syntax(word: u128) -> Syntax {
 }
 
 /// Returns the parts that are present, one after another.
-fn present<'a>(parts: &Parts<'a>) -> Vec<&'a [u8]> {
-    let exponent = [parts.exponent_character, parts.exponent_sign, parts.exponent, parts.suffix];
-    let parts = [parts.sign, parts.prefix, parts.integer, parts.point, parts.fraction].into_iter().chain(exponent);
-    parts.filter(|part| !part.is_empty()).collect()
+fn present<'a>(literal: Literal<'a>) -> Vec<&'a [u8]> {
+    literal.parts().map(|(_, bytes)| bytes).collect()
 }
 
-/// Reads a text. The calls agree, and the parts of a literal are the text.
-fn read<'a>(reader: &Reader, syntax: Syntax, text: &'a [u8]) -> Result<Parts<'a>, ReadError> {
+/// The parts of a literal are its bytes, and its digits have the values that `char::to_digit` of std has.
+fn has_parts(literal: Literal<'_>) {
+    assert_eq!(present(literal).concat(), literal.as_bytes());
+    let parts = [(Part::Integer, literal.integer()), (Part::Fraction, literal.fraction())];
+    for (part, bytes) in parts.into_iter().chain([(Part::Exponent, literal.exponent())]) {
+        let values = bytes.iter().filter_map(|&byte| char::from(byte).to_digit(literal.radix(part)));
+        let (wanted, digits) = (Vec::from_iter(values), literal.digits(part));
+        assert_eq!(digits.clone().count(), wanted.len());
+        assert!(digits.clone().map(u32::from).eq(wanted.iter().copied()), "{literal:?}");
+        assert!(digits.rev().map(u32::from).eq(wanted.into_iter().rev()), "{literal:?}");
+    }
+}
+
+/// Reads a text. The calls agree.
+fn read<'a>(reader: &Reader, syntax: Syntax, text: &'a [u8]) -> Result<Literal<'a>, ReadError> {
     let (result, prefix) = (reader.read(text), reader.read_prefix(text));
     assert_eq!((result, prefix), (syntax.read(text), syntax.read_prefix(text)), "{text:?}");
-    let longest = prefix.map_or(0, |front| front.size);
-    if let Ok(front) = prefix {
-        assert_eq!(present(&front.parts).concat(), text[..longest], "{text:?}");
+    let longest = prefix.map_or(0, |(literal, _)| literal.as_bytes().len());
+    if let Ok((literal, rest)) = prefix {
+        assert_eq!((literal.as_bytes(), rest), text.split_at(longest), "{text:?}");
+        has_parts(literal);
     }
     match result {
-        Ok(parts) => assert_eq!((Ok(parts), longest), (prefix.map(|front| front.parts), text.len())),
+        Ok(literal) => assert_eq!(prefix, Ok((literal, &[][..]))),
         Err(error) => {
             assert!(longest <= error.valid_up_to() && error.valid_up_to() <= text.len(), "{text:?}");
             assert_eq!(error.is_incomplete(), error.valid_up_to() == text.len(), "{text:?}");
@@ -77,7 +89,8 @@ fn settings_end_the_cause(error: ReadError, syntax: Syntax, text: &[u8]) {
         let mut builder = NumberFormatBuilder::from(syntax.format());
         builder.extend(edits);
         let format = builder.build_format().unwrap();
-        let edited = syntax.options().map(|it| Syntax::new(format, it.exponent, it.point).unwrap());
+        let options = syntax.exponent().zip(syntax.point());
+        let edited = options.map(|(exponent, point)| Syntax::new(format, exponent, point).unwrap());
         let result = edited.unwrap_or(Syntax::integers(format)).read(text);
         let blames_both = |it: ReadError| it.valid_up_to() == error.valid_up_to() && it.mask() & error.mask() != 0;
         assert!(!result.is_err_and(blames_both), "{text:?}: {edits:?}: {result:?}");
@@ -160,8 +173,8 @@ fn parts_are_known() {
     for (settings, text, wanted) in rows {
         let syntax = syntax(word(settings));
         let result = read(&Reader::new(syntax), syntax, text.as_bytes());
-        let front = syntax.read_prefix(text.as_bytes()).unwrap();
-        assert!(present(&front.parts).into_iter().eq(wanted.split(' ').map(str::as_bytes)), "{text}: {front:?}");
+        let (literal, _) = syntax.read_prefix(text.as_bytes()).unwrap();
+        assert!(present(literal).into_iter().eq(wanted.split(' ').map(str::as_bytes)), "{text}: {literal:?}");
         assert_eq!(result.is_ok(), text == wanted.replace(' ', ""), "{text}");
     }
 }

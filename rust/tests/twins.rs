@@ -3,7 +3,7 @@
 
 use peltzivar::edits::edits_of;
 use peltzivar::format::{self, NumberFormatBuilder, STANDARD};
-use peltzivar::literal::{Cause, Front, Options, Parts, Place, ReadError, Reader, Special, Specials, Syntax};
+use peltzivar::literal::{Cause, Digits, Literal, Place, ReadError, Reader, Special, Specials, Syntax};
 use peltzivar::{
     with_setters, word, Edit, Error, FlagSetter, Format, FormatError, FormatView, Note, NumberFormat, Part, Reason,
     Rule, Setter, SettingError, SettingErrorKind,
@@ -22,8 +22,8 @@ const _: () = {
     const fn is_shared<T: Clone + Debug + Send + Sync + Unpin>() {}
     are_values::<(Edit, Error, FlagSetter, Format, FormatError, FormatView, Note, NumberFormat<STANDARD>)>();
     are_values::<(NumberFormatBuilder, Reason, Rule, SettingError, SettingErrorKind)>();
-    are_values::<(Cause, Front<'_>, Options, Parts<'_>, Place, ReadError, Special, Specials<'_>, Syntax)>();
-    is_shared::<Reader>();
+    are_values::<(Cause, Literal<'_>, Place, ReadError, Special, Specials<'_>, Syntax)>();
+    is_shared::<(Digits<'_>, Reader)>();
     are_ordered::<(Edit, Error, FlagSetter, Format, FormatView, Rule)>();
     are_errors::<Error, FormatError, ReadError, Reason, SettingError>();
 };

@@ -19,6 +19,8 @@
 
 mod arguments;
 mod bytes;
+mod literals;
+mod names;
 mod numbers;
 mod reasons;
 mod settings;
