@@ -68,7 +68,7 @@ def constants(used):
     yield f"STANDARD = 0x{high:>016}{low:>016}"
     flags, others = re.fullmatch(r"\{UINT64_C\((\w+)\), (.*)\}", defined("NEW_FIELDS_INIT")).groups()
     yield f"_NEW_FIELDS = ({flags}, {others})"
-    yield from (f"_{name} = {defined(name)}" for name in ("FIELD_COUNT", "SOURCE_SIZE", "TEXT_SIZE"))
+    yield from (f"_{name} = {defined(name)}" for name in ("FIELD_COUNT", "SOURCE_SIZE", "TEXT_SIZE", "NO_PART"))
     for row in (
         ("Setter", r"SET_(\w+)", "The setters. A member has the name of the setter in uppercase."),
         ("Rule", r"RULE_(\w+)", "The rules, in the order in which they are checked."),

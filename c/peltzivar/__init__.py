@@ -24,15 +24,15 @@ import os
 import reprlib
 from ctypes import CDLL, POINTER, Structure, c_bool, c_char_p, c_size_t, c_uint8, c_uint32, c_uint64
 from ctypes import create_string_buffer
-from dataclasses import dataclass
+from dataclasses import dataclass, field
 from enum import Enum
 from itertools import count, takewhile
 from pathlib import Path
 from types import SimpleNamespace
-from typing import Any, Callable, Dict, Iterable, List, Optional, Tuple, Type, TypeVar, Union, cast
+from typing import Any, AnyStr, Callable, Dict, Generic, Iterable, List, Optional, Tuple, Type, TypeVar, Union, cast
 
-__all__ = ["STANDARD", "Byte", "Edit", "Error", "Format", "FormatError", "FormatView", "Note", "OptionsError", "Part"]
-__all__ += ["Reason", "Role", "Rule", "Separators", "Setter", "Value", "notes_of"]
+__all__ = ["STANDARD", "Byte", "Cause", "Edit", "Error", "Format", "FormatError", "FormatView", "Literal", "LiteralError"]
+__all__ += ["Note", "OptionsError", "Part", "Reason", "Role", "Rule", "Separators", "Setter", "Syntax", "Value", "notes_of"]
 
 # Made by make_python.py: constants
 __version__ = "0.6.0"
@@ -42,6 +42,7 @@ _NEW_FIELDS = (0xC, 0, 0, 0, 10, 0, 0)
 _FIELD_COUNT = 37
 _SOURCE_SIZE = 2048
 _TEXT_SIZE = 256
+_NO_PART = 255
 
 
 class Setter(Enum):
@@ -333,6 +334,7 @@ _CALLS: Dict[str, Tuple[Any, List[Any]]] = {
     "note_mask": (_Word, [POINTER(_Fields), c_size_t]),
     "options_reason_text": (c_size_t, [_Word, c_uint8, c_uint8, c_size_t, c_char_p, c_size_t]),
     "options_reason_mask": (_Word, [_Word, c_uint8, c_uint8, c_size_t]),
+    "options_reason_roles": (c_uint32, [_Word, c_uint8, c_uint8, c_size_t]),
     "mantissa_digit": (c_uint32, [_Word, c_uint8]),
     "exponent_digit": (c_uint32, [_Word, c_uint8]),
     "separators_of": (_Separators, [_Word, c_uint8]),
@@ -340,6 +342,9 @@ _CALLS: Dict[str, Tuple[Any, List[Any]]] = {
     "is_base_prefix": (c_bool, [_Word, c_uint8]),
     "is_base_suffix": (c_bool, [_Word, c_uint8]),
     "role_of": (c_uint8, [_Word, c_uint8, c_uint8, c_uint8]),
+    "read": (c_uint32, [POINTER(_Syntax), c_char_p, c_size_t, POINTER(_Literal), POINTER(_ReadError)]),
+    "read_prefix": (c_uint32, [POINTER(_Syntax), c_char_p, c_size_t, POINTER(_Literal), POINTER(_ReadError)]),
+    "read_error_text": (c_size_t, [POINTER(_Syntax), c_char_p, c_size_t, c_char_p, c_size_t]),
 }
 # End
 
@@ -552,15 +557,16 @@ def _field_of(setter: Setter, byte: int) -> Union[int, str, None]:
 
 @dataclass(frozen=True)
 class Reason:
-    """A reason why a word breaks rules, or why options do not fit it: its text, a mask of the bits that it blames, and
-    the rules. Options break no rule.
+    """A reason why a word breaks rules, or why options do not fit it: its text, a mask of the bits that it blames, the
+    rules, and the options that it blames, which are `Role.EXPONENT` and `Role.POINT`.
 
     An edit is to blame if its mask has a bit in common with this mask that no later edit writes.
     """
 
     text: str
     mask: int
-    rules: Tuple[Rule, ...]
+    rules: Tuple[Rule, ...] = ()
+    options: Tuple[Role, ...] = ()
 
     def __str__(self) -> str:
         return self.text
@@ -609,6 +615,36 @@ class OptionsError(ValueError):
 
     def __str__(self) -> str:
         return "; ".join(reason.text for reason in self.reasons)
+
+
+@dataclass(eq=False)
+class LiteralError(ValueError):
+    """Raised if a text is not a literal. `str` returns the reason as a sentence. Another one may follow if it is mended.
+
+    `valid_up_to` is the length of the longest beginning of the text that some literal begins with. If it is the length
+    of the text, characters are missing. `span` is the first index and the end of the characters to show, maybe none, as
+    in `text[slice(*span)]`. `cause` is the kind of the cause. `part` is the part of a separator or of missing digits.
+    `mask` has the flags to blame as bits of a word, and `edits` the edits that end the cause: each alone for a separator,
+    and otherwise all together. A wrong byte and missing digits blame no flag. `error` is the error of `lexical-util`.
+    """
+
+    sentence: str
+    text: Union[str, bytes]
+    valid_up_to: int
+    span: Tuple[int, int]
+    cause: Cause
+    part: Optional[Part]
+    mask: int
+    error: Error
+
+    @property
+    def edits(self) -> Tuple[Edit, ...]:
+        """The edits that end the cause."""
+        is_separator = self.cause is Cause.SEPARATOR
+        return tuple(Edit.of(it, is_separator) for it in Setter if it.value < 64 and self.mask >> it.value & 1)
+
+    def __str__(self) -> str:
+        return self.sentence
 
 
 class _Field:
@@ -793,9 +829,7 @@ class FormatView:
 
     def separators(self, part: Part) -> Separators:
         """Returns where a part of a number may have digit separators, such as `separators(Part.FRACTION).internal`."""
-        if not isinstance(part, Part):
-            raise _wrong_type("part", "a Part", part)
-        allowed = _library.separators_of(self._halves, part.value)
+        allowed = _library.separators_of(self._halves, _part(part).value)
         return Separators(allowed.internal, allowed.leading, allowed.trailing, allowed.consecutive)
 
     def is_separator(self, byte: Byte) -> bool:
@@ -905,8 +939,12 @@ class FormatView:
     def options_reasons(self, exponent: Byte, point: Byte) -> Tuple[Reason, ...]:
         """Returns each reason why an exponent character and a decimal point do not fit the word."""
         options = self._halves, _byte("exponent", exponent), _byte("point", point)
-        masks = (_joined(_library.options_reason_mask(*options, index)) for index in count())
-        return tuple(Reason(text, mask, ()) for text, mask in zip(_texts(_library.options_reason_text, *options), masks))
+        reasons = []
+        for index, text in enumerate(_texts(_library.options_reason_text, *options)):
+            roles = _library.options_reason_roles(*options, index)
+            mask = _joined(_library.options_reason_mask(*options, index))
+            reasons.append(Reason(text, mask, options=tuple(it for it in Role if roles >> it.value & 1)))
+        return tuple(reasons)
 
     def notes(self) -> Tuple[Note, ...]:
         """Returns the notes on fields of the word that have no effect."""
@@ -975,6 +1013,168 @@ class Format(FormatView):
         """Raises OptionsError with every reason if an exponent character and a decimal point do not fit the format."""
         if reasons := self.options_reasons(exponent, point):
             raise OptionsError(*reasons)
+
+
+@dataclass(frozen=True)
+class Literal(Generic[AnyStr]):
+    """A text that is a literal of a syntax, and its parts in the order of the text. An absent part is empty. The prefix
+    includes the zero before it, and a part with digits includes digit separators.
+
+    The number of an integer is `int(literal.sign + literal.digits(Part.INTEGER), literal.radix(Part.INTEGER))`. If the
+    radix is 10, that of a float is:
+
+        integer, fraction, exponent = map(literal.digits, Part)
+        float(f"{literal.sign}{integer}.{fraction}e{literal.exponent_sign}{exponent or 0}")
+    """
+
+    syntax: Syntax = field(repr=False)
+    text: AnyStr
+    sign: AnyStr
+    prefix: AnyStr
+    integer: AnyStr
+    point: AnyStr
+    fraction: AnyStr
+    exponent_character: AnyStr
+    exponent_sign: AnyStr
+    exponent: AnyStr
+    suffix: AnyStr
+
+    @property
+    def is_float(self) -> bool:
+        """Whether the literal has a decimal point or an exponent character."""
+        return bool(self.point or self.exponent_character)
+
+    def digits(self, part: Part) -> AnyStr:
+        """Returns the digits of a part without digit separators."""
+        written: AnyStr = getattr(self, str(_part(part)).lower())
+        separator = str(self.syntax.format.digit_separator or "")
+        if isinstance(written, bytes):
+            return written.replace(separator.encode(), b"")
+        return written.replace(separator, "")
+
+    def radix(self, part: Part) -> int:
+        """Returns the radix of the digits of a part."""
+        format = self.syntax.format
+        return format.exponent_radix if _part(part) is Part.EXPONENT else format.mantissa_radix
+
+
+class Syntax:
+    """What literals are read by: a format, with an exponent character and a decimal point that fit it.
+
+        >>> syntax = Syntax(Format.of(mantissa_radix=16, base_prefix="x", exponent_radix=10), exponent="p")
+        >>> literal = syntax.read("-0x1.8p3")
+        >>> literal.integer, literal.fraction, literal.exponent
+        ('1', '8', '3')
+
+    The format is in normal form, so equivalent formats have the same syntax. Raises OptionsError if the exponent
+    character or the decimal point does not fit the normal form.
+    """
+
+    __slots__ = ("_syntax", "_format")
+
+    def __init__(self, format: Format, exponent: Byte = "e", point: Byte = ".") -> None:
+        self._make(format)
+        self._format.check_options(exponent, point)
+        self._syntax = _Syntax(self._format._halves, _byte("exponent", exponent), _byte("point", point))
+
+    @classmethod
+    def integers(cls, format: Format) -> Syntax:
+        """Returns the syntax of the integers of a format."""
+        syntax = cls.__new__(cls)
+        syntax._make(format)
+        return syntax
+
+    def _make(self, format: Format) -> None:
+        if not isinstance(format, Format):
+            raise _wrong_type("format", "a Format", format)
+        self._format = format.normal_form()
+        self._syntax = _Syntax(self._format._halves, 0, 0)
+
+    @property
+    def format(self) -> Format:
+        """The format, in normal form."""
+        return self._format
+
+    @property
+    def exponent(self) -> Optional[str]:
+        """The exponent character, or None if literals are integers."""
+        return chr(self._syntax.exponent) if self._syntax.exponent else None
+
+    @property
+    def point(self) -> Optional[str]:
+        """The decimal point, or None if literals are integers."""
+        return chr(self._syntax.decimal_point) if self._syntax.decimal_point else None
+
+    def role_of(self, byte: Byte) -> Optional[Role]:
+        """Returns the only role that a byte has in literals, or None."""
+        return self._format.role_of(byte, exponent=self._syntax.exponent, point=self._syntax.decimal_point)
+
+    def read(self, text: AnyStr) -> Literal[AnyStr]:
+        """Returns a text as a literal. Raises LiteralError if it is not one.
+
+        Each index is one of the text: of characters in a `str`, and of bytes in `bytes`.
+        """
+        return self._read(_library.read, text)
+
+    def read_prefix(self, text: AnyStr) -> Tuple[Literal[AnyStr], AnyStr]:
+        """Returns the longest literal that a text begins with, and the rest of the text. Raises LiteralError if there is
+        none.
+
+            >>> literal, rest = Syntax(Format()).read_prefix("1.25.3")
+            >>> literal.text, rest
+            ('1.25', '.3')
+        """
+        literal = self._read(_library.read_prefix, text)
+        return literal, text[len(literal.text) :]
+
+    def _read(self, call: Any, text: AnyStr) -> Literal[AnyStr]:
+        """Calls peltzivar_read or peltzivar_read_prefix."""
+        literal, refused, data = _Literal(), _ReadError(), _readable(text)
+        if error := call(self._syntax, data, len(data), literal, refused):
+            raise self._refusal(text, data, refused, Error(error))
+        parts = (getattr(literal, name) for name, _ in _Literal._fields_[:-1])
+        return Literal(self, text[: literal.size], *(text[part.start : part.end] for part in parts))
+
+    def _refusal(self, text: Union[str, bytes], data: bytes, refused: _ReadError, error: Error) -> LiteralError:
+        """Returns the error that peltzivar_read or peltzivar_read_prefix writes."""
+        index, span = refused.valid_up_to, (refused.span.start, refused.span.end)
+        sentence = _text(_library.read_error_text, self._syntax, data, len(data))
+        if isinstance(text, str) and data[index : index + 1] == b"\xff":
+            sentence = f"no literal has the character {text[index]!r} here"
+        part = Part(refused.part) if refused.part != _NO_PART else None
+        return LiteralError(sentence, text, index, span, Cause(refused.cause), part, _joined(refused.mask), error)
+
+    def __repr__(self) -> str:
+        if self.exponent is None:
+            return f"Syntax.integers({self._format!r})"
+        return f"Syntax({self._format!r}, {self.exponent!r}, {self.point!r})"
+
+    def __eq__(self, other: object) -> bool:
+        if not isinstance(other, Syntax):
+            return NotImplemented
+        return bytes(self._syntax) == bytes(other._syntax)
+
+    def __hash__(self) -> int:
+        return hash(bytes(self._syntax))
+
+
+def _part(part: object) -> Part:
+    """Returns a part. Raises an error if it is not one."""
+    if not isinstance(part, Part):
+        raise _wrong_type("part", "a Part", part)
+    return part
+
+
+def _readable(text: object) -> bytes:
+    """Returns a text as bytes, up to its first character that is not ASCII, and in its place a byte that is not ASCII."""
+    if isinstance(text, bytes):
+        return text
+    if not isinstance(text, str):
+        raise _wrong_type("a text", "a str or bytes", text)
+    try:
+        return text.encode("ascii")
+    except UnicodeEncodeError as error:
+        return text[: error.start].encode("ascii") + b"\xff"
 
 
 @_takes_fields

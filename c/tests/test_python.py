@@ -2,6 +2,7 @@
 docs/FORMAT.md, and known words and sentences."""
 import copy
 import ctypes
+import dataclasses
 import doctest
 import inspect
 import os
@@ -21,7 +22,8 @@ TESTS = pathlib.Path(__file__).resolve().parent
 TOP = TESTS.parent.parent
 sys.path.insert(0, str(TESTS.parent))
 import peltzivar
-from peltzivar import Edit, Error, Format, FormatError, FormatView, OptionsError, Part, Role, Rule, Setter, notes_of
+from peltzivar import Cause, Edit, Error, Format, FormatError, FormatView, LiteralError, OptionsError, Part, Role, Rule, Setter
+from peltzivar import Syntax, notes_of
 
 LINES = (TOP / "crates/recorded/data/results.txt").read_text().splitlines()
 PAGE = (TOP / "docs/FORMAT.md").read_text()
@@ -29,6 +31,8 @@ FLAGS = re.findall(r"^\| (\d+) \| `(\w+)` \| (?:true|false) \|", PAGE, re.M)
 GROUPS = re.findall(r"^\| `(\w+)` \| (\d[\d ]*) \|", PAGE, re.M)
 BYTES = re.findall(r"^\| (\d+) to \d+ \| `(\w+)` \|", PAGE, re.M)
 RULES = re.findall(r"^\| (\d+) \| (.*) \| `(Invalid\w+)` \| `+('.*')`+ \| `(\w+)` \| (.*) \|$", PAGE, re.M)
+CAUSES = re.findall(r"^\| (?:`(.*)` )?\| `(.*)` \| (\w+) ?(.*?) \| (\d+) \| (\d+)\.\.(\d+) \|$", PAGE, re.M)
+QUESTIONS = re.findall(r"^\| .*\? \| .* \| .* \| `(.*)` \| (`.*`) \| (`.*`) \|$", PAGE, re.M)
 CALLS = peltzivar._library
 ERROR_TEXT = ctypes.CDLL(CALLS.path).peltzivar_error_text
 ERROR_TEXT.argtypes = [ctypes.c_uint32, ctypes.c_size_t, ctypes.c_char_p, ctypes.c_size_t]
@@ -274,6 +278,77 @@ class Words(unittest.TestCase):
         self.assertEqual([getattr(FormatView(0), name) for _, name in BYTES], [None, None, None, 0, 0, 0])
 
 
+def syntax_of(settings):
+    return Syntax(FormatView.of(*settings.split()).check())
+
+
+class Literals(unittest.TestCase):
+    def test_parts(self):
+        fields = {"digit_separator": "_", "internal_digit_separator": True, "base_prefix": "x", "base_suffix": "H"}
+        syntax = Syntax(Format.of(mantissa_radix=16, exponent_base=2, exponent_radix=10, **fields), exponent="p")
+        text = "-0x1_F.8_0p+1_2h"
+        parts = ["-", "0x", "1_F", ".", "8_0", "p", "+", "1_2", "h"]
+        for literal, digits in ((syntax.read(text), ["1F", "80", "12"]), (syntax.read(text.encode()), [b"1F", b"80", b"12"])):
+            wanted = parts if isinstance(literal.text, str) else [it.encode() for it in parts]
+            self.assertEqual([getattr(literal, it.name) for it in dataclasses.fields(literal)][2:], wanted)
+            self.assertEqual(([literal.digits(part) for part in Part], literal.is_float), (digits, True))
+            self.assertEqual([literal.radix(part) for part in Part], [16, 16, 10])
+        integer = Syntax.integers(syntax.format).read("-F_F")
+        self.assertEqual((int(integer.sign + integer.digits(Part.INTEGER), integer.radix(Part.INTEGER)), integer.is_float), (-255, False))
+        self.assertEqual(Syntax(Format()).read(".5").digits(Part.INTEGER), "")
+        literal, rest = syntax.read_prefix("1.8p+\u00e9")
+        self.assertEqual((literal.text, literal.fraction, rest), ("1.8", "8", "p+\u00e9"))
+        self.assertEqual(syntax.read_prefix(b"1\xff")[1], b"\xff")
+
+    def test_causes_of_format(self):
+        self.assertGreater(len(CAUSES), 20)
+        for text, settings, cause, blamed, valid_up_to, start, end in CAUSES:
+            for given in (text, text.encode()):
+                with self.assertRaises(LiteralError) as caught:
+                    syntax_of(settings).read(given)
+                error = pickle.loads(pickle.dumps(caught.exception))
+                self.assertEqual((error.cause, error.valid_up_to), (Cause[cause.upper()], int(valid_up_to)), (text, settings))
+                self.assertEqual((error.text, error.span), (given, (int(start), int(end))), (text, settings))
+                if cause == "missing":
+                    self.assertEqual((error.part, error.edits), (Part[blamed.upper()], ()))
+                else:
+                    edits = tuple(Edit.of(Setter(int(flag)), cause == "separator") for flag in blamed.split())
+                    self.assertEqual((error.edits, error.part is None), (edits, cause != "separator"), (text, settings))
+
+    def test_questions_of_format(self):
+        self.assertGreater(len(QUESTIONS), 10)
+        for settings, accepted, rejected in QUESTIONS:
+            syntax = syntax_of(settings)
+            for text in re.findall("`(.*?)`", accepted):
+                self.assertEqual("".join(vars(syntax.read(text))[it.name] for it in dataclasses.fields(syntax.read(text))[2:]), text)
+            for text, code in re.findall(r"`(\S*)` `(\w+)\(\d+\)`", rejected):
+                with self.assertRaises(LiteralError) as caught:
+                    syntax.read(text)
+                self.assertEqual(caught.exception.error, error_of(code), text)
+
+    def test_indexes_are_those_of_characters(self):
+        for text, index in (("12\u00e9", 2), ("\u20ac", 0), ("1.5\U0001F600e", 3), ("1e\ud800", 2)):
+            with self.assertRaises(LiteralError) as caught:
+                Syntax(Format()).read(text)
+            error = caught.exception
+            self.assertEqual((error.valid_up_to, error.span, error.cause), (index, (index, index + 1), Cause.BYTE))
+            self.assertEqual(str(error), f"no literal has the character {text[index]!r} here")
+        with self.assertRaisesRegex(LiteralError, "^no literal has the byte 'x' here$"):
+            Syntax(Format()).read("1x\u00e9")
+
+    def test_syntaxes(self):
+        syntaxes = [Syntax(Format()), Syntax(Format(), b"e", 46), Syntax(Format().normal_form()), Syntax.integers(Format()), Syntax(Format(), "p")]
+        self.assertEqual(len(set(syntaxes)), 3)
+        for syntax in syntaxes:
+            self.assertEqual((eval(repr(syntax)), pickle.loads(pickle.dumps(syntax)), copy.deepcopy(syntax)), (syntax,) * 3)
+        self.assertEqual([(it.exponent, it.point, it.role_of("e")) for it in syntaxes[2:4]], [("e", ".", Role.EXPONENT), (None, None, None)])
+        with self.assertRaisesRegex(OptionsError, "^the exponent character 'e' is a digit") as caught:
+            Syntax(Format.of(mantissa_radix=16))
+        self.assertEqual([it.options for it in caught.exception.reasons], [(Role.EXPONENT,)])
+        self.assertRaises(OptionsError, Syntax, Format(), 0, 0)
+        self.assertEqual(Syntax(FormatView.of(digit_separator=",").check(), point=",").read("1,5").fraction, "5")
+
+
 class Wrong(unittest.TestCase):
     def test_random_objects_are_refused_by_name(self):
         objects = [None, True, 1.5, float("nan"), -1, 0, 65, 256, 1 << 128, 10**5000, "", "x", "0x1", "\u00e9", "\ud800", "a\0b", b"", b"\xff"]
@@ -283,12 +358,14 @@ class Wrong(unittest.TestCase):
         calls = [(getattr(view, name), "a byte") for name in ("is_separator", "mantissa_digit", "exponent_digit", "role_of")]
         calls += [(FormatView, "a format word"), (Format, "a format word"), (view.separators, "Part"), (Edit, "a setting|=|unknown")]
         calls += [(Format.parse, "a format word"), (Format().check_options, "exponent|point"), (Edit.of, "a setter|unknown|_")]
-        calls += [(Format().edit, "a setting|=|unknown"), (notes_of, "a setting|=|unknown")]
+        calls += [(Format().edit, "a setting|=|unknown"), (notes_of, "a setting|=|unknown"), (Syntax, "format is|exponent|point")]
+        calls += [(it, "a text|here$|expected") for it in (Syntax(Format()).read, Syntax(Format()).read_prefix)]
+        calls += [(Syntax.integers, "format is a Format"), (Syntax(Format()).read("1").digits, "part"), (Syntax(Format()).role_of, "a byte")]
         random = Random(1)
         refused = 0
         for _ in range(20000):
             call, names = random.choice(calls)
-            arguments = random.choices(objects, k=2 if call in (Edit.of, Format().check_options) else 1)
+            arguments = random.choices(objects, k=2 if call in (Edit.of, Format().check_options, Syntax) else 1)
             keywords = {}
             if call == notes_of:
                 keywords, names = {random.choice(fields): arguments.pop()}, "_"
