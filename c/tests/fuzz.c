@@ -128,6 +128,60 @@ static void test_roles(peltzivar_word word) {
     CHECK((byte == point) == (role == PELTZIVAR_ROLE_POINT) && (byte != exponent || role == PELTZIVAR_ROLE_EXPONENT));
 }
 
+/* Returns a syntax that is often refused, for a word that is mostly lawful. */
+static peltzivar_syntax draw_syntax(peltzivar_word word) {
+    static const uint8_t options[][2] = {{'e', '.'}, {'e', '.'}, {'p', '.'}, {'^', ','}, {0, 0}, {0, 0}, {'e', 0}, {'_', 'E'}};
+    for (int tries = 0; peltzivar_check(word) && tries < 9; tries++) word = draw_word();
+    const uint8_t *const drawn = options[draw() % 8];
+    peltzivar_syntax syntax = {word, drawn[0], drawn[1]}, checked = syntax;
+    if (draw() % 16 == 0) for (size_t i = 0; i < sizeof syntax; i++) ((unsigned char *)&syntax)[i] = (unsigned char)draw();
+    if (!peltzivar_syntax_check(syntax.format, syntax.exponent, syntax.decimal_point, &checked)) syntax = checked;
+    return syntax;
+}
+
+/* What is read is written, and nothing else. A text is refused if and only if there is a sentence. The parts of a literal
+ * are its bytes. */
+static void test_literals(peltzivar_word word) {
+    const peltzivar_syntax syntax = draw_syntax(word);
+    const peltzivar_fields own = peltzivar_fields_of(syntax.format);
+    const uint8_t sign = draw() % 2 ? '+' : '-', separator = own.digit_separator;
+    const uint8_t bytes[] = {sign, '0', own.base_prefix, separator, '0', '1', separator, '1', syntax.decimal_point, '0', separator,
+        separator, '1', syntax.exponent, sign, separator, '0', own.base_suffix};
+    peltzivar_syntax other = syntax;
+    const peltzivar_error refused = peltzivar_syntax_check(syntax.format, syntax.exponent, syntax.decimal_point, &other);
+    size_t len = 0;
+    for (size_t i = 0; i < sizeof bytes; i++) if (bytes[i] && draw() % 2) text[len++] = (char)bytes[i];
+    if (len && draw() % 4 == 0) text[draw() % len] ^= (char)(draw() % 2 ? 32 : draw());
+    char *const from = malloc(len + !len);
+    memcpy(from, text, len);
+    peltzivar_literal literal, literal_before;
+    peltzivar_read_error error, error_before;
+    memset(&literal, (int)draw(), sizeof literal), memcpy(&literal_before, &literal, sizeof literal);
+    memset(&error, (int)draw(), sizeof error), memcpy(&error_before, &error, sizeof error);
+    const peltzivar_error code = peltzivar_read(&syntax, from, len, &literal, &error);
+    CHECK(!code || !memcmp(&literal, &literal_before, sizeof literal));
+    CHECK((code && !refused) || !memcmp(&error, &error_before, sizeof error));
+    CHECK(refused ? code == refused : code <= PELTZIVAR_MISSING_SIGN + 2);
+    if (code && !refused) {
+        CHECK(error.valid_up_to <= len && error.span.start <= error.span.end && error.span.end <= len && error.index <= len);
+        CHECK(error.number == PELTZIVAR_NO_SETTER ? !error.mask.low : error.mask.low % (UINT64_C(2) << error.number) == UINT64_C(1) << error.number);
+        const bool has_part = error.cause == PELTZIVAR_CAUSE_MISSING || error.cause == PELTZIVAR_CAUSE_SEPARATOR;
+        CHECK(1 <= error.cause && error.cause <= 5 && has_part == (error.part != PELTZIVAR_NO_PART));
+    }
+    WRITE(peltzivar_read_error_text, &syntax, from, len);
+    CHECK(!*text == !code);
+    if (!peltzivar_read_prefix(&syntax, from, len, &literal, &error)) {
+        const peltzivar_span *const parts = &literal.sign;
+        for (int i = 0; i < 9; i++) CHECK(parts[i].start == (i ? parts[i - 1].end : 0) && parts[i].start <= parts[i].end);
+        CHECK(literal.size == literal.suffix.end && literal.size <= len && (code || literal.size == len));
+        CHECK(!peltzivar_read(&syntax, from, literal.size, &literal_before, NULL));
+        CHECK(!memcmp(&literal, &literal_before, sizeof literal));
+    } else {
+        CHECK(code);
+    }
+    free(from);
+}
+
 /* A setting in which bytes may change is parsed if and only if it has no error. */
 static void test_settings(void) {
     const peltzivar_edit edit = draw_edit();
@@ -155,6 +209,7 @@ int main(int argc, char **argv) {
         test_reasons(word);
         test_options(word);
         test_roles(word);
+        test_literals(word);
         test_settings();
     }
     return 0;

@@ -54,7 +54,8 @@ class Programs(unittest.TestCase):
                     if not shutil.which(compiler):
                         self.skipTest(compiler)
                     language = ["-x", "c++"] if "++" in compiler else []
-                    self.made(compiler, f"-std={standard}", *STRICT, *language, "-c", TESTS / "calls.c")
+                    self.made(compiler, f"-std={standard}", *STRICT, *language, "-c", TESTS / "calls.c", name="calls.o")
+                    self.assertEqual(run(self.made(compiler, self.folder / "calls.o", ARCHIVE)), ("", 0))
 
     def test_a_compiler_warns_if_an_error_is_ignored(self):
         code = '#include "peltzivar.h"\nvoid f(peltzivar_word it) { (void)peltzivar_check(it); peltzivar_migrate(it, &it); }\n'
@@ -63,16 +64,17 @@ class Programs(unittest.TestCase):
             self.assertEqual(re.findall("ignoring return value of .(?:bool )?(\\w+)", printed), ["peltzivar_migrate"], printed)
 
     def test_the_calls_return_what_they_should(self):
-        self.assertEqual(run(self.made("cc", "-std=c99", *STRICT, TESTS / "calls.c", ARCHIVE)), ("", 0))
         self.assertEqual(run(self.made("cc", *STRICT, *SANITIZERS, TESTS / "calls.c", ARCHIVE)), ("", 0))
 
     def test_the_calls_are_sound_with_the_checks_of_rust(self):
         build = self.folder / "checked"
+        target = re.search("host: (.*)", run("rustc", "-vV")[0])[1]
         on = {f"CARGO_PROFILE_RELEASE_{it}": "true" for it in ("DEBUG_ASSERTIONS", "OVERFLOW_CHECKS")}
+        on["CARGO_BUILD_TARGET"] = target
         command = ["make", "-s", "--no-print-directory", "-C", C, f"BUILD={build}", "build"]
         self.assertEqual(run(*command, env={**os.environ, **on}), ("", 0))
         for name, *arguments in (["calls"], ["fuzz", "20000"]):
-            program = self.made("cc", *STRICT, *SANITIZERS, TESTS / f"{name}.c", build / "release" / ARCHIVE.name)
+            program = self.made("cc", *STRICT, *SANITIZERS, TESTS / f"{name}.c", build / target / "release" / ARCHIVE.name)
             self.assertEqual(run(program, *arguments), ("", 0))
 
     def test_the_first_program_of_the_header(self):

@@ -11,6 +11,7 @@ import zipfile
 
 C = pathlib.Path(__file__).resolve().parent.parent
 PAGE = (C.parent / "docs/C-AND-PYTHON.md").read_text()
+VERSION = re.search('VERSION "(.*)"', (C / "peltzivar.h").read_text())[1]
 WORD = "0x0000100000000000000000000000000C"
 PROGRAM = "import peltzivar; print(peltzivar.Format.of(mantissa_radix=16), peltzivar.__file__)"
 IMPORT = [sys.executable, "-B", "-c", PROGRAM]
@@ -37,8 +38,8 @@ class InFolder(unittest.TestCase):
 
 
 class Install(InFolder):
-    def make(self, *arguments):
-        return self.run_in("make", "-s", "-C", C, *arguments)
+    def make(self, *arguments, **options):
+        return self.run_in("make", "-s", "-C", C, *arguments, **options)
 
     @unittest.skipUnless(shutil.which("pkg-config"), "pkg-config")
     def test_a_program_is_built_by_the_lines_of_the_page(self):
@@ -65,13 +66,31 @@ class Install(InFolder):
             self.run_in("bash", "-c", command, cwd=C.parent)
         self.assertEqual(self.run_in("./example", "radix=16").split()[0], WORD)
 
-    def test_uninstall_removes_what_install_wrote(self):
+    def test_uninstall_removes_what_install_wrote_without_cargo_and_for_all_users(self):
         paths = ["PREFIX=/usr/my own", "LIBDIR=/usr/my own/lib here", f"DESTDIR={self.folder}/a root"]
-        self.make("install", *paths)
+        self.make("uninstall", *paths)
+        self.make("install", *paths, "CARGO=no-cargo", umask=0o077)
         root = self.folder / "a root/usr/my own"
-        self.assertTrue((root / "lib here/pkgconfig/peltzivar.pc").exists() and (root / "include/peltzivar.h").exists())
+        modes = {str(it.relative_to(root)): it.stat().st_mode & 0o777 for it in root.rglob("*") if not it.is_dir()}
+        self.assertEqual({mode for path, mode in modes.items() if ".so" not in path}, {0o644}, modes)
+        self.assertEqual({mode for path, mode in modes.items() if ".so" in path}, {0o755}, modes)
+        names = {"include/peltzivar.h", "lib here/libpeltzivar_c.a", "share/doc/peltzivar/LICENSE"}
+        self.assertEqual(names - set(modes), set())
+        self.assertNotIn("a root", (root / "lib here/pkgconfig/peltzivar.pc").read_text())
         self.make("uninstall", *paths)
         self.assertEqual([it for it in root.rglob("*") if not it.is_dir()], [])
+
+    def test_cargo_is_named_if_it_is_missing(self):
+        with self.assertRaisesRegex(AssertionError, "no-cargo is not found: install Rust"):
+            self.make("install", f"PREFIX={self.prefix}", f"BUILD={self.folder}/build", "CARGO=no-cargo")
+
+    @unittest.skipUnless(shutil.which("pkg-config"), "pkg-config")
+    def test_pkg_config_has_the_version_and_another_prefix(self):
+        self.make("install", f"PREFIX={self.prefix}")
+        self.assertEqual(self.run_in("pkg-config", "--modversion", "peltzivar"), f"{VERSION}\n")
+        self.run_in("pkg-config", "--exists", *re.search(r"(peltzivar)(>=)([\d.]+)\)", PAGE).groups())
+        moved = ["pkg-config", "--define-variable=prefix=/moved", "--variable=libdir", "peltzivar"]
+        self.assertEqual(self.run_in(*moved), "/moved/lib\n")
 
     def test_a_relative_prefix_is_refused(self):
         with self.assertRaisesRegex(AssertionError, "PREFIX must be an absolute path"):

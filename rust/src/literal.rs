@@ -24,6 +24,7 @@
 
 #[allow(clippy::redundant_pattern_matching, reason = "as it is proved")]
 mod cause;
+mod language;
 mod number;
 #[allow(clippy::needless_lifetimes, reason = "as it is proved")]
 mod read;
@@ -41,6 +42,7 @@ mod tables;
 mod text;
 
 pub use cause::{Cause, Place, ReadError};
+pub use language::{Language, Number};
 pub use number::{Digits, Literal};
 pub use read::Reader;
 pub use specials::{Sign, Special, Specials, Spelling};

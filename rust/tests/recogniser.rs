@@ -5,15 +5,10 @@
 //!
 //!     cargo test --release --test recogniser -- --ignored
 
-#[rustfmt::skip]
-#[allow(dead_code, reason = "its main")]
-#[path = "../examples/recipes.rs"]
-mod recipes;
-
 use core::{array, iter, mem, ops::Range};
-use peltzivar::literal::{self, Cause, Literal, Place, ReadError, Reader};
+use peltzivar::literal::{self, Cause, Language, Literal, Place, ReadError, Reader};
 use peltzivar::{format::FLAG_MASK, Error, Format, Part, Role};
-use {recipes::RECIPES, Error::*, Piece::*};
+use {Error::*, Piece::*};
 
 #[rustfmt::skip]
 #[derive(Clone, Copy)]
@@ -300,11 +295,11 @@ fn compare(word: u128, options: Option<(u8, u8)>, bytes: &[u8], longest: usize, 
     }
 }
 
-/// Compares the formats of the recipes, and random words with random options and without.
-fn compare_all(recipe_eighths: u64, words: usize, eighths: u64) {
-    for (_, word, exponent) in RECIPES {
-        let options = Some((exponent, b'.'));
-        compare(word, options, &hostile_bytes(word, options)[..10], 6, true, recipe_eighths);
+/// Compares the syntaxes of the languages, and random words with random options and without.
+fn compare_all(language_eighths: u64, words: usize, eighths: u64) {
+    for syntax in Language::ALL.iter().map(Language::syntax) {
+        let (word, options) = (syntax.format().word(), syntax.exponent().zip(syntax.point()));
+        compare(word, options, &hostile_bytes(word, options)[..10], 6, true, language_eighths);
     }
     let mut random = 2;
     for at in 0..words {
