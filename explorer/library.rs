@@ -6,7 +6,7 @@ use core::fmt::{self, Display, Write};
 use core::ops::Range;
 
 use peltzivar::edits::{apply, is_built, normal_form};
-use peltzivar::literal::{Front, Syntax};
+use peltzivar::literal::Syntax;
 use peltzivar::{Edit, Error, FormatView, NumberFormatBuilder, Reason, Rule};
 use suggest::{Found, Line, SPECIALS, State, blamed_options, lines_of, offers, read, repairs};
 
@@ -131,32 +131,15 @@ fn put_line(out: &mut Answer, state: State, syntax: &Syntax, lines: &[u8], line:
 
 /// Writes the parts of a text, or of its longest front that is a number.
 fn put_parts(out: &mut Answer, syntax: &Syntax, text: &[u8]) -> fmt::Result {
+    let put = |out: &mut Answer, (kind, bytes): (&str, &[u8])| write!(out, r#"{{"kind":"{kind}","size":{}}}"#, bytes.len());
     if let (Err(_), Some(special)) = (syntax.read(text), SPECIALS.read(syntax, text)) {
         let (sign, rest) = text.split_at(special.sign.map_or(0, |_| 1));
-        return put_present(out, &[("sign", sign), ("special", rest)]);
+        return list(out, [("sign", sign), ("special", rest)].into_iter().filter(|(_, bytes)| !bytes.is_empty()), put);
     }
-    let Ok(Front { parts, .. }) = syntax.read_prefix(text) else { return out.write_str("[]") };
-    put_present(
-        out,
-        &[
-            ("sign", parts.sign),
-            ("prefix", parts.prefix),
-            ("integer", parts.integer),
-            ("point", parts.point),
-            ("fraction", parts.fraction),
-            ("exponent_character", parts.exponent_character),
-            ("exponent_sign", parts.exponent_sign),
-            ("exponent_digits", parts.exponent),
-            ("suffix", parts.suffix),
-        ],
-    )
-}
-
-/// Writes the parts that are present, in the order of the text.
-fn put_present(out: &mut Answer, parts: &[(&str, &[u8])]) -> fmt::Result {
-    list(out, parts.iter().filter(|(_, bytes)| !bytes.is_empty()), |out, (kind, bytes)| {
-        write!(out, r#"{{"kind":"{kind}","size":{}}}"#, bytes.len())
-    })
+    match syntax.read_prefix(text) {
+        Ok((literal, _)) => list(out, literal.parts(), put),
+        Err(_) => out.write_str("[]"),
+    }
 }
 
 /// Writes an array, each item by a function.

@@ -11,7 +11,7 @@ const COLOURS = {
     fraction: "digits",
     exponent_character: "exponent",
     exponent_sign: "sign",
-    exponent_digits: "exponent",
+    exponent: "exponent",
     suffix: "base",
 };
 /* How many lines the field shows, and how many of them are read. */
@@ -115,7 +115,7 @@ class Trial {
         const [sign, fraction] = [piece.sign === "-" ? "-" : "", digits(piece.fraction)];
         const mantissa = number([...digits(piece.integer), ...fraction], radix);
         if (!piece.point && !piece.exponent_character) return `integer = ${sign}${mantissa}`;
-        const exponent = Number(`${piece.exponent_sign ?? ""}${number(digits(piece.exponent_digits), exponentRadix)}`);
+        const exponent = Number(`${piece.exponent_sign ?? ""}${number(digits(piece.exponent), exponentRadix)}`);
         const isDecimal = radix === 10 && base === 10;
         const value = isDecimal ? Number(`${mantissa}e${exponent - fraction.length}`) : Number(mantissa) * base ** exponent / radix ** fraction.length;
         return Number.isFinite(value) ? `float = ${sign}${value}` : "float";
