@@ -54,10 +54,12 @@ class Code {
         return `from peltzivar import ${view}\n\n${comment}format = ${call}\n`;
     }
 
+    /* The settings of the word, and then those of the options that are not the usual ones. */
     settings(state, { isBuilt }) {
         const settings = this.edits(state.word).map((edit) => this.library.setting(edit, edit.value));
         const { word } = this.library.build(settings);
-        const nearest = isBuilt ? [] : [`No builder makes this word. These settings build the nearest one, ${wordText(word)}.`];
-        return [...[...this.comment(state), ...nearest].map((line) => `# ${line}`), ...settings, ""].join("\n");
+        const nearest = isBuilt ? [] : [`# No builder makes this word. These settings build the nearest one, ${wordText(word)}.`];
+        const options = this.library.differences(state, { ...STANDARD_OPTIONS, word: state.word }).map(({ text }) => text);
+        return [`# ${wordText(state.word)}`, ...nearest, ...settings, ...options, ""].join("\n");
     }
 }

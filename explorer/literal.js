@@ -15,12 +15,13 @@ const COLOURS = {
     suffix: "base",
 };
 /* How many lines the field shows, and how many of them are read. */
-const [MOST_ROWS, MOST_LINES] = [12, 100];
+const [MOST_ROWS, MOST_LINES] = [8, 100];
 
 class Trial {
     constructor(library, { change }) {
         this.library = library;
         this.change = change;
+        this.keys = [];
         find("literal").addEventListener("input", ({ target }) => change({ numbers: target.value }, "literal"));
     }
 
@@ -39,31 +40,66 @@ class Trial {
             return { ...answer, text: text.slice(Number(isRefused)), place, isRefused, isExpected: isRefused === Boolean(answer.error) };
         });
         this.state = state;
+        this.answers = answers;
+        for (const { text, isRefused, offers } of answers) {
+            for (const offer of offers) {
+                offer.changes = this.library.differences(offer, state);
+                offer.label = `set ${offer.changes.map((it) => it.text).join(", ")}`;
+                const count = answers.length > 1 ? `, then ${offer.expected} of ${answers.length} as expected` : "";
+                offer.then = ` ${text}: ${isRefused ? "refused" : this.reading(offer, text, offer.parts)}${count}`;
+            }
+        }
         this.expected = answers.filter(({ isExpected }) => isExpected).length;
         this.total = answers.length;
         box.setAttribute("aria-invalid", String(this.expected < this.total));
         const left = all.length - lines.length;
-        const rest = left ? [element("li", { class: "bad" }, left === 1 ? "1 more line is not read" : `${left} more lines are not read`)] : [];
-        const unread = lines.length && !answers.length ? [element("li", { class: "bad" }, "not read, since the word is not lawful")] : [];
-        find("read").replaceChildren(...answers.map((answer) => this.row(answer)), ...unread, ...rest);
+        const rest = [
+            ...(lines.length && !answers.length ? ["not read, since the word is not lawful"] : []),
+            ...(left ? [left === 1 ? "1 more line is not read" : `${left} more lines are not read`] : []),
+        ];
+        const texts = rest.map((text) => ({ key: text, make: () => element("li", { class: "bad" }, text) }));
+        this.fill([...answers.map((answer) => ({ key: this.keyOf(answer), make: () => this.row(answer) })), ...texts]);
         const first = answers.find(({ isExpected }) => !isExpected);
         const count = this.total ? `${this.expected} of ${this.total} as expected` : "";
         return { count, isGood: !first, first: first && `${first.text} ${this.told(first)}` };
+    }
+
+    /* Returns a text of all that a row shows. */
+    keyOf({ text, place, parts, start, end, offers, ...answer }) {
+        const told = this.told({ text, parts, start, ...answer });
+        const texts = offers.flatMap(({ label, then }) => [label, then]);
+        return [text, place, start, end, told, ...parts.flatMap(Object.values), ...texts].join("\n");
+    }
+
+    /* Shows the rows. Those that show the same as before stay. */
+    fill(rows) {
+        const list = find("read");
+        rows.forEach(({ key, make }, index) => {
+            if (key === this.keys[index]) return;
+            if (list.children[index]) list.children[index].replaceWith(make());
+            else list.append(make());
+        });
+        while (list.children.length > rows.length) list.lastElementChild.remove();
+        this.keys = rows.map(({ key }) => key);
     }
 
     row(answer) {
         const { text, place, isRefused, isExpected, mask = 0 } = answer;
         const change = () => this.turn(place);
         const nothing = isRefused ? "No flag alone refuses it." : "No format that differs in a few fields accepts it.";
-        const offers = answer.offers.map((offer) => this.offer(answer, offer));
+        const offers = answer.offers.map((offer, index) => this.offer(place, offer, index));
         const box = element("input", { type: "checkbox", change, id: `refuse-${place}`, "aria-label": `${text} must be refused` });
         box.checked = isRefused;
         return element(
             "li",
             { class: isExpected ? "" : "unexpected", "data-field": this.library.namesOf(BigInt(mask)).join(" ") },
-            element("span", { class: "written" }, this.pieces(answer)),
+            element(
+                "div",
+                {},
+                element("span", { class: "written" }, this.pieces(answer)),
+                element("p", { class: isExpected ? "good" : "bad" }, this.told(answer)),
+            ),
             element("label", { class: "refuse" }, box, "refuse"),
-            element("p", { class: isExpected ? "good" : "bad" }, this.told(answer)),
             element("ul", {}, isExpected || offers.length ? offers : element("li", {}, nothing)),
         );
     }
@@ -71,7 +107,7 @@ class Trial {
     /* Returns what is told of a number. */
     told({ text, error, start, parts, isRefused }) {
         const what = error ? `${start < text.length ? `at index ${start}` : "at the end"}: ${error}` : this.reading(this.state, text, parts);
-        if (isRefused) return error ? `refused, as it must be: ${what}` : `accepted as ${what}, but it must be refused`;
+        if (isRefused) return error ? `refused: ${what}` : `accepted as ${what}, but it must be refused`;
         return error ? what : `accepted: ${what}`;
     }
 
@@ -91,16 +127,13 @@ class Trial {
     }
 
     /* Returns a state that is offered, as a button with its settings, with what the number is then. */
-    offer({ text, isRefused }, offer) {
-        const changes = this.library.differences(offer, this.state);
+    offer(place, { label, then, changes }, index) {
         const use = () => {
-            this.change({ word: offer.word, exponent: offer.exponent, point: offer.point });
+            const { word, exponent, point } = this.answers.find((it) => it.place === place).offers[index];
+            this.change({ word, exponent, point });
             (find("read").querySelector(".use") ?? find("literal")).focus();
         };
-        const set = button("use", `set ${changes.map((it) => it.text).join(", ")}`, use, { "data-field": changes.map(({ name }) => name).join(" ") });
-        const then = isRefused ? "refused" : this.reading(offer, text, offer.parts);
-        const count = this.total > 1 ? `, then ${offer.expected} of ${this.total} as expected` : "";
-        return element("li", {}, set, ` ${text}: ${then}${count}`);
+        return element("li", {}, button("use", label, use, { "data-field": changes.map(({ name }) => name).join(" ") }), then);
     }
 
     /* Returns what a number is in a state, by its parts: its kind, and its value if that is not too large. */

@@ -442,13 +442,13 @@ class Walk(unittest.TestCase):
         self.assertEqual(self.texts("#read > li:nth-child(2) .written"), ["-1_000"])
         self.assertEqual(self.texts("#read > li:nth-child(2) .written span"), ["-", "1"])
         self.assertEqual(self.texts("#read mark"), ["_", "\u00e9", "x"])
-        self.assertEqual(self.texts("#read > li > p"), [
+        self.assertEqual(self.texts("#read p"), [
             "accepted: float = -12000",
             "at index 2: a digit separator after a digit, which requires integer_internal_digit_separator or "
             "integer_trailing_digit_separator",
             "at index 1: no literal has the byte 195 here",
             "accepted as integer = 1, but it must be refused",
-            "refused, as it must be: at index 1: no literal has the byte 'x' here"])
+            "refused: at index 1: no literal has the byte 'x' here"])
         self.assertEqual((self.text("#count"), self.text("#first-error").split(" ")[0]), ("2 of 5 as expected", "-1_000"))
         self.find("#refuse-3").send_keys(Keys.SPACE)
         self.assertEqual((self.value("#literal").split("\n")[3], self.focused()), ("1", "refuse-3"))
@@ -491,11 +491,12 @@ class Walk(unittest.TestCase):
                 || it.getAttribute("aria-label") || it.textContent.trim())).map((it) => it.outerHTML)"""
         ), [])
         self.assertEqual(self.run_script("return [document.documentElement.scrollWidth, innerWidth]"), [320, 320])
-        place = "return Math.round(document.querySelector('#base_prefix').getBoundingClientRect().top)"
+        place = "return document.querySelector('#base_prefix').getBoundingClientRect().top"
         self.find("#base_prefix").send_keys(Keys.CONTROL, "a")
         before = self.run_script(place)
         self.find("#base_prefix").send_keys("5")
-        self.assertEqual((self.text("#verdict"), self.run_script(place)), ("Not lawful: 1 reason", before))
+        self.assertEqual(self.text("#verdict"), "Not lawful: 1 reason")
+        self.assertAlmostEqual(self.run_script(place), before, delta=2)
         self.assertEqual(self.run_script("return document.querySelector('.bar').getBoundingClientRect().top"), 0)
 
     def test_numbers_stay_in_view(self):
