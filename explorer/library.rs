@@ -119,7 +119,7 @@ fn put_line(out: &mut Answer, state: State, syntax: &Syntax, lines: &[u8], line:
         write!(out, r#","error":{},"mask":{mask},"start":{start},"end":{end}"#, Quoted(error))?;
     }
     out.write_str(r#","offers":"#)?;
-    let found = if result.is_err() == line.is_refused { Found::default() } else { offers(state, lines, line) };
+    let found = if result.is_err() == line.is_refused { Found::new(lines) } else { offers(state, lines, line) };
     list(out, found.best(), |out, (state, expected)| {
         put_state(out, state)?;
         write!(out, r#","expected":{expected},"parts":"#)?;

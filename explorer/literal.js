@@ -1,18 +1,18 @@
 /* The numbers to try, one a line: their parts are coloured, wrong bytes are marked, and for a number that is not as
  * expected, states are offered in which it is. A number behind a `!` must be refused. */
 
-/* The parts of a literal, with the names of their colours. */
-const COLOURS = {
-    sign: "sign",
-    special: "special",
-    prefix: "base",
-    integer: "digits",
-    point: "option",
-    fraction: "digits",
-    exponent_character: "exponent",
-    exponent_sign: "sign",
-    exponent: "exponent",
-    suffix: "base",
+/* The parts of a number, with the names of their colours and their fields. */
+const PARTS = {
+    sign: ["sign", "no_positive_mantissa_sign required_mantissa_sign"],
+    special: ["special", "no_special case_sensitive_special"],
+    prefix: ["base", "base_prefix"],
+    integer: ["digits", "mantissa_radix"],
+    point: ["option", "point"],
+    fraction: ["digits", "mantissa_radix"],
+    exponent_character: ["exponent", "exponent"],
+    exponent_sign: ["sign", "no_positive_exponent_sign required_exponent_sign"],
+    exponent: ["exponent", "exponent_radix"],
+    suffix: ["base", "base_suffix"],
 };
 /* How many lines the field shows, and how many of them are read. */
 const [MOST_ROWS, MOST_LINES] = [8, 100];
@@ -118,7 +118,8 @@ class Trial {
         const all = [...parts, { size: bytes.length }].map(({ kind, size }) => ({ kind, start: next, end: next += size }));
         const cut = (from, to) => all.filter((part) => part.start < to && from < part.end).map(({ kind, start, end }) => {
             const piece = new TextDecoder().decode(bytes.subarray(Math.max(start, from), Math.min(end, to)));
-            return kind ? element("span", { class: COLOURS[kind], title: kind.replace("_", " ") }, piece) : piece;
+            const [colour, fields] = PARTS[kind] ?? [];
+            return kind ? element("span", { class: colour, title: kind.replace("_", " "), "data-field": fields }, piece) : piece;
         });
         if (start === undefined) return cut(0, bytes.length);
         while ((bytes[end] & 0xc0) === 0x80) end += 1;

@@ -150,8 +150,13 @@ class Page {
         find("about").replaceChildren(...withCode(language?.about ?? ""));
     }
 
-    /* Takes a text as the word, if it is whole, or shows why it is not one. */
+    /* Takes a text as the word, or a link as the state, if it is whole, or shows why it is not one. */
     take(text, isWhole) {
+        const link = /#(word|exponent|point|numbers)=\S*/.exec(text);
+        if (link && isWhole) {
+            history.replaceState(null, "", link[0]);
+            return this.read();
+        }
         const { word, options, notes = [], error } = this.library.read(text);
         if (error) {
             const forms = "A word is `0x` and up to 32 hexadecimal digits, a decimal number, or settings such as `radix=16`.";
@@ -262,7 +267,6 @@ class Page {
         const reasons = this.report.show(this.state, this.shown);
         this.controls.show(this.state);
         showBits(this.cells, word);
-        showNumber(this.library, this.state);
         const { count, isGood, first } = this.trial.show(this.state);
         setText(find("count"), count);
         find("count").className = isGood ? "good" : "bad";
