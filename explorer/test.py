@@ -399,6 +399,8 @@ class Walk(unittest.TestCase):
         self.click("#copy-link")
         self.wait(lambda: self.run_script("return window.copied") == f"#word={STANDARD}&exponent=112&point=46")
         self.assertIn("Copied is the part from # on", self.text("#copied"))
+        self.type("#word", "index.html#word=0xC&numbers=7" + Keys.ENTER)
+        self.assertEqual((self.value("#literal"), self.text("#verdict")), ("7", "Not lawful: 1 reason"))
         self.load("#word=nonsense&exponent=300&point=")
         self.assertEqual((self.value(), self.value("#exponent"), self.value("#point")), (STANDARD, "e", "."))
         self.assertIn("This link has no format word", self.text("#word-problem"))
