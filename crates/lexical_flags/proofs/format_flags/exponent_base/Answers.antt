@@ -1,9 +1,8 @@
 use Rattle.std.proofs.Common.{◌∙◌, ap, sym, subst}
 use Rattle.lexical_flags.specs.Layout as layout
 use Rattle.lexical_flags.specs.Record.{raw, effective}
-use Rattle.lexical_flags.specs.Rules.{IsRadix}
+use Rattle.lexical_flags.specs.Rules.{IsRadix, Lawful}
 use Rattle.lexical_flags.proofs.CommonLemmas.{common_base}
-use Rattle.lexical_flags.proofs.RuleLemmas.{Lawful-exponent_base}
 use Rattle.lexical_flags.proofs.format_flags.exponent_base.Goals as goal
 
 pub returns-clause-value : goal.returns-clause-value
@@ -12,5 +11,5 @@ returns-clause-value c =
     ∙ ap (λ own. effective own ((raw c.args.format).byte layout.mantissa_radix)) (common_base c.args.format)
 
 pub returns-clause-lawful : goal.returns-clause-lawful
-returns-clause-lawful c lawful =
-    subst IsRadix (sym (returns-clause-value c)) (Lawful-exponent_base c.args.format lawful)
+unfolding Lawful
+returns-clause-lawful c lawful = subst IsRadix (sym (returns-clause-value c)) lawful.exponent_base
