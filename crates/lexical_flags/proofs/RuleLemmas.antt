@@ -25,8 +25,7 @@ present r byte (inr free) some = free
 -- A byte that is absent or punctuation is absent or allowed ASCII.
 IsAbsentOrPunctuation-text : (r : Record) (byte : ℕ) → IsAbsentOrPunctuation r byte → IsTextOrNone byte
 unfolding IsPunctuation
-IsAbsentOrPunctuation-text r byte (inl none) = inl none
-IsAbsentOrPunctuation-text r byte (inr free) = inr free.0
+IsAbsentOrPunctuation-text r byte is = grind arith
 
 -- If a byte is absent or allowed ASCII, and its role is disjoint from the digits and the signs, then the byte is absent
 -- or punctuation.
@@ -133,9 +132,9 @@ pub IsFirstError-unique : (word : ℕ) (rules : List Rule) (a b : Error) → IsF
 IsFirstError-unique word [] a b h k = h ∙ sym k
 IsFirstError-unique word (rule ∷ rules) a b h k = ErrorUnless-unique (IsFirstError-unique word rules) a b h k
 
-pub IsErrorOf-unique : (word : ℕ) (a b : Error) → IsErrorOf word a → IsErrorOf word b → a ≡ b
+pub one_error : (word : ℕ) (a b : Error) → IsErrorOf word a → IsErrorOf word b → a ≡ b
 unfolding IsErrorOf
-IsErrorOf-unique word = IsFirstError-unique word rules_in_order
+one_error word = IsFirstError-unique word rules_in_order
 
 -- Words that satisfy the same rules have the same error.
 IsFirstError-same : (v w : ℕ) → ((rule : Rule) → Holds rule v ↔ Holds rule w) → (rules : List Rule) (error : Error)
@@ -158,8 +157,7 @@ IsErrorOf-same v w same error = (
 reserved-error : (rule : Rule) (word : ℕ) → error_of rule ≡ InvalidFlags → IsClean word → Holds rule word
 unfolding Holds
 reserved-error rules.ReservedBitsAreZero word e clean = clean
-reserved-error rules.MantissaRadixInRange word e clean = cc
-reserved-error _ word e clean = cc
+reserved-error rule word e clean = absurd (grind arith)
 
 clean-first : (word : ℕ) (rules : List Rule) → IsClean word → IsFirstError rules word InvalidFlags → ⊥
 clean-first word [] clean h = cc
@@ -182,9 +180,9 @@ unfolding IsErrorOf
 Lawful-from_success word h = Lawful-from_all word (every_rule word (all_from_success word rules_in_order h))
 
 -- The error of a word is Success if and only if the word is lawful.
-pub Success-lawful : (word : ℕ) (error : Error) → IsErrorOf word error → ((error ≡ Success) ↔ Lawful word)
+pub success_lawful : (word : ℕ) (error : Error) → IsErrorOf word error → ((error ≡ Success) ↔ Lawful word)
 unfolding IsErrorOf
-Success-lawful word error h = (
+success_lawful word error h = (
   λ e. Lawful-from_success word (subst (IsErrorOf word) e h),
   λ lawful. success_from_all word error (λ rule. Holds-from_lawful rule word lawful) rules_in_order h,
 )

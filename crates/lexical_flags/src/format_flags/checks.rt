@@ -94,7 +94,7 @@ pub(crate) const fn is_punctuation(format: u128, byte: u8) -> bool
 
 // Returns whether two bytes are the two cases of one letter.
 #[inline]
-#[tactic(auto)]
+#[tactic(auto, using(crate::proofs::CaseLemmas::flipped))]
 const fn is_case_pair(a: u8, b: u8) -> bool
     ensures { IsTrue result ↔ (IsTrue (letters a) × (b ≡ other_case a)) }
 {
@@ -495,6 +495,7 @@ pub const fn radix_error_impl(format: u128) -> Error
 ///
 /// `lexical-util` compares raw bytes in the seventh rule, and has no rule for reserved bits.
 #[must_use]
+#[tactic(auto, using(crate::proofs::RuleLemmas::success_lawful, crate::proofs::RuleLemmas::one_error, crate::proofs::RuleLemmas::not_flags))]
 pub const fn format_error_impl(format: u128) -> Error
     ensures first { IsErrorOf format result }
     ensures lawful { (result ≡ Error.Success) ↔ Lawful format }
