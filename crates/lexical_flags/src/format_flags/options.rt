@@ -61,7 +61,7 @@ const fn is_disjoint_from_format_roles(format: u128, byte: u8, case_sensitive: b
 /// - Each lawful format accepts at least one pair of bytes.
 #[must_use]
 #[inline]
-#[tactic(auto)]
+#[tactic(auto, using(crate::proofs::OptionLemmas::accepted_roles, crate::proofs::OptionLemmas::some_from_lawful))]
 pub const fn is_valid_options_punctuation(format: u128, exponent: u8, decimal_point: u8) -> bool
     ensures accepted { IsTrue result ↔ OptionsFit format exponent decimal_point }
     // In a lawful format, the options are accepted if and only if they are allowed ASCII and no byte plays two roles.
