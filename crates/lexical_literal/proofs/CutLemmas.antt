@@ -44,8 +44,7 @@ module _ (m : Notation) where
 
   unprefixed : (part : Part) (stage : Stage) (gap : Bool) (sign prefix text : List ℕ) → is_bare stage ≡ false → (begins stage && not gap) ≡ false
       → Found m part stage gap sign prefix text → Found m part stage gap sign [] text
-  unprefixed part stage gap sign prefix text bare new found =
-      subst (λ x. Found m part stage gap sign x text) (let prefixed = found.prefixed in grind arith) found
+  unprefixed part stage gap sign prefix text bare new found = grind arith
 
   plain : (part : Part) (stage : Stage) (gap : Bool) (text : List ℕ) → is_fresh stage ≡ false → is_bare stage ≡ false → (begins stage && not gap) ≡ false
       → Cut m part stage gap text → Found m part stage gap [] [] text
@@ -59,11 +58,7 @@ module _ (m : Notation) where
     cut_at : (sign prefix digits : List ℕ) (more : Literal) → text ≡ sign ++ (prefix ++ (digits ++ text_after part more)) → sign_fits m part stage sign ≡ true
         → prefix_fits m stage gap prefix ≡ true → is_rest m part (has_digit (stage_at stage sign prefix)) (gap_at gap prefix) digits ≡ true
         → ends_part m part more (stage_after (m.digit part) (stage_at stage sign prefix) (gap_at gap prefix) digits) ≡ true → Cut m part stage gap text
-    cut_at sign prefix digits more whole signed prefixed run end = record {
-      sign = sign;
-      prefix = prefix;
-      found = record { digits = digits; more = more; whole = whole; signed = signed; prefixed = prefixed; run = run; end = end };
-    }
+    cut_at sign prefix digits more whole signed prefixed run end = grind arith
 
     -- A part that ends.
     ended_by : (more : Literal) → text ≡ text_after part more → ends m (reading part stage gap) ≡ true

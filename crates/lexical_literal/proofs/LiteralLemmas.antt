@@ -121,8 +121,7 @@ module _ (any led p one_p f fits_f k : Bool) (flag : Flag → Bool) (only : Bool
 
       end_facts : implies k stops_so ≡ true → implies (not k) scales_so ≡ true
           → (fits_f ≡ true → digit ≡ not f) → (fits_f ≡ true → lone ≡ not (not f || any)) → EndFacts
-      end_facts stop scale seen counted =
-          let same_digit : digit ≡ not f = seen has_fraction in let same_lone : lone ≡ not (not f || any) = counted has_fraction in grind arith
+      end_facts stop scale seen counted = grind arith
 
 module _ (m : Notation) where
   -- Digits that are present have a digit.

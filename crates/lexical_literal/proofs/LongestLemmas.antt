@@ -76,10 +76,7 @@ module _ (m : Notation) (text : List ℕ) where
 
   -- Where the longest literal is shorter, the front is none.
   none_at : (n : ℕ) (longest : Option ℕ) → IsLongest m text n longest → (longest ≡ Some n → ⊥) → NoLiteral m (take n text)
-  none_at n longest is other = is.no_longer n (omega arith) (λ size found. elim (cases_lt size n) [
-    | inl small ↦ small
-    | inr large ↦ let same : size ≡ n = omega (arith, (is.found size found).0) in absurd (other (found ∙ ap Some same))
-  ])
+  none_at n longest is other = grind arith
 
   module _ (scanned : Scanned) (is : IsScanned m text scanned) where
     -- Where a literal ends at the first wrong byte, its parts have been counted.
@@ -119,17 +116,7 @@ module _ (m : Notation) (ready : IsReady m) (text : List ℕ) where
   none_complete is = grind arith
 
   pub read_nothing : HasRead m text 0 start no_cuts None
-  read_nothing = record {
-    ready = ready;
-    within = omega arith;
-    read = refl;
-    counted = refl;
-    longest_is = record {
-      found = λ size is. cc;
-      no_longer = λ more over past l reads.
-          let none : more ≡ 0 = omega arith in none_complete (accepted 0 l (subst (λ n. Reads m l (take n text)) none reads));
-    };
-  }
+  read_nothing = grind arith
 
   module _ (i : ℕ) (s : Summary) (c : Cuts) (longest : Option ℕ) (has : HasRead m text i s c longest) where
     next_scan : i < length text → scan m (Some start) (take (i + 1) text) ≡ step m s (class_of m (get_or text i 0))

@@ -1,7 +1,7 @@
 -- How a text is read, byte by byte.
 use Rattle.std.proofs.Common.{ℕ, ◌≡◌, Bool, true, false, not, IsTrue, ◌==◌, ◌&&◌, ◌+◌, if◌then◌else◌, List, [], ◌∷◌, ◌++◌, Option, Some, None}
 use Rattle.std.proofs.Common.{refl, sym, ap, subst, ◌∙◌, arith}
-use Rattle.std.proofs.lemmas.Bool.{false≢true, false_from_ne_true, or_left, eqb-true}
+use Rattle.std.proofs.lemmas.Bool.{false≢true, false_from_ne_true, or_left}
 use Rattle.lexical_util.specs.Layout as layout
 use Rattle.lexical_util.specs.declared.feature_format.roles.Role.{Role}
 use Rattle.lexical_util.specs.declared.feature_format.roles.Role.TheVariants as roles
@@ -98,11 +98,7 @@ module _ (m : Notation) (h : HasRoles m) where
       grind arith
 
   class_zero : (b : ℕ) → is_zero (class_of m b) ≡ (b == 48)
-  class_zero b =
-      let digit : (part : Part) → (b == 48) ≡ true → m.digit part b ≡ true = λ part zero. ap (m.digit part) (eqb-true b 48 zero) ∙ h.zero_is_digit part in
-      let integer = digit parts.Integer in
-      let exponent = digit parts.Exponent in
-      grind arith
+  class_zero b = grind arith
 
   -- What a role says of a byte.
   pub as_digit : (part : Part) (b : ℕ) → role_in m part b ≡ Some roles.Digit → m.digit part b ≡ true

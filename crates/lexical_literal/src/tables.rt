@@ -103,6 +103,7 @@ const fn stage_number(stage: Stage) -> usize
 }
 
 // Returns the row of a summary.
+#[tactic(auto, using(crate::proofs::TableLemmas::number_back))]
 const fn row_number(read: Summary) -> u8
     ensures back { summary_at result ≡ read }
     ensures small { result < 108 }
