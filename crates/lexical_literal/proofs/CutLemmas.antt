@@ -13,7 +13,7 @@ use Rattle.lexical_literal.specs.Additions.Summary.{implies, has_digit, is_fresh
 use Rattle.lexical_literal.specs.declared.steps.Stage.{Stage}
 use Rattle.lexical_literal.specs.declared.steps.Stage.TheVariants as stages
 use Rattle.lexical_literal.specs.declared.steps.Summary.{Summary}
-use Rattle.lexical_literal.proofs.RunLemmas.{is_rest, run_with_digit, run_with_separator}
+use Rattle.lexical_literal.proofs.RunLemmas.{is_rest, rest_digit, rest_other}
 use Rattle.lexical_literal.proofs.ScanLemmas.{HasRoles, Accepts, took, none_accepts, role_in, as_digit, no_digit, as_role}
 use Rattle.lexical_literal.proofs.StepLemmas.{reading, begins, stage_after, after_byte, stage_at, gap_at, sign_fits, prefix_fits, ends_part, text_after}
 
@@ -90,8 +90,8 @@ module _ (m : Notation) where
     digit_first digit signed fits cut = go cut.prefix (unsigned part (after_digit stage gap (b == 48)) false text (grind arith) cut) where
       go : (prefix : List ℕ) → Found m part (after_digit stage gap (b == 48)) false [] prefix text → Cut m part stage gap (b ∷ text)
       go [] found = longer (after_digit stage gap (b == 48)) false true digit signed
-          (λ run is. run_with_digit m part (has_digit stage) gap b run digit fits
-          (subst (λ t. is_rest m part t false run ≡ true) (grind arith) is))
+          (λ run is. rest_digit m part (has_digit stage) gap b run digit
+          ∙ and_from _ _ fits (subst (λ t. is_rest m part t false run ≡ true) (grind arith) is))
           (λ run. refl) found
       go (x ∷ []) found = cut_at part stage gap (b ∷ text) [] (b ∷ x ∷ []) found.digits found.more (ap (λ t. b ∷ t) found.whole)
           (no_sign_fits part stage signed) (let prefixed = found.prefixed in grind arith) found.run found.end
@@ -102,8 +102,8 @@ module _ (m : Notation) where
         → ((not gap || m.flag (separators_in part).consecutive) && is_open m part (has_digit stage) (may_follow m stage)) ≡ true
         → Cut m part (after_mark stage) true text → Cut m part stage gap (b ∷ text)
     separator_first other separator signed fits cut = longer (after_mark stage) true false other signed
-        (λ run is. run_with_separator m part (has_digit stage) gap b run other separator (and_parts _ _ fits).0
-        (subst (λ t. is_rest m part t true run ≡ true) (grind arith) is))
+        (λ run is. rest_other m part (has_digit stage) gap b run other
+        ∙ and_from _ _ separator (and_from _ _ (and_parts _ _ fits).0 (subst (λ t. is_rest m part t true run ≡ true) (grind arith) is)))
         (λ run. refl) (plain part (after_mark stage) true text (grind arith) (grind arith) (grind arith) cut)
 
     -- A sign in front.

@@ -8,10 +8,11 @@ use Rattle.lexical_util.specs.declared.feature_format.roles.Role.TheVariants as 
 use Rattle.lexical_util.specs.declared.format_flags.Part.{Part}
 use Rattle.lexical_util.specs.declared.format_flags.Part.TheVariants as parts
 use Rattle.lexical_literal.specs.Notation.{Notation, role_set, IsOnlyRole}
-use Rattle.lexical_literal.specs.Additions.Summary.{Cuts, class_of, role_of, in_part, is_plus, is_zero, takes, after}
+use Rattle.lexical_literal.specs.Additions.Summary.{Cuts, add, class_of, role_of, in_part, is_plus, is_zero, takes, after}
 use Rattle.lexical_literal.specs.Additions.Summary.{move, scan, step, is_accepted, count, tally}
 use Rattle.lexical_literal.specs.declared.steps.Class.{Class}
 use Rattle.lexical_literal.specs.declared.steps.Class.TheVariants as classes
+use Rattle.lexical_literal.specs.declared.steps.Piece.{Piece}
 use Rattle.lexical_literal.specs.declared.steps.Summary.{Summary}
 
 -- `HasRoles m` holds if no byte plays two roles, 0 is a digit, the mantissa has one radix, and integers have neither a
@@ -38,10 +39,10 @@ Accepts m o text = is_accepted m (scan m o text) ≡ true
 abbrev pub Arrives : Notation → Option Summary → Cuts → List ℕ → Cuts → Type 0
 Arrives m o c text d = Accepts m o text × (tally m o c text ≡ d)
 
--- `plus bytes n` is `n` and the length of `bytes`.
-abbrev pub plus : List ℕ → ℕ → ℕ
-plus [] n = n
-plus (b ∷ bytes) n = plus bytes (n + 1)
+-- `add_all c piece bytes` counts `bytes`, which belong to `piece`.
+abbrev pub add_all : Cuts → Piece → List ℕ → Cuts
+add_all c piece [] = c
+add_all c piece (b ∷ bytes) = add_all (add c piece) piece bytes
 
 -- `role_in m part b` is the role of `b` after a front that ends in `part`.
 abbrev pub role_in : Notation → Part → ℕ → Option Role
