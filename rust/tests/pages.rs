@@ -45,6 +45,10 @@ fn examples_end_as_their_comments_state() {
         ("face_program", 0, ""),
         ("languages -- 0x1'F.8p1", 0, "JSON: false\nPython: false\nAda: false\nC++ hexadecimal: true\nMASM hexadecimal: false\n"),
         ("languages -- -12", 0, "JSON: true\nPython: true\nAda: true\nC++ hexadecimal: false\nMASM hexadecimal: true\n"),
+        ("tokenizer -- x=0xFF*1_0.5", 0, "0..1: name x\n1..2: operator =\n2..6: integer 0xFF\n6..7: operator *\n7..12: number 1_0.5\n"),
+        ("tokenizer -- x+12ab", 1, "0..1: name x\n1..2: operator +\n4..5: no literal has the byte 'a' here\n"),
+        ("tokenizer -- 2*1e+", 1, "\n4..4: expected a digit after the exponent character, which required_exponent_digits requires\n"),
+        ("tokenizer -- 0x1__F", 1, "4..5: a digit separator after another, which requires integer_consecutive_digit_separator\n"),
         ("settings -- rust/examples/settings.txt", 0, "    word: 0x000A10007800005F000000010000000C,"),
         ("settings", 1, "\"\": No such file or directory (os error 2)\n"),
     ];
