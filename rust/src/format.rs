@@ -30,6 +30,7 @@ pub use crate::view::FormatView;
 pub use crate::word::STANDARD;
 
 use crate::error::Error;
+use crate::short_text::ShortText;
 
 /// Returns whether the format word `FORMAT` is lawful, that is, whether [`format_error`] returns `Success` for it.
 #[must_use]
@@ -82,7 +83,10 @@ impl NumberFormatBuilder {
     pub const fn build_or_panic(&self) -> u128 {
         match self.build_format() {
             Ok(format) => format.word(),
-            Err(error) => panic!("{}", error.message().as_str()),
+            Err(error) => {
+                let description = ShortText::of(error.code().description()).and(": ");
+                panic!("{}", description.and(error.text().as_str()).as_str())
+            }
         }
     }
 
