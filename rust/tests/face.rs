@@ -2,7 +2,8 @@
 //! calls on many words, and with known texts on a few.
 
 use peltzivar::edits::{apply_all, edits_of, same_format};
-use peltzivar::format::{options_error, NumberFormatBuilder, BASE_PREFIX_SHIFT, BASE_SUFFIX_SHIFT, STANDARD};
+use peltzivar::format::{NumberFormatBuilder, BASE_PREFIX_SHIFT, BASE_SUFFIX_SHIFT, STANDARD};
+use peltzivar::format_flags::options_error;
 use peltzivar::literal::Syntax;
 use peltzivar::reasons::{notes, reasons};
 use peltzivar::{Error, FlagSetter, Format, FormatView, Rule};
