@@ -7,7 +7,7 @@
 //! `INTERFACE_FLAG_MASK`, `EXPONENT_FLAG_MASK` and those that end in `DIGIT_SEPARATOR_FLAG_MASK`.
 //!
 //! For a word that is known only at run time, use [`FormatView`], or [`Format`] if the word must be lawful. The
-//! prebuilt formats of `lexical-util` are not included. To copy one, see `examples/recipes.rs`.
+//! prebuilt formats of `lexical-util` are not included. [`Language`][crate::literal::Language] has formats of languages.
 
 #[doc(no_inline)]
 pub use crate::feature_format::NumberFormat;

@@ -23,8 +23,8 @@ const _: () = {
 /// A syntax is known then, too, and is small.
 const _: () = {
     let syntax = Syntax::new_or_panic(NumberFormatBuilder::new().build_format_or_panic(), b'e', b'.');
-    assert!(matches!(syntax.options(), Some(options) if options.exponent == b'e' && options.point == b'.'));
-    assert!(Syntax::integers(Format::of::<STANDARD>()).options().is_none() && size_of::<Syntax>() <= 32);
+    assert!(matches!((syntax.exponent(), syntax.point()), (Some(b'e'), Some(b'.'))));
+    assert!(Syntax::integers(syntax.format()).point().is_none() && size_of::<Syntax>() <= 32);
 };
 
 /// Random words, random words with lawful radixes, and words near the standard format.
@@ -229,7 +229,7 @@ fn a_syntax_is_a_format_with_options_that_fit_its_normal_form() {
     for format in words().filter_map(|word| Format::new(word).ok()) {
         let normal = format.normal_form();
         let integers = Syntax::integers(format);
-        assert_eq!((integers.format(), integers.options()), (normal, None));
+        assert_eq!((integers.format(), integers.exponent(), integers.point()), (normal, None, None));
         assert_eq!((integers.to_string(), normal.to_string().parse()), (normal.to_string(), Ok(integers)));
         syntaxes.push((normal, None, integers));
         for [exponent, point] in [*b"e.", *b"p,", *b"x.", *b"5.", *b"^-", *b"^^", *b"\0."] {

@@ -52,8 +52,8 @@ fn rules_print_the_conditions_of_format() {
 fn examples_end_as_their_comments_state() {
     #[rustfmt::skip]
     let rows = [
-        ("languages -- 0x1'F.8p1", 0, "JSON: false\nPython: false\nAda: false\nC++ hexadecimal: true\nMASM hexadecimal: false\n"),
-        ("languages -- -12", 0, "JSON: true\nPython: true\nAda: true\nC++ hexadecimal: false\nMASM hexadecimal: true\n"),
+        ("languages -- 0x1'F.8p1", 0, "C++ hexadecimal: true "),
+        ("languages -- -12", 0, "C++ hexadecimal: false "),
         ("settings -- rust/examples/settings.txt", 0, "0x100A10007800005F000000010000000C 112 46\n"),
         ("settings", 1, "\"\": No such file or directory (os error 2)\n"),
     ];

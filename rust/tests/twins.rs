@@ -3,7 +3,9 @@
 
 use peltzivar::edits::edits_of;
 use peltzivar::format::{self, NumberFormatBuilder, STANDARD};
-use peltzivar::literal::{Cause, Front, Options, Parts, Place, ReadError, Reader, Special, Specials, Syntax};
+use peltzivar::literal::{
+    Cause, Digits, Language, Literal, Number, Place, ReadError, Reader, Special, Specials, Syntax,
+};
 use peltzivar::{
     with_setters, word, Edit, Error, Finding, FlagSetter, Format, FormatError, FormatView, Note, NumberFormat, Part,
     Reason, Rule, Setter, SettingError, SettingErrorKind, Settings, SettingsError,
@@ -22,8 +24,8 @@ const _: () = {
     const fn is_shared<T: Clone + Debug + Send + Sync + Unpin>() {}
     are_values::<(Edit, Error, FlagSetter, Format, FormatError, FormatView, Note, NumberFormat<STANDARD>)>();
     are_values::<(NumberFormatBuilder, Reason, Rule, SettingError, SettingErrorKind, Finding, SettingsError)>();
-    are_values::<(Cause, Front<'_>, Options, Parts<'_>, Place, ReadError, Special, Specials<'_>, Syntax)>();
-    is_shared::<(Reader, Settings)>();
+    are_values::<(Cause, Language, Literal<'_>, Number<'_>, Place, ReadError, Special, Specials<'_>, Syntax)>();
+    is_shared::<(Digits<'_>, Reader, Settings)>();
     are_ordered::<(Edit, Error, FlagSetter, Format, FormatView, Rule)>();
     is_error::<Error>();
     is_error::<FormatError>();

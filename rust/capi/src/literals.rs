@@ -2,7 +2,7 @@
 
 use crate::arguments::{input, write_text, Out};
 use crate::numbers::{error_number, ErrorNumber, Setter, Word, NO_SETTER};
-use peltzivar::literal::{self, Cause, Parts};
+use peltzivar::literal::{self, Cause};
 use peltzivar::{Error, Format, FormatError};
 
 /// The part of a cause that has none.
@@ -30,11 +30,10 @@ impl Syntax {
 
 impl From<literal::Syntax> for Syntax {
     fn from(syntax: literal::Syntax) -> Syntax {
-        let options = syntax.options();
         Syntax {
             format: syntax.format().word().into(),
-            exponent: options.map_or(0, |it| it.exponent),
-            decimal_point: options.map_or(0, |it| it.point),
+            exponent: syntax.exponent().unwrap_or(0),
+            decimal_point: syntax.point().unwrap_or(0),
         }
     }
 }
@@ -53,19 +52,19 @@ pub struct Literal {
     size: usize,
 }
 
-impl From<Parts<'_>> for Literal {
-    fn from(parts: Parts<'_>) -> Literal {
+impl From<literal::Literal<'_>> for Literal {
+    fn from(literal: literal::Literal<'_>) -> Literal {
         let mut size = 0;
         let parts = [
-            parts.sign,
-            parts.prefix,
-            parts.integer,
-            parts.point,
-            parts.fraction,
-            parts.exponent_character,
-            parts.exponent_sign,
-            parts.exponent,
-            parts.suffix,
+            literal.sign(),
+            literal.prefix(),
+            literal.integer(),
+            literal.point(),
+            literal.fraction(),
+            literal.exponent_character(),
+            literal.exponent_sign(),
+            literal.exponent(),
+            literal.suffix(),
         ];
         let parts = parts.map(|part| {
             let start = size;
@@ -123,14 +122,14 @@ unsafe fn read_by<'a>(
     syntax: &Syntax,
     (text, len): (*const u8, usize),
     (literal, error): (Out<Literal>, Out<ReadError>),
-    read: impl Fn(literal::Syntax, &'a [u8]) -> Result<Parts<'a>, literal::ReadError>,
+    read: impl Fn(literal::Syntax, &'a [u8]) -> Result<literal::Literal<'a>, literal::ReadError>,
 ) -> ErrorNumber {
     error_number(match (syntax.checked(), input(text, len)) {
         (Err(refused), _) => refused.code(),
         (_, None) => Error::Overflow(0),
         (Ok(syntax), Some(text)) => match read(syntax, text) {
-            Ok(parts) => {
-                literal.write(parts.into());
+            Ok(read) => {
+                literal.write(read.into());
                 Error::Success
             }
             Err(refused) => {
@@ -184,7 +183,7 @@ pub unsafe extern "C" fn peltzivar_read_prefix(
     error: Out<ReadError>,
 ) -> ErrorNumber {
     read_by(syntax, (text, len), (literal, error), |syntax, text| {
-        Ok(syntax.read_prefix(text)?.parts)
+        Ok(syntax.read_prefix(text)?.0)
     })
 }
 

@@ -1,9 +1,9 @@
 //! Languages as constants, which are written by hand. The comment of a setter has a text that is accepted or rejected
 //! because of the setter.
 
-use crate::literal::{Parts, ReadError, Reader, Special, Specials, Syntax};
+use crate::literal::{Literal, ReadError, Reader, Special, Specials, Syntax};
 use crate::NumberFormatBuilder;
-use core::{fmt, num::NonZeroU8};
+use core::{fmt, hash, num::NonZeroU8};
 
 /// How a language, or a file, writes numbers: a [`Syntax`], and the spellings of NaN and infinity. Its [`Reader`] is a
 /// constant, so no tables are made at run time.
@@ -15,8 +15,8 @@ use core::{fmt, num::NonZeroU8};
 /// ```
 /// use peltzivar::literal::{Language, Number};
 ///
-/// let Ok(Number::Literal(parts)) = Language::TOML.read(b"1_000.5") else { unreachable!() };
-/// assert_eq!((parts.integer, parts.fraction), (&b"1_000"[..], &b"5"[..]));
+/// let Ok(Number::Literal(literal)) = Language::TOML.read(b"1_000.5") else { unreachable!() };
+/// assert_eq!((literal.integer(), literal.fraction()), (&b"1_000"[..], &b"5"[..]));
 /// assert!(matches!(Language::TOML.read(b"-inf"), Ok(Number::Special(_))));
 ///
 /// let error = Language::TOML.read(b"1_000.").unwrap_err();
@@ -37,8 +37,8 @@ struct Definition {
 #[derive(Debug, Clone, Copy, PartialEq, Eq, Hash)]
 #[allow(clippy::exhaustive_enums, reason = "numbers are of two kinds")]
 pub enum Number<'a> {
-    /// A literal, by its parts.
-    Literal(Parts<'a>),
+    /// A literal.
+    Literal(Literal<'a>),
     /// NaN or infinity.
     Special(Special),
 }
@@ -87,6 +87,21 @@ impl Language {
                 None => Err(error),
             },
         }
+    }
+}
+
+/// Languages are equal if they have the same name.
+impl PartialEq for Language {
+    fn eq(&self, other: &Self) -> bool {
+        self.name() == other.name()
+    }
+}
+
+impl Eq for Language {}
+
+impl hash::Hash for Language {
+    fn hash<H: hash::Hasher>(&self, state: &mut H) {
+        self.name().hash(state);
     }
 }
 

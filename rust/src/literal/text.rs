@@ -62,8 +62,10 @@ impl Syntax {
 impl fmt::Display for Syntax {
     fn fmt(&self, f: &mut fmt::Formatter<'_>) -> fmt::Result {
         write!(f, "{}", self.view())?;
-        let options = self.options();
-        options.map_or(Ok(()), |it| write!(f, " {} {}", it.exponent, it.point))
+        match (self.exponent(), self.point()) {
+            (Some(exponent), Some(point)) => write!(f, " {exponent} {point}"),
+            _ => Ok(()),
+        }
     }
 }
 
