@@ -113,7 +113,8 @@ impl Settings {
         Ok(settings)
     }
 
-    /// Adds a text. A text that is refused is counted, and sets nothing.
+    /// Adds a text. A text that is refused is counted, and sets nothing. What the other texts build is then not what the
+    /// file means, so call this after an error only to find others.
     ///
     /// ```
     /// let error = peltzivar::Settings::new().add("base_suffx = 'h'").unwrap_err();
