@@ -6,7 +6,7 @@ use core::fmt::{self, Display, Write};
 use core::ops::Range;
 
 use peltzivar::edits::{apply, is_built, normal_form};
-use peltzivar::literal::{Front, Specials, Syntax};
+use peltzivar::literal::{Specials, Syntax};
 use peltzivar::reasons::Byte;
 use peltzivar::{Cause, Edit, Error, FormatView, NumberFormatBuilder, Rule};
 
@@ -95,23 +95,11 @@ pub extern "C" fn literal(low: u64, high: u64, exponent: u8, point: u8, length: 
         match (special, syntax.read_prefix(text)) {
             (Some(special), _) => {
                 let (sign, rest) = text.split_at(special.sign.map_or(0, |_| 1));
-                put_parts(out, &[("sign", sign), ("special", rest)])?;
+                let parts = [("sign", sign), ("special", rest)];
+                put_parts(out, parts.into_iter().filter(|(_, bytes)| !bytes.is_empty()))?;
             }
-            (None, Ok(Front { parts, .. })) => put_parts(
-                out,
-                &[
-                    ("sign", parts.sign),
-                    ("prefix", parts.prefix),
-                    ("integer", parts.integer),
-                    ("point", parts.point),
-                    ("fraction", parts.fraction),
-                    ("exponent_character", parts.exponent_character),
-                    ("exponent_sign", parts.exponent_sign),
-                    ("exponent_digits", parts.exponent),
-                    ("suffix", parts.suffix),
-                ],
-            )?,
-            (None, Err(_)) => put_parts(out, &[])?,
+            (None, Ok((literal, _))) => put_parts(out, literal.parts())?,
+            (None, Err(_)) => put_parts(out, core::iter::empty())?,
         }
         if let (None, Some(error)) = (special, refusal) {
             let (mask, Range { start, end }, right) = (Word(error.mask()), error.span(), error.valid_up_to());
@@ -121,12 +109,10 @@ pub extern "C" fn literal(low: u64, high: u64, exponent: u8, point: u8, length: 
     })
 }
 
-/// Writes the parts that are present, in the order of the text.
-fn put_parts(out: &mut Answer, parts: &[(&str, &[u8])]) -> fmt::Result {
+/// Writes the parts of a text, each with its name.
+fn put_parts<'a>(out: &mut Answer, parts: impl Iterator<Item = (&'static str, &'a [u8])>) -> fmt::Result {
     out.write_str(r#"{"parts":"#)?;
-    list(out, parts.iter().filter(|(_, bytes)| !bytes.is_empty()), |out, (kind, bytes)| {
-        write!(out, r#"{{"kind":"{kind}","size":{}}}"#, bytes.len())
-    })
+    list(out, parts, |out, (kind, bytes)| write!(out, r#"{{"kind":"{kind}","size":{}}}"#, bytes.len()))
 }
 
 /// Returns the names of the options that a reason blames, as an array in JSON.

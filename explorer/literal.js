@@ -10,7 +10,7 @@ const COLOURS = {
     fraction: "digits",
     exponent_character: "exponent",
     exponent_sign: "sign",
-    exponent_digits: "exponent",
+    exponent: "exponent",
     suffix: "base",
 };
 /* How many lines the field shows, and how many of them are read. */

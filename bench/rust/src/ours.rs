@@ -11,7 +11,7 @@ use peltzivar::error::Error;
 use peltzivar::format::{NumberFormat, Part};
 use peltzivar::format_builder::NumberFormatBuilder;
 use peltzivar::format_flags::{self as flags, radix_error_impl as radix_error};
-use peltzivar::literal::{Parts, Reader, Syntax};
+use peltzivar::literal::{Literal, Reader, Syntax};
 use peltzivar::word::format_error;
 use peltzivar::{Format, FormatView};
 use std::sync::LazyLock;
@@ -62,9 +62,10 @@ static SYNTAX: LazyLock<Syntax> = LazyLock::new(|| format!("0x{JSON:X} 101 46").
 static READER: LazyLock<Reader> = LazyLock::new(|| Reader::new(*SYNTAX));
 
 #[rustfmt::skip]
-fn lengths(it: Parts) -> u64 {
+fn lengths(it: Literal) -> u64 {
     let parts = [
-        it.sign, it.prefix, it.integer, it.point, it.fraction, it.exponent_character, it.exponent_sign, it.exponent, it.suffix,
+        it.sign(), it.prefix(), it.integer(), it.point(), it.fraction(), it.exponent_character(), it.exponent_sign(),
+        it.exponent(), it.suffix(),
     ];
     packed(parts.map(<[u8]>::len))
 }

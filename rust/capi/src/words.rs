@@ -1,14 +1,18 @@
 //! Calls that build, read, edit and compare words and fields.
 
-use crate::arguments::{input, Out};
-use crate::numbers::{error_number, flag_setter, ErrorNumber, Fields, NumberedEdit, Setter, Word};
-use peltzivar::edits::{self, FIELD_COUNT};
+use crate::arguments::{input, write_list, Out};
+use crate::numbers::{error_number, setter_of, ErrorNumber, Fields, NumberedEdit, Setter, Word};
+use peltzivar::edits;
 use peltzivar::{Error, NumberFormatBuilder};
 
-/// Applies the edits in order. Returns `None` if an edit has an unknown setter.
-fn edited(builder: NumberFormatBuilder, list: &[NumberedEdit]) -> Option<NumberFormatBuilder> {
-    list.iter()
-        .try_fold(builder, |it, edit| Some(edits::apply(it, edit.edit()?)))
+/// Applies the edits in order. Returns `None` if an edit has an unknown setter, or if there are too many.
+unsafe fn edited(
+    builder: NumberFormatBuilder,
+    edits: *const NumberedEdit,
+    len: usize,
+) -> Option<NumberFormatBuilder> {
+    let apply = |it, edit: &NumberedEdit| Some(edits::apply(it, edit.edit()?));
+    input(edits, len)?.iter().try_fold(builder, apply)
 }
 
 /// Writes the word that `builder` packs. Writes nothing if it is `None`.
@@ -44,7 +48,7 @@ pub unsafe extern "C" fn peltzivar_build(
     len: usize,
     out: Out<Word>,
 ) -> bool {
-    write_packed(edited(NumberFormatBuilder::new(), input(edits, len)), out)
+    write_packed(edited(NumberFormatBuilder::new(), edits, len), out)
 }
 
 #[unsafe(no_mangle)]
@@ -55,7 +59,7 @@ pub unsafe extern "C" fn peltzivar_edit_word(
     out: Out<Word>,
 ) -> bool {
     let builder = NumberFormatBuilder::rebuild(format.number());
-    write_packed(edited(builder, input(edits, len)), out)
+    write_packed(edited(builder, edits, len), out)
 }
 
 #[unsafe(no_mangle)]
@@ -84,15 +88,19 @@ pub extern "C" fn peltzivar_is_built(format: Word) -> bool {
 }
 
 #[unsafe(no_mangle)]
-pub extern "C" fn peltzivar_edits_of(format: Word, out: Out<[NumberedEdit; FIELD_COUNT]>) -> usize {
+pub unsafe extern "C" fn peltzivar_edits_of(
+    format: Word,
+    out: *mut NumberedEdit,
+    len: usize,
+) -> usize {
     let (list, count) = edits::edits_of(format.number());
-    out.write(list.map(NumberedEdit::from));
+    write_list(out, len, list[..count].iter().map(|it| (*it).into()));
     count
 }
 
 #[unsafe(no_mangle)]
 pub extern "C" fn peltzivar_flag(format: Word, setter: Setter) -> bool {
-    flag_setter(setter).is_some_and(|setter| setter.is_set(format.number()))
+    matches!(setter_of(setter), Some(edits::Setter::Flag(it)) if it.is_set(format.number()))
 }
 
 #[unsafe(no_mangle)]
@@ -106,7 +114,7 @@ pub unsafe extern "C" fn peltzivar_edit_fields(
     edits: *const NumberedEdit,
     len: usize,
 ) -> bool {
-    let builder = edited(fields.builder(), input(edits, len));
+    let builder = edited(fields.builder(), edits, len);
     if let Some(builder) = builder {
         *fields = builder.into();
     }
