@@ -9,22 +9,17 @@
 #include <stdio.h>
 #include <string.h>
 
-/* Reads an integer without a sign. One digit separator is skipped between two digits, if the format allows it there. */
-static bool read_integer(peltzivar_word format, const char *text, uint64_t *value) {
+/* Computes the value of the integer digits of a literal. Returns false if it is too large. */
+static bool value_of(peltzivar_word format, const char *text, peltzivar_span digits, uint64_t *value) {
     const uint8_t radix = peltzivar_fields_of(format).mantissa_radix;
-    const bool skips = peltzivar_separators_of(format, PELTZIVAR_PART_INTEGER).internal;
-    bool is_after_digit = false;
-    for (*value = 0; *text; text++) {
-        const uint32_t digit = peltzivar_mantissa_digit(format, (uint8_t)*text);
-        if (digit != PELTZIVAR_NO_DIGIT) {
-            if (*value > (UINT64_MAX - digit) / radix) return false;
-            *value = *value * radix + digit;
-        } else if (!is_after_digit || !skips || !peltzivar_is_separator(format, (uint8_t)*text)) {
-            return false;
-        }
-        is_after_digit = digit != PELTZIVAR_NO_DIGIT;
+    *value = 0;
+    for (size_t i = digits.start; i < digits.end; i++) {
+        const uint32_t digit = peltzivar_mantissa_digit(format, (uint8_t)text[i]);
+        if (digit == PELTZIVAR_NO_DIGIT) continue; /* A separator has no value. */
+        if (*value > (UINT64_MAX - digit) / radix) return false;
+        *value = *value * radix + digit;
     }
-    return is_after_digit;
+    return true;
 }
 
 int main(int argc, char **argv) {
@@ -43,22 +38,31 @@ int main(int argc, char **argv) {
         }
     }
     const peltzivar_word word = peltzivar_pack(&fields);
-    if (peltzivar_check(word)) {
+    peltzivar_syntax syntax;
+    if (peltzivar_syntax_check(word, 0, 0, &syntax)) {
         for (size_t i = 0; peltzivar_reason_text(word, i, text, sizeof text); i++) fprintf(stderr, "%s\n", text);
         return 1;
     }
     peltzivar_word_text(word, text, sizeof text);
     printf("%s\n", text);
     peltzivar_edit edits[PELTZIVAR_FIELD_COUNT];
-    const size_t count = peltzivar_edits_of(word, edits);
+    const size_t count = peltzivar_edits_of(word, edits, PELTZIVAR_FIELD_COUNT);
     for (size_t i = 0; i < count; i++) {
         peltzivar_edit_text(edits[i], text, sizeof text);
         printf("%s\n", text);
     }
     for (; next < argc; next++) {
+        const size_t len = strlen(argv[next]);
+        peltzivar_literal literal;
         uint64_t value;
-        if (read_integer(word, argv[next], &value)) printf("%s is %" PRIu64 "\n", argv[next], value);
-        else printf("%s is not an integer\n", argv[next]);
+        if (peltzivar_read(&syntax, argv[next], len, &literal, NULL)) {
+            peltzivar_read_error_text(&syntax, argv[next], len, text, sizeof text);
+            printf("%s: %s\n", argv[next], text);
+        } else if (value_of(word, argv[next], literal.integer, &value)) {
+            printf("%s is %" PRIu64 "\n", argv[next], value);
+        } else {
+            printf("%s is too large\n", argv[next]);
+        }
     }
     return 0;
 }

@@ -32,7 +32,9 @@
  * time, provided that no call writes memory that another call reads or writes.
  *
  * From 0.6 on, a setter, rule, role or error has the same number in every version. The SONAME of the shared library
- * contains the minor version, and changes only if a function, a structure or a result changes. */
+ * contains the major version and, before 1.0, the minor version. It changes if a function, a structure or a documented
+ * result changes, so a program never loads a library that does not fit it. It does not change if a function is added.
+ * The wording of sentences is not part of this promise. */
 #ifndef PELTZIVAR_H
 #define PELTZIVAR_H
 #include <stdbool.h>
@@ -43,16 +45,7 @@
 #define PELTZIVAR_VERSION "0.6.0"
 #define PELTZIVAR_VERSION_NUMBER 0x000600
 
-/* To link with the DLL of the library on Windows, define PELTZIVAR_SHARED before you include this header. */
-#ifndef PELTZIVAR_API
-#if defined(_WIN32) && defined(PELTZIVAR_SHARED)
-#define PELTZIVAR_API __declspec(dllimport)
-#else
-#define PELTZIVAR_API
-#endif
-#endif
-
-/* PELTZIVAR_MUST_USE marks functions whose result reports an error, or reports whether they wrote their output. */
+/* PELTZIVAR_MUST_USE marks functions whose result states whether they wrote their output. */
 #ifndef PELTZIVAR_MUST_USE
 #if (defined(__cplusplus) && __cplusplus >= 201703L) || (defined(__STDC_VERSION__) && __STDC_VERSION__ >= 202311L)
 #define PELTZIVAR_MUST_USE [[nodiscard]]
@@ -109,88 +102,89 @@ static const peltzivar_fields PELTZIVAR_NEW_FIELDS = PELTZIVAR_NEW_FIELDS_INIT;
 #define PELTZIVAR_NO_DIGIT UINT32_MAX
 
 /* Returns the version of the library in the form of PELTZIVAR_VERSION_NUMBER. */
-PELTZIVAR_API uint32_t peltzivar_version(void);
+uint32_t peltzivar_version(void);
 
 /* WORDS */
 
 /* Applies the edits, in order, to a copy of PELTZIVAR_NEW_FIELDS, packs it, writes the word to *out and returns true.
  * If a setter is unknown, returns false and leaves *out unchanged. The word may be unlawful (see peltzivar_check). */
-PELTZIVAR_MUST_USE PELTZIVAR_API bool peltzivar_build(const peltzivar_edit *edits, size_t len, peltzivar_word *out);
+PELTZIVAR_MUST_USE bool peltzivar_build(const peltzivar_edit *edits, size_t len, peltzivar_word *out);
 
 /* Applies the edits, in order, to the fields that peltzivar_fields_of returns, packs them, writes the word to *out and
  * returns true. If a setter is unknown, returns false and leaves *out unchanged. Since absent exponent bytes are
  * filled, and packing may drop the digit separator, two calls do not always give the same word as one call with all of
  * the edits. Edit the digit separator and its flags in the same call. */
-PELTZIVAR_MUST_USE PELTZIVAR_API bool peltzivar_edit_word(
+PELTZIVAR_MUST_USE bool peltzivar_edit_word(
     peltzivar_word format, const peltzivar_edit *edits, size_t len, peltzivar_word *out);
 
 /* Returns PELTZIVAR_SUCCESS if a word is lawful, and otherwise the error of the first rule that it breaks. */
-PELTZIVAR_MUST_USE PELTZIVAR_API peltzivar_error peltzivar_check(peltzivar_word format);
+peltzivar_error peltzivar_check(peltzivar_word format);
 
 /* Returns the normal form of a word: the same fields, except that the mantissa radix replaces each absent exponent
  * byte, that the digit separator is 0 if no digit separator flag is set, and that all reserved bits are 0. */
-PELTZIVAR_API peltzivar_word peltzivar_normal_form(peltzivar_word format);
+peltzivar_word peltzivar_normal_form(peltzivar_word format);
 
 /* Returns whether two words have the same normal form. */
-PELTZIVAR_API bool peltzivar_same_format(peltzivar_word a, peltzivar_word b);
+bool peltzivar_same_format(peltzivar_word a, peltzivar_word b);
 
 /* If the normal form of a word is lawful, writes it to *out and returns PELTZIVAR_SUCCESS. Otherwise, returns the error
  * of the first rule that the normal form breaks, and leaves *out unchanged. */
-PELTZIVAR_MUST_USE PELTZIVAR_API peltzivar_error peltzivar_migrate(peltzivar_word format, peltzivar_word *out);
+PELTZIVAR_MUST_USE peltzivar_error peltzivar_migrate(peltzivar_word format, peltzivar_word *out);
 
 /* Returns whether a word is one that peltzivar_pack can return: all its reserved bits are 0, and at least one of its
  * digit separator flags is set unless its digit separator is 0. */
-PELTZIVAR_API bool peltzivar_is_built(peltzivar_word format);
+bool peltzivar_is_built(peltzivar_word format);
 
-/* Fills the array with one edit for each field of a word. The edits that change PELTZIVAR_NEW_FIELDS come first, and
- * their number is returned. Applying only these edits to a copy of PELTZIVAR_NEW_FIELDS yields the fields of the word.
- * For an absent exponent byte, the value of the edit is 0, not the mantissa radix. */
-PELTZIVAR_API size_t peltzivar_edits_of(peltzivar_word format, peltzivar_edit edits[PELTZIVAR_FIELD_COUNT]);
+/* Returns the number of fields of a word that differ from PELTZIVAR_NEW_FIELDS, at most PELTZIVAR_FIELD_COUNT, and
+ * writes an edit for each to an array of len edits, as far as they fit. Applying all of these edits to a copy of
+ * PELTZIVAR_NEW_FIELDS yields the fields of the word, in which an absent exponent byte is 0. */
+size_t peltzivar_edits_of(peltzivar_word format, peltzivar_edit *edits, size_t len);
 
 /* Returns whether a flag, or at least one flag of a group, is set in a word. For any other setter, returns false. */
-PELTZIVAR_API bool peltzivar_flag(peltzivar_word format, peltzivar_setter setter);
+bool peltzivar_flag(peltzivar_word format, peltzivar_setter setter);
 
 /* Parses a string of len bytes, which need not be null-terminated. If the string is `0x` followed by 1 to 32
  * hexadecimal digits of either case, writes the word to *out and returns PELTZIVAR_SUCCESS. Otherwise, leaves *out
- * unchanged and returns PELTZIVAR_EMPTY if the string is empty, `0` or `0x`, PELTZIVAR_OVERFLOW if it is UTF-8 and
- * begins with `0x` and at least 33 hexadecimal digits, and PELTZIVAR_INVALID_DIGIT in every other case. */
-PELTZIVAR_MUST_USE PELTZIVAR_API peltzivar_error peltzivar_parse_word(
-    const char *text, size_t len, peltzivar_word *out);
+ * unchanged, writes the index for peltzivar_error_text to *index, and returns PELTZIVAR_EMPTY if the string is empty,
+ * `0` or `0x`, PELTZIVAR_OVERFLOW if it is UTF-8 and begins with `0x` and at least 33 hexadecimal digits, and
+ * PELTZIVAR_INVALID_DIGIT in every other case. */
+PELTZIVAR_MUST_USE peltzivar_error peltzivar_parse_word(
+    const char *text, size_t len, peltzivar_word *out, size_t *index);
 
 /* STRINGS
  *
- * Each function that ends in _text, and peltzivar_description, peltzivar_setter_name and peltzivar_source, write a
- * null-terminated ASCII string to a buffer of len bytes, as snprintf does. If the string and its null terminator do not
- * fit, they write only the beginning of the string and a null terminator. If len is 0, they write nothing. They always
- * return the length of the whole string, not counting the null terminator. The string is empty if no error, setter,
- * reason or note has the number or index that is passed. */
+ * Each function that ends in _text, and peltzivar_source, write a null-terminated ASCII string to a buffer of len bytes,
+ * as snprintf does. If the string and its null terminator do not fit, they write only the beginning of the string and a
+ * null terminator. If len is 0, they write nothing. They always return the length of the whole string, not counting the
+ * null terminator. A function that returns a const char * returns a null-terminated ASCII string that lasts as long as
+ * the program. A string is empty if nothing has the number or index that is passed. */
 
 /* Writes a word as `0x` followed by 32 uppercase hexadecimal digits. */
-PELTZIVAR_API size_t peltzivar_word_text(peltzivar_word format, char *text, size_t len);
+size_t peltzivar_word_text(peltzivar_word format, char *text, size_t len);
 
 /* Writes Rust code that builds a word, such as "NumberFormatBuilder::new().mantissa_radix(16).build_or_panic()". The
  * result of the code is the word itself if and only if peltzivar_is_built returns true for the word. */
-PELTZIVAR_API size_t peltzivar_source(peltzivar_word format, char *text, size_t len);
+size_t peltzivar_source(peltzivar_word format, char *text, size_t len);
 
-/* Writes the description of an error in single quotes, such as "'invalid radix for mantissa digits'". */
-PELTZIVAR_API size_t peltzivar_description(peltzivar_error error, char *text, size_t len);
+/* Returns the description of an error in single quotes, such as "'invalid radix for mantissa digits'". */
+const char *peltzivar_description(peltzivar_error error);
 
 /* Writes the full message of an error, such as "lexical parse error: 'numeric overflow occurred' at index 7". Only a
  * parse error has an index. The message of PELTZIVAR_SUCCESS is only its description. */
-PELTZIVAR_API size_t peltzivar_error_text(peltzivar_error error, size_t index, char *text, size_t len);
+size_t peltzivar_error_text(peltzivar_error error, size_t index, char *text, size_t len);
 
 /* FIELDS */
 
 /* Returns the fields of a word. In the result, the mantissa radix replaces each absent exponent byte. */
-PELTZIVAR_API peltzivar_fields peltzivar_fields_of(peltzivar_word format);
+peltzivar_fields peltzivar_fields_of(peltzivar_word format);
 
 /* Applies the edits, in order, to *fields. If a setter is unknown, returns false and leaves *fields unchanged. */
-PELTZIVAR_MUST_USE PELTZIVAR_API bool peltzivar_edit_fields(
+PELTZIVAR_MUST_USE bool peltzivar_edit_fields(
     peltzivar_fields *fields, const peltzivar_edit *edits, size_t len);
 
 /* Packs the fields into a word and returns the word, whether or not it is lawful. Packing sets the reserved bits to 0.
  * If no digit separator flag is set, packing drops the digit separator, that is, sets it to 0. */
-PELTZIVAR_API peltzivar_word peltzivar_pack(const peltzivar_fields *fields);
+peltzivar_word peltzivar_pack(const peltzivar_fields *fields);
 
 /* SETTINGS */
 
@@ -201,24 +195,27 @@ PELTZIVAR_API peltzivar_word peltzivar_pack(const peltzivar_fields *fields);
  * A flag or a group takes `true` or `false`. A byte takes one ASCII character in single quotes, `0x` followed by one or
  * two hexadecimal digits, or one to three decimal digits. Every byte except mantissa_radix also takes `none`, which
  * makes the byte absent, as 0 does. Spaces are not skipped. The name radix is read as mantissa_radix. */
-PELTZIVAR_MUST_USE PELTZIVAR_API bool peltzivar_parse_edit(const char *text, size_t len, peltzivar_edit *out);
+PELTZIVAR_MUST_USE bool peltzivar_parse_edit(const char *text, size_t len, peltzivar_edit *out);
+
+/* Does the same for the value of a byte alone, such as `'p'`, `0x70`, `112` or `none`, which is 0. */
+PELTZIVAR_MUST_USE bool peltzivar_parse_byte(const char *text, size_t len, uint8_t *out);
 
 /* Writes the reason why peltzivar_parse_edit rejects a string, such as "no_special takes `true` or `false`". The string
  * has len bytes, and the buffer `to` has to_len bytes. If peltzivar_parse_edit accepts it, writes an empty string. */
-PELTZIVAR_API size_t peltzivar_setting_error_text(const char *text, size_t len, char *to, size_t to_len);
+size_t peltzivar_setting_error_text(const char *text, size_t len, char *to, size_t to_len);
 
 /* Writes an edit as NAME=VALUE, where VALUE is `true`, `false`, `none` or a decimal number. peltzivar_parse_edit parses
  * this string into an edit that has the same effect. */
-PELTZIVAR_API size_t peltzivar_edit_text(peltzivar_edit edit, char *text, size_t len);
+size_t peltzivar_edit_text(peltzivar_edit edit, char *text, size_t len);
 
-/* Writes the name of a setter, such as "digit_separator": its constant in lowercase, without PELTZIVAR_SET_. */
-PELTZIVAR_API size_t peltzivar_setter_name(peltzivar_setter setter, char *text, size_t len);
+/* Returns the name of a setter, such as "digit_separator": its constant in lowercase, without PELTZIVAR_SET_. */
+const char *peltzivar_setter_name(peltzivar_setter setter);
 
 /* Returns the setter with a name of len bytes, or PELTZIVAR_NO_SETTER. radix is another name of mantissa_radix. */
-PELTZIVAR_API peltzivar_setter peltzivar_setter_of_name(const char *name, size_t len);
+peltzivar_setter peltzivar_setter_of_name(const char *name, size_t len);
 
 /* Returns a mask of the bits that a setter writes. The mask is 0 if the setter is unknown. */
-PELTZIVAR_API peltzivar_word peltzivar_setter_mask(peltzivar_setter setter);
+peltzivar_word peltzivar_setter_mask(peltzivar_setter setter);
 
 /* REASONS AND NOTES
  *
@@ -226,16 +223,19 @@ PELTZIVAR_API peltzivar_word peltzivar_setter_mask(peltzivar_setter setter);
  * of the first rule that each breaks. A word is lawful if and only if it has no reason. */
 
 /* Writes a reason as a sentence, such as "no_special and case_sensitive_special cannot both be set". */
-PELTZIVAR_API size_t peltzivar_reason_text(peltzivar_word format, size_t index, char *text, size_t len);
+size_t peltzivar_reason_text(peltzivar_word format, size_t index, char *text, size_t len);
 
 /* Returns a mask of the bits that a reason blames: every word in which these bits have the same values breaks every rule
  * of the reason. The mask is 0 if there is no such reason. If the word was built from a list of edits, an edit is to
  * blame for the reason if it wrote one of these bits and no later edit wrote that bit. */
-PELTZIVAR_API peltzivar_word peltzivar_reason_mask(peltzivar_word format, size_t index);
+peltzivar_word peltzivar_reason_mask(peltzivar_word format, size_t index);
 
 /* Returns the rules that a word breaks because of a reason: bit n is set for the rule with the number n. The result is
  * 0 if there is no such reason. */
-PELTZIVAR_API uint32_t peltzivar_reason_rules(peltzivar_word format, size_t index);
+uint32_t peltzivar_reason_rules(peltzivar_word format, size_t index);
+
+/* Returns what the rule with a number requires, such as "flags 6 and 14 are not both set". */
+const char *peltzivar_rule_condition(uint32_t rule);
 
 /* Writes a note on fields that have no effect, such as "no flag allows the digit separator '_'". A note is not an
  * error: the fields of a lawful word may have notes. Their indices are the numbers from 0 on.
@@ -243,10 +243,10 @@ PELTZIVAR_API uint32_t peltzivar_reason_rules(peltzivar_word format, size_t inde
  * A note is omitted if the packed word breaks a rule for a reason that depends on one of the note's fields. When you
  * build a format, pass the fields before you pack them, because packing may drop the digit separator. For the notes on
  * an existing word, pass the result of peltzivar_fields_of. */
-PELTZIVAR_API size_t peltzivar_note_text(const peltzivar_fields *fields, size_t index, char *text, size_t len);
+size_t peltzivar_note_text(const peltzivar_fields *fields, size_t index, char *text, size_t len);
 
 /* Returns a mask of the bits of the fields that a note describes. The mask is 0 if there is no such note. */
-PELTZIVAR_API peltzivar_word peltzivar_note_mask(const peltzivar_fields *fields, size_t index);
+peltzivar_word peltzivar_note_mask(const peltzivar_fields *fields, size_t index);
 
 /* OPTIONS AND BYTES OF A NUMBER
  *
@@ -260,21 +260,25 @@ PELTZIVAR_API peltzivar_word peltzivar_note_mask(const peltzivar_fields *fields,
  * no flag allows is absent.
  * Returns PELTZIVAR_SUCCESS, or the first of these errors that applies: PELTZIVAR_INVALID_EXPONENT_SYMBOL or
  * PELTZIVAR_INVALID_DECIMAL_POINT if this option is not punctuation, or PELTZIVAR_INVALID_PUNCTUATION. */
-PELTZIVAR_MUST_USE PELTZIVAR_API peltzivar_error peltzivar_check_options(
-    peltzivar_word format, uint8_t exponent, uint8_t decimal_point);
+peltzivar_error peltzivar_check_options(peltzivar_word format, uint8_t exponent, uint8_t decimal_point);
 
 /* Writes a reason why the options do not fit, such as "the exponent character 'e' is a digit in radix 16". */
-PELTZIVAR_API size_t peltzivar_options_reason_text(
+size_t peltzivar_options_reason_text(
     peltzivar_word format, uint8_t exponent, uint8_t decimal_point, size_t index, char *text, size_t len);
 
 /* Returns a mask of the bits of the word on which this reason depends. The mask is 0 if there are none. */
-PELTZIVAR_API peltzivar_word peltzivar_options_reason_mask(
+peltzivar_word peltzivar_options_reason_mask(
+    peltzivar_word format, uint8_t exponent, uint8_t decimal_point, size_t index);
+
+/* Returns the options that this reason blames: bit PELTZIVAR_ROLE_EXPONENT is set for the exponent character, and bit
+ * PELTZIVAR_ROLE_POINT for the decimal point. The result is 0 if there is no such reason. */
+uint32_t peltzivar_options_reason_roles(
     peltzivar_word format, uint8_t exponent, uint8_t decimal_point, size_t index);
 
 /* Return the value of a byte as a digit in the mantissa radix or the exponent radix, or PELTZIVAR_NO_DIGIT. Letters of
  * either case are the digits from 10 on. */
-PELTZIVAR_API uint32_t peltzivar_mantissa_digit(peltzivar_word format, uint8_t byte);
-PELTZIVAR_API uint32_t peltzivar_exponent_digit(peltzivar_word format, uint8_t byte);
+uint32_t peltzivar_mantissa_digit(peltzivar_word format, uint8_t byte);
+uint32_t peltzivar_exponent_digit(peltzivar_word format, uint8_t byte);
 
 /* The parts of a number, and where a part may have digit separators: between its digits, before them and after them.
  * `consecutive` states whether several separators in a row may stand where one may. */
@@ -284,15 +288,18 @@ typedef struct {
     bool internal, leading, trailing, consecutive;
 } peltzivar_separators;
 
+/* Returns the name of a part, such as "integer". */
+const char *peltzivar_part_name(peltzivar_part part);
+
 /* Returns where a part of a number may have digit separators. If there is no such part, all members are false. */
-PELTZIVAR_API peltzivar_separators peltzivar_separators_of(peltzivar_word format, peltzivar_part part);
+peltzivar_separators peltzivar_separators_of(peltzivar_word format, peltzivar_part part);
 
 /* Returns whether a byte is the digit separator of a word in which at least one digit separator flag is set. */
-PELTZIVAR_API bool peltzivar_is_separator(peltzivar_word format, uint8_t byte);
+bool peltzivar_is_separator(peltzivar_word format, uint8_t byte);
 
 /* Return whether the base prefix or the base suffix matches a byte, as PELTZIVAR_RULE_PUNCTUATION_DIFFERS states. */
-PELTZIVAR_API bool peltzivar_is_base_prefix(peltzivar_word format, uint8_t byte);
-PELTZIVAR_API bool peltzivar_is_base_suffix(peltzivar_word format, uint8_t byte);
+bool peltzivar_is_base_prefix(peltzivar_word format, uint8_t byte);
+bool peltzivar_is_base_suffix(peltzivar_word format, uint8_t byte);
 
 /* The roles of a byte in a number. */
 typedef uint8_t peltzivar_role;
@@ -309,8 +316,10 @@ enum {
 
 /* Returns the first role that a byte has in numbers with this exponent character and this decimal point. An option that
  * is 0 matches no byte. If a word is lawful and the options fit it, no byte has two roles. */
-PELTZIVAR_API peltzivar_role peltzivar_role_of(
-    peltzivar_word format, uint8_t exponent, uint8_t decimal_point, uint8_t byte);
+peltzivar_role peltzivar_role_of(peltzivar_word format, uint8_t exponent, uint8_t decimal_point, uint8_t byte);
+
+/* Returns the name of a role, such as "digit": its constant in lowercase, without PELTZIVAR_ROLE_. */
+const char *peltzivar_role_name(peltzivar_role role);
 
 /* LITERALS
  *
@@ -326,7 +335,7 @@ typedef struct {
 /* Writes the syntax of a word to *out and returns PELTZIVAR_SUCCESS if the word is lawful, and if the options fit its
  * normal form or are both 0. Otherwise, leaves *out unchanged and returns the error of the first rule that the word
  * breaks, or the error that peltzivar_check_options returns for the normal form. */
-PELTZIVAR_MUST_USE PELTZIVAR_API peltzivar_error peltzivar_syntax_check(
+PELTZIVAR_MUST_USE peltzivar_error peltzivar_syntax_check(
     peltzivar_word format, uint8_t exponent, uint8_t decimal_point, peltzivar_syntax *out);
 
 /* The bytes of a text from the index `start` to below the index `end`. */
@@ -371,18 +380,18 @@ typedef struct {
 /* Reads a text of len bytes. If it is a literal, writes its parts to *literal and returns PELTZIVAR_SUCCESS. Otherwise,
  * writes the reason to *error and returns a parse error. If the syntax is refused, or if the text is, which is
  * PELTZIVAR_OVERFLOW, writes nothing. */
-PELTZIVAR_MUST_USE PELTZIVAR_API peltzivar_error peltzivar_read(
+PELTZIVAR_MUST_USE peltzivar_error peltzivar_read(
     const peltzivar_syntax *syntax, const char *text, size_t len, peltzivar_literal *literal, peltzivar_read_error *error);
 
 /* Does the same for the longest beginning of the text that is a literal. What follows it may be anything. If there is
  * none, the result and *error are those of peltzivar_read. Reads no byte behind the first that cannot follow. */
-PELTZIVAR_MUST_USE PELTZIVAR_API peltzivar_error peltzivar_read_prefix(
+PELTZIVAR_MUST_USE peltzivar_error peltzivar_read_prefix(
     const peltzivar_syntax *syntax, const char *text, size_t len, peltzivar_literal *literal, peltzivar_read_error *error);
 
 /* Writes why peltzivar_read refuses a text or its syntax as a sentence, such as "no literal has the byte 'x' here" or
  * "the exponent character 'e' is a digit in radix 16". The text has len bytes, and the buffer `to` has to_len bytes. If
  * peltzivar_read accepts the text, writes an empty string. */
-PELTZIVAR_API size_t peltzivar_read_error_text(
+size_t peltzivar_read_error_text(
     const peltzivar_syntax *syntax, const char *text, size_t len, char *to, size_t to_len);
 
 #ifdef __cplusplus

@@ -66,10 +66,10 @@ static void test_setters(void) {
         word.low = flags;
         CHECK(peltzivar_flag(word, setter) == (flags != 0));
         CHECK(!peltzivar_flag(ZERO, setter));
-        const size_t len = peltzivar_setter_name(setter, text, sizeof text);
-        CHECK((len != 0) == is_known && len == strlen(text));
-        if (is_known) CHECK(peltzivar_setter_of_name(text, len) == setter);
-        CHECK(peltzivar_setter_of_name(text, len ? len - 1 : 0) == PELTZIVAR_NO_SETTER);
+        const char *const name = peltzivar_setter_name(setter);
+        const size_t len = strlen(name);
+        if (is_known) CHECK(peltzivar_setter_of_name(name, len) == setter);
+        CHECK(peltzivar_setter_of_name(name, len ? len - 1 : 0) == PELTZIVAR_NO_SETTER);
         CHECK((peltzivar_edit_text(edit, text, sizeof text) != 0) == is_known);
         peltzivar_edit read = {7, 9};
         if (!is_known) continue;
@@ -77,7 +77,6 @@ static void test_setters(void) {
         CHECK(read.setter == setter && read.value == (flags ? 1 : 200));
     }
     CHECK(peltzivar_setter_of_name("radix=", 5) == PELTZIVAR_SET_MANTISSA_RADIX);
-    CHECK(WRITES("exponent_base", peltzivar_setter_name(PELTZIVAR_SET_EXPONENT_BASE, text, sizeof text)));
 }
 
 static void test_fields(void) {
@@ -97,7 +96,7 @@ static void test_fields(void) {
 }
 
 static void test_words(void) {
-    peltzivar_edit edits[PELTZIVAR_FIELD_COUNT + 1];
+    peltzivar_edit edits[3];
     const peltzivar_word hexadecimal = {0xD, 0x0000100000000000};
     peltzivar_word word = {1, 2};
     CHECK(peltzivar_migrate(ZERO, &word) == PELTZIVAR_INVALID_MANTISSA_RADIX && is_word(word, 2, 1));
@@ -105,10 +104,9 @@ static void test_words(void) {
     CHECK(peltzivar_same_format(PELTZIVAR_STANDARD, RESERVED) && !peltzivar_same_format(PELTZIVAR_STANDARD, ZERO));
     CHECK(peltzivar_check_options(PELTZIVAR_STANDARD, '5', '5') == PELTZIVAR_INVALID_EXPONENT_SYMBOL);
     memset(edits, '#', sizeof edits);
-    CHECK(peltzivar_edits_of(hexadecimal, edits) == 2);
-    CHECK(edits[0].setter == 0 && edits[0].value == 1 && edits[1].setter == 104 && edits[1].value == 16);
-    CHECK(edits[PELTZIVAR_FIELD_COUNT - 1].setter == 120 && edits[PELTZIVAR_FIELD_COUNT - 1].value == 0);
-    CHECK(edits[PELTZIVAR_FIELD_COUNT].setter == '#');
+    CHECK(peltzivar_edits_of(hexadecimal, edits, 1) == 2 && edits[0].setter == 0 && edits[0].value == 1);
+    CHECK(edits[1].setter == '#' && peltzivar_edits_of(hexadecimal, edits, SIZE_MAX) == 2);
+    CHECK(edits[1].setter == 104 && edits[1].value == 16 && edits[2].setter == '#');
 }
 
 /* The word has two reasons, and three with the options. The new fields have no note. */
@@ -127,6 +125,17 @@ static void test_indices_behind_the_last(void) {
     }
 }
 
+static void test_options(void) {
+    const peltzivar_word hexadecimal = {0xC, 0x0000100000000000};
+    uint8_t byte = 7;
+    CHECK(peltzivar_parse_byte("'p'", 3, &byte) && byte == 'p' && peltzivar_parse_byte("0x2e", 4, &byte) && byte == '.');
+    CHECK(peltzivar_parse_byte("none", 4, &byte) && byte == 0 && !peltzivar_parse_byte("256", 3, &byte) && byte == 0);
+    CHECK(peltzivar_options_reason_roles(hexadecimal, 'e', '.', 0) == 1 << PELTZIVAR_ROLE_EXPONENT);
+    CHECK(peltzivar_options_reason_roles(hexadecimal, 'p', '+', 0) == 1 << PELTZIVAR_ROLE_POINT);
+    CHECK(peltzivar_options_reason_roles(hexadecimal, 'p', 'p', 0) == (1 << PELTZIVAR_ROLE_EXPONENT | 1 << PELTZIVAR_ROLE_POINT));
+    CHECK(peltzivar_options_reason_roles(hexadecimal, 'p', 'p', 1) == 0);
+}
+
 /* Numbers from 3 on have no part. */
 static void test_parts(void) {
     const peltzivar_word all = {0x1FFFull << 32, 0};
@@ -143,8 +152,10 @@ static void test_texts(void) {
     const char *const whole = "lexical number format error: 'invalid flags enabled without the format feature'";
     char source[PELTZIVAR_SOURCE_SIZE], wanted[100];
     peltzivar_word read = {1, 2};
-    CHECK(WRITES("'not actually an error'", peltzivar_description(PELTZIVAR_SUCCESS, text, sizeof text)));
-    CHECK(WRITES("", peltzivar_description(49, text, sizeof text)));
+    size_t index = 7;
+    CHECK(!strcmp(peltzivar_description(PELTZIVAR_SUCCESS), "'not actually an error'"));
+    CHECK(!strcmp(peltzivar_description(PELTZIVAR_OVERFLOW), "'numeric overflow occurred'"));
+    CHECK(!*peltzivar_description(49) && !*peltzivar_description(UINT32_MAX) && !*peltzivar_rule_condition(UINT32_MAX));
     CHECK(WRITES("", peltzivar_error_text(UINT32_MAX, 0, text, sizeof text)));
     CHECK(WRITES("lexical parse error: 'numeric overflow occurred' at index 7",
                  peltzivar_error_text(PELTZIVAR_OVERFLOW, 7, text, sizeof text)));
@@ -156,16 +167,16 @@ static void test_texts(void) {
         CHECK(text[room < 80 ? room : 80] == '#');
     }
     CHECK(WRITES("0x0A0A10000000005F00000000000012AB", peltzivar_word_text(word, text, sizeof text)));
-    CHECK(!peltzivar_parse_word(text, 34, &read) && is_word(read, word.high, word.low));
-    CHECK(!peltzivar_parse_word("0xaBc]", 5, &read) && is_word(read, 0, 0xABC));
-    CHECK(peltzivar_parse_word("0x", 2, &read) == PELTZIVAR_EMPTY && is_word(read, 0, 0xABC));
-    CHECK(peltzivar_parse_word("0x12 4", 6, &read) == PELTZIVAR_INVALID_DIGIT);
+    CHECK(!peltzivar_parse_word(text, 34, &read, NULL) && is_word(read, word.high, word.low));
+    CHECK(!peltzivar_parse_word("0xaBc]", 5, &read, &index) && index == 7 && is_word(read, 0, 0xABC));
+    CHECK(peltzivar_parse_word("0x", 2, &read, NULL) == PELTZIVAR_EMPTY && is_word(read, 0, 0xABC));
+    CHECK(peltzivar_parse_word("0x12 4", 6, &read, &index) == PELTZIVAR_INVALID_DIGIT && index == 4);
     for (int byte = 0; byte < 256; byte++) {
         const char digits[] = {'0', 'x', '1', (char)byte, '0'};
-        const peltzivar_error error = peltzivar_parse_word(digits, 5, &read);
+        const peltzivar_error error = peltzivar_parse_word(digits, 5, &read, NULL);
         CHECK(isxdigit(byte) ? error == PELTZIVAR_SUCCESS : error == PELTZIVAR_INVALID_DIGIT);
     }
-    CHECK(peltzivar_parse_word("0x000000000000000000000000000000000", 35, &read) == PELTZIVAR_OVERFLOW);
+    CHECK(peltzivar_parse_word("0x000000000000000000000000000000000", 35, &read, NULL) == PELTZIVAR_OVERFLOW);
     /* The longest source: all flags differ from their defaults, radixes have three digits, and other bytes are '!'. */
     CHECK(peltzivar_source(longest, source, sizeof source) == strlen(source) && strlen(source) < sizeof source - 1);
     CHECK(WRITES("NumberFormatBuilder::new().build_or_panic()", peltzivar_source(words[0], text, sizeof text)));
@@ -248,18 +259,18 @@ static void test_null(void) {
     CHECK(peltzivar_edit_fields(&fields, NULL, 0) && peltzivar_build(NULL, 0, &word));
     CHECK(is_word(word, 0x00000A0000000000, 0xC));
     CHECK(peltzivar_edit_word(RESERVED, NULL, 0, &word) && is_word(word, 0x0A0A0A0000000000, 0xC));
-    CHECK(peltzivar_parse_word(NULL, 0, &word) == PELTZIVAR_EMPTY);
+    CHECK(peltzivar_parse_word(NULL, 0, &word, NULL) == PELTZIVAR_EMPTY);
     CHECK(!peltzivar_parse_edit(NULL, 0, &edit) && edit.value == 16);
     CHECK(peltzivar_setter_of_name(NULL, 0) == PELTZIVAR_NO_SETTER);
     CHECK(peltzivar_word_text(ZERO, NULL, 0) == 34 && peltzivar_source(ZERO, NULL, 0) > 40);
-    CHECK(peltzivar_description(0, NULL, 0) == 23 && peltzivar_error_text(0, 0, NULL, 0) == 23);
-    CHECK(peltzivar_setter_name(104, NULL, 0) == 14 && peltzivar_edit_text(edit, NULL, 0) == 17);
+    CHECK(peltzivar_error_text(0, 0, NULL, 0) == 23 && peltzivar_edit_text(edit, NULL, 0) == 17);
+    CHECK(!peltzivar_edits_of(PELTZIVAR_STANDARD, NULL, 0) && !peltzivar_parse_byte(NULL, 0, NULL));
     CHECK(peltzivar_setting_error_text(NULL, 0, NULL, 0) == strlen("expected NAME=VALUE"));
     CHECK(peltzivar_reason_text(ZERO, 0, NULL, 0) > 40 && peltzivar_note_text(&fields, 0, NULL, 0) == 0);
     CHECK(peltzivar_options_reason_text(ZERO, 'e', 'e', 0, NULL, 0) > 40);
-    CHECK(peltzivar_build(NULL, 0, NULL) && !peltzivar_parse_word("0x1", 3, NULL) && !peltzivar_build(&edit, SIZE_MAX, &word));
+    CHECK(peltzivar_build(NULL, 0, NULL) && !peltzivar_parse_word("0x1", 3, NULL, NULL) && !peltzivar_build(&edit, SIZE_MAX, &word));
     CHECK(!peltzivar_edit_fields(&fields, &edit, SIZE_MAX / 2) && !peltzivar_parse_edit("radix=2", SIZE_MAX, &edit));
-    CHECK(peltzivar_parse_word("0x1", SIZE_MAX, &word) == PELTZIVAR_OVERFLOW && edit.value == 16);
+    CHECK(peltzivar_parse_word("0x1", SIZE_MAX, &word, NULL) == PELTZIVAR_OVERFLOW && edit.value == 16);
     CHECK(peltzivar_setter_of_name("radix", SIZE_MAX) == PELTZIVAR_NO_SETTER);
     CHECK(peltzivar_word_text(ZERO, text, SIZE_MAX) == strlen(text));
 }
@@ -270,6 +281,7 @@ int main(void) {
     test_fields();
     test_words();
     test_indices_behind_the_last();
+    test_options();
     test_parts();
     test_texts();
     test_syntaxes();

@@ -67,18 +67,24 @@ static peltzivar_word mixed(peltzivar_word word, peltzivar_word mask) {
 static void test_word(peltzivar_word word) {
     const peltzivar_word normal = peltzivar_normal_form(word);
     const peltzivar_fields filled = peltzivar_fields_of(word);
-    peltzivar_edit edits[PELTZIVAR_FIELD_COUNT];
     peltzivar_word other = {1, 2};
+    size_t index = 0;
     WRITE(peltzivar_word_text, word);
-    CHECK(!peltzivar_parse_word(text, strlen(text), &other) && is_same(other, word));
+    CHECK(!peltzivar_parse_word(text, strlen(text), &other, NULL) && is_same(other, word));
+    const size_t len = strlen(text);
+    text[draw() % len] = (char)draw();
+    CHECK(!peltzivar_parse_word(text, len, &other, &index) || index < len);
     CHECK(peltzivar_same_format(word, normal) && is_same(peltzivar_normal_form(normal), normal));
     CHECK(is_same(peltzivar_pack(&filled), normal) && peltzivar_is_built(normal));
     const peltzivar_error error = peltzivar_migrate(word, &other);
     CHECK(error == peltzivar_check(normal) && (error || is_same(other, normal)));
     WRITE(peltzivar_error_text, error, 7);
     WRITE(peltzivar_source, word);
-    CHECK(peltzivar_build(edits, peltzivar_edits_of(word, edits), &other));
-    CHECK(is_same(other, word) == peltzivar_is_built(word));
+    const size_t count = peltzivar_edits_of(word, NULL, 0), room = (size_t)draw() % (count + 1);
+    peltzivar_edit *const edits = malloc(count * sizeof *edits + 1);
+    CHECK(edits && peltzivar_edits_of(word, edits, count) == count && peltzivar_build(edits, count, &other));
+    CHECK(is_same(other, word) == peltzivar_is_built(word) && peltzivar_edits_of(word, edits, room) == count);
+    free(edits);
 }
 
 /* Each word with the bits of a reason breaks a rule. A lawful word has no reason. */
@@ -106,6 +112,7 @@ static void test_options(peltzivar_word word) {
     const peltzivar_word mask = peltzivar_options_reason_mask(word, exponent, point, 0);
     CHECK(!*text == !peltzivar_check_options(word, exponent, point));
     CHECK(!*text || peltzivar_check_options(mixed(word, mask), exponent, point));
+    CHECK(!*text == !peltzivar_options_reason_roles(word, exponent, point, 0));
 }
 
 /* The role of a byte agrees with the other calls. */
@@ -121,12 +128,66 @@ static void test_roles(peltzivar_word word) {
     CHECK((byte == point) == (role == PELTZIVAR_ROLE_POINT) && (byte != exponent || role == PELTZIVAR_ROLE_EXPONENT));
 }
 
+/* Returns a syntax that is often refused, for a word that is mostly lawful. */
+static peltzivar_syntax draw_syntax(peltzivar_word word) {
+    static const uint8_t options[][2] = {{'e', '.'}, {'e', '.'}, {'p', '.'}, {'^', ','}, {0, 0}, {0, 0}, {'e', 0}, {'_', 'E'}};
+    for (int tries = 0; peltzivar_check(word) && tries < 9; tries++) word = draw_word();
+    const uint8_t *const drawn = options[draw() % 8];
+    peltzivar_syntax syntax = {word, drawn[0], drawn[1]}, checked = syntax;
+    if (draw() % 16 == 0) for (size_t i = 0; i < sizeof syntax; i++) ((unsigned char *)&syntax)[i] = (unsigned char)draw();
+    if (!peltzivar_syntax_check(syntax.format, syntax.exponent, syntax.decimal_point, &checked)) syntax = checked;
+    return syntax;
+}
+
+/* What is read is written, and nothing else. A text is refused if and only if there is a sentence. The parts of a literal
+ * are its bytes. */
+static void test_literals(peltzivar_word word) {
+    const peltzivar_syntax syntax = draw_syntax(word);
+    const peltzivar_fields own = peltzivar_fields_of(syntax.format);
+    const uint8_t sign = draw() % 2 ? '+' : '-', separator = own.digit_separator;
+    const uint8_t bytes[] = {sign, '0', own.base_prefix, separator, '0', '1', separator, '1', syntax.decimal_point, '0', separator,
+        separator, '1', syntax.exponent, sign, separator, '0', own.base_suffix};
+    peltzivar_syntax other = syntax;
+    const peltzivar_error refused = peltzivar_syntax_check(syntax.format, syntax.exponent, syntax.decimal_point, &other);
+    size_t len = 0;
+    for (size_t i = 0; i < sizeof bytes; i++) if (bytes[i] && draw() % 2) text[len++] = (char)bytes[i];
+    if (len && draw() % 4 == 0) text[draw() % len] ^= (char)(draw() % 2 ? 32 : draw());
+    char *const from = malloc(len + !len);
+    memcpy(from, text, len);
+    peltzivar_literal literal, literal_before;
+    peltzivar_read_error error, error_before;
+    memset(&literal, (int)draw(), sizeof literal), memcpy(&literal_before, &literal, sizeof literal);
+    memset(&error, (int)draw(), sizeof error), memcpy(&error_before, &error, sizeof error);
+    const peltzivar_error code = peltzivar_read(&syntax, from, len, &literal, &error);
+    CHECK(!code || !memcmp(&literal, &literal_before, sizeof literal));
+    CHECK((code && !refused) || !memcmp(&error, &error_before, sizeof error));
+    CHECK(refused ? code == refused : code <= PELTZIVAR_MISSING_SIGN + 2);
+    if (code && !refused) {
+        CHECK(error.valid_up_to <= len && error.span.start <= error.span.end && error.span.end <= len && error.index <= len);
+        CHECK(error.number == PELTZIVAR_NO_SETTER ? !error.mask.low : error.mask.low % (UINT64_C(2) << error.number) == UINT64_C(1) << error.number);
+        const bool has_part = error.cause == PELTZIVAR_CAUSE_MISSING || error.cause == PELTZIVAR_CAUSE_SEPARATOR;
+        CHECK(1 <= error.cause && error.cause <= 5 && has_part == (error.part != PELTZIVAR_NO_PART));
+    }
+    WRITE(peltzivar_read_error_text, &syntax, from, len);
+    CHECK(!*text == !code);
+    if (!peltzivar_read_prefix(&syntax, from, len, &literal, &error)) {
+        const peltzivar_span *const parts = &literal.sign;
+        for (int i = 0; i < 9; i++) CHECK(parts[i].start == (i ? parts[i - 1].end : 0) && parts[i].start <= parts[i].end);
+        CHECK(literal.size == literal.suffix.end && literal.size <= len && (code || literal.size == len));
+        CHECK(!peltzivar_read(&syntax, from, literal.size, &literal_before, NULL));
+        CHECK(!memcmp(&literal, &literal_before, sizeof literal));
+    } else {
+        CHECK(code);
+    }
+    free(from);
+}
+
 /* A setting in which bytes may change is parsed if and only if it has no error. */
 static void test_settings(void) {
     const peltzivar_edit edit = draw_edit();
     peltzivar_edit read = {7, 9};
-    WRITE(peltzivar_setter_name, edit.setter);
-    CHECK(!*text || peltzivar_setter_of_name(text, strlen(text)) == edit.setter);
+    const char *const name = peltzivar_setter_name(edit.setter);
+    CHECK(!*name || peltzivar_setter_of_name(name, strlen(name)) == edit.setter);
     WRITE(peltzivar_edit_text, edit);
     const size_t len = strlen(text);
     for (uint64_t count = draw() % 3; count > 0 && len; count--) text[draw() % len] = (char)draw();
@@ -135,6 +196,8 @@ static void test_settings(void) {
     const bool is_read = peltzivar_parse_edit(setting, len, &read);
     WRITE(peltzivar_setting_error_text, setting, len);
     CHECK(is_read == !*text && (is_read || (read.setter == 7 && read.value == 9)));
+    const char *const value = memchr(setting, '=', len);
+    if (value) CHECK(peltzivar_parse_byte(value + 1, len - (size_t)(value + 1 - setting), &read.value) || !is_read || read.value < 2);
     free(setting);
 }
 
@@ -146,6 +209,7 @@ int main(int argc, char **argv) {
         test_reasons(word);
         test_options(word);
         test_roles(word);
+        test_literals(word);
         test_settings();
     }
     return 0;

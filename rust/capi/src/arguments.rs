@@ -40,6 +40,19 @@ impl<T> Out<T> {
     }
 }
 
+/// Writes the first `len` of the values to the array that begins at `start`.
+///
+/// # Safety
+///
+/// `start` must point to `len` values that a C caller passes, initialised or not, or to as many as there are. Nothing
+/// else may read or write them during the call that passes them.
+pub unsafe fn write_list<T>(start: *mut T, len: usize, values: impl Iterator<Item = T>) {
+    for (index, value) in values.take(len).enumerate() {
+        // SAFETY: the caller guarantees this value.
+        unsafe { start.add(index).write(value) };
+    }
+}
+
 /// Writes what `value` displays, or nothing if it is `None`, and a null terminator to the `len` bytes that begin at
 /// `start`, as `snprintf` does. If they do not fit, writes only the beginning and a null terminator. If `len` is 0,
 /// writes nothing. Returns the length of the whole text.

@@ -9,9 +9,6 @@ const NO_DIGIT: u32 = u32::MAX;
 /// The parts of a number in the order of their numbers.
 const PARTS: [Part; 3] = [Part::Integer, Part::Fraction, Part::Exponent];
 
-/// The number of a role: 0 for no role, and otherwise the index of a [`peltzivar::Role`] plus 1.
-type Role = u8;
-
 /// Where a part of a number may have digit separators.
 #[repr(C)]
 #[derive(Default)]
@@ -80,12 +77,7 @@ pub extern "C" fn peltzivar_is_base_suffix(format: Word, byte: u8) -> bool {
 }
 
 #[unsafe(no_mangle)]
-pub extern "C" fn peltzivar_role_of(
-    format: Word,
-    exponent: u8,
-    decimal_point: u8,
-    byte: u8,
-) -> Role {
+pub extern "C" fn peltzivar_role_of(format: Word, exponent: u8, decimal_point: u8, byte: u8) -> u8 {
     let role = format.view().role_of(exponent, decimal_point, byte);
-    role.map_or(0, |role| role as Role + 1)
+    role.map_or(0, |role| role as u8 + 1)
 }

@@ -19,7 +19,9 @@
 
 mod arguments;
 mod bytes;
+mod languages;
 mod literals;
+mod names;
 mod numbers;
 mod reasons;
 mod settings;

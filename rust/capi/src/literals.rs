@@ -116,18 +116,47 @@ impl From<literal::ReadError> for ReadError {
     }
 }
 
-/// Writes what `read` returns for a text. If the syntax does not pass the check, or if the text is longer than an object
-/// can be, writes nothing.
+/// Why a syntax or a text is refused before the text is read.
+pub enum Refusal {
+    Syntax(FormatError),
+    Text(Error),
+}
+
+impl Refusal {
+    /// Returns the error.
+    pub fn code(&self) -> Error {
+        match self {
+            Refusal::Syntax(error) => error.code(),
+            Refusal::Text(error) => *error,
+        }
+    }
+}
+
+/// Returns the checked syntax and the text, unless no object in C has so many bytes.
+///
+/// # Safety
+///
+/// As that of [`input`].
+pub unsafe fn checked<'a>(
+    syntax: &Syntax,
+    text: *const u8,
+    len: usize,
+) -> Result<(literal::Syntax, &'a [u8]), Refusal> {
+    let syntax = syntax.checked().map_err(Refusal::Syntax)?;
+    let text = input(text, len).ok_or(Refusal::Text(Error::Overflow(0)))?;
+    Ok((syntax, text))
+}
+
+/// Writes what `read` returns for a text, unless the syntax or the text is refused.
 unsafe fn read_by<'a>(
     syntax: &Syntax,
     (text, len): (*const u8, usize),
     (literal, error): (Out<Literal>, Out<ReadError>),
     read: impl Fn(literal::Syntax, &'a [u8]) -> Result<literal::Literal<'a>, literal::ReadError>,
 ) -> ErrorNumber {
-    error_number(match (syntax.checked(), input(text, len)) {
-        (Err(refused), _) => refused.code(),
-        (_, None) => Error::Overflow(0),
-        (Ok(syntax), Some(text)) => match read(syntax, text) {
+    error_number(match checked(syntax, text, len) {
+        Err(refused) => refused.code(),
+        Ok((syntax, text)) => match read(syntax, text) {
             Ok(read) => {
                 literal.write(read.into());
                 Error::Success
@@ -195,9 +224,9 @@ pub unsafe extern "C" fn peltzivar_read_error_text(
     to: *mut u8,
     to_len: usize,
 ) -> usize {
-    match (syntax.checked(), input(text, len)) {
-        (Err(refused), _) => write_text(to, to_len, Some(refused)),
-        (_, None) => write_text(to, to_len, Some(Error::Overflow(0))),
-        (Ok(syntax), Some(text)) => write_text(to, to_len, syntax.read(text).err()),
+    match checked(syntax, text, len) {
+        Err(Refusal::Syntax(refused)) => write_text(to, to_len, Some(refused)),
+        Err(Refusal::Text(refused)) => write_text(to, to_len, Some(refused)),
+        Ok((syntax, text)) => write_text(to, to_len, syntax.read(text).err()),
     }
 }

@@ -1,7 +1,7 @@
 //! Calls that print the reasons why words break rules or do not accept options, and notes.
 
 use crate::arguments::write_text;
-use crate::numbers::{broken_rules, Fields, Word};
+use crate::numbers::{blamed_options, broken_rules, Fields, Word};
 use peltzivar::{Note, Reason};
 
 fn reason_at(format: Word, index: usize) -> Option<Reason> {
@@ -58,6 +58,16 @@ pub extern "C" fn peltzivar_options_reason_mask(
 ) -> Word {
     let reason = options_reason_at(format, exponent, decimal_point, index);
     reason.map_or(0, |it| it.mask()).into()
+}
+
+#[unsafe(no_mangle)]
+pub extern "C" fn peltzivar_options_reason_roles(
+    format: Word,
+    exponent: u8,
+    decimal_point: u8,
+    index: usize,
+) -> u32 {
+    options_reason_at(format, exponent, decimal_point, index).map_or(0, blamed_options)
 }
 
 #[unsafe(no_mangle)]

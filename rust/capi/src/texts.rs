@@ -17,25 +17,20 @@ pub unsafe extern "C" fn peltzivar_parse_word(
     text: *const u8,
     len: usize,
     out: Out<Word>,
+    index: Out<usize>,
 ) -> ErrorNumber {
     let text = input(text, len).ok_or(Error::Overflow(0));
     let text = text.and_then(|it| from_utf8(it).map_err(|_| Error::InvalidDigit(0)));
     let view = text.and_then(|text| text.parse::<FormatView>());
+    if let Err(error) = view {
+        index.write(error.index().copied().unwrap_or(0));
+    }
     write_word(view.map(|view| view.word()), out)
 }
 
 #[unsafe(no_mangle)]
 pub unsafe extern "C" fn peltzivar_source(format: Word, text: *mut u8, len: usize) -> usize {
     write_text(text, len, Some(BuilderExpression(format.number())))
-}
-
-#[unsafe(no_mangle)]
-pub unsafe extern "C" fn peltzivar_description(
-    error: ErrorNumber,
-    text: *mut u8,
-    len: usize,
-) -> usize {
-    write_text(text, len, error_of(error, 0).map(|it| it.description()))
 }
 
 #[unsafe(no_mangle)]

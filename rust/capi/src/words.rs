@@ -1,8 +1,8 @@
 //! Calls that build, read, edit and compare words and fields.
 
-use crate::arguments::{input, Out};
-use crate::numbers::{error_number, flag_setter, ErrorNumber, Fields, NumberedEdit, Setter, Word};
-use peltzivar::edits::{self, FIELD_COUNT};
+use crate::arguments::{input, write_list, Out};
+use crate::numbers::{error_number, setter_of, ErrorNumber, Fields, NumberedEdit, Setter, Word};
+use peltzivar::edits;
 use peltzivar::{Error, NumberFormatBuilder};
 
 /// Applies the edits in order. Returns `None` if an edit has an unknown setter, or if there are too many.
@@ -88,15 +88,19 @@ pub extern "C" fn peltzivar_is_built(format: Word) -> bool {
 }
 
 #[unsafe(no_mangle)]
-pub extern "C" fn peltzivar_edits_of(format: Word, out: Out<[NumberedEdit; FIELD_COUNT]>) -> usize {
+pub unsafe extern "C" fn peltzivar_edits_of(
+    format: Word,
+    out: *mut NumberedEdit,
+    len: usize,
+) -> usize {
     let (list, count) = edits::edits_of(format.number());
-    out.write(list.map(NumberedEdit::from));
+    write_list(out, len, list[..count].iter().map(|it| (*it).into()));
     count
 }
 
 #[unsafe(no_mangle)]
 pub extern "C" fn peltzivar_flag(format: Word, setter: Setter) -> bool {
-    flag_setter(setter).is_some_and(|setter| setter.is_set(format.number()))
+    matches!(setter_of(setter), Some(edits::Setter::Flag(it)) if it.is_set(format.number()))
 }
 
 #[unsafe(no_mangle)]
