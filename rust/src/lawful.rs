@@ -69,7 +69,7 @@ impl Format {
         const {
             match Format::new(FORMAT) {
                 Ok(format) => format,
-                Err(error) => panic!("{}", error.message().as_str()),
+                Err(error) => panic!("{}", error.text().as_str()),
             }
         }
     }
