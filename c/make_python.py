@@ -72,16 +72,17 @@ def constants(used):
     for row in (
         ("Setter", r"SET_(\w+)", "The setters. A member has the name of the setter in uppercase."),
         ("Rule", r"RULE_(\w+)", "The rules, in the order in which they are checked."),
-        ("Error", r"((?!SET_|RULE_|PART_|ROLE_|CAUSE_)\w+)", "The errors, and success, which is 0 and false."),
+        ("Error", r"((?!SET_|RULE_|PART_|ROLE_|CAUSE_|SPELLING_)\w+)", "The errors, and success, which is 0 and false."),
         ("Part", r"PART_(\w+)", "The parts of a number that can have digit separators."),
         ("Role", r"ROLE_((?!NONE)\w+)", "The roles of a byte in a number."),
         ("Cause", r"CAUSE_(\w+)", "The kinds of causes why a text is not a literal."),
+        ("Spelling", r"SPELLING_(\w+)", "The spellings of special values."),
     ):
         yield from enumeration(*row)
     for body, struct in re.findall(r"typedef struct { (.*?) } (\w+);", CODE):
-        members = [(it, kind) for kind, names in re.findall(r"(\w+) ([\w, ]+);", body) for it in names.split(", ")]
+        members = [(it, kind) for kind, names in re.findall(r"(?:const )?(\w+) ([\w, *]+);", body) for it in names.split(", ")]
         yield from ("", "", f"class {STRUCTS[struct]}(Structure):", "    _fields_ = [")
-        yield from (f'        ("{member}", {TYPES[kind]}),' for member, kind in members)
+        yield from (f'        ("{member.strip("*")}", {argument(f"{kind} {member}")}),' for member, kind in members)
         yield "    ]"
     yield from ("", "", "_CALLS: Dict[str, Tuple[Any, List[Any]]] = {")
     for result, call, arguments in re.findall(r"(\w+ \*?)peltzivar_(\w+)\( ?([^()]*)\);", CODE):

@@ -232,6 +232,17 @@ class Cause(Enum):
         return self.name
 
 
+class Spelling(Enum):
+    """The spellings of special values."""
+
+    NAN = 1
+    INF = 2
+    INFINITY = 3
+
+    def __str__(self) -> str:
+        return self.name
+
+
 class _Word(Structure):
     _fields_ = [
         ("low", c_uint64),
@@ -306,6 +317,21 @@ class _ReadError(Structure):
         ("cause", c_uint8),
         ("number", c_uint8),
         ("part", c_uint8),
+    ]
+
+
+class _Specials(Structure):
+    _fields_ = [
+        ("nan", c_char_p),
+        ("inf", c_char_p),
+        ("infinity", c_char_p),
+    ]
+
+
+class _Special(Structure):
+    _fields_ = [
+        ("spelling", c_uint8),
+        ("sign", c_uint8),
     ]
 
 

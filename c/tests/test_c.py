@@ -22,7 +22,8 @@ TYPES = {"peltzivar_word": "Word", "peltzivar_fields": "Fields", "peltzivar_edit
 TYPES |= {"bool": "bool", "char": "u8", "uint8_t": "u8", "uint32_t": "u32", "peltzivar_setter": "Setter"}
 TYPES |= {"peltzivar_error": "ErrorNumber", "peltzivar_part": "u8", "peltzivar_role": "u8"}
 TYPES |= {"peltzivar_separators": "Separators", "peltzivar_syntax": "Syntax", "peltzivar_literal": "Literal"}
-TYPES |= {"peltzivar_read_error": "ReadError", "const char *": "*const u8"}
+TYPES |= {"peltzivar_read_error": "ReadError", "peltzivar_specials": "Specials", "peltzivar_special": "NumberedSpecial"}
+TYPES |= {"const char *": "*const u8"}
 LIBRARY = ctypes.CDLL(str(SHARED))
 
 
@@ -129,7 +130,7 @@ class Header(unittest.TestCase):
         self.assertEqual(self.numbers(r"ROLE_(\w+)"), {name: number for number, name in enumerate(roles)})
         errors = ["SUCCESS", *(it for it in variants("error.rs", "Error") if it != "SUCCESS")]
         numbered = {name: number for number, name in enumerate(errors)}
-        self.assertEqual(self.numbers(r"((?!SET_|RULE_|PART_|ROLE_|CAUSE_)\w+)"), numbered)
+        self.assertEqual(self.numbers(r"((?!SET_|RULE_|PART_|ROLE_|CAUSE_|SPELLING_)\w+)"), numbered)
 
     def test_names_and_conditions_are_those_of_the_header_and_of_format(self):
         def strings(call):
@@ -145,7 +146,7 @@ class Header(unittest.TestCase):
 
     def test_declarations_are_those_of_the_library(self):
         sources = " ".join("".join(path.read_text() for path in sorted((TOP / "rust/capi/src").glob("*.rs"))).split())
-        exported = re.findall(r'extern "C" fn (\w+)\( ?(.*?),? ?\) -> ([\w *]+) \{', sources)
+        exported = re.findall(r"\bfn (peltzivar_\w+)\( ?(.*?) ?\) -> ([\w *]+) \{", sources)
         wanted = {
             (name, tuple(it.split(": ")[1] for it in re.split(r", (?=\w+: )", of) if it), result)
             for name, of, result in exported
