@@ -345,10 +345,11 @@ typedef struct {
 
 /* The parts of a literal, in the order of the text, and its length. An absent part is empty. The prefix includes the
  * zero before it. The three parts with digits include digit separators, for which peltzivar_mantissa_digit and
- * peltzivar_exponent_digit return PELTZIVAR_NO_DIGIT. */
+ * peltzivar_exponent_digit return PELTZIVAR_NO_DIGIT. A float has a point or an exponent character, or both. */
 typedef struct {
     peltzivar_span sign, prefix, integer, point, fraction, exponent_character, exponent_sign, exponent, suffix;
     size_t size;
+    bool is_float;
 } peltzivar_literal;
 
 /* The kinds of causes why a text is not a literal. */

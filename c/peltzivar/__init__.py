@@ -305,6 +305,7 @@ class _Literal(Structure):
         ("exponent", _Span),
         ("suffix", _Span),
         ("size", c_size_t),
+        ("is_float", c_bool),
     ]
 
 

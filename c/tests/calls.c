@@ -203,7 +203,7 @@ static void test_syntaxes(void) {
         "only one of the exponent character and the decimal point is absent",
         "the exponent character 'e' and the decimal point 'E' differ only in case, which requires case_sensitive_exponent"};
     static const peltzivar_syntax integers = {PELTZIVAR_STANDARD_INIT, 0, 0};
-    peltzivar_literal literal = {{7, 7}, {7, 7}, {7, 7}, {7, 7}, {7, 7}, {7, 7}, {7, 7}, {7, 7}, {7, 7}, 7};
+    peltzivar_literal literal = {{7, 7}, {7, 7}, {7, 7}, {7, 7}, {7, 7}, {7, 7}, {7, 7}, {7, 7}, {7, 7}, 7, true};
     peltzivar_read_error error = {7, {7, 7}, 7, {7, 7}, 7, 7, 7};
     peltzivar_syntax out = {{1, 2}, 3, 4};
     for (int i = 0; i < 3; i++) {
@@ -216,7 +216,7 @@ static void test_syntaxes(void) {
     }
     CHECK(peltzivar_read(&integers, "1", SIZE_MAX, &literal, &error) == PELTZIVAR_OVERFLOW);
     CHECK(literal.sign.start == 7 && literal.size == 7 && error.valid_up_to == 7 && error.part == 7);
-    CHECK(!peltzivar_read_prefix(&integers, "12.5", 4, &literal, &error) && literal.size == 2 && error.part == 7);
+    CHECK(!peltzivar_read_prefix(&integers, "12.5", 4, &literal, &error) && literal.size == 2 && !literal.is_float);
 }
 
 static void test_literals(void) {
@@ -235,6 +235,7 @@ static void test_literals(void) {
     const peltzivar_syntax syntax = new_syntax();
     peltzivar_literal it;
     CHECK(!peltzivar_read_prefix(&syntax, "-0x1_0.5e+12h,", 14, &it, NULL) && it.size == 13);
+    CHECK(it.is_float);
     const peltzivar_span parts[] = {it.sign, it.prefix, it.integer, it.point, it.fraction, it.exponent_character,
         it.exponent_sign, it.exponent, it.suffix};
     for (int i = 0; i < 9; i++) CHECK(parts[i].start == ends[i] && parts[i].end == ends[i + 1]);

@@ -175,7 +175,8 @@ static void test_literals(peltzivar_word word) {
         for (int i = 0; i < 9; i++) CHECK(parts[i].start == (i ? parts[i - 1].end : 0) && parts[i].start <= parts[i].end);
         CHECK(literal.size == literal.suffix.end && literal.size <= len && (code || literal.size == len));
         CHECK(!peltzivar_read(&syntax, from, literal.size, &literal_before, NULL));
-        CHECK(!memcmp(&literal, &literal_before, sizeof literal));
+        CHECK(!memcmp(&literal, &literal_before, offsetof(peltzivar_literal, size)));
+        CHECK(literal.is_float == (literal.integer.end < literal.exponent_character.end));
     } else {
         CHECK(code);
     }

@@ -13,7 +13,6 @@ C, TOP = TESTS.parent, TESTS.parent.parent
 SHARED = pathlib.Path(os.environ["PELTZIVAR_LIBRARY"]).absolute()
 ARCHIVE = SHARED.with_suffix(".a")
 HEADER = (C / "peltzivar.h").read_text()
-STANDARD = "0x00000A0000000000000000000000000C"
 STRICT = ["-Wall", "-Wextra", "-Wpedantic", "-Wconversion", "-Wshadow", "-Werror", "-I", C]
 SANITIZERS = ["-g", "-fsanitize=address,undefined", "-fno-sanitize-recover=all"]
 COMPILERS = {"gcc": "c99 c11 c17 c2x", "clang": "c99 c11 c17 c2x", "g++": "c++11 c++14 c++17 c++20"}
@@ -87,10 +86,12 @@ class Programs(unittest.TestCase):
     def test_the_example(self):
         program = self.made("cc", *STRICT, *SANITIZERS, C / "example.c", ARCHIVE)
         rows = [
-            ("radix=2 base_suffix=57", 0, "0x0000023900000000000000000000000C\nbase_suffix=57\nmantissa_radix=2\n"),
-            ("18446744073709551615 18446744073709551616 1_0 1\x80", 0, f"{STANDARD}\n18446744073709551615 is 18446744073709551615\n18446744073709551616 is too large\n1_0: no literal has the byte '_' here\n1\x80: no literal has the byte 194 here\n"),
+            ("base_suffix=104 18446744073709551615h -1 1.5", 0, "18446744073709551615h is 18446744073709551615\n-1 is -1\n1.5 is a float, or too large\n"),
+            ("18446744073709551616 1_0", 0, "18446744073709551616 is a float, or too large\n1_0: no literal has the byte '_' here\n"),
             ("radix=16 base_suffix='b'", 1, "the base suffix 'b' is a digit in radix 16\n"),
-            ("no_special=1", 2, "no_special=1: no_special takes `true` or `false`\n"),
+            ("no_special=1", 1, "no_special takes `true` or `false`, not `1`\n"),
+            ("digit_separator=95", 0, "no flag allows the digit separator '_'\n"),
+            ("x=" * 2048, 2, ""),
         ]
         for settings, status, printed in rows:
             self.assertEqual(run(program, *settings.split()), (printed, status))

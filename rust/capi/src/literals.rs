@@ -48,6 +48,7 @@ pub struct Span {
 pub struct Literal {
     parts: [Span; 9],
     size: usize,
+    is_float: bool,
 }
 
 impl From<literal::Literal<'_>> for Literal {
@@ -69,7 +70,7 @@ impl From<literal::Literal<'_>> for Literal {
             size += part.len();
             Span { start, end: size }
         });
-        Literal { parts, size }
+        Literal { parts, size, is_float: literal.is_float() }
     }
 }
 
