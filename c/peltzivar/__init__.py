@@ -308,6 +308,7 @@ class _Literal(Structure):
         ("exponent", _Span),
         ("suffix", _Span),
         ("size", c_size_t),
+        ("is_float", c_bool),
     ]
 
 
@@ -1160,7 +1161,7 @@ class Syntax:
             part = Part(refused.part) if refused.part != _NO_PART else None
             span, cause, mask = (refused.span.start, refused.span.end), Cause(refused.cause), _joined(refused.mask)
             raise LiteralError(sentence, text, index, span, cause, part, mask, Error(error))
-        parts = (getattr(literal, name) for name, _ in _Literal._fields_[:-1])
+        parts = (getattr(literal, name) for name, kind in _Literal._fields_ if kind is _Span)
         return Literal(self, text[: literal.size], *(text[part.start : part.end] for part in parts))
 
 

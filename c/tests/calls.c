@@ -200,10 +200,10 @@ static void test_syntaxes(void) {
     static const peltzivar_error errors[] = {
         PELTZIVAR_INVALID_MANTISSA_RADIX, PELTZIVAR_INVALID_DECIMAL_POINT, PELTZIVAR_INVALID_PUNCTUATION};
     static const char *const sentences[] = {"the mantissa radix 0 is not between 2 and 36",
-        "the decimal point 0 is not an allowed ASCII character",
+        "only one of the exponent character and the decimal point is absent",
         "the exponent character 'e' and the decimal point 'E' differ only in case, which requires case_sensitive_exponent"};
     static const peltzivar_syntax integers = {PELTZIVAR_STANDARD_INIT, 0, 0};
-    peltzivar_literal literal = {{7, 7}, {7, 7}, {7, 7}, {7, 7}, {7, 7}, {7, 7}, {7, 7}, {7, 7}, {7, 7}, 7};
+    peltzivar_literal literal = {{7, 7}, {7, 7}, {7, 7}, {7, 7}, {7, 7}, {7, 7}, {7, 7}, {7, 7}, {7, 7}, 7, true};
     peltzivar_read_error error = {7, {7, 7}, 7, {7, 7}, 7, 7, 7};
     peltzivar_syntax out = {{1, 2}, 3, 4};
     for (int i = 0; i < 3; i++) {
@@ -216,7 +216,7 @@ static void test_syntaxes(void) {
     }
     CHECK(peltzivar_read(&integers, "1", SIZE_MAX, &literal, &error) == PELTZIVAR_OVERFLOW);
     CHECK(literal.sign.start == 7 && literal.size == 7 && error.valid_up_to == 7 && error.part == 7);
-    CHECK(!peltzivar_read_prefix(&integers, "12.5", 4, &literal, &error) && literal.size == 2 && error.part == 7);
+    CHECK(!peltzivar_read_prefix(&integers, "12.5", 4, &literal, &error) && literal.size == 2 && !literal.is_float);
 }
 
 static void test_literals(void) {
@@ -235,6 +235,7 @@ static void test_literals(void) {
     const peltzivar_syntax syntax = new_syntax();
     peltzivar_literal it;
     CHECK(!peltzivar_read_prefix(&syntax, "-0x1_0.5e+12h,", 14, &it, NULL) && it.size == 13);
+    CHECK(it.is_float);
     const peltzivar_span parts[] = {it.sign, it.prefix, it.integer, it.point, it.fraction, it.exponent_character,
         it.exponent_sign, it.exponent, it.suffix};
     for (int i = 0; i < 9; i++) CHECK(parts[i].start == ends[i] && parts[i].end == ends[i + 1]);
@@ -248,6 +249,67 @@ static void test_literals(void) {
     }
     CHECK(WRITES("no literal has the byte '.' here", peltzivar_read_error_text(&syntax, "1..", 3, text, sizeof text)));
     CHECK(WRITES("", peltzivar_read_error_text(&syntax, "1.", 2, text, sizeof text)));
+}
+
+static void test_special_values(void) {
+    static const peltzivar_syntax syntax = {PELTZIVAR_STANDARD_INIT, 'e', '.'}, refused = {{0, 0}, 'e', '.'};
+    static const peltzivar_specials all = {"NaN", "inf", "infinity"}, few = {NULL, "", "infinity"};
+    static const struct {
+        const char *text;
+        uint8_t spelling, sign;
+    } rows[] = {{"nan", PELTZIVAR_SPELLING_NAN, 0}, {"-inf", PELTZIVAR_SPELLING_INF, '-'},
+        {"+Infinity", PELTZIVAR_SPELLING_INFINITY, '+'}};
+    peltzivar_special special = {7, 7};
+    for (int i = 0; i < 3; i++) {
+        CHECK(!peltzivar_read_special(&syntax, &all, rows[i].text, strlen(rows[i].text), &special));
+        CHECK(special.spelling == rows[i].spelling && special.sign == rows[i].sign);
+        CHECK(!peltzivar_read_special(&syntax, &few, rows[i].text, strlen(rows[i].text), NULL) == (i == 2));
+    }
+    CHECK(peltzivar_read_special(&syntax, &few, NULL, 0, &special) == PELTZIVAR_INVALID_DIGIT);
+    CHECK(peltzivar_read_special(&refused, &all, "inf", 3, &special) == PELTZIVAR_INVALID_MANTISSA_RADIX);
+    CHECK(peltzivar_read_special(&syntax, &all, "inf", SIZE_MAX, &special) == PELTZIVAR_OVERFLOW && special.sign == '+');
+}
+
+/* Each language has a syntax that passes the check, and a name by which it is found. */
+static void test_languages(void) {
+    peltzivar_syntax syntax = {{1, 2}, 3, 4}, checked;
+    peltzivar_specials specials = {text, text, text};
+    const char *name;
+    CHECK(!peltzivar_language("json", 4, &syntax, &specials) && is_word(syntax.format, 2, 1) && specials.inf == text);
+    CHECK(!peltzivar_language("JSON", SIZE_MAX, &syntax, &specials) && !*peltzivar_language_name(SIZE_MAX));
+    CHECK(!peltzivar_language("", 0, &syntax, &specials) && !peltzivar_language("JSO", 3, &syntax, &specials));
+    for (size_t i = 0; *(name = peltzivar_language_name(i)); i++) {
+        CHECK(peltzivar_language(name, strlen(name), &syntax, &specials));
+        CHECK(!peltzivar_syntax_check(syntax.format, syntax.exponent, syntax.decimal_point, &checked));
+        CHECK(is_word(checked.format, syntax.format.high, syntax.format.low) && i < 99);
+    }
+    CHECK(peltzivar_language("JSON", 4, &syntax, &specials) && !*specials.nan && !*specials.inf && !*specials.infinity);
+    CHECK(peltzivar_read(&syntax, "01", 2, NULL, NULL) == PELTZIVAR_INVALID_LEADING_ZEROS);
+    CHECK(peltzivar_language("TOML", 4, NULL, &specials) && !strcmp(specials.nan, "nan") && !strcmp(specials.inf, "inf"));
+}
+
+static void test_settings(void) {
+    static const char good[] = "\xEF\xBB\xBF# hexadecimal\r\nradix = 16\n\n exponent= 'p'\nradix=0x10";
+    static const char bad[] = "radix=16\nbase_suffx='h'\nbase_prefix = 'b'\ndigit_separator='_'\nno_special";
+    static const char *const sentences[] = {"unknown setting `base_suffx`; did you mean `base_suffix`?",
+        "expected NAME=VALUE, not `no_special`", "the base prefix 'b' is a digit in radix 16",
+        "no flag allows the digit separator '_'", ""};
+    static const size_t lines[][3] = {{1, 1, 7}, {1, 4, 7}, {2, 0, 2}, {1, 3, 7}, {0, 7, 7}};
+    peltzivar_syntax syntax = {{1, 2}, 3, 4};
+    CHECK(peltzivar_read_settings(bad, sizeof bad - 1, &syntax) == 3 && is_word(syntax.format, 2, 1) && syntax.exponent == 3);
+    for (size_t i = 0; i < 5; i++) {
+        size_t to[] = {7, 7, 7};
+        CHECK(WRITES(sentences[i], peltzivar_settings_text(bad, sizeof bad - 1, i, text, sizeof text)));
+        CHECK(peltzivar_settings_lines(bad, sizeof bad - 1, i, to, 2) == lines[i][0]);
+        CHECK(to[0] == lines[i][1] && to[1] == lines[i][2] && to[2] == 7);
+    }
+    CHECK(!peltzivar_read_settings(good, sizeof good - 1, &syntax) && is_word(syntax.format, 0x1010100000000000, 0xC));
+    CHECK(syntax.exponent == 'p' && syntax.decimal_point == '.');
+    CHECK(WRITES("radix is overridden", peltzivar_settings_text(good, sizeof good - 1, 0, text, sizeof text)));
+    CHECK(peltzivar_settings_lines(good, sizeof good - 1, 0, NULL, 0) == 2);
+    CHECK(!peltzivar_read_settings("exponent=none\npoint=none", 24, &syntax) && !syntax.exponent && !syntax.decimal_point);
+    CHECK(peltzivar_read_settings(good, SIZE_MAX, &syntax) == 1 && !peltzivar_read_settings(NULL, 0, &syntax));
+    CHECK(syntax.exponent == 'e' && !peltzivar_read_settings(NULL, 0, NULL));
 }
 
 /* A null pointer with a length of 0 is accepted as an empty array, and a null pointer to output is not written to. Input
@@ -286,6 +348,9 @@ int main(void) {
     test_texts();
     test_syntaxes();
     test_literals();
+    test_special_values();
+    test_languages();
+    test_settings();
     test_null();
     return failed;
 }

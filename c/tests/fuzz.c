@@ -175,9 +175,62 @@ static void test_literals(peltzivar_word word) {
         for (int i = 0; i < 9; i++) CHECK(parts[i].start == (i ? parts[i - 1].end : 0) && parts[i].start <= parts[i].end);
         CHECK(literal.size == literal.suffix.end && literal.size <= len && (code || literal.size == len));
         CHECK(!peltzivar_read(&syntax, from, literal.size, &literal_before, NULL));
-        CHECK(!memcmp(&literal, &literal_before, sizeof literal));
+        CHECK(!memcmp(&literal, &literal_before, offsetof(peltzivar_literal, size)));
+        CHECK(literal.is_float == (literal.integer.end < literal.exponent_character.end));
     } else {
         CHECK(code);
+    }
+    free(from);
+}
+
+/* A text is a special value only if it is a spelling with other signs, cases and separators. */
+static void test_special_values(peltzivar_word word) {
+    static const char *const spellings[] = {NULL, "", "NaN", "inf", "i_n'f", "+e.\377"};
+    const peltzivar_syntax syntax = draw_syntax(word);
+    const peltzivar_specials specials = {spellings[draw() % 6], spellings[draw() % 6], spellings[draw() % 6]};
+    const char *const wanted[] = {"", specials.nan, specials.inf, specials.infinity};
+    peltzivar_syntax other = syntax;
+    const peltzivar_error refused = peltzivar_syntax_check(syntax.format, syntax.exponent, syntax.decimal_point, &other);
+    size_t len = 0;
+    if (draw() % 2) text[len++] = "+-"[draw() % 2];
+    for (const char *from = wanted[draw() % 4]; from && *from; from++) {
+        text[len++] = draw() % 8 ? *from : (char)(*from ^ 32);
+        if (draw() % 8 == 0) text[len++] = (char)peltzivar_fields_of(word).digit_separator;
+    }
+    char *const from = malloc(len + !len);
+    memcpy(from, text, len);
+    peltzivar_special special = {7, 7};
+    const peltzivar_error code = peltzivar_read_special(&syntax, &specials, from, len, &special);
+    if (code) CHECK(code == (refused ? refused : PELTZIVAR_INVALID_DIGIT) && special.spelling == 7 && special.sign == 7);
+    else CHECK(1 <= special.spelling && special.spelling <= 3 && wanted[special.spelling] && special.sign == (len && strchr("+-", *from) ? *from : 0));
+    free(from);
+}
+
+/* Lines build a syntax if and only if there is no problem. Each problem and note has a sentence, and lines of the text. */
+static void test_lines(void) {
+    static const char *const lines[] = {"", "# \200", "exponent = 'p'", "point=','", "exponent=none", "point = none\r", "radix= 16",
+        "digit_separator='_'", "base_prefix='x'", "internal_digit_separator=true", "base_suffx='h'", "radix='1'", "\357\273\277"};
+    size_t len = 0, count = 1;
+    for (uint64_t left = draw() % 6; left > 0; left--, count++) {
+        const char *const line = lines[draw() % 13];
+        if (draw() % 2) len += strlen(strcpy(text + len, line));
+        else len += peltzivar_edit_text(draw_edit(), text + len, 64);
+        text[len++] = '\n';
+    }
+    if (len && draw() % 4 == 0) text[draw() % len] = (char)draw();
+    for (size_t i = count = 0; i < len; i++) count += text[i] == '\n';
+    char *const from = malloc(len + !len);
+    memcpy(from, text, len);
+    peltzivar_syntax syntax = {{1, 2}, 3, 4}, other;
+    const size_t problems = peltzivar_read_settings(from, len, &syntax);
+    CHECK(problems ? syntax.format.low == 1 && syntax.exponent == 3 && syntax.decimal_point == 4
+                   : !peltzivar_syntax_check(syntax.format, syntax.exponent, syntax.decimal_point, &other));
+    for (size_t index = 0; index == 0 || *text; index++) {
+        size_t blamed[16] = {0};
+        WRITE(peltzivar_settings_text, from, len, index);
+        const size_t found = peltzivar_settings_lines(from, len, index, blamed, 16);
+        CHECK(strlen(text) < PELTZIVAR_TEXT_SIZE && (*text || index >= problems) && (*text || found == 0) && found <= 14);
+        for (size_t i = 0; i < found; i++) CHECK(blamed[i] <= count && (!i || blamed[i - 1] < blamed[i]));
     }
     free(from);
 }
@@ -210,6 +263,8 @@ int main(int argc, char **argv) {
         test_options(word);
         test_roles(word);
         test_literals(word);
+        test_special_values(word);
+        test_lines();
         test_settings();
     }
     return 0;

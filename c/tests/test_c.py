@@ -13,7 +13,6 @@ C, TOP = TESTS.parent, TESTS.parent.parent
 SHARED = pathlib.Path(os.environ["PELTZIVAR_LIBRARY"]).absolute()
 ARCHIVE = SHARED.with_suffix(".a")
 HEADER = (C / "peltzivar.h").read_text()
-STANDARD = "0x00000A0000000000000000000000000C"
 STRICT = ["-Wall", "-Wextra", "-Wpedantic", "-Wconversion", "-Wshadow", "-Werror", "-I", C]
 SANITIZERS = ["-g", "-fsanitize=address,undefined", "-fno-sanitize-recover=all"]
 COMPILERS = {"gcc": "c99 c11 c17 c2x", "clang": "c99 c11 c17 c2x", "g++": "c++11 c++14 c++17 c++20"}
@@ -22,7 +21,8 @@ TYPES = {"peltzivar_word": "Word", "peltzivar_fields": "Fields", "peltzivar_edit
 TYPES |= {"bool": "bool", "char": "u8", "uint8_t": "u8", "uint32_t": "u32", "peltzivar_setter": "Setter"}
 TYPES |= {"peltzivar_error": "ErrorNumber", "peltzivar_part": "u8", "peltzivar_role": "u8"}
 TYPES |= {"peltzivar_separators": "Separators", "peltzivar_syntax": "Syntax", "peltzivar_literal": "Literal"}
-TYPES |= {"peltzivar_read_error": "ReadError", "const char *": "*const u8"}
+TYPES |= {"peltzivar_read_error": "ReadError", "peltzivar_specials": "Specials", "peltzivar_special": "NumberedSpecial"}
+TYPES |= {"const char *": "*const u8"}
 LIBRARY = ctypes.CDLL(str(SHARED))
 
 
@@ -86,10 +86,12 @@ class Programs(unittest.TestCase):
     def test_the_example(self):
         program = self.made("cc", *STRICT, *SANITIZERS, C / "example.c", ARCHIVE)
         rows = [
-            ("radix=2 base_suffix=57", 0, "0x0000023900000000000000000000000C\nbase_suffix=57\nmantissa_radix=2\n"),
-            ("18446744073709551615 18446744073709551616 1_0 1\x80", 0, f"{STANDARD}\n18446744073709551615 is 18446744073709551615\n18446744073709551616 is too large\n1_0: no literal has the byte '_' here\n1\x80: no literal has the byte 194 here\n"),
+            ("base_suffix=104 18446744073709551615h -1 1.5", 0, "18446744073709551615h is 18446744073709551615\n-1 is -1\n1.5 is a float, or too large\n"),
+            ("18446744073709551616 1_0", 0, "18446744073709551616 is a float, or too large\n1_0: no literal has the byte '_' here\n"),
             ("radix=16 base_suffix='b'", 1, "the base suffix 'b' is a digit in radix 16\n"),
-            ("no_special=1", 2, "no_special=1: no_special takes `true` or `false`\n"),
+            ("no_special=1", 1, "no_special takes `true` or `false`, not `1`\n"),
+            ("digit_separator=95", 0, "no flag allows the digit separator '_'\n"),
+            ("x=" * 2048, 2, ""),
         ]
         for settings, status, printed in rows:
             self.assertEqual(run(program, *settings.split()), (printed, status))
@@ -129,7 +131,7 @@ class Header(unittest.TestCase):
         self.assertEqual(self.numbers(r"ROLE_(\w+)"), {name: number for number, name in enumerate(roles)})
         errors = ["SUCCESS", *(it for it in variants("error.rs", "Error") if it != "SUCCESS")]
         numbered = {name: number for number, name in enumerate(errors)}
-        self.assertEqual(self.numbers(r"((?!SET_|RULE_|PART_|ROLE_|CAUSE_)\w+)"), numbered)
+        self.assertEqual(self.numbers(r"((?!SET_|RULE_|PART_|ROLE_|CAUSE_|SPELLING_)\w+)"), numbered)
 
     def test_names_and_conditions_are_those_of_the_header_and_of_format(self):
         def strings(call):
@@ -145,7 +147,7 @@ class Header(unittest.TestCase):
 
     def test_declarations_are_those_of_the_library(self):
         sources = " ".join("".join(path.read_text() for path in sorted((TOP / "rust/capi/src").glob("*.rs"))).split())
-        exported = re.findall(r'extern "C" fn (\w+)\( ?(.*?),? ?\) -> ([\w *]+) \{', sources)
+        exported = re.findall(r"\bfn (peltzivar_\w+)\( ?(.*?) ?\) -> ([\w *]+) \{", sources)
         wanted = {
             (name, tuple(it.split(": ")[1] for it in re.split(r", (?=\w+: )", of) if it), result)
             for name, of, result in exported
