@@ -9,7 +9,7 @@
 
 A word is lawful if it satisfies all rules. A `FormatView` holds any word, and a `Format` a lawful one. A `Syntax` reads
 literals, which are the numbers of a format, and `languages` has those of languages. In the repository, docs/FORMAT.md
-describes fields, rules and literals. A value of a wrong type raises a TypeError, and any other wrong value a ValueError.
+describes fields, rules and literals. A value of a wrong type raises a TypeError, and another wrong value a ValueError.
 
 This module needs the shared library of peltzivar.h, but no other package. `make install` and pip install both. To use
 another library, set PELTZIVAR_LIBRARY to its path. If none is found, importing this module raises an ImportError.
@@ -603,9 +603,9 @@ class Note:
 @dataclass(frozen=True)
 class Reason(Note):
     """A reason why a word is not lawful, or why options do not fit it: its text, a mask of the bits that it blames, the
-    rules that it breaks, and the options that it blames, which are `Role.EXPONENT` and `Role.POINT`. An edit is to blame
-    if its mask has a bit in common with this mask that no later edit writes. If settings cause the reason, it has the
-    indexes of those to blame instead.
+    rules that it breaks, and the options that it blames, which are `Role.EXPONENT` and `Role.POINT`. An edit is to
+    blame if its mask has a bit in common with this mask that no later edit writes. If settings cause the reason, it has
+    the indexes of those to blame instead.
     """
 
     rules: Tuple[Rule, ...] = ()
@@ -650,7 +650,7 @@ class SettingsError(ReasonsError):
 
 @dataclass(eq=False)
 class LiteralError(ValueError):
-    """Raised if a text is not a literal. `str` returns the cause as a sentence. Another one may follow when it is mended.
+    """Raised if a text is not a literal. `str` returns the cause as a sentence. If it is mended, another may follow.
 
     `valid_up_to` is the length of the longest beginning of the text that some literal begins with. If it is the length
     of the text, characters are missing. `span` is the first index and the end of the characters to show, maybe none, as
@@ -670,7 +670,7 @@ class LiteralError(ValueError):
 
     @property
     def edits(self) -> Tuple[Edit, ...]:
-        """The edits of the format that end the cause: each of them alone for a separator, and otherwise all together."""
+        """The edits of the format that end the cause: each alone for a separator, and otherwise all together."""
         return tuple(Edit.of(it, self.cause is Cause.SEPARATOR) for it in _members(Setter, self.mask))
 
     def __str__(self) -> str:
@@ -709,8 +709,8 @@ _KEPT: Any = ...
 class FormatView:
     """A view of a format word, lawful or not. `int(view)` is the word, and `str(view)` is its text.
 
-    An absent digit separator, base prefix or base suffix is None. An absent exponent base or exponent radix has the value
-    of the mantissa radix. Raises ValueError if the word is negative or has more than 128 bits.
+    An absent digit separator, base prefix or base suffix is None. An absent exponent base or exponent radix has the
+    value of the mantissa radix. Raises ValueError if the word is negative or has more than 128 bits.
     """
 
     __slots__ = ("_word", "_halves")
