@@ -1,4 +1,4 @@
-"""Makes index.html from the sources here, the tables of docs/FORMAT.md and the recipes; `explorer/build` calls this.
+"""Makes index.html from the sources here, the tables of docs/FORMAT.md and the languages; `explorer/build` calls this.
 
 The page has a hash of its WebAssembly and of the sources of that. If it is the same, the WebAssembly is taken again.
 """
@@ -64,29 +64,27 @@ def fields():
 
 
 def setting(call):
-    """Returns a setter call of the recipes as a setting."""
+    """Returns a setter call of a language as a setting."""
     name, argument = re.fullmatch(r"\.(\w+)\((.*)\)", call).groups()
     value = re.sub(r"^NonZeroU8::new\((.*)\)$", r"\1", argument)
     value = re.sub(r"^b'\\?(.)'$", r"'\1'", value)
     if not re.fullmatch(r"'.'|\d+|true|false", value):
-        sys.exit(f"rust/examples/recipes.rs: not a value: {argument}")
+        sys.exit(f"rust/src/literal/language.rs: not a value: {argument}")
     return f"{name}={value}"
 
 
 def recipes():
-    """Returns the recipes: name, comment, settings with their comments, and exponent character."""
-    text = (TOP / "rust/examples/recipes.rs").read_text()
-    exponents = re.findall(r'^ +\("(\w+)", \w+, b\'(.)\'\),$', text, re.M)
-    constant = r"((?:^///.*\n)+)pub const (\w+): u128 = NumberFormatBuilder::new\(\)\n((?: +\..*\n)+)"
-    found = {name: (comment, body) for comment, name, body in re.findall(constant, text, re.M)}
-    for name, exponent in exponents:
-        comment, body = found[name]
-        calls = re.findall(r"^ +(\.\w+\(.*?\));?(?: // (.*))?$", body, re.M)
-        if calls.pop()[0] != ".build_or_panic()":
-            sys.exit(f"rust/examples/recipes.rs: {name} does not end with build_or_panic")
+    """Returns the languages: name, comment, settings with their comments, and exponent character.
+
+    Integers alone have an exponent character that fits their format.
+    """
+    text = (TOP / "rust/src/literal/language.rs").read_text()
+    language = r"((?:^    ///.*\n)+)^    (\w+) = \w+\((?:b'(.)', )?NumberFormatBuilder::new\(\)((?:\n        \..*)*)"
+    for comment, name, exponent, body in re.findall(language, text, re.M):
+        calls = re.findall(r"^ +(\.\w+\(.*?\))(?: // (.*))?$", body, re.M)
         settings = [[setting(call), meaning] for call, meaning in calls]
         about = " ".join(comment.replace("///", "").split())
-        yield {"name": name, "about": about, "settings": settings, "exponent": exponent}
+        yield {"name": name, "about": about, "settings": settings, "exponent": exponent or "p"}
 
 
 def data():

@@ -120,6 +120,7 @@ static void test_indices_behind_the_last(void) {
         CHECK(is_word(peltzivar_reason_mask(word, indices[at]), 0, 0) && !peltzivar_reason_rules(word, indices[at]));
         CHECK(WRITES("", peltzivar_options_reason_text(word, 'E', 'A', indices[at], text, sizeof text)));
         CHECK(is_word(peltzivar_options_reason_mask(word, 'E', 'A', indices[at]), 0, 0));
+        CHECK(!peltzivar_options_reason_roles(word, 'E', 'A', indices[at]));
         CHECK(WRITES("", peltzivar_note_text(&PELTZIVAR_NEW_FIELDS, indices[at], text, sizeof text)));
         CHECK(is_word(peltzivar_note_mask(&PELTZIVAR_NEW_FIELDS, indices[at]), 0, 0));
     }
@@ -130,10 +131,10 @@ static void test_options(void) {
     uint8_t byte = 7;
     CHECK(peltzivar_parse_byte("'p'", 3, &byte) && byte == 'p' && peltzivar_parse_byte("0x2e", 4, &byte) && byte == '.');
     CHECK(peltzivar_parse_byte("none", 4, &byte) && byte == 0 && !peltzivar_parse_byte("256", 3, &byte) && byte == 0);
-    CHECK(peltzivar_options_reason_roles(hexadecimal, 'e', '.', 0) == 1 << PELTZIVAR_ROLE_EXPONENT);
-    CHECK(peltzivar_options_reason_roles(hexadecimal, 'p', '+', 0) == 1 << PELTZIVAR_ROLE_POINT);
-    CHECK(peltzivar_options_reason_roles(hexadecimal, 'p', 'p', 0) == (1 << PELTZIVAR_ROLE_EXPONENT | 1 << PELTZIVAR_ROLE_POINT));
-    CHECK(peltzivar_options_reason_roles(hexadecimal, 'p', 'p', 1) == 0);
+    const uint32_t exponent = 1 << PELTZIVAR_ROLE_EXPONENT, point = 1 << PELTZIVAR_ROLE_POINT;
+    CHECK(peltzivar_options_reason_roles(hexadecimal, 'e', '+', 0) == exponent);
+    CHECK(peltzivar_options_reason_roles(hexadecimal, 'e', '+', 1) == point);
+    CHECK(peltzivar_options_reason_roles(hexadecimal, 'p', 'p', 0) == (exponent | point));
 }
 
 /* Numbers from 3 on have no part. */
@@ -182,44 +183,32 @@ static void test_texts(void) {
     CHECK(WRITES("NumberFormatBuilder::new().build_or_panic()", peltzivar_source(words[0], text, sizeof text)));
 }
 
-/* Returns a syntax with a prefix, a suffix and separators between digits. */
-static peltzivar_syntax new_syntax(void) {
-    const peltzivar_edit edits[] = {{PELTZIVAR_SET_BASE_PREFIX, 'x'}, {PELTZIVAR_SET_BASE_SUFFIX, 'h'},
-        {PELTZIVAR_SET_CASE_SENSITIVE_BASE_PREFIX, 1}, {PELTZIVAR_SET_DIGIT_SEPARATOR, '_'},
-        {PELTZIVAR_SET_INTERNAL_DIGIT_SEPARATOR, 1}};
-    peltzivar_syntax syntax = {{1, 2}, 3, 4};
-    peltzivar_word word;
-    CHECK(peltzivar_build(edits, 5, &word) && !peltzivar_syntax_check(word, 'e', '.', &syntax));
-    CHECK(peltzivar_same_format(word, syntax.format) && peltzivar_is_built(syntax.format));
-    CHECK(syntax.exponent == 'e' && syntax.decimal_point == '.');
-    return syntax;
-}
-
 static void test_syntaxes(void) {
-    static const peltzivar_syntax refused[] = {{{0, 0}, 0, 0}, {PELTZIVAR_STANDARD_INIT, 'e', 0}, {PELTZIVAR_STANDARD_INIT, 'e', 'E'}};
-    static const peltzivar_error errors[] = {
-        PELTZIVAR_INVALID_MANTISSA_RADIX, PELTZIVAR_INVALID_DECIMAL_POINT, PELTZIVAR_INVALID_PUNCTUATION};
-    static const char *const sentences[] = {"the mantissa radix 0 is not between 2 and 36",
-        "only one of the exponent character and the decimal point is absent",
-        "the exponent character 'e' and the decimal point 'E' differ only in case, which requires case_sensitive_exponent"};
-    static const peltzivar_syntax integers = {PELTZIVAR_STANDARD_INIT, 0, 0};
-    peltzivar_literal literal = {{7, 7}, {7, 7}, {7, 7}, {7, 7}, {7, 7}, {7, 7}, {7, 7}, {7, 7}, {7, 7}, 7, true};
-    peltzivar_read_error error = {7, {7, 7}, 7, {7, 7}, 7, 7, 7};
+    static const struct {
+        peltzivar_syntax it;
+        peltzivar_error error;
+        const char *sentence;
+    } rows[] = {{{{0, 0}, 0, 0}, PELTZIVAR_INVALID_MANTISSA_RADIX, "the mantissa radix 0 is not between 2 and 36"},
+        {{PELTZIVAR_STANDARD_INIT, 'e', 0}, PELTZIVAR_INVALID_DECIMAL_POINT,
+            "only one of the exponent character and the decimal point is absent"},
+        {{PELTZIVAR_STANDARD_INIT, '5', '.'}, PELTZIVAR_INVALID_EXPONENT_SYMBOL,
+            "the exponent character '5' is a digit in the mantissa radix 10 and the exponent radix 10"}};
     peltzivar_syntax out = {{1, 2}, 3, 4};
     for (int i = 0; i < 3; i++) {
-        const peltzivar_syntax *const it = &refused[i];
-        CHECK(peltzivar_syntax_check(it->format, it->exponent, it->decimal_point, &out) == errors[i]);
-        CHECK(is_word(out.format, 2, 1) && out.exponent == 3 && out.decimal_point == 4);
-        CHECK(peltzivar_read(it, "1", 1, &literal, &error) == errors[i]);
-        CHECK(peltzivar_read_prefix(it, "1", 1, &literal, &error) == errors[i]);
-        CHECK(WRITES(sentences[i], peltzivar_read_error_text(it, "1", 1, text, sizeof text)));
+        const peltzivar_syntax *const it = &rows[i].it;
+        CHECK(peltzivar_syntax_check(it->format, it->exponent, it->decimal_point, &out) == rows[i].error);
+        CHECK(peltzivar_read(it, "1", 1, NULL, NULL) == rows[i].error);
+        CHECK(peltzivar_read_prefix(it, "1", 1, NULL, NULL) == rows[i].error);
+        CHECK(WRITES(rows[i].sentence, peltzivar_read_error_text(it, "1", 1, text, sizeof text)));
     }
-    CHECK(peltzivar_read(&integers, "1", SIZE_MAX, &literal, &error) == PELTZIVAR_OVERFLOW);
-    CHECK(literal.sign.start == 7 && literal.size == 7 && error.valid_up_to == 7 && error.part == 7);
-    CHECK(!peltzivar_read_prefix(&integers, "12.5", 4, &literal, &error) && literal.size == 2 && !literal.is_float);
+    CHECK(is_word(out.format, 2, 1) && out.exponent == 3 && out.decimal_point == 4);
+    CHECK(!peltzivar_syntax_check(PELTZIVAR_STANDARD, 0, 0, &out) && is_word(out.format, 0x0A0A0A0000000000, 0xC));
+    CHECK(!out.exponent && !out.decimal_point && peltzivar_read(&out, "1", SIZE_MAX, NULL, NULL) == PELTZIVAR_OVERFLOW);
 }
 
 static void test_literals(void) {
+    static const char lines[] = "base_prefix='x'\nbase_suffix='h'\ncase_sensitive_base_prefix=true\ndigit_separator='_'\n"
+        "internal_digit_separator=true";
     static const size_t ends[] = {0, 1, 3, 6, 7, 8, 9, 10, 12, 13};
     static const struct {
         const char *text;
@@ -232,10 +221,10 @@ static void test_literals(void) {
         {"01x", PELTZIVAR_INVALID_DIGIT, {2, {2, 3}, 2, {0, 0}, PELTZIVAR_CAUSE_BYTE, PELTZIVAR_NO_SETTER, PELTZIVAR_NO_PART}},
         {"1e1_", PELTZIVAR_INVALID_DIGIT, {4, {4, 4}, 4, {0, 0}, PELTZIVAR_CAUSE_MISSING, PELTZIVAR_NO_SETTER, 2}},
     };
-    const peltzivar_syntax syntax = new_syntax();
+    peltzivar_syntax syntax;
     peltzivar_literal it;
-    CHECK(!peltzivar_read_prefix(&syntax, "-0x1_0.5e+12h,", 14, &it, NULL) && it.size == 13);
-    CHECK(it.is_float);
+    CHECK(!peltzivar_read_settings(lines, sizeof lines - 1, &syntax));
+    CHECK(!peltzivar_read_prefix(&syntax, "-0x1_0.5e+12h,", 14, &it, NULL) && it.size == 13 && it.is_float);
     const peltzivar_span parts[] = {it.sign, it.prefix, it.integer, it.point, it.fraction, it.exponent_character,
         it.exponent_sign, it.exponent, it.suffix};
     for (int i = 0; i < 9; i++) CHECK(parts[i].start == ends[i] && parts[i].end == ends[i + 1]);
@@ -254,16 +243,14 @@ static void test_literals(void) {
 static void test_special_values(void) {
     static const peltzivar_syntax syntax = {PELTZIVAR_STANDARD_INIT, 'e', '.'}, refused = {{0, 0}, 'e', '.'};
     static const peltzivar_specials all = {"NaN", "inf", "infinity"}, few = {NULL, "", "infinity"};
-    static const struct {
-        const char *text;
-        uint8_t spelling, sign;
-    } rows[] = {{"nan", PELTZIVAR_SPELLING_NAN, 0}, {"-inf", PELTZIVAR_SPELLING_INF, '-'},
-        {"+Infinity", PELTZIVAR_SPELLING_INFINITY, '+'}};
+    static const char *const texts[] = {"nan", "-inf", "+Infinity"};
+    static const peltzivar_special wanted[] = {
+        {PELTZIVAR_SPELLING_NAN, 0}, {PELTZIVAR_SPELLING_INF, '-'}, {PELTZIVAR_SPELLING_INFINITY, '+'}};
     peltzivar_special special = {7, 7};
     for (int i = 0; i < 3; i++) {
-        CHECK(!peltzivar_read_special(&syntax, &all, rows[i].text, strlen(rows[i].text), &special));
-        CHECK(special.spelling == rows[i].spelling && special.sign == rows[i].sign);
-        CHECK(!peltzivar_read_special(&syntax, &few, rows[i].text, strlen(rows[i].text), NULL) == (i == 2));
+        CHECK(!peltzivar_read_special(&syntax, &all, texts[i], strlen(texts[i]), &special));
+        CHECK(special.spelling == wanted[i].spelling && special.sign == wanted[i].sign);
+        CHECK(!peltzivar_read_special(&syntax, &few, texts[i], strlen(texts[i]), NULL) == (i == 2));
     }
     CHECK(peltzivar_read_special(&syntax, &few, NULL, 0, &special) == PELTZIVAR_INVALID_DIGIT);
     CHECK(peltzivar_read_special(&refused, &all, "inf", 3, &special) == PELTZIVAR_INVALID_MANTISSA_RADIX);
@@ -338,19 +325,8 @@ static void test_null(void) {
 }
 
 int main(void) {
-    test_constants();
-    test_setters();
-    test_fields();
-    test_words();
-    test_indices_behind_the_last();
-    test_options();
-    test_parts();
-    test_texts();
-    test_syntaxes();
-    test_literals();
-    test_special_values();
-    test_languages();
-    test_settings();
+    test_constants(), test_setters(), test_fields(), test_words(), test_indices_behind_the_last(), test_options();
+    test_parts(), test_texts(), test_syntaxes(), test_literals(), test_special_values(), test_languages(), test_settings();
     test_null();
     return failed;
 }

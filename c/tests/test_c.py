@@ -17,12 +17,10 @@ STRICT = ["-Wall", "-Wextra", "-Wpedantic", "-Wconversion", "-Wshadow", "-Werror
 SANITIZERS = ["-g", "-fsanitize=address,undefined", "-fno-sanitize-recover=all"]
 COMPILERS = {"gcc": "c99 c11 c17 c2x", "clang": "c99 c11 c17 c2x", "g++": "c++11 c++14 c++17 c++20"}
 COMPILERS |= {"clang++": "c++11 c++14 c++17 c++20"}
-TYPES = {"peltzivar_word": "Word", "peltzivar_fields": "Fields", "peltzivar_edit": "NumberedEdit", "size_t": "usize"}
-TYPES |= {"bool": "bool", "char": "u8", "uint8_t": "u8", "uint32_t": "u32", "peltzivar_setter": "Setter"}
-TYPES |= {"peltzivar_error": "ErrorNumber", "peltzivar_part": "u8", "peltzivar_role": "u8"}
-TYPES |= {"peltzivar_separators": "Separators", "peltzivar_syntax": "Syntax", "peltzivar_literal": "Literal"}
-TYPES |= {"peltzivar_read_error": "ReadError", "peltzivar_specials": "Specials", "peltzivar_special": "NumberedSpecial"}
-TYPES |= {"const char *": "*const u8"}
+# The types in Rust that do not have the name of C in another case.
+TYPES = {"size_t": "usize", "bool": "bool", "char": "u8", "const char *": "*const u8", "uint8_t": "u8", "uint32_t": "u32"}
+TYPES |= {"peltzivar_edit": "NumberedEdit", "peltzivar_special": "NumberedSpecial", "peltzivar_error": "ErrorNumber"}
+TYPES |= {"peltzivar_part": "u8", "peltzivar_role": "u8"}
 LIBRARY = ctypes.CDLL(str(SHARED))
 
 
@@ -30,6 +28,11 @@ def run(*command, **options):
     """Runs a command, and returns what it prints and its status."""
     ran = subprocess.run(command, stdout=subprocess.PIPE, stderr=subprocess.STDOUT, text=True, **options)
     return ran.stdout, ran.returncode
+
+
+def in_rust(kind):
+    """Returns a type of C as in Rust."""
+    return TYPES.get(kind) or kind.removeprefix("peltzivar").title().replace("_", "")
 
 
 def in_c(rust):
@@ -63,9 +66,6 @@ class Programs(unittest.TestCase):
             printed, _ = run("cc", *option, "-I", C, "-c", "-o", self.folder / "object", "-", input=code)
             self.assertEqual(re.findall("ignoring return value of .(?:bool )?(\\w+)", printed), ["peltzivar_migrate"], printed)
 
-    def test_the_calls_return_what_they_should(self):
-        self.assertEqual(run(self.made("cc", *STRICT, *SANITIZERS, TESTS / "calls.c", ARCHIVE)), ("", 0))
-
     def test_the_calls_are_sound_with_the_checks_of_rust(self):
         build = self.folder / "checked"
         target = re.search("host: (.*)", run("rustc", "-vV")[0])[1]
@@ -86,11 +86,9 @@ class Programs(unittest.TestCase):
     def test_the_example(self):
         program = self.made("cc", *STRICT, *SANITIZERS, C / "example.c", ARCHIVE)
         rows = [
-            ("base_suffix=104 18446744073709551615h -1 1.5", 0, "18446744073709551615h is 18446744073709551615\n-1 is -1\n1.5 is a float, or too large\n"),
-            ("18446744073709551616 1_0", 0, "18446744073709551616 is a float, or too large\n1_0: no literal has the byte '_' here\n"),
-            ("radix=16 base_suffix='b'", 1, "the base suffix 'b' is a digit in radix 16\n"),
+            ("18446744073709551615 -1", 0, "18446744073709551615 is 18446744073709551615\n-1 is -1\n"),
+            ("digit_separator=95 18446744073709551616", 0, "no flag allows the digit separator '_'\n18446744073709551616 is a float, or too large\n"),
             ("no_special=1", 1, "no_special takes `true` or `false`, not `1`\n"),
-            ("digit_separator=95", 0, "no flag allows the digit separator '_'\n"),
             ("x=" * 2048, 2, ""),
         ]
         for settings, status, printed in rows:
@@ -155,7 +153,7 @@ class Header(unittest.TestCase):
         code = " ".join(re.sub(r"/\*.*?\*/|^#.*?$", "", HEADER, flags=re.S | re.M).split())
         declared = re.findall(r"(\w+ |const char \*)(peltzivar_\w+)\( ?([^()]*)\);", code)
         found = {
-            (name, tuple(self.argument(it, of) for it in of.split(", ") if it != "void"), TYPES[result.strip()])
+            (name, tuple(self.argument(it, of) for it in of.split(", ") if it != "void"), in_rust(result.strip()))
             for result, name, of in declared
         }
         self.assertEqual(found, wanted)
@@ -166,12 +164,12 @@ class Header(unittest.TestCase):
         """Returns the type in Rust of an argument in C. A pointer before a length is a raw pointer."""
         const, kind, pointer, name = re.fullmatch(r"(const )?(\w+) (\*?)(\w+)", text).groups()
         if not pointer:
-            return TYPES[kind]
+            return in_rust(kind)
         if re.search(rf"\*{name}, size_t (to_)?len\b", others):
-            return f"*{'const' if const else 'mut'} {TYPES[kind]}"
+            return f"*{'const' if const else 'mut'} {in_rust(kind)}"
         if const or name == "fields":
-            return f"&{'' if const else 'mut '}{TYPES[kind]}"
-        return f"Out<{TYPES[kind]}>"
+            return f"&{'' if const else 'mut '}{in_rust(kind)}"
+        return f"Out<{in_rust(kind)}>"
 
     def test_all_versions_are_the_same(self):
         number = LIBRARY.peltzivar_version()  # That of cargo.

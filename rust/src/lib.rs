@@ -17,7 +17,8 @@
 //! |---|---|
 //! | write a format as a constant | [`NumberFormatBuilder`] and its [`build_format_or_panic`][NumberFormatBuilder::build_format_or_panic], or [`build_or_panic`][NumberFormatBuilder::build_or_panic] for the word |
 //! | take a checked format as an argument | [`Format`] |
-//! | read numbers | [`Syntax`][literal::Syntax], or a [`Reader`][literal::Reader] for many texts; [`Specials`][literal::Specials] for NaN and infinity |
+//! | read numbers of a language | [`Language`][literal::Language] |
+//! | read numbers of a format | [`Syntax`][literal::Syntax], or a [`Reader`][literal::Reader] for many texts; [`Specials`][literal::Specials] for NaN and infinity |
 //! | compute values | [`Literal::digits`][literal::Literal::digits] and [`radix`][literal::Literal::radix] |
 //! | report why a text is not a number | [`ReadError`][literal::ReadError] |
 //! | write a reader of your own | [`FormatView::is_separator`], [`separators`][FormatView::separators], [`role_of`][FormatView::role_of] |
@@ -29,6 +30,8 @@
 //! | store words as text | `Display` and `FromStr` of [`Format`], [`FormatView`] and [`Syntax`][literal::Syntax] |
 //! | convert words that `lexical-util` stored | [`edits::migrate`] |
 //!
+//! `FORMAT.txt` in the package defines each flag and rule, which texts are numbers, and why a text is not one.
+//!
 //! # From `lexical-util`
 //!
 //! Modules, types and methods have the same names as in `lexical-util` 1.0.7. To migrate a program, change the name of
@@ -38,7 +41,8 @@
 //! - `build_strict` returns a `Result`. In a constant, call `build_or_panic` instead.
 //! - A base prefix, base suffix or exponent character that is a letter matches both cases, unless a flag makes it
 //!   case-sensitive. A word in which a reserved bit is set is not lawful.
-//! - The prebuilt formats of `lexical-util`, such as `JSON`, are not included. To copy one, see `examples/recipes.rs`.
+//! - The prebuilt formats of `lexical-util`, such as `JSON`, are not included. [`Language`][literal::Language] has formats
+//!   of languages.
 //!
 //! [`Format`], [`FormatView`], [`FormatError`], [`edits`], [`literal`], [`Settings`], [`Reason`], [`Note`] and
 //! [`source`] are new.
@@ -49,11 +53,12 @@
 //! contract. From this code, a program in the repository generated the files that begin with `Made by`. In the
 //! documentation, `Proved of the source` heads what the contracts of a call state.
 //!
-//! The following parts are written by hand: [`Format`], [`Settings`], [`NumberFormat`], the iterators and conversions,
-//! `Display`, `FromStr` and `Debug` of words and syntaxes, the syntax of a [`Format`] and the format of a syntax,
-//! [`Literal`][literal::Literal] around the parts that the proved code finds, `Display`, `is_incomplete`, `span` and
-//! `settings` of [`ReadError`][literal::ReadError], the methods that panic, and the tests of slices in [`ascii`]. A build
-//! of this crate proves nothing. You trust the program that generated the files, the handwritten parts, and `rustc`.
+//! The following parts are written by hand: [`Format`], [`Settings`], [`NumberFormat`], [`Language`][literal::Language],
+//! the iterators and conversions, `Display`, `FromStr` and `Debug` of words and syntaxes, the syntax of a [`Format`] and
+//! the format of a syntax, [`Literal`][literal::Literal] around the parts that the proved code finds, `Display`,
+//! `is_incomplete`, `span` and `settings` of [`ReadError`][literal::ReadError], the methods that panic, and the tests of
+//! slices in [`ascii`]. A build of this crate proves nothing. You trust the program that generated the files, the
+//! handwritten parts, and `rustc`.
 #![no_std]
 #![forbid(unsafe_code)]
 

@@ -3,7 +3,7 @@
 //! A [`Syntax`] is a lawful format with an exponent character and a decimal point or, for integers alone, without both.
 //! A [`Reader`] has tables of a syntax, so that it reads a text in less time. A [`Literal`] has the parts of a text and
 //! the values of its digits. A [`ReadError`] has the cause of a refusal, and the flags to blame. NaN and infinity are not
-//! literals: [`Specials`] reads them.
+//! literals: [`Specials`] reads them. A [`Language`] has a reader and the special values of a language.
 //!
 //! ```
 //! use peltzivar::format::{Format, STANDARD};

@@ -27,6 +27,9 @@ const OVERRIDDEN: usize = 32;
 /// The largest number of settings that one reason or note blames: a digit separator and all flags that allow one.
 const BLAMED: usize = 14;
 
+/// The number of bytes of a refused text that are printed.
+const SHOWN: usize = 40;
+
 /// Settings that are read from texts, such as the lines of a file, and the format or syntax that they build.
 ///
 /// A setting has the form `NAME=VALUE`. NAME is one of [`Edit::NAMES`], or `exponent` or `point` for the exponent
@@ -110,7 +113,8 @@ impl Settings {
         Ok(settings)
     }
 
-    /// Adds a text. A text that is refused is counted, and sets nothing.
+    /// Adds a text. A text that is refused is counted, and sets nothing. What the other texts build is then not what the
+    /// file means, so call this after an error only to find others.
     ///
     /// ```
     /// let error = peltzivar::Settings::new().add("base_suffx = 'h'").unwrap_err();
@@ -382,10 +386,8 @@ fn nearest(name: &[u8]) -> Option<&'static str> {
     let rated = Edit::NAMES.iter().chain(&OPTIONS).map(|other| {
         let pairs = other.as_bytes().windows(2);
         let shared = pairs.filter(|pair| name.windows(2).any(|it| it == *pair));
-        (
-            200 * shared.count() / (name.len() + other.len() - 2),
-            *other,
-        )
+        let size = name.len() + other.len() - 2;
+        (200 * shared.count() / size, *other)
     });
     let nearest = rated.max_by_key(|it| it.0).filter(|it| it.0 >= 50);
     nearest.map(|it| it.1)
@@ -394,17 +396,16 @@ fn nearest(name: &[u8]) -> Option<&'static str> {
 /// The first bytes of a text, and the length of the text.
 #[derive(Debug, Clone, Copy, PartialEq, Eq, Hash)]
 struct Excerpt {
-    bytes: [u8; 40],
+    bytes: [u8; SHOWN],
     length: usize,
 }
 
 impl Excerpt {
     fn of(text: &[u8]) -> Self {
-        let mut bytes = [0; 40];
-        bytes
-            .iter_mut()
-            .zip(text)
-            .for_each(|(to, byte)| *to = *byte);
+        let mut bytes = [0; SHOWN];
+        for (to, byte) in bytes.iter_mut().zip(text) {
+            *to = *byte;
+        }
         let length = text.len();
         Excerpt { bytes, length }
     }
@@ -423,10 +424,6 @@ impl fmt::Display for Excerpt {
                 _ => write!(f, "\\x{byte:02x}")?,
             }
         }
-        f.write_str(if self.length > self.bytes.len() {
-            "..`"
-        } else {
-            "`"
-        })
+        f.write_str(if self.length > SHOWN { "..`" } else { "`" })
     }
 }

@@ -218,7 +218,7 @@ fn each_setting_of_a_language_has_a_row() {
             let with_options = options.map(|(exponent, point)| Syntax::new_or_panic(format, exponent, point));
             let without = with_options.unwrap_or(Syntax::integers(format));
             let is_number = |text| without.read(text).is_ok() || specials.read(&without, text).is_some();
-            let mut rows = rows().filter(|row| row.0.name() == language.name());
+            let mut rows = rows().filter(|row| row.0 == *language);
             let has_row = rows.any(|(_, text, is_accepted)| is_number(text.as_bytes()) != is_accepted);
             assert!(has_row || without == syntax, "{language}: {edit}");
         }

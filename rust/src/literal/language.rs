@@ -3,7 +3,7 @@
 
 use crate::literal::{Literal, ReadError, Reader, Special, Specials, Syntax};
 use crate::NumberFormatBuilder;
-use core::{fmt, num::NonZeroU8};
+use core::{fmt, hash, num::NonZeroU8};
 
 /// How a language, or a file, writes numbers: a [`Syntax`], and the spellings of NaN and infinity. Its [`Reader`] is a
 /// constant, so no tables are made at run time.
@@ -87,6 +87,21 @@ impl Language {
                 None => Err(error),
             },
         }
+    }
+}
+
+/// Languages are equal if they have the same name.
+impl PartialEq for Language {
+    fn eq(&self, other: &Self) -> bool {
+        self.name() == other.name()
+    }
+}
+
+impl Eq for Language {}
+
+impl hash::Hash for Language {
+    fn hash<H: hash::Hasher>(&self, state: &mut H) {
+        self.name().hash(state);
     }
 }
 
