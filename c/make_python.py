@@ -1,6 +1,6 @@
 #!/usr/bin/env python3
-"""Writes parts of peltzivar/__init__.py: the constants, enumerations, structures and calls of peltzivar.h, and, with their
-documentation in rust/src, the attributes of a view, the parameters of calls that take fields, and the languages.
+"""Writes parts of peltzivar/__init__.py: the constants, enumerations, structures and calls of peltzivar.h, and the
+attributes of a view, the parameters of calls that take fields, and the languages, with their documentation in rust/src.
 
     c/make_python.py            writes each part between the lines `# Made by make_python.py: PART` and `# End`
     c/make_python.py --check    ends with status 1 if a part is not up to date
@@ -70,7 +70,8 @@ def constants():
     ):
         yield from enumeration(*row)
     for body, struct in re.findall(r"typedef struct { (.*?) } (\w+);", CODE):
-        members = [(it, kind) for kind, names in re.findall(r"(?:const )?(\w+) ([\w, *]+);", body) for it in names.split(", ")]
+        declared = re.findall(r"(?:const )?(\w+) ([\w, *]+);", body)
+        members = [(it, kind) for kind, names in declared for it in names.split(", ")]
         yield from ("", "", f"class {STRUCTS[struct]}(Structure):", "    _fields_ = [")
         yield from (f'        ("{member.strip("*")}", {argument(f"{kind} {member}")}),' for member, kind in members)
         yield "    ]"
@@ -95,7 +96,8 @@ def attributes():
 def parameters():
     """Returns the lines. `radix` is another name."""
     for name, bit in [*SET, ("radix", 104)]:
-        kind = "bool" if not 64 <= bit < 128 else "Optional[Byte]" if bit < 104 else "int" if bit == 104 else "Optional[int]"
+        number = "int" if bit == 104 else "Optional[int]"
+        kind = "bool" if not 64 <= bit < 128 else "Optional[Byte]" if bit < 104 else number
         yield f"{name}: {kind} = _KEPT,"
 
 

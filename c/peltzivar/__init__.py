@@ -1,19 +1,18 @@
-"""Builds, reads, checks and edits number formats, which are 128-bit words.
+"""Builds, reads, checks and edits number formats, which are 128-bit words, and reads the numbers of a format.
 
-    >>> from peltzivar import Format
+    >>> from peltzivar import Format, Syntax
     >>> format = Format.of(mantissa_radix=16, base_prefix="x")
-    >>> format.base_prefix
-    'x'
     >>> print(format)
     0x0000100078000000000000000000000C
+    >>> Syntax.integers(format).read("-0x1F").integer
+    '1F'
 
-This module needs the shared library of peltzivar.h, but no other package. `make install` and pip install both. Otherwise,
-set PELTZIVAR_LIBRARY to the path of the library, or put it beside this file. If the library is not found, importing this
-module raises an ImportError.
+A word is lawful if it satisfies all rules. A `FormatView` holds any word, and a `Format` a lawful one. A `Syntax` reads
+literals, which are the numbers of a format, and `languages` has those of languages. In the repository, docs/FORMAT.md
+describes fields, rules and literals. A value of a wrong type raises a TypeError, and another wrong value a ValueError.
 
-A word is lawful if it satisfies all rules. A `FormatView` holds any word, and a `Format` holds a lawful word. In the
-repository, docs/FORMAT.md describes the fields and the rules. A value of a wrong type raises a TypeError, and any other
-wrong value a ValueError. Both name the argument.
+This module needs the shared library of peltzivar.h, but no other package. `make install` and pip install both. To use
+another library, set PELTZIVAR_LIBRARY to its path. If none is found, importing this module raises an ImportError.
 """
 
 from __future__ import annotations
@@ -31,10 +30,9 @@ from pathlib import Path
 from types import SimpleNamespace
 from typing import Any, AnyStr, Callable, Dict, Generic, Iterable, List, Optional, Tuple, Type, TypeVar, Union, cast
 
-__all__ = ["STANDARD", "Byte", "Cause", "Edit", "Error", "Format", "FormatError", "FormatView"]
-__all__ += ["Language", "Literal", "LiteralError", "Note", "OptionsError", "Part", "Reason", "ReasonsError", "Role", "Rule"]
-__all__ += ["Separators", "Setter", "SettingsError", "Special", "Specials", "Spelling", "Syntax", "Value"]
-__all__ += ["languages", "notes_of"]
+__all__ = ["STANDARD", "Byte", "Cause", "Edit", "Error", "Format", "FormatError", "FormatView", "Language", "Literal"]
+__all__ += ["LiteralError", "Note", "OptionsError", "Part", "Reason", "ReasonsError", "Role", "Rule", "Separators"]
+__all__ += ["Setter", "SettingsError", "Special", "Specials", "Spelling", "Syntax", "Value", "languages", "notes_of"]
 
 # Made by make_python.py: constants
 __version__ = "0.9.0"
@@ -541,9 +539,10 @@ class Edit:
     def of(cls, setter: Union[Setter, str], value: Value) -> Edit:
         """Returns the edit with this setter, or the setter with this name, and this value, such as
         `Edit.of("digit_separator", "_")`. Raises TypeError or ValueError if the setter does not take the value."""
-        if isinstance(setter, str) and setter not in _SETTERS:
+        named = _SETTERS.get(setter) if isinstance(setter, str) else _typed("setter", setter, Setter)
+        if named is None:
             raise ValueError(f"unknown setting name: {reprlib.repr(setter)}")
-        edit, named = cls.__new__(cls), _SETTERS[setter] if isinstance(setter, str) else _typed("setter", setter, Setter)
+        edit = cls.__new__(cls)
         vars(edit).update(setter=named, value=_value(named, _number_of(named, value)))
         return edit
 
@@ -591,8 +590,7 @@ def _value(setter: Setter, number: int) -> Union[bool, int, str, None]:
 
 @dataclass(frozen=True)
 class Note:
-    """A note on fields that have no effect, or on settings: its text, a mask of the bits of these fields, and the indexes
-    of the settings. It has one of the two."""
+    """A note on fields that have no effect, with a mask of their bits, or on settings, with their indexes."""
 
     text: str
     mask: int = 0
@@ -605,9 +603,9 @@ class Note:
 @dataclass(frozen=True)
 class Reason(Note):
     """A reason why a word is not lawful, or why options do not fit it: its text, a mask of the bits that it blames, the
-    rules that the word breaks, and the options that it blames, which are `Role.EXPONENT` and `Role.POINT`. An edit is to
-    blame if its mask has a bit in common with this mask that no later edit writes. A reason of settings has the indexes
-    of those to blame instead.
+    rules that it breaks, and the options that it blames, which are `Role.EXPONENT` and `Role.POINT`. An edit is to
+    blame if its mask has a bit in common with this mask that no later edit writes. If settings cause the reason, it has
+    the indexes of those to blame instead.
     """
 
     rules: Tuple[Rule, ...] = ()
@@ -652,13 +650,13 @@ class SettingsError(ReasonsError):
 
 @dataclass(eq=False)
 class LiteralError(ValueError):
-    """Raised if a text is not a literal. `str` returns the reason as a sentence. Another one may follow if it is mended.
+    """Raised if a text is not a literal. `str` returns the cause as a sentence. If it is mended, another may follow.
 
     `valid_up_to` is the length of the longest beginning of the text that some literal begins with. If it is the length
     of the text, characters are missing. `span` is the first index and the end of the characters to show, maybe none, as
-    in `text[slice(*span)]`. `cause` is the kind of the cause. `part` is the part of a separator or of missing digits.
-    `mask` has the flags to blame as bits of a word, and `edits` the edits that end the cause: each alone for a separator,
-    and otherwise all together. A wrong byte and missing digits blame no flag. `error` is the error of `lexical-util`.
+    in `text[slice(*span)]`. `cause` is the kind of the cause, and `part` the part of a separator or of missing digits.
+    `mask` has the flags to blame as bits of a word. A wrong byte and missing digits blame none. `error` is the error of
+    `lexical-util`.
     """
 
     sentence: str
@@ -672,7 +670,7 @@ class LiteralError(ValueError):
 
     @property
     def edits(self) -> Tuple[Edit, ...]:
-        """The edits that end the cause."""
+        """The edits of the format that end the cause: each alone for a separator, and otherwise all together."""
         return tuple(Edit.of(it, self.cause is Cause.SEPARATOR) for it in _members(Setter, self.mask))
 
     def __str__(self) -> str:
@@ -711,8 +709,8 @@ _KEPT: Any = ...
 class FormatView:
     """A view of a format word, lawful or not. `int(view)` is the word, and `str(view)` is its text.
 
-    An absent digit separator, base prefix or base suffix is None. In place of an absent exponent base or exponent radix,
-    the attribute has the mantissa radix. Raises ValueError if the word is negative or has more than 128 bits.
+    An absent digit separator, base prefix or base suffix is None. An absent exponent base or exponent radix has the
+    value of the mantissa radix. Raises ValueError if the word is negative or has more than 128 bits.
     """
 
     __slots__ = ("_word", "_halves")
@@ -934,9 +932,9 @@ class FormatView:
     ) -> View:
         """Applies the settings and then the fields to the word, in order, and returns a view of the new word.
 
-        Before that, the mantissa radix replaces an absent exponent base or exponent radix. After that, a digit separator
-        that no flag allows is dropped. So set a digit separator and its flags in one call. A `Format` raises a
-        ValueError if it would drop a separator that was passed, and a FormatError if the new word is not lawful.
+        Before that, the mantissa radix replaces an absent exponent base or exponent radix. After that, a separator that
+        no flag allows is dropped. So set a digit separator and its flags in one call. A `Format` raises a ValueError if
+        it would drop a separator that was passed, and a FormatError if the new word is not lawful.
         """
         return self._packed(self._unpacked(), settings)
 
@@ -1076,7 +1074,7 @@ class Literal(Generic[AnyStr]):
 
 @dataclass(frozen=True)
 class Syntax:
-    """What literals are read by: a format, with an exponent character and a decimal point that fit it. If both are None,
+    """What literals are read by: a format, and an exponent character and a decimal point that fit it. If both are None,
     literals are integers.
 
         >>> syntax = Syntax(Format.of(mantissa_radix=16, base_prefix="x", exponent_radix=10), exponent="p")
@@ -1141,8 +1139,7 @@ class Syntax:
         return self._read(_library.read, text)
 
     def read_prefix(self, text: AnyStr) -> Tuple[Literal[AnyStr], AnyStr]:
-        """Returns the longest literal that a text begins with, and the rest of the text. Raises LiteralError if there is
-        none.
+        """Returns the longest literal that a text begins with, and the rest. Raises LiteralError if there is none.
 
             >>> literal, rest = Syntax(Format()).read_prefix("1.25.3")
             >>> literal.text, rest
@@ -1166,7 +1163,7 @@ class Syntax:
 
 
 def _readable(text: object) -> bytes:
-    """Returns a text as bytes, up to its first character that is not ASCII, and in its place a byte that is not ASCII."""
+    """Returns a text as bytes, up to the first character that is not ASCII, for which it has a byte that is not."""
     try:
         return text if isinstance(text, bytes) else _typed("a text", text, str).encode("ascii")
     except UnicodeEncodeError as error:
@@ -1209,8 +1206,8 @@ class Specials:
     infinity: Optional[str] = None
 
     def read(self, syntax: Syntax, text: Union[str, bytes]) -> Optional[Special]:
-        """Returns the special value that a text is, or None. The flags of the syntax decide which signs, cases of letters
-        and digit separators it may have. A text can also be a literal, such as `inf` in radix 36."""
+        """Returns the special value that a text is, or None. The flags of the syntax decide which signs, cases of
+        letters and digit separators it may have. A text can also be a literal, such as `inf` in radix 36."""
         data, special, numbers = _encoded("a text", text), _Special(), _typed("syntax", syntax, Syntax)._numbers
         spellings = [_encoded("a spelling", "" if it is None else it) for it in (self.nan, self.inf, self.infinity)]
         if any(b"\0" in it for it in spellings):

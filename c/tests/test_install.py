@@ -115,7 +115,7 @@ class Package(InFolder):
         self.assertIn("peltzivar/py.typed", files)
         self.assertEqual(zipfile.ZipFile(wheel).read(files["LICENSE"]), (C.parent / "LICENSE").read_bytes())
         metadata = zipfile.ZipFile(wheel).read(files["METADATA"]).decode()
-        self.assertRegex(metadata, r"(?ms)^License: MIT$.*^Requires-Python: >=3.9$.*^\n.* >>> from peltzivar import Format$")
+        self.assertRegex(metadata, r"(?ms)^License: MIT$.*^Requires-Python: >=3.9$.*^\n.* >>> from peltzivar import Format, Syntax$")
         self.run_in(PACKAGER, "-m", "venv", "--system-site-packages", "--without-pip", "environment")
         install = ["environment/bin/python", "-m", "pip", "install", "--no-build-isolation", "--no-index", "--no-deps", "--quiet"]
         for package, folder in (([wheel], ".*/site-packages"), (["--editable", checkout], checkout)):

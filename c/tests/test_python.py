@@ -178,6 +178,7 @@ class Words(unittest.TestCase):
         self.assertEqual((f"{Format():>36}", f"{Format():#034x}"), (f"  {Format()}", "0x00000a0000000000000000000000000c"))
         self.assertEqual((repr(Format.no_special), f"{Rule(7)}"), ("<field no_special>", "PUNCTUATION_DIFFERS"))
         self.assertEqual(doctest.testmod(peltzivar).failed, 0)
+        self.assertEqual(doctest.testfile(str(TOP / "docs/C-AND-PYTHON.md"), module_relative=False).failed, 0)
 
     def test_options(self):
         self.assertIsNone(Format().check_options("e", "."))
