@@ -35,6 +35,7 @@ pub use crate::view::FormatView;
 pub use crate::word::STANDARD;
 
 use crate::error::Error;
+use crate::short_text::ShortText;
 
 // Exports the constants of all flags and groups.
 macro_rules! constants {
@@ -97,7 +98,10 @@ impl NumberFormatBuilder {
     pub const fn build_or_panic(&self) -> u128 {
         match self.build_format() {
             Ok(format) => format.word(),
-            Err(error) => panic!("{}", error.message().as_str()),
+            Err(error) => {
+                let description = ShortText::of(error.code().description()).and(": ");
+                panic!("{}", description.and(error.text().as_str()).as_str())
+            }
         }
     }
 

@@ -102,16 +102,10 @@ impl FormatError {
                 ShortText::of(ONE_OPTION)
             }
             (Some(reason), ..) => reason.text(),
-            (None, Cause::Bytes, _) => ShortText::of("options are two numbers from 0 to 255"),
+            (None, Cause::Bytes, _) => ShortText::of("options are two bytes, such as 'e' or 101"),
             (None, _, Some(0 | 1)) => ShortText::of("a format word begins with `0x`"),
             (None, ..) => self.code.text(),
         }
-    }
-
-    /// Returns the text of a panic: the description of the error, a colon, and the first reason as a sentence.
-    pub(crate) const fn message(&self) -> ShortText {
-        let description = ShortText::of(self.code.description());
-        description.and(": ").and(self.text().as_str())
     }
 }
 

@@ -69,7 +69,7 @@ impl Format {
         const {
             match Format::new(FORMAT) {
                 Ok(format) => format,
-                Err(error) => panic!("{}", error.message().as_str()),
+                Err(error) => panic!("{}", error.text().as_str()),
             }
         }
     }
@@ -203,14 +203,9 @@ impl NumberFormatBuilder {
     /// note on it, which the notes of the format lack.
     ///
     /// ```
-    /// use core::num::NonZeroU8;
-    /// use peltzivar::{Format, FormatError, NumberFormatBuilder};
-    ///
-    /// let builder = NumberFormatBuilder::new().digit_separator(NonZeroU8::new(b'_'));
-    /// let format = builder.build_format()?;
-    /// assert_eq!((format, format.notes().count()), (Format::default(), 0));
+    /// let builder = peltzivar::NumberFormatBuilder::new().digit_separator(core::num::NonZeroU8::new(b'_'));
     /// assert_eq!(builder.notes().next().unwrap().to_string(), "no flag allows the digit separator '_'");
-    /// # Ok::<(), FormatError>(())
+    /// assert_eq!(builder.build_format().unwrap().notes().count(), 0);
     /// ```
     ///
     /// # Errors

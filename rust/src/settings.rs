@@ -27,6 +27,9 @@ const OVERRIDDEN: usize = 32;
 /// The largest number of settings that one reason or note blames: a digit separator and all flags that allow one.
 const BLAMED: usize = 14;
 
+/// The number of bytes of a refused text that are printed.
+const SHOWN: usize = 40;
+
 /// Settings that are read from texts, such as the lines of a file, and the format or syntax that they build.
 ///
 /// A setting has the form `NAME=VALUE`. NAME is one of [`Edit::NAMES`], or `exponent` or `point` for the exponent
@@ -110,7 +113,8 @@ impl Settings {
         Ok(settings)
     }
 
-    /// Adds a text. A text that is refused is counted, and sets nothing.
+    /// Adds a text. A text that is refused is counted, and sets nothing. What the other texts build is then not what the
+    /// file means, so call this after an error only to find others.
     ///
     /// ```
     /// let error = peltzivar::Settings::new().add("base_suffx = 'h'").unwrap_err();
@@ -222,11 +226,17 @@ fn filled<T: Copy, const N: usize>(items: impl Iterator<Item = T>) -> [Option<T>
 
 /// Returns the edit of a text. If it sets an option, returns the number of the option, and the edit sets a separator.
 fn parse(index: usize, text: &[u8]) -> Result<(Option<usize>, Edit), SettingsError> {
-    let refuse = |fault, option, piece| SettingsError {
-        index,
-        error: SettingError(fault),
-        option,
-        piece: Excerpt::of(piece),
+    let refuse = |fault, option, refused: &[u8]| {
+        let (error, length, mut piece) = (SettingError(fault), refused.len(), [0; SHOWN]);
+        let pairs = piece.iter_mut().zip(refused);
+        pairs.for_each(|(to, byte)| *to = *byte);
+        SettingsError {
+            index,
+            error,
+            option,
+            piece,
+            length,
+        }
     };
     let equals = text.iter().position(|byte| *byte == b'=');
     let equals = equals.ok_or_else(|| refuse(Fault::NoEquals, None, text))?;
@@ -339,7 +349,9 @@ pub struct SettingsError {
     index: usize,
     error: SettingError,
     option: Option<usize>,
-    piece: Excerpt,
+    /// The first bytes of what is refused, and its length.
+    piece: [u8; SHOWN],
+    length: usize,
 }
 
 impl SettingsError {
@@ -360,19 +372,26 @@ impl core::error::Error for SettingsError {}
 
 impl fmt::Display for SettingsError {
     fn fmt(&self, f: &mut fmt::Formatter<'_>) -> fmt::Result {
-        let SettingsError { error, piece, .. } = self;
         match (self.kind(), self.option) {
-            (SettingErrorKind::UnknownName, _) => {
-                write!(f, "unknown setting {piece}")?;
-                let nearest = nearest(piece.bytes());
-                nearest.map_or(Ok(()), |name| write!(f, "; did you mean `{name}`?"))
-            }
-            (_, None) => write!(f, "{error}, not {piece}"),
+            (SettingErrorKind::UnknownName, _) => f.write_str("unknown setting `")?,
+            (_, None) => write!(f, "{}, not `", self.error)?,
             (_, Some(option)) => {
                 let (name, default) = (OPTIONS[option], char::from(DEFAULTS[option]));
                 write!(f, "{name} takes a character such as '{default}', ")?;
-                write!(f, "a number from 0 to 255, or `none`, not {piece}")
+                f.write_str("a number from 0 to 255, or `none`, not `")?;
             }
+        }
+        let shown = self.piece.get(..self.length).unwrap_or(&self.piece);
+        for byte in shown {
+            match byte {
+                b' '..=b'~' => f.write_char(char::from(*byte))?,
+                _ => write!(f, "\\x{byte:02x}")?,
+            }
+        }
+        f.write_str(if self.length > SHOWN { "..`" } else { "`" })?;
+        match (self.kind(), nearest(shown)) {
+            (SettingErrorKind::UnknownName, Some(name)) => write!(f, "; did you mean `{name}`?"),
+            _ => Ok(()),
         }
     }
 }
@@ -382,51 +401,9 @@ fn nearest(name: &[u8]) -> Option<&'static str> {
     let rated = Edit::NAMES.iter().chain(&OPTIONS).map(|other| {
         let pairs = other.as_bytes().windows(2);
         let shared = pairs.filter(|pair| name.windows(2).any(|it| it == *pair));
-        (
-            200 * shared.count() / (name.len() + other.len() - 2),
-            *other,
-        )
+        let size = name.len() + other.len() - 2;
+        (200 * shared.count() / size, *other)
     });
     let nearest = rated.max_by_key(|it| it.0).filter(|it| it.0 >= 50);
     nearest.map(|it| it.1)
-}
-
-/// The first bytes of a text, and the length of the text.
-#[derive(Debug, Clone, Copy, PartialEq, Eq, Hash)]
-struct Excerpt {
-    bytes: [u8; 40],
-    length: usize,
-}
-
-impl Excerpt {
-    fn of(text: &[u8]) -> Self {
-        let mut bytes = [0; 40];
-        bytes
-            .iter_mut()
-            .zip(text)
-            .for_each(|(to, byte)| *to = *byte);
-        let length = text.len();
-        Excerpt { bytes, length }
-    }
-
-    fn bytes(&self) -> &[u8] {
-        self.bytes.get(..self.length).unwrap_or(&self.bytes)
-    }
-}
-
-impl fmt::Display for Excerpt {
-    fn fmt(&self, f: &mut fmt::Formatter<'_>) -> fmt::Result {
-        f.write_char('`')?;
-        for byte in self.bytes() {
-            match byte {
-                b' '..=b'~' => f.write_char(char::from(*byte))?,
-                _ => write!(f, "\\x{byte:02x}")?,
-            }
-        }
-        f.write_str(if self.length > self.bytes.len() {
-            "..`"
-        } else {
-            "`"
-        })
-    }
 }

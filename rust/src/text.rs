@@ -9,6 +9,7 @@ use crate::format_error::{Cause, FormatError};
 use crate::format_flags::{Part, Rule};
 use crate::lawful::Format;
 use crate::reasons::Reason;
+use crate::short_text::ShortText;
 use crate::view::{FormatView, Role};
 use crate::word_text::{parse_word, word_text};
 
@@ -49,6 +50,20 @@ impl fmt::Display for FormatView {
 impl fmt::Display for Format {
     fn fmt(&self, f: &mut fmt::Formatter<'_>) -> fmt::Result {
         fmt::Display::fmt(&self.view(), f)
+    }
+}
+
+/// Prints the text.
+impl fmt::Display for ShortText {
+    fn fmt(&self, f: &mut fmt::Formatter<'_>) -> fmt::Result {
+        f.pad(self.as_str())
+    }
+}
+
+/// Prints the text in double quotes.
+impl fmt::Debug for ShortText {
+    fn fmt(&self, f: &mut fmt::Formatter<'_>) -> fmt::Result {
+        fmt::Debug::fmt(self.as_str(), f)
     }
 }
 

@@ -248,7 +248,7 @@ fn a_syntax_is_a_format_with_options_that_fit_its_normal_form() {
 
 #[test]
 fn syntaxes_are_parsed() {
-    const OPTION: &str = "options are two numbers from 0 to 255";
+    const OPTION: &str = "options are two bytes, such as 'e' or 101";
     const INTEGERS: &str = "0x0A0A0A0000000000000000000000000C";
     const NUMBERS: &str = "0x0A0A0A0000000000000000000000000C 101 46";
     #[rustfmt::skip]
@@ -256,6 +256,7 @@ fn syntaxes_are_parsed() {
         ("0x00000A0000000000000000000000000C", Ok(INTEGERS)),
         ("0x0A0A0A0000000000000000000000000C", Ok(INTEGERS)),
         ("0x00000a0000000000000000000000000c 101 046", Ok(NUMBERS)),
+        ("0x00000A0000000000000000000000000C 'e' 0x2e", Ok(NUMBERS)),
         // No flag allows the separator, so that it may be the decimal point.
         ("0x00000A000000002E000000000000000C 101 46", Ok(NUMBERS)),
         ("0x00000A0000000000000000000000000C 101", Err((Error::InvalidDigit(38), OPTION))),

@@ -1,15 +1,14 @@
 -- Lemmas that a word is lawful if and only if it satisfies every rule, and that it has one error.
-use Rattle.std.proofs.Common.{◌≡◌, ℕ, ◌≢◌, ◌↔◌, inl, inr, Bool, true, IsTrue, List, [], ◌∷◌, sym, ◌∙◌}
+use Rattle.std.proofs.Common.{◌≡◌, ℕ, ◌≢◌, ◌<◌, ◌↔◌, inl, inr, Bool, true, List, [], ◌∷◌, sym, ◌∙◌}
 use Rattle.std.proofs.Common.{subst, arith}
 use Rattle.std.specs.List.{AllByRecursion}
-use Rattle.std.proofs.lemmas.Bool.{cases_eq}
 use Rattle.std.proofs.lemmas.Bool.Decides.{nat_tests}
 use Rattle.std.proofs.lemmas.List.Elements.{recursion_from_All}
 use Rattle.lexical_base.specs.declared.error.Error.{Error}
 use Rattle.lexical_base.specs.declared.error.Error.TheVariants.{InvalidFlags, Success}
 use Rattle.lexical_flags.specs.Layout as layout
 use Rattle.lexical_flags.specs.Layout.{IsClean}
-use Rattle.lexical_flags.specs.Record.{Record, raw, effective, effective_exponent_base, effective_exponent_radix}
+use Rattle.lexical_flags.specs.Record.{Record, raw, effective}
 use Rattle.lexical_flags.specs.Roles.{Disjoint, AreDisjoint, cased, digits, signs, format_roles, five_roles}
 use Rattle.lexical_flags.specs.declared.format_flags.rule.Rule.{Rule}
 use Rattle.lexical_flags.specs.declared.format_flags.rule.Rule.TheVariants as rules
@@ -18,24 +17,15 @@ use Rattle.lexical_flags.specs.Rules.{IsErrorOf, Lawful, error_of, flag_rules, r
 use Rattle.lexical_flags.specs.Rules.{ErrorUnless}
 use Rattle.lexical_flags.proofs.RoleLemmas.{Disjoint-digits-cased, Disjoint-signs-cased, Disjoint-digits-signs, not_in}
 
--- If a byte is absent or punctuation, and not 0, then it is not a digit.
-IsAbsentOrPunctuation-digit : (r : Record) (byte : ℕ) → IsAbsentOrPunctuation r byte → byte ≢ 0 → IsTrue (digits r byte)
-    → ⊥
-unfolding IsPunctuation
-IsAbsentOrPunctuation-digit r byte (inl none) positive is_digit = positive none
-IsAbsentOrPunctuation-digit r byte (inr free) positive is_digit = free.1 is_digit
-
--- If a byte is absent or punctuation, and not 0, then it is not a sign.
-IsAbsentOrPunctuation-sign : (r : Record) (byte : ℕ) → IsAbsentOrPunctuation r byte → byte ≢ 0 → IsTrue (signs byte) → ⊥
-unfolding IsPunctuation
-IsAbsentOrPunctuation-sign r byte (inl none) positive is_sign = positive none
-IsAbsentOrPunctuation-sign r byte (inr free) positive is_sign = free.2 is_sign
+-- If a byte is absent or punctuation, and not 0, then it is punctuation.
+present : (r : Record) (byte : ℕ) → IsAbsentOrPunctuation r byte → byte ≢ 0 → IsPunctuation r byte
+present r byte (inl none) some = absurd (some none)
+present r byte (inr free) some = free
 
 -- A byte that is absent or punctuation is absent or allowed ASCII.
 IsAbsentOrPunctuation-text : (r : Record) (byte : ℕ) → IsAbsentOrPunctuation r byte → IsTextOrNone byte
 unfolding IsPunctuation
-IsAbsentOrPunctuation-text r byte (inl none) = inl none
-IsAbsentOrPunctuation-text r byte (inr free) = inr free.0
+IsAbsentOrPunctuation-text r byte is = grind arith
 
 -- If a byte is absent or allowed ASCII, and its role is disjoint from the digits and the signs, then the byte is absent
 -- or punctuation.
@@ -44,16 +34,12 @@ IsAbsentOrPunctuation-from : (r : Record) (counts : Bool) (byte : ℕ) → IsTex
     → Disjoint signs (cased counts byte) → IsAbsentOrPunctuation r byte
 unfolding IsPunctuation
 IsAbsentOrPunctuation-from r counts byte text digits_apart signs_apart =
-    elim (cases_eq byte 0) [
+    elim text [
       | inl none ↦ inl none
-      | inr positive ↦ elim text [
-        | inl none ↦ inl none
-        | inr ascii ↦ inr (
-          ascii,
-          not_in (digits r) counts byte digits_apart (grind (arith, nat_tests)) positive,
-          not_in signs counts byte signs_apart (grind (arith, nat_tests)) positive,
-        )
-      ]
+      | inr ascii ↦
+          let some : byte ≢ 0 = λ none. grind (arith, nat_tests) in
+          let small : byte < 256 = grind (arith, nat_tests) in
+          inr (ascii, not_in (digits r) counts byte digits_apart small some, not_in signs counts byte signs_apart small some)
     ]
 
 -- The mantissa radix in place of a mantissa radix of 0 is the mantissa radix.
@@ -79,39 +65,20 @@ Holds-from_lawful rules.PunctuationDiffers word h = let pairs = h.roles in let o
 Holds-from_lawful rules.ReservedBitsAreZero word h = h.clean
 Holds-from_lawful _ word h = let flags = h.flags in assumption flags
 
--- The radixes of a lawful word are between 2 and 36.
-pub Lawful-mantissa_radix : (word : ℕ) → Lawful word → IsRadix ((raw word).byte layout.mantissa_radix)
-unfolding Lawful
-Lawful-mantissa_radix word h = h.mantissa_radix
-
-pub Lawful-exponent_base : (word : ℕ) → Lawful word → IsRadix (effective_exponent_base (raw word))
-unfolding Lawful
-Lawful-exponent_base word h = h.exponent_base
-
-pub Lawful-exponent_radix : (word : ℕ) → Lawful word → IsRadix (effective_exponent_radix (raw word))
-unfolding Lawful
-Lawful-exponent_radix word h = h.exponent_radix
-
 -- If separator, prefix and suffix are absent or punctuation, and differ, then the five roles are disjoint.
 five_apart : (r : Record) → IsAbsentOrPunctuation r (r.byte layout.digit_separator)
     → IsAbsentOrPunctuation r (r.byte layout.base_prefix) → IsAbsentOrPunctuation r (r.byte layout.base_suffix)
     → AreDisjoint (format_roles r) → AreDisjoint (five_roles r)
-five_apart r separator prefix suffix own =
-    let digits_apart : (counts : Bool) (byte : ℕ) → IsAbsentOrPunctuation r byte
-    → Disjoint (digits r) (cased counts byte) = λ counts byte free. Disjoint-digits-cased r counts byte
-    (IsAbsentOrPunctuation-digit r byte free) in
-    let signs_apart : (counts : Bool) (byte : ℕ) → IsAbsentOrPunctuation r byte
-    → Disjoint signs (cased counts byte) = λ counts byte free. Disjoint-signs-cased counts byte
-    (IsAbsentOrPunctuation-sign r byte free) in (
-      (
-        Disjoint-digits-signs r,
-        (
-          digits_apart true _ separator,
-          (digits_apart _ _ prefix, (digits_apart _ _ suffix, tt)),
-        ),
-      ),
-      ((signs_apart true _ separator, (signs_apart _ _ prefix, (signs_apart _ _ suffix, tt))), own),
-    )
+unfolding IsPunctuation
+five_apart r separator prefix suffix own = (
+  (Disjoint-digits-signs r, (digits_apart true _ separator, (digits_apart _ _ prefix, (digits_apart _ _ suffix, tt)))),
+  ((signs_apart true _ separator, (signs_apart _ _ prefix, (signs_apart _ _ suffix, tt))), own),
+) where
+  digits_apart : (counts : Bool) (byte : ℕ) → IsAbsentOrPunctuation r byte → Disjoint (digits r) (cased counts byte)
+  digits_apart counts byte free = Disjoint-digits-cased r counts byte (λ some. (present r byte free some).1)
+
+  signs_apart : (counts : Bool) (byte : ℕ) → IsAbsentOrPunctuation r byte → Disjoint signs (cased counts byte)
+  signs_apart counts byte free = Disjoint-signs-cased counts byte (λ some. (present r byte free some).2)
 
 -- A word that satisfies every rule is lawful.
 pub Lawful-from_all : (word : ℕ) → ((rule : Rule) → Holds rule word) → Lawful word
@@ -135,8 +102,7 @@ Lawful-from_all word h =
 
 -- No rule has the error Success.
 error_of-success : (rule : Rule) → error_of rule ≢ Success
-error_of-success rules.MantissaRadixInRange e = cc
-error_of-success _ e = cc
+error_of-success rule e = grind arith
 
 -- If the first error of a list of rules is Success, then each rule of the list is satisfied.
 all_from_success : (word : ℕ) (rules : List Rule) → IsFirstError rules word Success
@@ -166,9 +132,9 @@ pub IsFirstError-unique : (word : ℕ) (rules : List Rule) (a b : Error) → IsF
 IsFirstError-unique word [] a b h k = h ∙ sym k
 IsFirstError-unique word (rule ∷ rules) a b h k = ErrorUnless-unique (IsFirstError-unique word rules) a b h k
 
-pub IsErrorOf-unique : (word : ℕ) (a b : Error) → IsErrorOf word a → IsErrorOf word b → a ≡ b
+pub one_error : (word : ℕ) (a b : Error) → IsErrorOf word a → IsErrorOf word b → a ≡ b
 unfolding IsErrorOf
-IsErrorOf-unique word = IsFirstError-unique word rules_in_order
+one_error word = IsFirstError-unique word rules_in_order
 
 -- Words that satisfy the same rules have the same error.
 IsFirstError-same : (v w : ℕ) → ((rule : Rule) → Holds rule v ↔ Holds rule w) → (rules : List Rule) (error : Error)
@@ -191,8 +157,7 @@ IsErrorOf-same v w same error = (
 reserved-error : (rule : Rule) (word : ℕ) → error_of rule ≡ InvalidFlags → IsClean word → Holds rule word
 unfolding Holds
 reserved-error rules.ReservedBitsAreZero word e clean = clean
-reserved-error rules.MantissaRadixInRange word e clean = cc
-reserved-error _ word e clean = cc
+reserved-error rule word e clean = absurd (grind arith)
 
 clean-first : (word : ℕ) (rules : List Rule) → IsClean word → IsFirstError rules word InvalidFlags → ⊥
 clean-first word [] clean h = cc
@@ -215,9 +180,9 @@ unfolding IsErrorOf
 Lawful-from_success word h = Lawful-from_all word (every_rule word (all_from_success word rules_in_order h))
 
 -- The error of a word is Success if and only if the word is lawful.
-pub Success-lawful : (word : ℕ) (error : Error) → IsErrorOf word error → ((error ≡ Success) ↔ Lawful word)
+pub success_lawful : (word : ℕ) (error : Error) → IsErrorOf word error → ((error ≡ Success) ↔ Lawful word)
 unfolding IsErrorOf
-Success-lawful word error h = (
+success_lawful word error h = (
   λ e. Lawful-from_success word (subst (IsErrorOf word) e h),
   λ lawful. success_from_all word error (λ rule. Holds-from_lawful rule word lawful) rules_in_order h,
 )
