@@ -3,7 +3,7 @@
 
 const LANGUAGES = ["rust", "c", "python", "settings"];
 /* After how many milliseconds without an edit the fragment is written. */
-const PAUSE = 200;
+const PAUSE = 400;
 const TOLD = "Copied is the part from # on, since others cannot open a file of this machine. It belongs behind the address "
     + "of their page, or into the field of its format word.";
 
