@@ -375,12 +375,21 @@ class Walk(unittest.TestCase):
         self.assertEqual(self.value(), "0x0A02100078000027000000070000441C")
         self.click("#no_special")
         self.assertEqual(self.value("#language"), "")
+        self.type("#literal", "7")
+        Select(self.find("#language")).select_by_value("JSON")
+        Select(self.find("#language")).select_by_value("")
+        self.assertEqual((self.value(), self.value("#literal")), ("0x00000A0000000000000000000000341F", "7"))
 
     def test_integers_alone_have_no_options(self):
         Select(self.find("#language")).select_by_value("RUST_HEX_INTEGER")
         self.assertEqual((self.value("#exponent"), self.value("#point")), ("", ""))
         self.type("#exponent", "p")
         self.assertEqual((self.value("#point"), self.text("#verdict")), (".", "Lawful"))
+        self.type("#point", ",")
+        self.type("#exponent", "")
+        self.assertEqual(self.run_script("return [page.state.exponent, page.state.point]"), [0, 0])
+        self.find("#exponent").send_keys("^")
+        self.assertEqual(self.value("#point"), ",")
 
     def test_links_have_the_whole_state(self):
         self.load("#word=0x0A0A10006200005F000000070001400C&exponent=p&point=44&numbers=+1%0A!2%203")
