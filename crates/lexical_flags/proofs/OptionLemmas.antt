@@ -142,7 +142,4 @@ one_options_error word e p a b h k = grind arith
 -- The error of an exponent character and a decimal point is Success if and only if they are accepted.
 pub options_success : (word e p : ℕ) (error : Error) → IsOptionsError word e p error
     → (error ≡ Success) ↔ OptionsFit word e p
-options_success word e p error (inl h) = (λ same. cc, λ accepted. absurd (h.0 accepted.exponent_is_punctuation))
-options_success word e p error (inr (_, inl h)) = (λ same. cc, λ accepted. absurd (h.0 accepted.point_is_punctuation))
-options_success word e p error (inr (_, inr (_, inl h))) = (λ same. cc, λ accepted. absurd (h.0 accepted))
-options_success word e p error (inr (_, inr (_, inr h))) = (λ same. h.0, λ accepted. h.1)
+options_success word e p error h = grind arith

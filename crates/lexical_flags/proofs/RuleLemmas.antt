@@ -42,14 +42,10 @@ IsAbsentOrPunctuation-from r counts byte text digits_apart signs_apart =
           inr (ascii, not_in (digits r) counts byte digits_apart small some, not_in signs counts byte signs_apart small some)
     ]
 
--- The mantissa radix in place of a mantissa radix of 0 is the mantissa radix.
-pub mantissa_itself : (radix : ℕ) → IsRadix radix ↔ IsRadix (effective radix radix)
-mantissa_itself radix = (λ h. grind (arith, nat_tests), λ h. grind (arith, nat_tests))
-
 -- A lawful word satisfies every rule.
 pub Holds-from_lawful : (rule : Rule) (word : ℕ) → Lawful word → Holds rule word
 unfolding Holds Lawful
-Holds-from_lawful rules.MantissaRadixInRange word h = (mantissa_itself _).0 h.mantissa_radix
+Holds-from_lawful rules.MantissaRadixInRange word h = let radix = h.mantissa_radix in grind (arith, nat_tests)
 Holds-from_lawful rules.ExponentBaseInRange word h = h.exponent_base
 Holds-from_lawful rules.ExponentRadixInRange word h = h.exponent_radix
 Holds-from_lawful rules.DigitSeparatorIsPunctuation word h =
@@ -89,7 +85,7 @@ Lawful-from_all word h =
     let prefix : IsAbsentOrPunctuation r (r.byte layout.base_prefix) = h rules.BasePrefixIsPunctuation in
     let suffix : IsAbsentOrPunctuation r (r.byte layout.base_suffix) = h rules.BaseSuffixIsPunctuation in
     record {
-      mantissa_radix = (mantissa_itself _).1 (h rules.MantissaRadixInRange);
+      mantissa_radix = let radix = h rules.MantissaRadixInRange in grind (arith, nat_tests);
       exponent_base = h rules.ExponentBaseInRange;
       exponent_radix = h rules.ExponentRadixInRange;
       flags = recursion_from_All (λ rule. Holds rule word) flag_rules (λ i d inside. h _);
@@ -116,15 +112,10 @@ pub not_flags : (word : ℕ) (error : Error) → IsClean word → IsErrorOf word
 unfolding IsErrorOf Holds
 not_flags word error clean h e = grind arith
 
--- A word without an error satisfies every rule, so it is lawful.
-pub Lawful-from_success : (word : ℕ) → IsErrorOf word Success → Lawful word
-unfolding IsErrorOf
-Lawful-from_success word h = Lawful-from_all word (λ rule. grind arith)
-
 -- The error of a word is Success if and only if the word is lawful.
 pub success_lawful : (word : ℕ) (error : Error) → IsErrorOf word error → ((error ≡ Success) ↔ Lawful word)
 unfolding IsErrorOf
 success_lawful word error h = (
-  λ e. Lawful-from_success word (subst (IsErrorOf word) e h),
+  λ e. Lawful-from_all word (λ rule. grind arith),
   λ lawful. let all = λ (rule : Rule). Holds-from_lawful rule word lawful in grind arith,
 )
