@@ -31,10 +31,10 @@
  * No function allocates memory, retains a pointer or sets errno. Several threads may call these functions at the same
  * time, provided that no call writes memory that another call reads or writes.
  *
- * From 0.9 on, a setter, rule, role or error has the same number in every version. The SONAME of the shared library
- * contains the major version and, before 1.0, the minor version. It changes if a function, a structure or a documented
- * result changes, so a program never loads a library that does not fit it. It does not change if a function is added.
- * The wording of sentences is not part of this promise. */
+ * From 0.9 on, setters, rules, roles, parts, causes, spellings and errors keep their numbers. The SONAME of the shared
+ * library contains the major version and, before 1.0, the minor version. It changes if a function, a structure or a
+ * documented result changes, so a program never loads a library that does not fit it. It does not change if a function
+ * is added. The wording of sentences is not part of this promise. */
 #ifndef PELTZIVAR_H
 #define PELTZIVAR_H
 #include <stdbool.h>
@@ -256,8 +256,8 @@ peltzivar_word peltzivar_note_mask(const peltzivar_fields *fields, size_t index)
  * may match a byte that the other option, the digit separator, the base prefix or the base suffix matches. The decimal
  * point matches only itself. If the exponent character is a letter, it matches both cases of the letter unless
  * case_sensitive_exponent is set. PELTZIVAR_RULE_PUNCTUATION_DIFFERS states which bytes the others match. Of a lawful
- * word, literal::Syntax::new of the Rust crate accepts more: it checks the normal form, in which a digit separator that
- * no flag allows is absent.
+ * word, peltzivar_syntax_check accepts more: it checks the normal form, in which a digit separator that no flag allows
+ * is absent.
  * Returns PELTZIVAR_SUCCESS, or the first of these errors that applies: PELTZIVAR_INVALID_EXPONENT_SYMBOL or
  * PELTZIVAR_INVALID_DECIMAL_POINT if this option is not punctuation, or PELTZIVAR_INVALID_PUNCTUATION. */
 peltzivar_error peltzivar_check_options(peltzivar_word format, uint8_t exponent, uint8_t decimal_point);
