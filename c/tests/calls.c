@@ -248,6 +248,9 @@ static void test_settings(void) {
         "no flag allows the digit separator '_'", ""};
     static const size_t lines[][3] = {{1, 1, 7}, {1, 4, 7}, {2, 0, 2}, {1, 3, 7}, {0, 7, 7}};
     peltzivar_syntax syntax = {{1, 2}, 3, 4};
+    char longest[64] = "digit_separator=";
+    memset(longest + 16, 0xFF, 48);
+    CHECK(peltzivar_settings_text(longest, sizeof longest, 0, NULL, 0) < PELTZIVAR_TEXT_SIZE);
     CHECK(peltzivar_read_settings(bad, sizeof bad - 1, &syntax) == 3 && is_word(syntax.format, 2, 1) && syntax.exponent == 3);
     for (size_t i = 0; i < 5; i++) {
         size_t to[] = {7, 7, 7};
