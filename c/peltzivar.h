@@ -31,7 +31,7 @@
  * No function allocates memory, retains a pointer or sets errno. Several threads may call these functions at the same
  * time, provided that no call writes memory that another call reads or writes.
  *
- * From 0.6 on, a setter, rule, role or error has the same number in every version. The SONAME of the shared library
+ * From 0.9 on, a setter, rule, role or error has the same number in every version. The SONAME of the shared library
  * contains the major version and, before 1.0, the minor version. It changes if a function, a structure or a documented
  * result changes, so a program never loads a library that does not fit it. It does not change if a function is added.
  * The wording of sentences is not part of this promise. */
@@ -42,8 +42,8 @@
 #include <stdint.h>
 
 /* The version of this header. PELTZIVAR_VERSION_NUMBER is (major << 16) | (minor << 8) | patch. */
-#define PELTZIVAR_VERSION "0.6.0"
-#define PELTZIVAR_VERSION_NUMBER 0x000600
+#define PELTZIVAR_VERSION "0.9.0"
+#define PELTZIVAR_VERSION_NUMBER 0x000900
 
 /* PELTZIVAR_MUST_USE marks functions whose result states whether they wrote their output. */
 #ifndef PELTZIVAR_MUST_USE

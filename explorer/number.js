@@ -94,13 +94,13 @@ class NumberPicture {
         return { title: "special", kind: "special", pieces, isNever: this.flag("no_special"), fields };
     }
 
-    /* Returns the parts in their order. */
+    /* Returns the parts in their order. Of integers alone, there are neither a fraction nor an exponent. */
     parts() {
+        const isFloat = this.state.exponent || this.state.point;
         return [
             this.sign("sign", "mantissa", "sign"),
             ...this.byte("prefix", "base_prefix", "0"),
-            ...this.mantissa(),
-            ...this.exponent(),
+            ...(isFloat ? [...this.mantissa(), ...this.exponent()] : this.mantissa().slice(0, 1)),
             ...this.byte("suffix", "base_suffix", ""),
         ];
     }

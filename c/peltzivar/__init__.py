@@ -35,8 +35,8 @@ __all__ += ["LiteralError", "Note", "OptionsError", "Part", "Reason", "ReasonsEr
 __all__ += ["Setter", "SettingsError", "Special", "Specials", "Spelling", "Syntax", "Value", "languages", "notes_of"]
 
 # Made by make_python.py: constants
-__version__ = "0.6.0"
-_VERSION = 0x000600
+__version__ = "0.9.0"
+_VERSION = 0x000900
 STANDARD = 0x00000A0000000000000000000000000C
 _NEW_FIELDS = (0xC, 0, 0, 0, 10, 0, 0)
 _FIELD_COUNT = 37

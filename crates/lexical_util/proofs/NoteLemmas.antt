@@ -79,8 +79,7 @@ unless_is mask (Some own) note = (
 separator_when : (r : Record) (note : Note) → separator_note r ≡ Some note → IsIdle r note
 separator_when r (notes.SeparatorWithoutFlag b) is = grind (arith, nat_tests)
 separator_when r notes.FlagsWithoutSeparator is = grind (arith, nat_tests)
-separator_when r (notes.CaseFlagWithoutByte f name) is = absurd (grind (arith, nat_tests))
-separator_when r (notes.CaseFlagOfNonLetter f b) is = absurd (grind (arith, nat_tests))
+separator_when r _ is = absurd (grind (arith, nat_tests))
 
 case_when : (r : Record) (f : FlagSetter) (name : Byte) → (is_cased r name ≡ true → IsSetCaseFlag r f name) → (note : Note)
     → case_note r f name ≡ Some note → IsIdle r note
@@ -185,10 +184,9 @@ idle_agrees v w mask note is same = agrees note (subst (λ m. bit_and v m ≡ bi
 -- If a byte is the same in both cases, then its role has the same bytes, whether it is case-sensitive or not.
 no_case : (c d : Bool) (n : ℕ) → other_case n ≡ n → cased c n ≡ cased d n
 unfolding cased
-no_case c d n same = λ i b. at c d b i where
-  at : (c d : Bool) (b : ℕ) → cased c n b ≡ cased d n b
-  at true true b = refl
-  at c d b = grind (arith, nat_tests)
+no_case c d n same = λ i b. at b i where
+  at : (b : ℕ) → cased c n b ≡ cased d n b
+  at b = grind (arith, nat_tests)
 
 -- An absent byte plays no role.
 apart_from_absent : (a c : Bool) (m n : ℕ) → n ≡ 0 → Disjoint (cased a m) (cased c n)
@@ -318,10 +316,7 @@ case_without r t f name value set has same = elim set [
 idle_without : (r : Record) (t : Bool) (note : Note) → IsIdle r note
     → (idle : Idle) × ((idle_mask note ≡ mask_at idle) × Without (trim_if t r) idle)
 idle_without r t (notes.SeparatorWithoutFlag b) h = (lone_separator, (refl, h.0))
-idle_without r t notes.FlagsWithoutSeparator h = (lone_flags, (refl, still t)) where
-  still : (t : Bool) → (if t then r.byte layout.digit_separator else 0) ≡ 0
-  still true = h.1
-  still false = refl
+idle_without r t notes.FlagsWithoutSeparator h = (lone_flags, (refl, (let absent = h.1 in grind arith)))
 idle_without r t (notes.CaseFlagWithoutByte f name) (set, absent) = case_without r t f name 0 set absent refl
 idle_without r t (notes.CaseFlagOfNonLetter f b) (set, has, some, same) = case_without r t f b.name b.value set has same
 

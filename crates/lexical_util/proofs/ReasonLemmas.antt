@@ -186,22 +186,16 @@ effective_self n = grind (arith, nat_tests)
 -- A radix that is used is absent or in range, and one that is absent or in range is in range where it is used, unless
 -- it is absent and the mantissa radix is out of range.
 used_radix : (n m : ℕ) → IsRadix (effective n m) → (n ≡ 0) ⊎ IsRadix n
-used_radix n m radix = elim (cases_eq n 0) [
-  | inl none ↦ inl none
-  | inr some ↦ inr (grind (arith, nat_tests))
-]
+used_radix n m radix = grind (arith, nat_tests)
 
 effective_radix : (n m : ℕ) → (n ≡ 0 → IsRadix m) → (n ≡ 0) ⊎ IsRadix n → IsRadix (effective n m)
-effective_radix n m follows (inl none) = let own = follows none in grind (arith, nat_tests)
-effective_radix n m follows (inr radix) = grind (arith, nat_tests)
+effective_radix n m follows own = grind (arith, nat_tests)
 
 -- PUNCTUATION
 
 -- A digit of the mantissa radix or of the exponent radix is a digit of the format.
 is_digit : (w n : ℕ) (found : Radixes) → AreDigits w n found → IsTrue (digits (raw w) n)
-is_digit w n (radixes.Mantissa m) are = grind (arith, nat_tests)
-is_digit w n (radixes.Exponent x) are = grind (arith, nat_tests)
-is_digit w n (radixes.Both m x) are = grind (arith, nat_tests)
+is_digit w n found are = grind (arith, nat_tests)
 
 no_digits : (m x n : ℕ) → digits_of m n ≡ false → digits_of x n ≡ false
     → IsTrue (digits_of m n || digits_of (effective x m) n) → ⊥
@@ -504,7 +498,8 @@ blames word rule c other h follow same =
 
 rule_blames : (word other : ℕ) (rule : Rule) → EachReason (Blames word other) (slots word rule)
 unfolding Holds
-rule_blames word other rules.MantissaRadixInRange = (one _ (shape_settled (radix_in_range layout.mantissa_radix) word).0.0, tt) where
+rule_blames word other rules.MantissaRadixInRange =
+    let ((own, none), enough) = shape_settled (radix_in_range layout.mantissa_radix) word in (one _ own, tt) where
   cause : Cause
   cause = causes.OutOfRange (named (raw word) 0 0 bytes.MantissaRadix)
 

@@ -29,9 +29,7 @@ flags_ascend setters.RequiredIntegerDigits = refl
 flags_ascend _ = refl
 
 one_bit : (n k : ℕ) → n < 2 → n * 2 ^ k ≡ (if n == 1 then 2 ^ k else 0)
-one_bit zero k small = omega arith
-one_bit (suc zero) k small = omega arith
-one_bit (suc (suc n)) k small = absurd (omega arith)
+one_bit n k small = grind (arith, nat_tests)
 
 flag_bits-raw : (word : ℕ) (f : Flag) → part word (bit f) 1 * 2 ^ bit f ≡ flag_bits (raw word) f
 flag_bits-raw word f = one_bit (part word (bit f) 1) (bit f) (mod-lt _ (omega arith))
