@@ -401,8 +401,8 @@ def _candidates() -> Iterable[str]:
     folders above it, and then the names that the system's loader looks for."""
     if given := os.environ.get("PELTZIVAR_LIBRARY"):
         return [os.path.abspath(given)]
-    major, minor = _VERSION >> 16, _VERSION >> 8 & 255
-    names = (f"libpeltzivar_c.so.{major}.{minor}", "libpeltzivar_c.so")
+    major, minor, _ = __version__.split(".")
+    names = (f"libpeltzivar_c.so.{major if int(major) else f'0.{minor}'}", "libpeltzivar_c.so")
     folders = list(Path(__file__).resolve().parents)[:4]
     return [*(str(it) for folder in folders for name in names if (it := folder / name).exists()), *names]
 
@@ -422,9 +422,10 @@ def _load() -> Any:
             f"put it beside {__file__}, or install it where the system's loader finds it"
         )
     version = getattr(library, "peltzivar_version", lambda: 0)()
-    if version >> 8 != _VERSION >> 8:
-        ours, theirs = (f"{it >> 16}.{it >> 8 & 255}" for it in (_VERSION, version))
-        raise ImportError(f"{path} has version {theirs}, and this file {ours}")
+    unchanged = 16 if _VERSION >> 16 else 8
+    if version >> unchanged != _VERSION >> unchanged or version < _VERSION:
+        found = ".".join(map(str, (version & 0xFFFFFF).to_bytes(3, "big")))
+        raise ImportError(f"{path} has version {found}, and this file {__version__}")
     calls = SimpleNamespace(path=path)
     for name, (result, arguments) in _CALLS.items():
         call = getattr(library, f"peltzivar_{name}")

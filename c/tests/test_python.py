@@ -77,12 +77,6 @@ class Recorded(unittest.TestCase):
             got, wanted = returned(kind, rest.split(" ", 2 if kind == "printed" else -1))
             self.assertEqual(got, wanted, line)
 
-    def test_recorded_digits(self):
-        for _, byte, radix, digit in (line.split() for line in LINES if line.startswith("digit ")):
-            if 0 < int(radix) < 256:
-                got = FormatView(int(radix) << 104).mantissa_digit(int(byte))
-                self.assertEqual("none" if got is None else str(got), digit)
-
     def test_recorded_words_are_read_back(self):
         for line in LINES:
             if line.startswith(("check ", "build ")):
@@ -350,31 +344,30 @@ class Wrong(unittest.TestCase):
         objects = [None, True, 1.5, float("nan"), -1, 0, 65, 256, 1 << 128, 10**5000, "", "x", "0x1", "\u00e9", "\ud800", "a\0b", b"", b"\xff"]
         objects += [[], {}, object(), print, Edit, Format(), Edit("radix=8"), Part.INTEGER, Setter.NO_SPECIAL, Error.EMPTY, "radix=8"]
         fields = [name for name in inspect.signature(Format.of).parameters if name != "settings"]
-        view = FormatView((1 << 128) - 1)
-        one, syntax = Format(), Syntax(Format())
-        calls = [(getattr(view, name), "a byte") for name in ("is_separator", "mantissa_digit", "exponent_digit", "role_of")]
-        calls += [(it, "a format word") for it in (FormatView, Format, Format.parse)] + [(Syntax.integers, "format is a Format")]
-        calls += [(it, "part is") for it in (view.separators, syntax.read("1").digits)] + [(Edit.of, "setter|unknown|_")]
-        calls += [(it, "a setting|=|unknown|takes") for it in (Edit, one.edit, notes_of, Syntax.of, Syntax.notes_of)]
-        calls += [(it, "a text|here$|expected") for it in (syntax.read, syntax.read_prefix, Language.JSON.read)]
-        calls += [(one.check_options, "exponent|point"), (Syntax, "format is|exponent|point")]
-        calls += [(it, "a spelling|syntax|a text") for it in (Specials(5, []).read, Specials().read)]
-        pairs = [Edit.of, one.check_options, Syntax, *(call for call, names in calls if "syntax" in names)]
-        random = Random(1)
+        one, view, syntax, random = Format(), FormatView((1 << 128) - 1), Syntax(Format()), Random(1)
+        calls = {
+            "a byte": [view.is_separator, view.mantissa_digit, view.exponent_digit, view.role_of],
+            "a format word": [FormatView, Format, Format.parse],
+            "a setting|=|unknown|takes": [Edit, one.edit, Syntax.of, Syntax.notes_of],
+            "a text|here$|expected": [syntax.read, syntax.read_prefix, Language.JSON.read],
+            "part is": [view.separators, syntax.read("1").digits],
+            "format is|exponent|point": [Syntax.integers, Syntax],
+            "_": [lambda value: notes_of(**{random.choice(fields): value})],
+            "setter|unknown|_": [Edit.of],
+            "exponent|point": [one.check_options],
+            "spelling|syntax|a text": [Specials(5, []).read, Specials().read],
+        }
         refused = 0
         for _ in range(20000):
-            call, names = random.choice(calls)
-            arguments = random.choices(objects, k=2 if call in pairs else 1)
-            keywords = {}
-            if call == notes_of:
-                keywords, names = {random.choice(fields): arguments.pop()}, "_"
+            names, possible = random.choice(list(calls.items()))
+            call, arguments = random.choice(possible), random.choices(objects, k=2 if names in list(calls)[-3:] else 1)
             try:
-                call(*arguments, **keywords)
+                call(*arguments)
             except FormatError:
                 pass
             except (TypeError, ValueError) as error:
                 refused += 1
-                self.assertRegex(str(error), names, (call, arguments, keywords))
+                self.assertRegex(str(error), names, call)
         self.assertGreater(refused, 10000)
 
     @unittest.skipUnless(shutil.which("mypy"), "mypy")
@@ -413,14 +406,14 @@ class Loading(unittest.TestCase):
         self.assertEqual(self.run_copy(PELTZIVAR_LIBRARY=library).stdout, f"{library}\n")
         beside = shutil.copy(library, self.folder.resolve() / "libpeltzivar_c.so")
         self.assertEqual(self.run_copy().stdout, f"{beside}\n")
-        versioned = ".".join(["libpeltzivar_c.so", *peltzivar.__version__.split(".")[:2]])
+        versioned = "libpeltzivar_c.so." + re.match(r"0\.\d+|\d+", peltzivar.__version__)[0]
         (self.folder / "lib").mkdir()
         os.rename(beside, self.folder / "lib" / versioned)
         self.assertEqual(self.run_copy(LD_LIBRARY_PATH=str(self.folder / "lib")).stdout, f"{versioned}\n")
         self.assertRegex(self.run_copy(PELTZIVAR_LIBRARY="no.so").stderr, r"ImportError: .*no\.so.*: name its path in PELTZIVAR_LIBRARY")
 
     def test_another_library_is_refused(self):
-        for code, version in [("", "0.0"), ("unsigned peltzivar_version(void) { return 0x7F0203; }", "127.2")]:
+        for code, version in [("", "0.0.0"), ("unsigned peltzivar_version(void) { return 0x7F0203; }", "127.2.3")]:
             subprocess.run(["cc", "-shared", "-x", "c", "-", "-o", "other.so"], cwd=self.folder, input=code, text=True, check=True)
             self.assertRegex(self.run_copy(PELTZIVAR_LIBRARY="other.so").stderr, f"other.so has version {version}, and this file 0")
 
