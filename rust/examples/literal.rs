@@ -20,21 +20,20 @@ fn main() -> io::Result<ExitCode> {
         return Ok(ExitCode::from(2));
     };
     let mut out = io::stdout().lock();
-    match read(syntax, text) {
-        Ok(literal) => {
-            for (name, bytes) in literal.parts() {
-                writeln!(out, "{name} {}", bytes.escape_ascii())?;
-            }
-            Ok(ExitCode::SUCCESS)
-        }
+    let literal = match read(syntax, text) {
+        Ok(literal) => literal,
         Err(line) => {
             writeln!(out, "{line}")?;
-            Ok(ExitCode::FAILURE)
+            return Ok(ExitCode::FAILURE);
         }
+    };
+    for (name, bytes) in literal.parts() {
+        out.write_all(&[name.as_bytes(), b" ", bytes, b"\n"].concat())?;
     }
+    Ok(ExitCode::SUCCESS)
 }
 
-/// Returns the literal, or the line that the program prints instead of its parts.
+/// Returns the literal, or the line that the program prints instead.
 fn read(syntax: Result<Syntax, FormatError>, text: &[u8]) -> Result<Literal<'_>, String> {
     let syntax = syntax.map_err(|error| error.code().to_string())?;
     let literal = syntax.read(text);

@@ -2,7 +2,8 @@
 //! calls on many words, and with known texts on a few.
 
 use peltzivar::edits::{apply_all, edits_of, same_format};
-use peltzivar::format::{options_error, NumberFormatBuilder, BASE_PREFIX_SHIFT, BASE_SUFFIX_SHIFT, STANDARD};
+use peltzivar::format::{NumberFormatBuilder, BASE_PREFIX_SHIFT, BASE_SUFFIX_SHIFT, STANDARD};
+use peltzivar::format_flags::options_error;
 use peltzivar::literal::Syntax;
 use peltzivar::reasons::{notes, reasons};
 use peltzivar::{Error, FlagSetter, Format, FormatView, Rule};
@@ -247,7 +248,7 @@ fn a_syntax_is_a_format_with_options_that_fit_its_normal_form() {
 
 #[test]
 fn syntaxes_are_parsed() {
-    const OPTION: &str = "options are two numbers from 0 to 255";
+    const OPTION: &str = "options are two bytes, such as 'e' or 101";
     const INTEGERS: &str = "0x0A0A0A0000000000000000000000000C";
     const NUMBERS: &str = "0x0A0A0A0000000000000000000000000C 101 46";
     #[rustfmt::skip]
@@ -255,6 +256,7 @@ fn syntaxes_are_parsed() {
         ("0x00000A0000000000000000000000000C", Ok(INTEGERS)),
         ("0x0A0A0A0000000000000000000000000C", Ok(INTEGERS)),
         ("0x00000a0000000000000000000000000c 101 046", Ok(NUMBERS)),
+        ("0x00000A0000000000000000000000000C 'e' 0x2e", Ok(NUMBERS)),
         // No flag allows the separator, so that it may be the decimal point.
         ("0x00000A000000002E000000000000000C 101 46", Ok(NUMBERS)),
         ("0x00000A0000000000000000000000000C 101", Err((Error::InvalidDigit(38), OPTION))),

@@ -48,7 +48,9 @@ fn has_parts(literal: Literal<'_>) {
     for (part, bytes) in parts.into_iter().chain([(Part::Exponent, literal.exponent())]) {
         let values = bytes.iter().filter_map(|&byte| char::from(byte).to_digit(literal.radix(part)));
         let (wanted, digits) = (Vec::from_iter(values), literal.digits(part));
+        let (least, most) = digits.size_hint();
         assert_eq!(digits.clone().count(), wanted.len());
+        assert!(least <= wanted.len() && Some(wanted.len()) <= most);
         assert!(digits.clone().map(u32::from).eq(wanted.iter().copied()), "{literal:?}");
         assert!(digits.rev().map(u32::from).eq(wanted.into_iter().rev()), "{literal:?}");
     }
@@ -215,8 +217,8 @@ fn each_setting_of_a_language_has_a_row() {
             let others: NumberFormatBuilder = format.edits().filter(|it| *it != edit).collect();
             let Ok(format) = others.build_format() else { continue };
             let options = syntax.exponent().zip(syntax.point());
-            let without = options.map(|(exponent, point)| Syntax::new_or_panic(format, exponent, point));
-            let without = without.unwrap_or(Syntax::integers(format));
+            let with_options = options.map(|(exponent, point)| Syntax::new_or_panic(format, exponent, point));
+            let without = with_options.unwrap_or(Syntax::integers(format));
             let is_number = |text| without.read(text).is_ok() || specials.read(&without, text).is_some();
             let mut rows = rows().filter(|row| row.0 == *language);
             let has_row = rows.any(|(_, text, is_accepted)| is_number(text.as_bytes()) != is_accepted);
@@ -236,24 +238,33 @@ fn exponents_of_languages_have_the_bases_of_their_grammars() {
     }
 }
 
-/// All texts of up to five bytes that have a role, or none, in some language, and the pieces of long ones.
+/// Each text of up to five bytes that have a role, or none, in some language, and the pieces of long ones: no call panics,
+/// and a text is a literal if the longest one that it begins with is the text.
 #[test]
 fn any_bytes_are_read() {
+    let agree = |language: Language, text: &[u8]| {
+        let prefix = language.reader().read_prefix(text);
+        match (language.read(text), prefix) {
+            (Ok(Number::Literal(literal)), _) => assert_eq!(prefix, Ok((literal, &[][..])), "{language}: {text:?}"),
+            (Ok(Number::Special(_)), Err(_)) => (),
+            (Err(error), Err(other)) => assert_eq!(error, other, "{language}: {text:?}"),
+            (_, Ok((_, rest))) => assert!(!rest.is_empty(), "{language}: {text:?}"),
+        }
+    };
     let bytes = b"-0x_.eph\0\xFF";
     let mut texts = vec![vec![]];
     for _ in 0..5 {
         let longer = texts.iter().flat_map(|text| bytes.map(|byte| [text.as_slice(), &[byte]].concat()));
         texts = longer.chain([vec![]]).collect();
     }
-    let read =
-        |language: Language, text: &[u8]| (language.read(text).is_ok(), language.reader().read_prefix(text).is_ok());
-    for (language, text) in Language::ALL.iter().flat_map(|language| texts.iter().map(move |text| (*language, text))) {
-        read(language, text);
+    for language in Language::ALL {
+        texts.iter().for_each(|text| agree(*language, text));
     }
     for (language, text, _) in rows() {
         let long = text.replace('1', &"1".repeat(99));
         for (front, rest) in (0..=long.len()).map(|size| long.as_bytes().split_at(size)) {
-            let _ = (read(language, front), read(language, rest));
+            agree(language, front);
+            agree(language, rest);
         }
     }
 }

@@ -112,6 +112,12 @@ ATTRIBUTES = [
     ("error.rt", "#[derive(Clone, Copy, Debug)]", f"#[derive({COMPARED}, Debug)]"),
     ("format_builder.rt", "#[derive(Drop)]", "#[derive(Clone, Copy, PartialEq, Eq, Hash)] #[must_use]"),
     ("format_builder.rt", "pub const fn build(&self)", f"{DEPRECATED} pub const fn build(&self)"),
+    # The types of these change with each new field. `FormatView::edits` is for users.
+    ("edits/listing.rt", "pub fn edits_of(", "#[doc(hidden)] pub fn edits_of("),
+    ("edits/setters.rt", "pub const FIELD_COUNT:", "#[doc(hidden)] pub const FIELD_COUNT:"),
+    ("edits/setters.rt", "pub const FLAG_COUNT:", "#[doc(hidden)] pub const FLAG_COUNT:"),
+    # The type of core has its own page.
+    ("format_builder.rt", "pub use non_zero::NonZeroU8;", "#[doc(no_inline)] pub use non_zero::NonZeroU8;"),
     ("feature_format.rt", "#[derive(Clone, Copy)]", f"#[derive({COMPARED})]"),
     ("short_text.rt", "#[derive(Drop)]", "#[derive(Clone, Copy)]"),
     ("read.rt", "#[derive(Drop)]", "#[derive(Clone)]"),

@@ -13,7 +13,7 @@ use Rattle.lexical_literal.specs.Additions.Summary.{implies, has_digit, is_fresh
 use Rattle.lexical_literal.specs.declared.steps.Stage.{Stage}
 use Rattle.lexical_literal.specs.declared.steps.Stage.TheVariants as stages
 use Rattle.lexical_literal.specs.declared.steps.Summary.{Summary}
-use Rattle.lexical_literal.proofs.RunLemmas.{is_rest, run_with_digit, run_with_separator}
+use Rattle.lexical_literal.proofs.RunLemmas.{is_rest, rest_digit, rest_other}
 use Rattle.lexical_literal.proofs.ScanLemmas.{HasRoles, Accepts, took, none_accepts, role_in, as_digit, no_digit, as_role}
 use Rattle.lexical_literal.proofs.StepLemmas.{reading, begins, stage_after, after_byte, stage_at, gap_at, sign_fits, prefix_fits, ends_part, text_after}
 
@@ -44,8 +44,7 @@ module _ (m : Notation) where
 
   unprefixed : (part : Part) (stage : Stage) (gap : Bool) (sign prefix text : List ℕ) → is_bare stage ≡ false → (begins stage && not gap) ≡ false
       → Found m part stage gap sign prefix text → Found m part stage gap sign [] text
-  unprefixed part stage gap sign prefix text bare new found =
-      subst (λ x. Found m part stage gap sign x text) (let prefixed = found.prefixed in grind arith) found
+  unprefixed part stage gap sign prefix text bare new found = grind arith
 
   plain : (part : Part) (stage : Stage) (gap : Bool) (text : List ℕ) → is_fresh stage ≡ false → is_bare stage ≡ false → (begins stage && not gap) ≡ false
       → Cut m part stage gap text → Found m part stage gap [] [] text
@@ -59,11 +58,7 @@ module _ (m : Notation) where
     cut_at : (sign prefix digits : List ℕ) (more : Literal) → text ≡ sign ++ (prefix ++ (digits ++ text_after part more)) → sign_fits m part stage sign ≡ true
         → prefix_fits m stage gap prefix ≡ true → is_rest m part (has_digit (stage_at stage sign prefix)) (gap_at gap prefix) digits ≡ true
         → ends_part m part more (stage_after (m.digit part) (stage_at stage sign prefix) (gap_at gap prefix) digits) ≡ true → Cut m part stage gap text
-    cut_at sign prefix digits more whole signed prefixed run end = record {
-      sign = sign;
-      prefix = prefix;
-      found = record { digits = digits; more = more; whole = whole; signed = signed; prefixed = prefixed; run = run; end = end };
-    }
+    cut_at sign prefix digits more whole signed prefixed run end = grind arith
 
     -- A part that ends.
     ended_by : (more : Literal) → text ≡ text_after part more → ends m (reading part stage gap) ≡ true
@@ -95,8 +90,8 @@ module _ (m : Notation) where
     digit_first digit signed fits cut = go cut.prefix (unsigned part (after_digit stage gap (b == 48)) false text (grind arith) cut) where
       go : (prefix : List ℕ) → Found m part (after_digit stage gap (b == 48)) false [] prefix text → Cut m part stage gap (b ∷ text)
       go [] found = longer (after_digit stage gap (b == 48)) false true digit signed
-          (λ run is. run_with_digit m part (has_digit stage) gap b run digit fits
-          (subst (λ t. is_rest m part t false run ≡ true) (grind arith) is))
+          (λ run is. rest_digit m part (has_digit stage) gap b run digit
+          ∙ and_from _ _ fits (subst (λ t. is_rest m part t false run ≡ true) (grind arith) is))
           (λ run. refl) found
       go (x ∷ []) found = cut_at part stage gap (b ∷ text) [] (b ∷ x ∷ []) found.digits found.more (ap (λ t. b ∷ t) found.whole)
           (no_sign_fits part stage signed) (let prefixed = found.prefixed in grind arith) found.run found.end
@@ -107,8 +102,8 @@ module _ (m : Notation) where
         → ((not gap || m.flag (separators_in part).consecutive) && is_open m part (has_digit stage) (may_follow m stage)) ≡ true
         → Cut m part (after_mark stage) true text → Cut m part stage gap (b ∷ text)
     separator_first other separator signed fits cut = longer (after_mark stage) true false other signed
-        (λ run is. run_with_separator m part (has_digit stage) gap b run other separator (and_parts _ _ fits).0
-        (subst (λ t. is_rest m part t true run ≡ true) (grind arith) is))
+        (λ run is. rest_other m part (has_digit stage) gap b run other
+        ∙ and_from _ _ separator (and_from _ _ (and_parts _ _ fits).0 (subst (λ t. is_rest m part t true run ≡ true) (grind arith) is)))
         (λ run. refl) (plain part (after_mark stage) true text (grind arith) (grind arith) (grind arith) cut)
 
     -- A sign in front.

@@ -1,10 +1,10 @@
 -- Rows and columns of tables.
-use Rattle.std.proofs.Common.{ℕ, Bor, Some, ◌≡◌, ◌≢◌, ◌<◌, ◌≤◌, ◌+◌, ◌*◌, ◌/◌, ◌%◌, ◌==◌, inl, inr, Bool, true, false, List, [], ◌∷◌, length, length-set, get_or, set, refl, sym, ap, subst, ◌∙◌, arith, below_more, get_or-set_other, get_or-set_same}
+use Rattle.std.proofs.Common.{ℕ, Bor, Some, ◌≡◌, ◌≢◌, ◌<◌, ◌≤◌, ◌+◌, ◌*◌, ◌/◌, ◌%◌, ◌==◌, inl, inr, Bool, true, false, List, [], ◌∷◌, length, length-set, get_or, set, refl, sym, ap, subst, ◌∙◌, arith, below_more, get_or-set_other, get_or-set_same, replicate}
 use mir.Val.{bool_byte}
 use Rattle.std.specs.Option.{ForSome}
 use Rattle.std.proofs.lemmas.Bool.{cases_eq}
-use Rattle.lexical_literal.specs.Additions.Summary.{add}
-use Rattle.lexical_literal.specs.Additions.Tables.{EachIs, piece_number, cuts_of, part_at, stage_at, summary_at}
+use Rattle.lexical_literal.specs.Additions.Summary.{add, no_cuts, piece_number}
+use Rattle.lexical_literal.specs.Additions.Tables.{EachIs, cuts_of, part_at, stage_at, summary_at}
 use Rattle.lexical_literal.specs.declared.steps.Piece.{Piece}
 use Rattle.lexical_literal.specs.declared.steps.Piece.TheVariants as pieces
 use Rattle.lexical_literal.specs.declared.steps.Summary.{Summary}
@@ -60,11 +60,23 @@ number_back s p t part stage small =
 pub lent : {X : Type 0} (P : X → Type 0) (own : Bor X) → P own.now → ForSome (Some own) (λ borrowed. P borrowed.now)
 lent P own holds borrowed is = let same : own ≡ borrowed = cc in subst (λ b. P b.now) same holds
 
+-- At first, no piece has any bytes.
+pub no_counts : no_cuts ≡ cuts_of (replicate 9 0)
+no_counts = λ j piece. none piece j where
+  none : (piece : Piece) → 0 ≡ cuts_of (replicate 9 0) piece
+  none pieces.Sign = refl
+  none _ = refl
+
 -- One more byte of a piece.
 pub count_one : (counts : List ℕ) → length counts ≡ 9 → (piece : Piece)
     → add (cuts_of counts) piece ≡ cuts_of (set counts (piece_number piece) (get_or counts (piece_number piece) 0 + 1))
-count_one (a ∷ b ∷ c ∷ d ∷ e ∷ f ∷ g ∷ h ∷ i ∷ []) nine pieces.Sign = refl
-count_one (a ∷ b ∷ c ∷ d ∷ e ∷ f ∷ g ∷ h ∷ i ∷ []) nine _ = refl
+count_one (a ∷ b ∷ c ∷ d ∷ e ∷ f ∷ g ∷ h ∷ i ∷ []) nine piece = λ j other. each piece other j where
+  each : (piece other : Piece) → let counts = a ∷ b ∷ c ∷ d ∷ e ∷ f ∷ g ∷ h ∷ i ∷ [] in
+      add (cuts_of counts) piece other ≡ cuts_of (set counts (piece_number piece) (get_or counts (piece_number piece) 0 + 1)) other
+  each pieces.Sign pieces.Sign = refl
+  each pieces.Sign _ = refl
+  each _ pieces.Sign = refl
+  each _ _ = refl
 count_one counts nine piece = absurd (omega (arith, nine))
 
 -- No piece has more bytes than have been read.
