@@ -1307,6 +1307,9 @@ class Language(Enum):
     SWIFT_HEX_FLOAT = "SWIFT_HEX_FLOAT"
     TOML = "TOML"
     YAML = "YAML"
+
+    def __str__(self) -> str:
+        return self.name
     # End
 
     @functools.cached_property

@@ -119,7 +119,6 @@ class Words(unittest.TestCase):
             fields = {"digit_separator": ",", "internal_digit_separator": False}
             self.assertRaisesRegex(ValueError, "^no flag allows the digit separator ','$", call, **fields)
         self.assertIsNone(separated.edit(internal_digit_separator=False).digit_separator)
-        self.assertIsNone(separated.edit(digit_separator=None, internal_digit_separator=False).digit_separator)
         self.assertEqual(FormatView.of(digit_separator="_"), FormatView())
 
     def test_an_unlawful_format_is_refused_with_all_reasons(self):
@@ -236,11 +235,10 @@ class Literals(unittest.TestCase):
         syntax = Syntax(Format.of(mantissa_radix=16, exponent_base=2, exponent_radix=10, **fields), exponent="p")
         text = "-0x1_F.8_0p+1_2h"
         parts = ["-", "0x", "1_F", ".", "8_0", "p", "+", "1_2", "h"]
-        for literal, digits in ((syntax.read(text), ["1F", "80", "12"]), (syntax.read(text.encode()), [b"1F", b"80", b"12"])):
-            wanted = parts if isinstance(literal.text, str) else [it.encode() for it in parts]
-            self.assertEqual([*vars(literal).values()][2:], wanted)
-            self.assertEqual(([literal.digits(part) for part in Part], literal.is_float), (digits, True))
-        self.assertEqual((Syntax.integers(syntax.format).read("-F_F").is_float, Syntax(Format()).read(".5").digits(Part.INTEGER)), (False, ""))
+        for literal, in_type in ((syntax.read(text), str), (syntax.read(text.encode()), str.encode)):
+            self.assertEqual([*vars(literal).values()][2:], [*map(in_type, parts)])
+            self.assertEqual([*map(literal.digits, Part)], [*map(in_type, ["1F", "80", "12"])])
+        self.assertEqual([syntax.read(it).is_float for it in ("-F_F", "1.", "1p0")], [False, True, True])
         literal, rest = syntax.read_prefix("1.8p+\u00e9")
         self.assertEqual((literal.text, literal.fraction, rest), ("1.8", "8", "p+\u00e9"))
         self.assertEqual(syntax.read_prefix(b"1\xff")[1], b"\xff")
@@ -264,9 +262,8 @@ class Literals(unittest.TestCase):
         for text, index in (("12\u00e9", 2), ("\u20ac", 0), ("1.5\U0001F600e", 3), ("1e\ud800", 2), ("1x\u00e9", 1)):
             with self.assertRaises(LiteralError) as caught:
                 Syntax(Format()).read(text)
-            error, kind = caught.exception, "byte" if text[index].isascii() else "character"
-            self.assertEqual((error.valid_up_to, error.span, error.error), (index, (index, index + 1), Error.INVALID_DIGIT))
-            self.assertEqual(str(error), f"no literal has the {kind} {text[index]!r} here")
+            error, sentence = caught.exception, f"no literal has the {'byte' if index == 1 else 'character'} {text[index]!r} here"
+            self.assertEqual((error.valid_up_to, error.error, str(error)), (index, Error.INVALID_DIGIT, sentence))
 
     def test_syntaxes(self):
         syntaxes = [Syntax(Format()), Syntax(Format(), b"e", 46), Syntax(Format().normal_form()), Syntax.integers(Format())]
@@ -292,7 +289,6 @@ class Literals(unittest.TestCase):
             self.assertEqual((str(special), repr(float(str(special)))), (wanted, repr(float(text))))
         specials = Specials(nan="n\u00e4n", infinity="\u221e")
         self.assertEqual(specials.read(Syntax(Format()), "-\u221e"), Special("-", Spelling.INFINITY))
-        self.assertEqual(specials.read(Syntax(Format()), "n\u00e4n").spelling, Spelling.NAN)
         self.assertIsNone(specials.read(Syntax(Format()), ""))
 
     def test_settings_make_a_syntax(self):
@@ -310,7 +306,6 @@ class Literals(unittest.TestCase):
             ("the base prefix 'b' is a digit in radix 16", (1, 2)),
         ]
         self.assertEqual([(str(it), it.indexes) for it in error.reasons], sentences)
-        self.assertEqual(str(error), "; ".join(text for text, _ in sentences))
 
 
 BYTE = "one ASCII character or a number from 0 to 255"
@@ -322,12 +317,9 @@ WRONG = [
     ("Format.of(base_prefix='\u00e9')", ValueError, f"base_prefix is {BYTE}: '\u00e9'"),
     ("Format().edit(colour=7)", TypeError, "edit() got an unexpected keyword argument 'colour'"),
     ("Format.of(5)", TypeError, "a setting is a str, not int"),
-    ("Format.of('r\\udc80=1')", ValueError, "r\udc80=1: unknown setting name"),
     ("Edit.of('colour', 7)", ValueError, "unknown setting name: 'colour'"),
     ("Format().check_options('e', b'')", ValueError, f"point is {BYTE}: b''"),
-    ("Format().is_separator('0x')", ValueError, f"a byte is {BYTE}: '0x'"),
     ("Format().separators(0)", TypeError, "part is a Part, not int"),
-    ("Syntax(FormatView())", TypeError, "format is a Format, not FormatView"),
     ("Syntax.of('radix=16\\nradix=2')", ValueError, "a setting is one line: b'radix=16\\nradix=2'"),
     ("Syntax(Format()).read(bytearray())", TypeError, "a text is a str, not bytearray"),
     ("Specials('a\\0').read(Syntax(Format()), '')", ValueError, "a spelling has a null character: Specials(nan='a\\x00', inf=None, infinity=None)"),
