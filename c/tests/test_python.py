@@ -267,7 +267,8 @@ class Literals(unittest.TestCase):
 
     def test_syntaxes(self):
         syntaxes = [Syntax(Format()), Syntax(Format(), b"e", 46), Syntax(Format().normal_form()), Syntax.integers(Format())]
-        self.assertEqual([(it.exponent, it.point) for it in syntaxes], 3 * [("e", ".")] + [(None, None)])
+        got = [(it.exponent, it.point, it.role_of("e")) for it in syntaxes]
+        self.assertEqual(got, 3 * [("e", ".", Role.EXPONENT)] + [(None, None, None)])
         for syntax in syntaxes:
             copies = eval(repr(syntax)), pickle.loads(pickle.dumps(syntax)), copy.deepcopy(syntax)
             self.assertEqual({syntax, *copies}, {syntaxes[3] if syntax is syntaxes[3] else syntaxes[0]})
@@ -338,7 +339,7 @@ class Wrong(unittest.TestCase):
         fields = [name for name in inspect.signature(Format.of).parameters if name != "settings"]
         one, view, syntax, random = Format(), FormatView((1 << 128) - 1), Syntax(Format()), Random(1)
         calls = {
-            "a byte": [view.is_separator, view.mantissa_digit, view.exponent_digit, view.role_of],
+            "a byte": [view.is_separator, view.mantissa_digit, view.exponent_digit, view.role_of, syntax.role_of],
             "a format word": [FormatView, Format, Format.parse],
             "a setting|=|unknown|takes": [Edit, one.edit, Syntax.of, Syntax.notes_of],
             "a text|here$|expected": [syntax.read, syntax.read_prefix, Language.JSON.read],
