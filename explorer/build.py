@@ -17,7 +17,7 @@ HERE = pathlib.Path(__file__).resolve().parent
 TOP = HERE.parent
 PAGE = HERE / "index.html"
 FORMAT = (TOP / "docs/FORMAT.md").read_text()
-SCRIPTS = ("library", "element", "number", "bits", "controls", "code", "report", "literal", "page")
+SCRIPTS = ("library", "element", "bits", "controls", "code", "report", "literal", "page")
 MOST_BYTES = 250_000
 TARGET = "wasm32-unknown-unknown"
 OPTIONS = [f"--target={TARGET}", "-Ctarget-feature=+bulk-memory", "-Copt-level=s", "-Cpanic=abort", "--cap-lints=allow"]

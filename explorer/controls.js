@@ -91,7 +91,8 @@ class Controls {
         const plain = (text) => text.trim().toLowerCase().replaceAll(" ", "_");
         const wanted = plain(find("filter").value);
         const others = (name) => WORDS.filter(([pattern]) => pattern.test(name)).map(([, words]) => words).join(" ");
-        const has = ({ dataset: { field = "" }, textContent }) => plain(`${field} ${textContent} ${others(field)}`).includes(wanted);
+        const textOf = ({ dataset: { field = "" }, textContent }) => plain(`${field} ${textContent} ${others(field)}`);
+        const has = (node) => textOf(node).includes(wanted);
         const hide = (node, rows) => (node.hidden = !rows.some((row) => !row.hidden));
         for (const row of document.querySelectorAll("#controls .byte-row, #controls .flag-row")) row.hidden = !has(row);
         const rows = [...document.querySelectorAll("#separators tbody tr")];

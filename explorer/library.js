@@ -140,7 +140,8 @@ class Library {
         });
         if (Object.values(options).includes(undefined)) return { error: "An option is not a byte." };
         const digits = word.trim().replace(/(?<=\w)_(?=\w)/g, "").replace(/,$/, "");
-        if (/^0x[0-9a-f]{1,32}$|^[0-9]{1,39}$/i.test(digits) && BigInt(digits) <= MOST_WORD) return { word: BigInt(digits), options };
+        const isNumber = /^0x[0-9a-f]{1,32}$|^[0-9]{1,39}$/i.test(digits);
+        if (isNumber && BigInt(digits) <= MOST_WORD) return { word: BigInt(digits), options };
         const rest = word.replace(/(\w+)\s*=\s*('.'|[^\s,;#]*)|#.*|[\s,;]/g, (_, name, value) => {
             if (name) settings.push(`${name}=${value}`);
             return "";

@@ -119,7 +119,7 @@ fn put_line(out: &mut Answer, state: State, syntax: &Syntax, lines: &[u8], line:
         write!(out, r#","error":{},"mask":{mask},"start":{start},"end":{end}"#, Quoted(error))?;
     }
     out.write_str(r#","offers":"#)?;
-    let found = if result.is_err() == line.is_refused { Found::default() } else { offers(state, lines, line) };
+    let found = if result.is_err() == line.is_refused { Found::new(lines) } else { offers(state, lines, line) };
     list(out, found.best(), |out, (state, expected)| {
         put_state(out, state)?;
         write!(out, r#","expected":{expected},"parts":"#)?;
@@ -131,7 +131,10 @@ fn put_line(out: &mut Answer, state: State, syntax: &Syntax, lines: &[u8], line:
 
 /// Writes the parts of a text, or of its longest front that is a number.
 fn put_parts(out: &mut Answer, syntax: &Syntax, text: &[u8]) -> fmt::Result {
-    let put = |out: &mut Answer, (kind, bytes): (&str, &[u8])| write!(out, r#"{{"kind":"{kind}","size":{}}}"#, bytes.len());
+    let put = |out: &mut Answer, (kind, bytes): (&str, &[u8])| {
+        let size = bytes.len();
+        write!(out, r#"{{"kind":"{kind}","size":{size}}}"#)
+    };
     if let (Err(_), Some(special)) = (syntax.read(text), SPECIALS.read(syntax, text)) {
         let (sign, rest) = text.split_at(special.sign.map_or(0, |_| 1));
         return list(out, [("sign", sign), ("special", rest)].into_iter().filter(|(_, bytes)| !bytes.is_empty()), put);

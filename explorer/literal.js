@@ -1,21 +1,21 @@
 /* The numbers to try, one a line: their parts are coloured, wrong bytes are marked, and for a number that is not as
  * expected, states are offered in which it is. A number behind a `!` must be refused. */
 
-/* The parts of a literal, with the names of their colours. */
-const COLOURS = {
-    sign: "sign",
-    special: "special",
-    prefix: "base",
-    integer: "digits",
-    point: "option",
-    fraction: "digits",
-    exponent_character: "exponent",
-    exponent_sign: "sign",
-    exponent: "exponent",
-    suffix: "base",
+/* The parts of a number, with the names of their colours and their fields. */
+const PARTS = {
+    sign: ["sign", "no_positive_mantissa_sign required_mantissa_sign"],
+    special: ["special", "no_special case_sensitive_special"],
+    prefix: ["base", "base_prefix"],
+    integer: ["digits", "mantissa_radix"],
+    point: ["option", "point"],
+    fraction: ["digits", "mantissa_radix"],
+    exponent_character: ["exponent", "exponent"],
+    exponent_sign: ["sign", "no_positive_exponent_sign required_exponent_sign"],
+    exponent: ["exponent", "exponent_radix"],
+    suffix: ["base", "base_suffix"],
 };
-/* How many lines the field shows, and how many of them are read. */
-const [MOST_ROWS, MOST_LINES] = [8, 100];
+/* How many lines the field shows, how many of them are read, and how long a number is that has a value. */
+const [MOST_ROWS, MOST_LINES, MOST_VALUE] = [8, 100, 500];
 
 class Trial {
     constructor(library, { change }) {
@@ -37,7 +37,8 @@ class Trial {
         const answers = this.library.numbers(state, lines.map(({ text }) => text).join("\n")).map((answer, index) => {
             const { text, index: place } = lines[index];
             const isRefused = text.startsWith("!");
-            return { ...answer, text: text.slice(Number(isRefused)), place, isRefused, isExpected: isRefused === Boolean(answer.error) };
+            const isExpected = isRefused === Boolean(answer.error);
+            return { ...answer, text: text.slice(Number(isRefused)), place, isRefused, isExpected };
         });
         this.state = state;
         this.answers = answers;
@@ -88,7 +89,8 @@ class Trial {
         const change = () => this.turn(place);
         const nothing = isRefused ? "No flag alone refuses it." : "No format that differs in a few fields accepts it.";
         const offers = answer.offers.map((offer, index) => this.offer(place, offer, index));
-        const box = element("input", { type: "checkbox", change, id: `refuse-${place}`, "aria-label": `${text} must be refused` });
+        const label = `${text} must be refused`;
+        const box = element("input", { type: "checkbox", change, id: `refuse-${place}`, "aria-label": label });
         box.checked = isRefused;
         return element(
             "li",
@@ -106,7 +108,8 @@ class Trial {
 
     /* Returns what is told of a number. */
     told({ text, error, start, parts, isRefused }) {
-        const what = error ? `${start < text.length ? `at index ${start}` : "at the end"}: ${error}` : this.reading(this.state, text, parts);
+        const where = start < text.length ? `at index ${start}` : "at the end";
+        const what = error ? `${where}: ${error}` : this.reading(this.state, text, parts);
         if (isRefused) return error ? `refused: ${what}` : `accepted as ${what}, but it must be refused`;
         return error ? what : `accepted: ${what}`;
     }
@@ -118,7 +121,9 @@ class Trial {
         const all = [...parts, { size: bytes.length }].map(({ kind, size }) => ({ kind, start: next, end: next += size }));
         const cut = (from, to) => all.filter((part) => part.start < to && from < part.end).map(({ kind, start, end }) => {
             const piece = new TextDecoder().decode(bytes.subarray(Math.max(start, from), Math.min(end, to)));
-            return kind ? element("span", { class: COLOURS[kind], title: kind.replace("_", " ") }, piece) : piece;
+            const [colour, fields] = PARTS[kind] ?? [];
+            const title = kind?.replace("_", " ");
+            return kind ? element("span", { class: colour, title, "data-field": fields }, piece) : piece;
         });
         if (start === undefined) return cut(0, bytes.length);
         while ((bytes[end] & 0xc0) === 0x80) end += 1;
@@ -133,7 +138,8 @@ class Trial {
             this.change({ word, exponent, point });
             (find("read").querySelector(".use") ?? find("literal")).focus();
         };
-        return element("li", {}, button("use", label, use, { "data-field": changes.map(({ name }) => name).join(" ") }), then);
+        const fields = changes.map(({ name }) => name).join(" ");
+        return element("li", {}, button("use", label, use, { "data-field": fields }), then);
     }
 
     /* Returns what a number is in a state, by its parts: its kind, and its value if that is not too large. */
@@ -141,16 +147,19 @@ class Trial {
         let at = 0;
         const piece = Object.fromEntries(parts.map(({ kind, size }) => [kind, text.slice(at, (at += size))]));
         if (piece.special) return "special value";
-        const [radix, base, exponentRadix] = ["mantissa_radix", "exponent_base", "exponent_radix"].map((name) => this.library.effective(word, name));
-        const separator = String.fromCharCode(this.library.get(word, "digit_separator"));
-        const digits = (digits = "") => [...digits].filter((it) => it !== separator).map((it) => BigInt(parseInt(it, 36)));
+        const kind = piece.point || piece.exponent_character ? "float" : "integer";
+        if (text.length > MOST_VALUE) return kind;
+        const byte = (name) => this.library.effective(word, name);
+        const separator = String.fromCharCode(byte("digit_separator"));
+        const digits = (run = "") => [...run].filter((it) => it !== separator).map((it) => BigInt(parseInt(it, 36)));
         const number = (all, radix) => all.reduce((sum, digit) => sum * BigInt(radix) + digit, 0n);
-        const [sign, fraction] = [piece.sign === "-" ? "-" : "", digits(piece.fraction)];
+        const [radix, base, fraction] = [byte("mantissa_radix"), byte("exponent_base"), digits(piece.fraction)];
         const mantissa = number([...digits(piece.integer), ...fraction], radix);
-        if (!piece.point && !piece.exponent_character) return `integer = ${sign}${mantissa}`;
-        const exponent = Number(`${piece.exponent_sign ?? ""}${number(digits(piece.exponent), exponentRadix)}`);
-        const isDecimal = radix === 10 && base === 10;
-        const value = isDecimal ? Number(`${mantissa}e${exponent - fraction.length}`) : Number(mantissa) * base ** exponent / radix ** fraction.length;
+        const sign = piece.sign === "-" ? "-" : "";
+        if (kind === "integer") return `integer = ${sign}${mantissa}`;
+        const exponent = Number(`${piece.exponent_sign ?? ""}${number(digits(piece.exponent), byte("exponent_radix"))}`);
+        const scaled = () => Number(mantissa) * base ** exponent / radix ** fraction.length;
+        const value = radix === 10 && base === 10 ? Number(`${mantissa}e${exponent - fraction.length}`) : scaled();
         return Number.isFinite(value) ? `float = ${sign}${value}` : "float";
     }
 

@@ -4,7 +4,8 @@
 const LANGUAGES = ["rust", "c", "python", "settings"];
 /* After how many milliseconds without an edit the fragment is written. */
 const PAUSE = 200;
-const TOLD = "Copied is the part from # on, since others cannot open a file of this machine: it belongs behind the address of their page.";
+const TOLD = "Copied is the part from # on, since others cannot open a file of this machine. It belongs behind the address "
+    + "of their page, or into the field of its format word.";
 
 /* Returns the place and the meaning of each field by its name. */
 function meaningsOf({ flags, groups, bytes }) {
@@ -67,7 +68,7 @@ class Page {
         });
         click("verdict", () => find("report-title").focus());
         click("count", () => find("literal").focus());
-        for (const skip of document.querySelectorAll("[data-go]")) skip.addEventListener("click", () => find(skip.dataset.go).focus());
+        for (const { id, dataset } of document.querySelectorAll("[data-go]")) click(id, () => find(dataset.go).focus());
         const marked = (node) => node.closest("[data-field]");
         document.addEventListener("focusin", ({ target }) => {
             if (target.id !== this.key) this.key = "";
@@ -139,7 +140,7 @@ class Page {
             return element("tr", {}, element("td", {}, withCode(limit)), element("td", {}, withCode(instead)));
         });
         find("limits").append(...rows);
-        find("language").append(...this.data.languages.map(({ name, about }) => element("option", { value: name }, shortTitle(about))));
+        find("language").append(...choices(this.data.languages));
     }
 
     /* Shows the language as chosen while the state is its state. */
@@ -150,8 +151,13 @@ class Page {
         find("about").replaceChildren(...withCode(language?.about ?? ""));
     }
 
-    /* Takes a text as the word, if it is whole, or shows why it is not one. */
+    /* Takes a text as the word, or a link as the state, if it is whole, or shows why it is not one. */
     take(text, isWhole) {
+        const link = /#(word|exponent|point|numbers)=\S*/.exec(text);
+        if (link && isWhole) {
+            history.replaceState(null, "", link[0]);
+            return this.read();
+        }
         const { word, options, notes = [], error } = this.library.read(text);
         if (error) {
             const forms = "A word is `0x` and up to 32 hexadecimal digits, a decimal number, or settings such as `radix=16`.";
@@ -219,7 +225,8 @@ class Page {
     /* Reads the state from the fragment. A part that is missing has its default. If one is invalid, the page says so. */
     read() {
         const hash = location.hash.slice(1);
-        const parts = new URLSearchParams(/^(word|exponent|point|numbers)=/.test(hash) ? hash.replaceAll("+", "%2B") : { word: hash });
+        const isNamed = /^(word|exponent|point|numbers)=/.test(hash);
+        const parts = new URLSearchParams(isNamed ? hash.replaceAll("+", "%2B") : { word: hash });
         const byte = (name) => (parts.has(name) ? this.library.byte(parts.get(name)) : STANDARD_OPTIONS[name]);
         const word = parts.get("word") ? this.library.read(parts.get("word")).word : this.library.standard;
         const found = { word, exponent: byte("exponent"), point: byte("point") };
@@ -262,11 +269,11 @@ class Page {
         const reasons = this.report.show(this.state, this.shown);
         this.controls.show(this.state);
         showBits(this.cells, word);
-        showNumber(this.library, this.state);
         const { count, isGood, first } = this.trial.show(this.state);
         setText(find("count"), count);
         find("count").className = isGood ? "good" : "bad";
-        setText(find("first-error"), reasons[0]?.text ?? first ?? (count ? "" : "The word satisfies all rules. Type numbers to try it."));
+        const nothing = count ? "" : "The word satisfies all rules. Type numbers to try it.";
+        setText(find("first-error"), reasons[0]?.text ?? first ?? nothing);
         const fields = new Set(reasons.flatMap((reason) => reason.fields));
         this.blame(fields, new Set(this.library.changes(word, this.library.standard).map(({ name }) => name)));
         this.showCode();

@@ -7,8 +7,8 @@ class Report {
         this.use = use;
         this.edit = edit;
         this.go = go;
-        const formats = [{ name: "", about: "the standard format" }, { name: "another", about: "another word" }, ...data.languages];
-        find("compare").append(...formats.map(({ name, about }) => element("option", { value: name }, shortTitle(about))));
+        const others = [{ name: "", about: "the standard format" }, { name: "another", about: "another word" }];
+        find("compare").append(...choices([...others, ...data.languages]));
         find("compare").addEventListener("change", () => this.compare());
         find("other").addEventListener("input", () => this.compare());
         find("keep").addEventListener("click", () => this.keep());
@@ -31,7 +31,8 @@ class Report {
         const buttons = repairs.map((state) => {
             const changes = this.library.differences(state, this.state);
             const label = changes.map((it) => it.text).join(", ") || "clear the reserved bits";
-            return button("use", label, () => this.use(state), { "data-field": changes.map(({ name }) => name).join(" ") });
+            const names = changes.map(({ name }) => name).join(" ");
+            return button("use", label, () => this.use(state), { "data-field": names });
         });
         return element(
             "li",
@@ -58,7 +59,8 @@ class Report {
     /* Returns the state to compare with, or {error}. */
     other() {
         const name = find("compare").value;
-        if (name !== "another") return this.data.languages.find((it) => it.name === name) ?? { ...STANDARD_OPTIONS, word: this.library.standard };
+        const standard = { ...STANDARD_OPTIONS, word: this.library.standard };
+        if (name !== "another") return this.data.languages.find((it) => it.name === name) ?? standard;
         const { word, options, error } = this.library.read(find("other").value);
         return error ? { error } : { ...STANDARD_OPTIONS, word, ...options };
     }
@@ -97,8 +99,8 @@ class Report {
     show(state, { error, reasons, options, notes, normal }) {
         this.state = state;
         const count = (number) => (number === 1 ? "1 reason" : `${number} reasons`);
-        const verdict = error ? `Not lawful: ${count(reasons.length)}` : options.length ? "Lawful, but an option does not fit" : "Lawful";
-        setText(find("verdict"), verdict);
+        const lawful = options.length ? "Lawful, but an option does not fit" : "Lawful";
+        setText(find("verdict"), error ? `Not lawful: ${count(reasons.length)}` : lawful);
         find("verdict").className = error || options.length ? "bad" : "good";
         const all = [...reasons, ...options];
         find("reasons").replaceChildren(...all.map((reason) => this.reason(reason)));
@@ -109,7 +111,8 @@ class Report {
     }
 }
 
-/* Returns the first words of the comment of a language. */
-function shortTitle(about) {
-    return about.replace(/[:.]? \(.*|, as .*| with .*|\.$/, "");
+/* Returns the choices of a select for formats, each with the first words of its comment. */
+function choices(formats) {
+    const title = (about) => about.replace(/[:.]? \(.*|, as .*| with .*|\.$/, "");
+    return formats.map(({ name, about }) => element("option", { value: name }, title(about)));
 }

@@ -77,21 +77,13 @@ impl State {
     /// as in C: `p` and a power of two in decimal.
     fn with_radix(self, radix: u8) -> Self {
         let state = self.with(MANTISSA_RADIX, radix);
-        let is_digit = value(self.exponent).is_some_and(|digit| digit < radix);
-        if is_digit {
-            state.with_exponent(b'p')
-        } else {
-            state
-        }
+        let digit = value(self.exponent).filter(|&digit| digit < radix);
+        digit.map_or(state, |_| state.with_exponent(b'p'))
     }
 
     fn with_exponent(self, exponent: u8) -> Self {
-        let state = Self { exponent, ..self };
-        if self.radix() == 16 {
-            state.with(EXPONENT_BASE, 2).with(EXPONENT_RADIX, 10)
-        } else {
-            state
-        }
+        let fields = [(EXPONENT_BASE, 2), (EXPONENT_RADIX, 10)].into_iter().filter(|_| self.radix() == 16);
+        fields.fold(Self { exponent, ..self }, |state, (field, byte)| state.with(field, byte))
     }
 
     fn radix(self) -> u8 {
@@ -149,60 +141,57 @@ fn unsigned(text: &[u8]) -> &[u8] {
     text.strip_prefix(b"-").or(text.strip_prefix(b"+")).unwrap_or(text)
 }
 
-/// States that were found, each with how many lines are as expected, the best first.
-#[derive(Default)]
-pub struct Found {
-    states: [Option<(State, usize)>; 24],
+/// States that were found for some lines, each with how many of them are as expected and its index.
+pub struct Found<'a> {
+    lines: &'a [u8],
+    states: [Option<(Reverse<usize>, usize, State)>; 24],
     size: usize,
 }
 
-impl Found {
+impl<'a> Found<'a> {
+    pub fn new(lines: &'a [u8]) -> Self {
+        Self { lines, states: [None; 24], size: 0 }
+    }
+
     fn push(&mut self, state: State) {
-        let is_new = self.states[..self.size].iter().flatten().all(|it| it.0 != state);
+        let is_new = self.states[..self.size].iter().flatten().all(|it| it.2 != state);
         if let (true, Some(place)) = (is_new, self.states.get_mut(self.size)) {
-            *place = Some((state, self.size));
+            *place = Some((Reverse(state.as_expected(self.lines)), self.size, state));
             self.size += 1;
         }
     }
 
     /// Puts the states first with which the most lines are as expected. Those with the same count stay in their order.
-    fn ranked(mut self, lines: &[u8]) -> Self {
-        let found = &mut self.states[..self.size];
-        found.sort_unstable_by_key(|it| it.map(|(state, index)| (Reverse(state.as_expected(lines)), index)));
-        found.iter_mut().flatten().for_each(|it| it.1 = it.0.as_expected(lines));
+    fn sorted(mut self) -> Self {
+        self.states[..self.size].sort_unstable_by_key(|it| it.map(|it| (it.0, it.1)));
         self
     }
 
-    /// Removes the states with which fewer lines are as expected than with the first one.
-    fn only_best(mut self) -> Self {
-        let most = self.states[0].map(|it| it.1);
-        self.states.iter_mut().for_each(|it| *it = it.filter(|it| Some(it.1) == most));
-        self
-    }
-
-    /// Returns the states that are offered.
+    /// Returns the states that are offered, each with how many lines are as expected.
     pub fn best(&self) -> impl Iterator<Item = (State, usize)> + '_ {
-        self.states.iter().copied().flatten().take(MOST)
+        self.states.iter().flatten().map(|it| (it.2, it.0 .0)).take(MOST)
     }
 }
 
 /// Returns the states that are offered for one of the lines: those that need the fewest new roles to accept it, or those
-/// with one other flag that refuse it.
-pub fn offers(state: State, lines: &[u8], line: Line<'_>) -> Found {
-    let mut found = Found::default();
+/// with one other flag that refuse it and with which the most lines are as expected.
+pub fn offers<'a>(state: State, lines: &'a [u8], line: Line<'_>) -> Found<'a> {
+    let mut found = Found::new(lines);
     if line.is_refused {
         refusing(state, line.text, &mut found);
-        return found.ranked(lines).only_best();
+        let most = found.states.iter().flatten().map(|it| it.0 .0).max();
+        found.states.iter_mut().for_each(|it| *it = it.filter(|it| Some(it.0 .0) == most));
+        return found;
     }
     for roles in 0..=MOST_ROLES {
         if found.size == 0 {
             accepting(state, line.text, roles, &mut found);
         }
     }
-    found.ranked(lines)
+    found.sorted()
 }
 
-fn refusing(state: State, text: &[u8], found: &mut Found) {
+fn refusing(state: State, text: &[u8], found: &mut Found<'_>) {
     for flag in bits_of(FLAG_MASK) {
         let other = State { word: state.word ^ flag, ..state };
         if other.exact().is_some_and(|it| read(&it, text).is_err()) {
@@ -212,7 +201,7 @@ fn refusing(state: State, text: &[u8], found: &mut Found) {
 }
 
 /// Finds states with up to this many new roles that accept the text.
-fn accepting(state: State, text: &[u8], roles: usize, found: &mut Found) {
+fn accepting(state: State, text: &[u8], roles: usize, found: &mut Found<'_>) {
     let Some(state) = state.fitting() else { return };
     match settled(state, text) {
         Ok(state) => found.push(state),

@@ -163,13 +163,6 @@ class Walk(unittest.TestCase):
         self.run_script("arguments[0].scrollIntoView({block: 'center'})", chosen)
         chosen.click()
 
-    def parts(self):
-        """Returns the parts of the picture of a number, each with its title, its text and whether it must be there."""
-        return ", ".join(" ".join(row) for row in self.run_script(
-            """return [...document.querySelectorAll(".part")].map((part) => {
-                return [".title", ".written", ".presence"].map((it) => part.querySelector(it).textContent); })"""
-        ))
-
     def test_flags_are_set_by_box_label_key_and_bit(self):
         self.assertEqual((self.value(), self.text("#verdict")), (STANDARD, "Lawful"))
         self.click("#no_special")
@@ -271,20 +264,9 @@ class Walk(unittest.TestCase):
         self.assertIn("no flag allows the digit separator '_'", self.text("#notes"))
         self.click("#internal_digit_separator")
         self.assertEqual((self.value(), self.text("#notes")), ("0x00000A000000005F000000070000000C", ""))
-        self.assertIn("integer 1_9_0", self.parts())
         self.click("#fraction_internal_digit_separator")
         self.assertTrue(self.find("#internal_digit_separator").get_property("indeterminate"))
         self.assertEqual(self.value(), "0x00000A000000005F000000050000000C")
-
-    def test_a_format_with_any_two_flags_allows_the_number_in_its_picture(self):
-        self.assertEqual(self.run_script("""const { library } = page;
-            const names = library.flags.map(({ name }) => `${name}=true`);
-            return names.flatMap((first) => names.map((second) => [first, second])).filter((flags) => {
-                const { word } = library.build(["digit_separator='_'", "base_prefix='x'", "base_suffix='h'", ...flags]);
-                const state = { word, exponent: 101, point: 46 };
-                const parts = new NumberPicture(library, state).parts().filter(({ isNever }) => !isNever);
-                const number = parts.flatMap(({ pieces }) => pieces.map(({ text }) => text)).join("");
-                return library.explain(state).error === "" && library.numbers(state, number)[0].error; })"""), [])
 
     def test_reasons_lead_to_the_controls_that_they_blame(self):
         self.load("#word=0x000010006200000000000000000000CC&exponent=112")
@@ -397,7 +379,6 @@ class Walk(unittest.TestCase):
     def test_integers_alone_have_no_options(self):
         Select(self.find("#language")).select_by_value("RUST_HEX_INTEGER")
         self.assertEqual((self.value("#exponent"), self.value("#point")), ("", ""))
-        self.assertEqual(self.parts(), "sign - optional, prefix 0x optional, integer __1__F__0__ or fraction, special NaN optional")
         self.type("#exponent", "p")
         self.assertEqual((self.value("#point"), self.text("#verdict")), (".", "Lawful"))
 
@@ -418,22 +399,16 @@ class Walk(unittest.TestCase):
         self.click("#copy-link")
         self.wait(lambda: self.run_script("return window.copied") == f"#word={STANDARD}&exponent=112&point=46")
         self.assertIn("Copied is the part from # on", self.text("#copied"))
+        self.type("#word", "index.html#word=0xC&numbers=7" + Keys.ENTER)
+        self.assertEqual((self.value("#literal"), self.text("#verdict")), ("7", "Not lawful: 1 reason"))
         self.load("#word=nonsense&exponent=300&point=")
         self.assertEqual((self.value(), self.value("#exponent"), self.value("#point")), (STANDARD, "e", "."))
         self.assertIn("This link has no format word", self.text("#word-problem"))
 
-    def test_bits_and_number_are_those_of_the_word(self):
-        self.load(f"#word={MIXED}&exponent=112&point=46")
+    def test_bits_are_those_of_the_word(self):
+        self.load(f"#word={MIXED}")
         bits = self.run_script("return [...document.querySelectorAll('.bit')].map((it) => it.textContent).join('')")
         self.assertEqual(int(bits, 2), int(MIXED, 16))
-        self.assertEqual(self.parts(),
-            "sign - optional, prefix 0x optional, integer 1__F__0__ required, point . optional, "
-            "fraction 0__F__ required, exponent p required, its sign + optional, its digits 1__0__ required, "
-            "suffix h optional, special NaN never")
-        self.load("#word=0x00000A0000000020000011110000012C&exponent=101&point=44")
-        self.assertEqual(self.parts(),
-            "sign + required, integer 1\u24239\u24230 or fraction, point , optional, fraction \u242309 or integer, "
-            "exponent e optional, its sign + required, its digits 10\u2423 required, special N\u2423a\u2423N optional")
 
     def test_numbers_are_tried(self):
         self.load("#word=0x00000A000000005F000000020000000C")
