@@ -10,10 +10,11 @@ use Rattle.std.specs.List.{filter, list_any}
 use Rattle.lexical_util.specs.Layout as layout
 use Rattle.lexical_util.specs.Layout.{Flag, bit, flags, part}
 use Rattle.lexical_util.specs.Record.{raw}
+use Rattle.lexical_util.specs.declared.feature_format.roles.Role.TheVariants as roles
 use Rattle.lexical_literal.specs.Notation.{Notation}
 use Rattle.lexical_literal.specs.Cause.{Allows, IsLowest, IsRequirement, Permits, RefusesAlone, Releases, SomeFlag, adding, bare, binds, is_one_of}
 use Rattle.lexical_literal.specs.Cause.{is_at, requirement_flags, separator_flags, with_flags, without}
-use Rattle.lexical_literal.specs.Additions.Causes.{Decides, IsWeaker, allows, place_of, separates}
+use Rattle.lexical_literal.specs.Additions.Causes.{Decides, IsWeaker, allows, is_own, is_role, place_of}
 use Rattle.lexical_util.specs.declared.format_flags.Part.{Part}
 use Rattle.lexical_util.specs.declared.format_flags.Part.TheVariants as parts
 use Rattle.lexical_literal.specs.Additions.Summary.{in_part}
@@ -206,22 +207,40 @@ module _ (m : Notation) where
 
   -- SEPARATORS
 
-  separates_at : (place : Place) (part : Part) (f : Flag) → is_at place part f ≡ true → is_one_of separator_flags f ≡ true
-  separates_at places.BeforeDigits parts.Integer f is = grind (arith, nat_tests)
-  separates_at _ _ f is = grind (arith, nat_tests)
+  own_at : (place : Place) (part : Part) (f : Flag) → is_at place part f ≡ true → is_own part f ≡ true
+  own_at places.BeforeDigits part f is = grind arith
+  own_at _ part f is = grind arith
 
-  -- The flags of the place where a separator is not allowed permit it if they allow what follows.
-  pub each_permits : (s : Summary) (class : Class) (front : List ℕ) (byte : ℕ) → Decides m s (Some class) front (Some byte) → allows (bare m) s (Some class) ≡ false
-      → (f : Flag) → ((separates m s (in_part s.part class) f && allows (adding f (bare m)) s (Some class)) ≡ true) ↔ Permits m front byte f
-  each_permits s class front byte decides refused f = (
-    λ is.
-        let both = and_parts (separates m s (in_part s.part class) f) _ is in
-        let at = separates_at (place_of m s (in_part s.part class)) s.part f (and_parts _ (is_at (place_of m s (in_part s.part class)) s.part f) both.0).1 in
-        (at, (decides _ (permits_weaker f at)).0 both.1),
-    λ permits.
-        let allowed = (decides _ (permits_weaker f permits.0)).1 permits.1 in
-        and_from _ _ (at_next m f s class permits.0 refused allowed) allowed,
-  )
+  own_separates : (part : Part) (f : Flag) → is_own part f ≡ true → is_one_of separator_flags f ≡ true
+  own_separates parts.Integer f is = grind (arith, nat_tests)
+  own_separates _ f is = grind (arith, nat_tests)
+
+  module _ (s : Summary) (class : Class) (front : List ℕ) (byte : ℕ) (decides : Decides m s (Some class) front (Some byte))
+      (refused : allows (bare m) s (Some class) ≡ false) where
+    abbrev found : Flag → Bool
+    found f = (s.gap || is_role roles.Separator (in_part s.part class)) && (is_own s.part f && allows (adding f (bare m)) s (Some class))
+
+    at_place : (f : Flag) → is_one_of separator_flags f ≡ true → allows (adding f (bare m)) s (Some class) ≡ true
+        → ((s.gap || is_role roles.Separator (in_part s.part class)) ≡ true) × (is_at (place_of m s (in_part s.part class)) s.part f ≡ true)
+    at_place f separates allowed = and_parts (s.gap || is_role roles.Separator (in_part s.part class)) _ (at_next m f s class separates refused allowed)
+
+    owned : (f : Flag) → found f ≡ true → (is_one_of separator_flags f ≡ true) × (allows (adding f (bare m)) s (Some class) ≡ true)
+    owned f is =
+        let both = and_parts (is_own s.part f) _ (and_parts (s.gap || is_role roles.Separator (in_part s.part class)) _ is).1 in
+        (own_separates s.part f both.0, both.1)
+
+    -- The flags that are found are those that permit a separator, and of its place.
+    pub each_permits : (f : Flag) → (found f ≡ true) ↔ Permits m front byte f
+    each_permits f = (
+      λ is. let both = owned f is in (both.0, (decides _ (permits_weaker f both.0)).0 both.1),
+      λ permits.
+          let allowed = (decides _ (permits_weaker f permits.0)).1 permits.1 in
+          let at = at_place f permits.0 allowed in
+          and_from _ _ at.0 (and_from _ _ (own_at (place_of m s (in_part s.part class)) s.part f at.1) allowed),
+    )
+
+    pub found_at : (f : Flag) → found f ≡ true → is_at (place_of m s (in_part s.part class)) s.part f ≡ true
+    found_at f is = let both = owned f is in (at_place f both.0 both.1).1
 
 -- A mask as the flags of a notation.
 pub as_bare : (m : Notation) (mask : ℕ) → ((f : Flag) → (raw mask).flag f ≡ (bare m).flag f) → with_flags m (raw mask).flag ≡ bare m

@@ -1,10 +1,13 @@
 -- The flags of masks, and the bytes to show.
 use Rattle.std.proofs.Common.{ℕ, ◌≡◌, ◌≢◌, ◌<◌, ◌+◌, ◌*◌, ◌%◌, ◌^◌, ◌==◌, ◌&&◌, ◌||◌, not, nat_lt, Bool, true, false, if◌then◌else◌}
-use Rattle.std.proofs.Common.{bit_and, bit_or, List, [], ◌∷◌, ◌++◌, length, refl, sym, ap, ◌∙◌, arith}
+use Rattle.std.proofs.Common.{bit_and, bit_or, inl, inr, List, [], ◌∷◌, ◌++◌, length, refl, sym, ap, ◌∙◌, arith}
 use Rattle.std.proofs.lemmas.Bool.Decides.{nat_tests}
 use Rattle.std.proofs.lemmas.List.Folds.{list_any-append}
 use Rattle.std.proofs.lemmas.Nat.Bits.{and_pow, bit_at_and, bit_at_or, bit_at_not, bit_at-zero, bit_at-pow_same, bit_at-pow_other, bit_at-trailing_zeros}
-use Rattle.std.proofs.Math.Nat.{mod-lt}
+use Rattle.std.proofs.Math.Nat.{eq-zero-or-pos, mod-lt}
+use Rattle.std.proofs.lemmas.Bool.{or_left, or_right}
+use Rattle.std.proofs.lemmas.Nat.{one_shl}
+use Rattle.std.specs.Int.Bits.{or_zero_l}
 use Rattle.std.specs.Int.{w128, bit_not, trailing_zeros}
 use Rattle.lexical_util.specs.Ascii.{ByteSet}
 use Rattle.lexical_util.specs.Layout as layout
@@ -89,6 +92,26 @@ some_flag n some fits owner =
     let low = bit_at-trailing_zeros w128 n (omega (arith, some)) fits in
     let f = owner (trailing_zeros w128 n) low.1 in
     (f.0, ap (λ k. part n k 1 == 1) f.1 ∙ ap (λ n. n == 1) low.1)
+
+pub shifted : (k : ℕ) → k < 44 → 1 * 2 ^ k % 2 ^ 128 ≡ 2 ^ k
+shifted k small = one_shl k 128 (omega arith)
+
+-- The flags of one mask or another.
+pub either : (f : Flag) (a b : ℕ) (x y : Bool) → (raw a).flag f ≡ x → (raw b).flag f ≡ y → (raw (bit_or a b)).flag f ≡ (x || y)
+either f a b x y is_a is_b = flag_or f a b ∙ (λ j. is_a j || is_b j)
+
+abbrev HasFlag : ℕ → Type 0
+HasFlag n = n ≢ 0 → (f : Flag) × ((raw n).flag f ≡ true)
+
+pub has_either : (a b : ℕ) → HasFlag a → HasFlag b → HasFlag (bit_or a b)
+has_either a b of_a of_b some = elim (eq-zero-or-pos a) [
+  | inl none ↦
+      let found = of_b (λ zero. some (ap (λ n. bit_or n b) none ∙ or_zero_l b ∙ zero)) in
+      (found.0, flag_or found.0 a b ∙ or_right ((raw a).flag found.0) _ found.1)
+  | inr more ↦
+      let found = of_a (λ zero. absurd (omega (arith, more, zero))) in
+      (found.0, flag_or found.0 a b ∙ or_left _ _ found.1)
+]
 
 -- The flags of a mask that is taken if `t` is true.
 pub flag_if : (t : Bool) (mask : ℕ) (f : Flag) → (raw (if t then mask else 0)).flag f ≡ (t && (raw mask).flag f)

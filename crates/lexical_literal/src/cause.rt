@@ -5,7 +5,7 @@ ghost use Rattle.std.specs.Bool.{beq};
 ghost use Rattle.lexical_util.specs.Layout.{Flag, bit, part, separators_in};
 ghost use Rattle.lexical_util.specs.Record.{raw};
 ghost use Rattle.lexical_util.specs.Roles.{other_case};
-ghost use Rattle.lexical_literal.specs.Additions.Causes.{Decides, IsReadOf, allows, class_of_next, ends_part, is_plus_next, is_role, is_unsigned, kind_set, leads, place_of, refuses, role_of_next, separates};
+ghost use Rattle.lexical_literal.specs.Additions.Causes.{Decides, IsReadOf, allows, class_of_next, ends_part, is_own, is_plus_next, is_role, kind_set, place_of, refuses, role_of_next};
 ghost use Rattle.lexical_literal.specs.Cause.{IsCause, IsRefusal, IsRequirement, SomeFlag, adding, bare, case_set, behind, binds, error_of};
 ghost use Rattle.lexical_literal.specs.Cause.{first_in, is_one_of, requirement_error, requirement_flags, requirement_span, span_of, with_flags};
 ghost use Rattle.lexical_literal.specs.Additions.Summary.{class_of, scan, start};
@@ -189,6 +189,8 @@ impl Stop {
         ensures { result ≡ refuses (notation_of self.grammar) self.read (is_plus_next self.next) role number }
     {
         let Summary { part, stage, .. } = self.read;
+        let plus = matches!(self.next, Some(Class::Plus));
+        let integers = matches!(self.grammar.options, None);
         match number {
             0 => ends_part(role) && matches!(part, Part::Integer) && !has_digit(stage),
             1 => ends_part(role) && matches!(part, Part::Fraction) && !has_digit(stage),
@@ -198,16 +200,22 @@ impl Stop {
                 Part::Fraction => ends_part(role) && matches!(stage, Stage::Lone),
                 Part::Exponent => false,
             },
-            4 => self.is_plus(role) && !matches!(part, Part::Exponent),
-            5 => is_unsigned(stage, role) && !matches!(part, Part::Exponent),
+            4 => plus && matches!(role, Some(Role::Sign)) && !matches!(part, Part::Exponent),
+            5 => matches!(stage, Stage::Start | Stage::Mark) && !matches!(role, Some(Role::Sign)) && !matches!(part, Part::Exponent),
             6 => matches!(role, Some(Role::Exponent)),
-            7 => self.is_plus(role) && matches!(part, Part::Exponent),
-            8 => is_unsigned(stage, role) && matches!(part, Part::Exponent),
+            7 => plus && matches!(role, Some(Role::Sign)) && matches!(part, Part::Exponent),
+            8 => matches!(stage, Stage::Start | Stage::Mark) && !matches!(role, Some(Role::Sign)) && matches!(part, Part::Exponent),
             9 => matches!(role, Some(Role::Exponent)) && matches!(part, Part::Integer),
-            12 => {
-                self.leads(role)
-                    || (matches!(stage, Stage::Led) && matches!(part, Part::Integer) && matches!(role, Some(Role::Suffix)))
-            }
+            12 => match role {
+                Some(Role::Suffix) => matches!(stage, Stage::Led) && matches!(part, Part::Integer),
+                Some(Role::Digit) => integers && matches!(stage, Stage::Bare | Stage::Zero),
+                Some(Role::Separator) => {
+                    integers
+                        && matches!(stage, Stage::Bare | Stage::Zero)
+                        && !self.grammar.view().separators(part).trailing
+                }
+                _ => false,
+            },
             13 => {
                 matches!(stage, Stage::Led)
                     && matches!(part, Part::Integer)
@@ -220,26 +228,6 @@ impl Stop {
             }
             _ => false,
         }
-    }
-
-    // Returns whether what has the role `role` is a plus sign.
-    const fn is_plus(self, role: Option<Role>) -> bool
-        ensures { result ≡ (is_plus_next self.next && is_role Role.Sign role) }
-    {
-        matches!(self.next, Some(Class::Plus)) && matches!(role, Some(Role::Sign))
-    }
-
-    // Returns whether what has the role `role` makes a leading zero of an integer, where literals are integers.
-    const fn leads(self, role: Option<Role>) -> bool
-        ensures { result ≡ leads (notation_of self.grammar) self.read role }
-    {
-        let after_zero = matches!(self.read.stage, Stage::Bare | Stage::Zero);
-        let is_last = match role {
-            Some(Role::Digit) => false,
-            Some(Role::Separator) => self.grammar.view().separators(self.read.part).trailing,
-            _ => true,
-        };
-        matches!(self.grammar.options, None) && after_zero && !is_last
     }
 
     // Returns the mask of the flag with the number `number` if it alone refuses what has the role `role`.
@@ -295,30 +283,32 @@ impl Stop {
         self.read.gap || matches!(self.role(), Some(Role::Separator))
     }
 
-    // Returns `flag` if what cannot follow is allowed with this one flag more, and 0 otherwise.
-    const fn permitted(self, flag: u128) -> u128
-        ensures { (g : Flag) → flag ≡ 2 ^ bit g
-            → result ≡ (if allows (adding g (bare (notation_of self.grammar))) self.read self.next then 2 ^ bit g else 0) }
+    // Returns the mask of the flag with the number `number` if it alone allows what cannot follow, and 0 otherwise.
+    const fn permitted(self, number: u32) -> u128
+        requires { number < 44 }
+        ensures each { (g : Flag) → bit g ≡ number → (f : Flag) → (raw result).flag f
+            ≡ ((bit g == bit f) && allows (adding f (bare (notation_of self.grammar))) self.read self.next) }
+        ensures some { (g : Flag) → bit g ≡ number → result ≢ 0 → SomeFlag (raw result).flag }
     {
+        let flag = 1 << number;
         flag_if(self.allows(flag | self.bare()), flag)
     }
 
     // Returns the flags each of which would allow a separator that is not allowed.
     const fn separators(self) -> u128
         ensures each { (f : Flag) → (raw result).flag f
-            ≡ (separates (notation_of self.grammar) self.read (role_of_next self.read self.next) f
-            && allows (adding f (bare (notation_of self.grammar))) self.read self.next) }
+            ≡ ((self.read.gap || is_role Role.Separator (role_of_next self.read self.next))
+            && (is_own self.read.part f && allows (adding f (bare (notation_of self.grammar))) self.read self.next)) }
         ensures some { result ≢ 0 → SomeFlag (raw result).flag }
     {
         if !self.is_at_gap() {
             return 0;
         }
-        let own = separator_flags(self.read.part);
-        match self.place() {
-            Place::BeforeDigits => self.permitted(own.leading),
-            Place::AfterDigit => self.permitted(own.internal) | self.permitted(own.trailing),
-            Place::Consecutive => self.permitted(own.consecutive),
-        }
+        let internal = internal_number(self.read.part);
+        self.permitted(internal)
+            | self.permitted(internal + 3)
+            | self.permitted(internal + 6)
+            | self.permitted(internal + 9)
     }
 
     // Returns where a separator is not allowed.
@@ -411,48 +401,15 @@ const fn ends_part(role: Option<Role>) -> bool
     )
 }
 
-// Returns whether a sign is missing before a byte with the role `role`.
-const fn is_unsigned(stage: Stage, role: Option<Role>) -> bool
-    ensures { result ≡ is_unsigned stage role }
-{
-    matches!(stage, Stage::Start | Stage::Mark) && !matches!(role, Some(Role::Sign))
-}
-
-// The flags on the digit separators of a part.
-#[derive(Clone, Copy)]
-struct SeparatorFlags {
-    internal: u128,
-    leading: u128,
-    trailing: u128,
-    consecutive: u128,
-}
-
-// Returns the flags on the digit separators of `part`.
-const fn separator_flags(part: Part) -> SeparatorFlags
-    ensures internal { result.internal ≡ 2 ^ bit (separators_in part).internal }
-    ensures leading { result.leading ≡ 2 ^ bit (separators_in part).leading }
-    ensures trailing { result.trailing ≡ 2 ^ bit (separators_in part).trailing }
-    ensures consecutive { result.consecutive ≡ 2 ^ bit (separators_in part).consecutive }
+// Returns the number of the flag that allows a digit separator between digits of `part`. Those that allow it before digits,
+// behind them, and after another one have numbers that are higher by 3, 6 and 9.
+const fn internal_number(part: Part) -> u32
+    ensures { result ≡ bit (separators_in part).internal }
 {
     match part {
-        Part::Integer => SeparatorFlags {
-            internal: masks::INTEGER_INTERNAL_DIGIT_SEPARATOR,
-            leading: masks::INTEGER_LEADING_DIGIT_SEPARATOR,
-            trailing: masks::INTEGER_TRAILING_DIGIT_SEPARATOR,
-            consecutive: masks::INTEGER_CONSECUTIVE_DIGIT_SEPARATOR,
-        },
-        Part::Fraction => SeparatorFlags {
-            internal: masks::FRACTION_INTERNAL_DIGIT_SEPARATOR,
-            leading: masks::FRACTION_LEADING_DIGIT_SEPARATOR,
-            trailing: masks::FRACTION_TRAILING_DIGIT_SEPARATOR,
-            consecutive: masks::FRACTION_CONSECUTIVE_DIGIT_SEPARATOR,
-        },
-        Part::Exponent => SeparatorFlags {
-            internal: masks::EXPONENT_INTERNAL_DIGIT_SEPARATOR,
-            leading: masks::EXPONENT_LEADING_DIGIT_SEPARATOR,
-            trailing: masks::EXPONENT_TRAILING_DIGIT_SEPARATOR,
-            consecutive: masks::EXPONENT_CONSECUTIVE_DIGIT_SEPARATOR,
-        },
+        Part::Integer => 32,
+        Part::Fraction => 33,
+        Part::Exponent => 34,
     }
 }
 

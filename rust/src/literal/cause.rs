@@ -157,6 +157,8 @@ impl Stop {
     #[inline(always)]
     const fn refuses(self, role: Option<Role>, number: u32) -> bool {
         let Summary { part, stage, .. } = self.read;
+        let plus = matches!(self.next, Some(Class::Plus));
+        let integers = matches!(self.grammar.options, None);
         match number {
             0 => ends_part(role) && matches!(part, Part::Integer) && !has_digit(stage),
             1 => ends_part(role) && matches!(part, Part::Fraction) && !has_digit(stage),
@@ -166,18 +168,30 @@ impl Stop {
                 Part::Fraction => ends_part(role) && matches!(stage, Stage::Lone),
                 Part::Exponent => false,
             },
-            4 => self.is_plus(role) && !matches!(part, Part::Exponent),
-            5 => is_unsigned(stage, role) && !matches!(part, Part::Exponent),
-            6 => matches!(role, Some(Role::Exponent)),
-            7 => self.is_plus(role) && matches!(part, Part::Exponent),
-            8 => is_unsigned(stage, role) && matches!(part, Part::Exponent),
-            9 => matches!(role, Some(Role::Exponent)) && matches!(part, Part::Integer),
-            12 => {
-                self.leads(role)
-                    || (matches!(stage, Stage::Led)
-                        && matches!(part, Part::Integer)
-                        && matches!(role, Some(Role::Suffix)))
+            4 => plus && matches!(role, Some(Role::Sign)) && !matches!(part, Part::Exponent),
+            5 => {
+                matches!(stage, Stage::Start | Stage::Mark)
+                    && !matches!(role, Some(Role::Sign))
+                    && !matches!(part, Part::Exponent)
             }
+            6 => matches!(role, Some(Role::Exponent)),
+            7 => plus && matches!(role, Some(Role::Sign)) && matches!(part, Part::Exponent),
+            8 => {
+                matches!(stage, Stage::Start | Stage::Mark)
+                    && !matches!(role, Some(Role::Sign))
+                    && matches!(part, Part::Exponent)
+            }
+            9 => matches!(role, Some(Role::Exponent)) && matches!(part, Part::Integer),
+            12 => match role {
+                Some(Role::Suffix) => matches!(stage, Stage::Led) && matches!(part, Part::Integer),
+                Some(Role::Digit) => integers && matches!(stage, Stage::Bare | Stage::Zero),
+                Some(Role::Separator) => {
+                    integers
+                        && matches!(stage, Stage::Bare | Stage::Zero)
+                        && !self.grammar.view().separators(part).trailing
+                }
+                _ => false,
+            },
             13 => {
                 matches!(stage, Stage::Led)
                     && matches!(part, Part::Integer)
@@ -190,22 +204,6 @@ impl Stop {
             }
             _ => false,
         }
-    }
-
-    // Returns whether what has the role `role` is a plus sign.
-    const fn is_plus(self, role: Option<Role>) -> bool {
-        matches!(self.next, Some(Class::Plus)) && matches!(role, Some(Role::Sign))
-    }
-
-    // Returns whether what has the role `role` makes a leading zero of an integer, where literals are integers.
-    const fn leads(self, role: Option<Role>) -> bool {
-        let after_zero = matches!(self.read.stage, Stage::Bare | Stage::Zero);
-        let is_last = match role {
-            Some(Role::Digit) => false,
-            Some(Role::Separator) => self.grammar.view().separators(self.read.part).trailing,
-            _ => true,
-        };
-        matches!(self.grammar.options, None) && after_zero && !is_last
     }
 
     // Returns the mask of the flag with the number `number` if it alone refuses what has the role `role`.
@@ -247,8 +245,9 @@ impl Stop {
         self.read.gap || matches!(self.role(), Some(Role::Separator))
     }
 
-    // Returns `flag` if what cannot follow is allowed with this one flag more, and 0 otherwise.
-    const fn permitted(self, flag: u128) -> u128 {
+    // Returns the mask of the flag with the number `number` if it alone allows what cannot follow, and 0 otherwise.
+    const fn permitted(self, number: u32) -> u128 {
+        let flag = 1 << number;
         flag_if(self.allows(flag | self.bare()), flag)
     }
 
@@ -257,12 +256,11 @@ impl Stop {
         if !self.is_at_gap() {
             return 0;
         }
-        let own = separator_flags(self.read.part);
-        match self.place() {
-            Place::BeforeDigits => self.permitted(own.leading),
-            Place::AfterDigit => self.permitted(own.internal) | self.permitted(own.trailing),
-            Place::Consecutive => self.permitted(own.consecutive),
-        }
+        let internal = internal_number(self.read.part);
+        self.permitted(internal)
+            | self.permitted(internal + 3)
+            | self.permitted(internal + 6)
+            | self.permitted(internal + 9)
     }
 
     // Returns where a separator is not allowed.
@@ -333,41 +331,13 @@ const fn ends_part(role: Option<Role>) -> bool {
     matches!(role, Some(Role::Point | Role::Exponent | Role::Suffix))
 }
 
-// Returns whether a sign is missing before a byte with the role `role`.
-const fn is_unsigned(stage: Stage, role: Option<Role>) -> bool {
-    matches!(stage, Stage::Start | Stage::Mark) && !matches!(role, Some(Role::Sign))
-}
-
-// The flags on the digit separators of a part.
-#[derive(Clone, Copy)]
-struct SeparatorFlags {
-    internal: u128,
-    leading: u128,
-    trailing: u128,
-    consecutive: u128,
-}
-
-// Returns the flags on the digit separators of `part`.
-const fn separator_flags(part: Part) -> SeparatorFlags {
+// Returns the number of the flag that allows a digit separator between digits of `part`. Those that allow it before digits,
+// behind them, and after another one have numbers that are higher by 3, 6 and 9.
+const fn internal_number(part: Part) -> u32 {
     match part {
-        Part::Integer => SeparatorFlags {
-            internal: masks::INTEGER_INTERNAL_DIGIT_SEPARATOR,
-            leading: masks::INTEGER_LEADING_DIGIT_SEPARATOR,
-            trailing: masks::INTEGER_TRAILING_DIGIT_SEPARATOR,
-            consecutive: masks::INTEGER_CONSECUTIVE_DIGIT_SEPARATOR,
-        },
-        Part::Fraction => SeparatorFlags {
-            internal: masks::FRACTION_INTERNAL_DIGIT_SEPARATOR,
-            leading: masks::FRACTION_LEADING_DIGIT_SEPARATOR,
-            trailing: masks::FRACTION_TRAILING_DIGIT_SEPARATOR,
-            consecutive: masks::FRACTION_CONSECUTIVE_DIGIT_SEPARATOR,
-        },
-        Part::Exponent => SeparatorFlags {
-            internal: masks::EXPONENT_INTERNAL_DIGIT_SEPARATOR,
-            leading: masks::EXPONENT_LEADING_DIGIT_SEPARATOR,
-            trailing: masks::EXPONENT_TRAILING_DIGIT_SEPARATOR,
-            consecutive: masks::EXPONENT_CONSECUTIVE_DIGIT_SEPARATOR,
-        },
+        Part::Integer => 32,
+        Part::Fraction => 33,
+        Part::Exponent => 34,
     }
 }
 

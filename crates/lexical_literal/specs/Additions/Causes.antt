@@ -1,5 +1,5 @@
 -- What decides the cause of a refusal, computed from what has been read.
-use Rattle.std.specs.Prelude.{ℕ, ◌≡◌, ◌<◌, ◌+◌, ◌^◌, ◌==◌, ◌&&◌, ◌||◌, ◌↔◌, IsTrue, List, not, if◌then◌else◌, Bool, true, false, Option, Some, None, is_some}
+use Rattle.std.specs.Prelude.{ℕ, ◌≡◌, ◌<◌, ◌+◌, ◌^◌, ◌==◌, ◌&&◌, ◌||◌, ◌↔◌, IsTrue, List, [], ◌∷◌, not, if◌then◌else◌, Bool, true, false, Option, Some, None, is_some}
 use Rattle.lexical_util.specs.Ascii.{ByteSet}
 use Rattle.lexical_util.specs.Layout.{Flag, bit, part, separators_in}
 use Rattle.lexical_util.specs.declared.feature_format.roles.Role.{Role}
@@ -106,12 +106,14 @@ place_of m s role =
 abbrev pub separates : Notation → Summary → Option Role → Flag → Bool
 separates m s role f = (s.gap || is_role roles.Separator role) && is_at (place_of m s role) s.part f
 
--- `is_unsigned stage role` is true if a sign is missing before a byte with the role `role`.
-abbrev pub is_unsigned : Stage → Option Role → Bool
-is_unsigned stage role = is_fresh stage && not (is_role roles.Sign role)
+-- `is_own part f` is true if the flag `f` is about digit separators in `part`.
+abbrev pub is_own : Part → Flag → Bool
+is_own part f = is_one_of ((separators_in part).internal ∷ (separators_in part).leading ∷ (separators_in part).trailing
+    ∷ (separators_in part).consecutive ∷ []) f
 
--- `leads m s role` is true if a byte with the role `role` makes a leading zero, where literals are integers.
+-- `leads m s role` is true if a byte with the role `role` makes a leading zero of an integer, or ends one with a leading zero.
 abbrev pub leads : Notation → Summary → Option Role → Bool
+leads m s (Some roles.Suffix) = is_led s.stage && is_part parts.Integer s.part
 leads m s (Some roles.Digit) = m.integers_only && is_after_zero s.stage
 leads m s (Some roles.Separator) = m.integers_only && (is_after_zero s.stage && not (m.flag (separators_in s.part).trailing))
 leads m s _ = false
@@ -125,13 +127,13 @@ refuses m s plus role number =
     else (if number == 2 then ends_part role && (is_part parts.Exponent s.part && not (has_digit s.stage))
     else (if number == 3 then (is_part parts.Integer s.part && (is_role roles.Exponent role && not (has_digit s.stage)))
       || (is_part parts.Fraction s.part && (ends_part role && is_lone s.stage))
-    else (if number == 4 then (plus && is_role roles.Sign role) && not (is_part parts.Exponent s.part)
-    else (if number == 5 then is_unsigned s.stage role && not (is_part parts.Exponent s.part)
+    else (if number == 4 then plus && (is_role roles.Sign role && not (is_part parts.Exponent s.part))
+    else (if number == 5 then is_fresh s.stage && (not (is_role roles.Sign role) && not (is_part parts.Exponent s.part))
     else (if number == 6 then is_role roles.Exponent role
-    else (if number == 7 then (plus && is_role roles.Sign role) && is_part parts.Exponent s.part
-    else (if number == 8 then is_unsigned s.stage role && is_part parts.Exponent s.part
+    else (if number == 7 then plus && (is_role roles.Sign role && is_part parts.Exponent s.part)
+    else (if number == 8 then is_fresh s.stage && (not (is_role roles.Sign role) && is_part parts.Exponent s.part)
     else (if number == 9 then is_role roles.Exponent role && is_part parts.Integer s.part
-    else (if number == 12 then leads m s role || (is_led s.stage && (is_part parts.Integer s.part && is_role roles.Suffix role))
+    else (if number == 12 then leads m s role
     else (if number == 13 then is_led s.stage && (is_part parts.Integer s.part && (is_role roles.Point role || is_role roles.Exponent role))
     else (if number == 14 then is_role roles.Suffix role && (not (is_part parts.Exponent s.part) && not m.integers_only)
     else false))))))))))))

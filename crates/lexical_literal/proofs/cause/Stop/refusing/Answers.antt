@@ -6,8 +6,7 @@ use Rattle.lexical_util.specs.Record.{raw}
 use Rattle.lexical_literal.specs.Additions.Causes.{is_plus_next, refuses}
 use Rattle.lexical_literal.specs.Cause.{is_one_of, requirement_flags}
 use Rattle.lexical_literal.specs.Notation.{notation_of}
-use Rattle.lexical_literal.proofs.CauseLemmas.{flag_or}
-use Rattle.lexical_literal.proofs.JointLemmas.{alone_role}
+use Rattle.lexical_literal.proofs.CauseLemmas.{either}
 use Rattle.lexical_literal.proofs.cause.Stop.refusing.Goals as goal
 
 -- The row with the number of a flag decides.
@@ -20,17 +19,12 @@ module _ (R : ℕ → Bool) where
   decides layout.required_integer_digits = grind arith
   decides _ = grind arith
 
-either : (f : Flag) (a b : ℕ) (x y : Bool) → (raw a).flag f ≡ x → (raw b).flag f ≡ y → (raw (bit_or a b)).flag f ≡ (x || y)
-either f a b x y is_a is_b = flag_or f a b ∙ (λ j. is_a j || is_b j)
-
 pub returns : goal.returns
 returns c f =
-    let m = notation_of c.args.self.grammar in
-    let s = c.args.self.read in
-    let plus = is_plus_next c.args.self.next in
+    let R = refuses (notation_of c.args.self.grammar) c.args.self.read (is_plus_next c.args.self.next) in
     let digits = either f _ _ _ _ (either f _ _ _ _ (either f _ _ _ _ (c.row.ensures f) (c.row-2.ensures f)) (c.row-3.ensures f)) (c.row-4.ensures f) in
     let signs = either f _ _ _ _ (either f _ _ _ _ (either f _ _ _ _ (c.row-5.ensures f) (c.row-6.ensures f)) (c.row-7.ensures f)) (c.row-8.ensures f) in
     let exponents = either f _ _ _ _ (either f _ _ _ _ (c.row-9.ensures f) (c.row-10.ensures f)) (c.row-11.ensures f) in
     let zeros = either f _ _ _ _ (c.row-12.ensures f) (c.row-13.ensures f) in
     either f _ _ _ _ (either f _ _ _ _ (either f _ _ _ _ digits signs) exponents) zeros
-    ∙ decides (refuses m s plus c.role-role.result) f ∙ ap (λ r. is_one_of requirement_flags f && refuses m s plus r (bit f)) c.role-role.ensures
+    ∙ decides (R c.role-role.result) f ∙ ap (λ r. is_one_of requirement_flags f && R r (bit f)) c.role-role.ensures
