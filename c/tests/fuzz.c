@@ -15,12 +15,15 @@
 #define WRITE(function, ...) \
     do { \
         const size_t room = (size_t)(draw() % 64), whole = function(__VA_ARGS__, text, sizeof text); \
-        char *const part = malloc(room ? room : 1); \
-        CHECK(part && function(__VA_ARGS__, part, room) == whole && whole == strlen(text)); \
+        char *const part = malloc(room + 1); \
+        CHECK(part); \
+        part[room] = '#'; \
+        CHECK(function(__VA_ARGS__, part, room) == whole && whole == strlen(text) && part[room] == '#'); \
         CHECK(!room || (strlen(part) == (whole < room ? whole : room - 1) && !strncmp(part, text, strlen(part)))); \
         free(part); \
     } while (0)
 
+static const peltzivar_word NONE = {0, 0};
 static unsigned long number;
 static uint64_t state = 0x9E3779B97F4A7C15;
 static char text[PELTZIVAR_SOURCE_SIZE];
@@ -96,12 +99,15 @@ static void test_reasons(peltzivar_word word) {
         count++;
         WRITE(peltzivar_reason_text, word, count);
     }
-    CHECK((count == 0) == !peltzivar_check(word) && !peltzivar_reason_rules(word, count));
+    const size_t behind = count + (size_t)draw() % (draw() % 2 ? 4 : SIZE_MAX - count);
+    WRITE(peltzivar_reason_text, word, behind);
+    CHECK((count == 0) == !peltzivar_check(word) && !*text && !peltzivar_reason_rules(word, behind));
+    CHECK(is_same(peltzivar_reason_mask(word, behind), NONE));
     const peltzivar_fields fields = peltzivar_fields_of(word);
     for (count = 0; count < 4; count++) {
-        WRITE(peltzivar_note_text, &fields, count);
-        const peltzivar_word mask = peltzivar_note_mask(&fields, count);
-        CHECK(!*text == !(mask.low || mask.high));
+        const size_t index = count < 3 ? count : behind;
+        WRITE(peltzivar_note_text, &fields, index);
+        CHECK(!*text == is_same(peltzivar_note_mask(&fields, index), NONE));
     }
 }
 
@@ -113,6 +119,10 @@ static void test_options(peltzivar_word word) {
     CHECK(!*text == !peltzivar_check_options(word, exponent, point));
     CHECK(!*text || peltzivar_check_options(mixed(word, mask), exponent, point));
     CHECK(!*text == !peltzivar_options_reason_roles(word, exponent, point, 0));
+    const size_t behind = 9 + (size_t)draw() % (SIZE_MAX - 9);
+    WRITE(peltzivar_options_reason_text, word, exponent, point, behind);
+    CHECK(!*text && !peltzivar_options_reason_roles(word, exponent, point, behind));
+    CHECK(is_same(peltzivar_options_reason_mask(word, exponent, point, behind), NONE));
 }
 
 /* The role of a byte agrees with the other calls. */
@@ -121,6 +131,8 @@ static void test_roles(peltzivar_word word) {
     const peltzivar_role role = peltzivar_role_of(word, exponent, point, byte);
     const bool is_digit = peltzivar_mantissa_digit(word, byte) < 36 || peltzivar_exponent_digit(word, byte) < 36;
     CHECK(role <= PELTZIVAR_ROLE_POINT && is_digit == (role == PELTZIVAR_ROLE_DIGIT));
+    const peltzivar_separators allowed = peltzivar_separators_of(word, byte);
+    CHECK(byte < 3 || !(allowed.internal || allowed.leading || allowed.trailing || allowed.consecutive));
     if (peltzivar_check(word) || peltzivar_check_options(word, exponent, point)) return;
     CHECK(peltzivar_is_separator(word, byte) == (role == PELTZIVAR_ROLE_SEPARATOR));
     CHECK(peltzivar_is_base_prefix(word, byte) == (role == PELTZIVAR_ROLE_PREFIX));

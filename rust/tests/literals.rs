@@ -48,7 +48,9 @@ fn has_parts(literal: Literal<'_>) {
     for (part, bytes) in parts.into_iter().chain([(Part::Exponent, literal.exponent())]) {
         let values = bytes.iter().filter_map(|&byte| char::from(byte).to_digit(literal.radix(part)));
         let (wanted, digits) = (Vec::from_iter(values), literal.digits(part));
+        let (least, most) = digits.size_hint();
         assert_eq!(digits.clone().count(), wanted.len());
+        assert!(least <= wanted.len() && Some(wanted.len()) <= most);
         assert!(digits.clone().map(u32::from).eq(wanted.iter().copied()), "{literal:?}");
         assert!(digits.rev().map(u32::from).eq(wanted.into_iter().rev()), "{literal:?}");
     }

@@ -42,14 +42,10 @@ IsAbsentOrPunctuation-from r counts byte text digits_apart signs_apart =
           inr (ascii, not_in (digits r) counts byte digits_apart small some, not_in signs counts byte signs_apart small some)
     ]
 
--- The mantissa radix in place of a mantissa radix of 0 is the mantissa radix.
-pub mantissa_itself : (radix : ℕ) → IsRadix radix ↔ IsRadix (effective radix radix)
-mantissa_itself radix = (λ h. grind (arith, nat_tests), λ h. grind (arith, nat_tests))
-
 -- A lawful word satisfies every rule.
 pub Holds-from_lawful : (rule : Rule) (word : ℕ) → Lawful word → Holds rule word
 unfolding Holds Lawful
-Holds-from_lawful rules.MantissaRadixInRange word h = (mantissa_itself _).0 h.mantissa_radix
+Holds-from_lawful rules.MantissaRadixInRange word h = let radix = h.mantissa_radix in grind (arith, nat_tests)
 Holds-from_lawful rules.ExponentBaseInRange word h = h.exponent_base
 Holds-from_lawful rules.ExponentRadixInRange word h = h.exponent_radix
 Holds-from_lawful rules.DigitSeparatorIsPunctuation word h =
@@ -89,7 +85,7 @@ Lawful-from_all word h =
     let prefix : IsAbsentOrPunctuation r (r.byte layout.base_prefix) = h rules.BasePrefixIsPunctuation in
     let suffix : IsAbsentOrPunctuation r (r.byte layout.base_suffix) = h rules.BaseSuffixIsPunctuation in
     record {
-      mantissa_radix = (mantissa_itself _).1 (h rules.MantissaRadixInRange);
+      mantissa_radix = let radix = h rules.MantissaRadixInRange in grind (arith, nat_tests);
       exponent_base = h rules.ExponentBaseInRange;
       exponent_radix = h rules.ExponentRadixInRange;
       flags = recursion_from_All (λ rule. Holds rule word) flag_rules (λ i d inside. h _);
@@ -100,89 +96,26 @@ Lawful-from_all word h =
       clean = h rules.ReservedBitsAreZero;
     }
 
--- No rule has the error Success.
-error_of-success : (rule : Rule) → error_of rule ≢ Success
-error_of-success rule e = grind arith
-
--- If the first error of a list of rules is Success, then each rule of the list is satisfied.
-all_from_success : (word : ℕ) (rules : List Rule) → IsFirstError rules word Success
-    → AllByRecursion (λ rule. Holds rule word) rules
-all_from_success word [] h = tt
-all_from_success word (rule ∷ rules) (inl broken) = absurd (error_of-success rule (sym broken.1))
-all_from_success word (rule ∷ rules) (inr kept) = (kept.0, all_from_success word rules kept.1)
-
--- If every rule is satisfied, then the first error of each list of rules is Success.
-success_from_all : (word : ℕ) (error : Error) → ((rule : Rule) → Holds rule word) → (rules : List Rule)
-    → IsFirstError rules word error → error ≡ Success
-success_from_all word error all [] h = h
-success_from_all word error all (rule ∷ rules) (inl broken) = absurd (broken.0 (all rule))
-success_from_all word error all (rule ∷ rules) (inr kept) = success_from_all word error all rules kept.1
-
--- If the rest of a list of demands has at most one error, then so has the list.
-pub ErrorUnless-unique : {demand : Type 0} {own : Error} {next : Error → Type 0}
-    → ((a b : Error) → next a → next b → a ≡ b)
-    → (a b : Error) → ErrorUnless demand own next a → ErrorUnless demand own next b → a ≡ b
-ErrorUnless-unique one a b (inl h) (inl k) = h.1 ∙ sym k.1
-ErrorUnless-unique one a b (inl h) (inr k) = absurd (h.0 k.0)
-ErrorUnless-unique one a b (inr h) (inl k) = absurd (k.0 h.0)
-ErrorUnless-unique one a b (inr h) (inr k) = one a b h.1 k.1
-
-pub IsFirstError-unique : (word : ℕ) (rules : List Rule) (a b : Error) → IsFirstError rules word a
-    → IsFirstError rules word b → a ≡ b
-IsFirstError-unique word [] a b h k = h ∙ sym k
-IsFirstError-unique word (rule ∷ rules) a b h k = ErrorUnless-unique (IsFirstError-unique word rules) a b h k
-
+-- A word has one error.
 pub one_error : (word : ℕ) (a b : Error) → IsErrorOf word a → IsErrorOf word b → a ≡ b
 unfolding IsErrorOf
-one_error word = IsFirstError-unique word rules_in_order
+one_error word a b h k = grind arith
 
 -- Words that satisfy the same rules have the same error.
-IsFirstError-same : (v w : ℕ) → ((rule : Rule) → Holds rule v ↔ Holds rule w) → (rules : List Rule) (error : Error)
-    → IsFirstError rules v error → IsFirstError rules w error
-IsFirstError-same v w same [] error h = h
-IsFirstError-same v w same (rule ∷ rules) error (inl broken) = inl (λ kept. broken.0 ((same rule).1 kept), broken.1)
-IsFirstError-same v w same (rule ∷ rules) error (inr kept) =
-    inr ((same rule).0 kept.0, IsFirstError-same v w same rules error kept.1)
-
 pub IsErrorOf-same : (v w : ℕ) → ((rule : Rule) → Holds rule v ↔ Holds rule w) → (error : Error) → IsErrorOf v error
     ↔ IsErrorOf w error
 unfolding IsErrorOf
-IsErrorOf-same v w same error = (
-  IsFirstError-same v w same rules_in_order error,
-  IsFirstError-same w v
-      (λ rule. ((same rule).1, (same rule).0)) rules_in_order error,
-)
-
--- A clean word satisfies the rule whose error is InvalidFlags.
-reserved-error : (rule : Rule) (word : ℕ) → error_of rule ≡ InvalidFlags → IsClean word → Holds rule word
-unfolding Holds
-reserved-error rules.ReservedBitsAreZero word e clean = clean
-reserved-error rule word e clean = absurd (grind arith)
-
-clean-first : (word : ℕ) (rules : List Rule) → IsClean word → IsFirstError rules word InvalidFlags → ⊥
-clean-first word [] clean h = cc
-clean-first word (rule ∷ rules) clean (inl broken) = broken.0 (reserved-error rule word (sym broken.1) clean)
-clean-first word (rule ∷ rules) clean (inr kept) = clean-first word rules clean kept.1
+IsErrorOf-same v w same error = grind arith
 
 -- The error of a clean word is never InvalidFlags.
 pub not_flags : (word : ℕ) (error : Error) → IsClean word → IsErrorOf word error → error ≢ InvalidFlags
-unfolding IsErrorOf
-not_flags word error clean h e = clean-first word rules_in_order clean (subst (IsErrorOf word) e h)
-
--- If each rule in the list of all rules is satisfied, then every rule is satisfied.
-every_rule : (word : ℕ) → AllByRecursion (λ rule. Holds rule word) rules_in_order → (rule : Rule) → Holds rule word
-every_rule word all rules.MantissaRadixInRange = assumption all
-every_rule word all _ = assumption all
-
--- A word without an error satisfies every rule, so it is lawful.
-pub Lawful-from_success : (word : ℕ) → IsErrorOf word Success → Lawful word
-unfolding IsErrorOf
-Lawful-from_success word h = Lawful-from_all word (every_rule word (all_from_success word rules_in_order h))
+unfolding IsErrorOf Holds
+not_flags word error clean h e = grind arith
 
 -- The error of a word is Success if and only if the word is lawful.
 pub success_lawful : (word : ℕ) (error : Error) → IsErrorOf word error → ((error ≡ Success) ↔ Lawful word)
 unfolding IsErrorOf
 success_lawful word error h = (
-  λ e. Lawful-from_success word (subst (IsErrorOf word) e h),
-  λ lawful. success_from_all word error (λ rule. Holds-from_lawful rule word lawful) rules_in_order h,
+  λ e. Lawful-from_all word (λ rule. grind arith),
+  λ lawful. let all = λ (rule : Rule). Holds-from_lawful rule word lawful in grind arith,
 )

@@ -64,17 +64,12 @@ blamed_by_none (Some r ∷ list) m =
     )
 
 then_some_is : (t : Bool) (a b : Note) → then_some t a ≡ Some b → IsTrue t × (a ≡ b)
-then_some_is true a b same = (refl, same_Some a b same)
-then_some_is false a b same = absurd (none-some b same)
+then_some_is t a b same = grind arith
 
 -- A note is left if and only if it was there and names no field under the mask.
 unless_is : (mask : ℕ) (o : Option Note) (note : Note)
     → (unless_blamed mask o ≡ Some note) ↔ ((o ≡ Some note) × (bit_and mask (mask_of_note note) ≡ 0))
-unless_is mask None note = (λ is. absurd (none-some note is), λ both. both.0)
-unless_is mask (Some own) note = (
-  λ is. grind (arith, nat_tests),
-  λ both. let same = same_Some own note both.0 in grind (arith, nat_tests),
-)
+unless_is mask o note = grind (arith, nat_tests)
 
 separator_when : (r : Record) (note : Note) → separator_note r ≡ Some note → IsIdle r note
 separator_when r (notes.SeparatorWithoutFlag b) is = grind (arith, nat_tests)
@@ -100,10 +95,7 @@ InSlot r note = (separator_note r ≡ Some note)
 
 case_slot : (r : Record) (f : FlagSetter) (name : Byte) (note : Note) → IsSetCaseFlag r f name
     → (is_cased r name ≡ true → case_note r f name ≡ Some note) → InSlot r note
-case_slot r f name note (inl (f_is, name_is, on)) there =
-    inr (inl (sym (λ i. case_note r (f_is i) (name_is i)) ∙ there (ap (is_cased r) name_is ∙ on)))
-case_slot r f name note (inr (f_is, name_is, on)) there =
-    inr (inr (sym (λ i. case_note r (f_is i) (name_is i)) ∙ there (ap (is_cased r) name_is ∙ on)))
+case_slot r f name note set there = grind arith
 
 in_slot : (r : Record) (note : Note) → IsIdle r note → InSlot r note
 in_slot r (notes.SeparatorWithoutFlag b) (off, name, has, some) = inl (grind (arith, nat_tests))

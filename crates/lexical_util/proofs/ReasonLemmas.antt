@@ -161,8 +161,7 @@ alone P D (Some c) h = ((h, tt), λ none. absurd (let is = none.0 in cc))
 
 settled_if : (P : Cause → Type 0) (D : Type 0) (b : Bool) (c : Cause) → (IsTrue b → P c) → (b ≡ false → D)
     → MatchOption (then_some b c) D P
-settled_if P D true c some none = some refl
-settled_if P D false c some none = none refl
+settled_if P D b c some none = grind arith
 
 settled_there : (P : Cause → Type 0) (D : Type 0) (b : NamedByte) (o : Option Cause) → (b.value ≡ 0 → D)
     → (b.value ≢ 0 → MatchOption o D P) → MatchOption (if_present b o) D P
@@ -237,13 +236,8 @@ present r n k some same (inr free) = subst (IsPunctuation r) same free
 -- If two roles share a byte, then their bytes are present, and equal or the two cases of a letter.
 clash_facts : (ac : Bool) (a : ℕ) (bc : Bool) (b : ℕ) → (Disjoint (cased ac a) (cased bc b) → ⊥)
     → (a ≢ 0) × (b ≢ a → b ≡ other_case a)
-clash_facts ac a bc b clash = (
-  λ none. clash (differ_apart ac a bc b (λ some. absurd (some none))),
-  λ differ. elim (cases_eq b (other_case a)) [
-    | inl other ↦ other
-    | inr not_other ↦ absurd (clash (differ_apart ac a bc b (λ some. (λ same. differ (sym same), not_other))))
-  ],
-)
+clash_facts ac a bc b clash =
+    let apart : (a ≢ 0 → (a ≢ b) × (b ≢ other_case a)) → ⊥ = λ h. clash (differ_apart ac a bc b h) in grind (arith, nat_tests)
 
 -- The flag of a setter is set if and only if the setter's test says so.
 set_is : (w : ℕ) (f : Flag) → any_flag w (flags_of (setter_of f)) ≡ (raw w).flag f
