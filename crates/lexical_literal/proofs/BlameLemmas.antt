@@ -48,27 +48,20 @@ both_bits a b is small = omega arith
 pub of_mask : (word mask k : ℕ) → part (bit_and word mask) k 1 ≡ 1 → part mask k 1 ≡ 1
 of_mask word mask k one = both_bits _ _ (sym (bit_at_and word mask k) ∙ one) (bit_small mask k)
 
--- What requires something is among the lowest flags.
-pub below_15 : (f : Flag) → is_one_of requirement_flags f ≡ true → bit f < 15
-below_15 f is = grind (arith, nat_tests)
-
 -- FEWER REQUIREMENTS
 
 module _ (m : Notation) where
-  weak_bare : (x r : Bool) → ((x && not r) && r) ≡ true → x ≡ true
-  weak_bare x r is = grind arith
-
-  kept_bare : (x r : Bool) → x ≡ true → ((x && not r) || r) ≡ true
-  kept_bare x r is = grind arith
-
-  pub bare_weaker : IsWeaker m (bare m).flag
-  bare_weaker = record { no_more = λ f is. weak_bare (m.flag f) _ is; no_less = λ f is. kept_bare (m.flag f) _ is }
-
-  weak_adding : (e x r : Bool) → ((e || (x && not r)) && r) ≡ true → e ≡ true
-  weak_adding e x r is = grind arith
+  weak_without : (x e r : Bool) → ((x && not e) && r) ≡ true → x ≡ true
+  weak_without x e r is = grind arith
 
   kept_adding : (e x r : Bool) → x ≡ true → ((e || (x && not r)) || r) ≡ true
   kept_adding e x r is = grind arith
+
+  pub bare_weaker : IsWeaker m (bare m).flag
+  bare_weaker = record { no_more = λ f is. weak_without (m.flag f) _ _ is; no_less = λ f is. kept_adding false (m.flag f) _ is }
+
+  weak_adding : (e x r : Bool) → ((e || (x && not r)) && r) ≡ true → e ≡ true
+  weak_adding e x r is = grind arith
 
   -- One requirement that is set, or one that allows separators.
   pub adding_weaker : (f : Flag) → (IsTrue (is_one_of requirement_flags f) → m.flag f ≡ true) → IsWeaker m (adding f (bare m)).flag
@@ -78,9 +71,6 @@ module _ (m : Notation) where
         ap m.flag same ∙ set (ap (is_one_of requirement_flags) (sym same) ∙ (and_parts ((bit g == bit f) || (bare m).flag g) _ is).1);
     no_less = λ g is. kept_adding (bit g == bit f) (m.flag g) (is_one_of requirement_flags g) is;
   }
-
-  weak_without : (x e r : Bool) → ((x && not e) && r) ≡ true → x ≡ true
-  weak_without x e r is = grind arith
 
   pub without_weaker : (f : Flag) → is_one_of requirement_flags f ≡ true → IsWeaker m (without f m).flag
   without_weaker f requires = record {
