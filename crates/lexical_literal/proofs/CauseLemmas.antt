@@ -114,11 +114,3 @@ module _ (A : ByteSet) where
   pub behind_more : (text : List ℕ) (byte : ℕ) → behind A (text ++ byte ∷ []) ≡ (if A byte then length text + 1 else behind A text)
   behind_more [] byte = grind arith
   behind_more (b ∷ text) byte = let more = behind_more text byte in let any = list_any-append A text (byte ∷ []) in grind arith
-
-  pub first_append : (x y : List ℕ) → first_in A x ≡ length x → first_in A (x ++ y) ≡ length x + first_in A y
-  first_append [] y none = omega arith
-  first_append (b ∷ x) y none = let more = first_append x y in grind arith
-
-  pub first_before : (x y : List ℕ) → first_in A x < length x → first_in A (x ++ y) ≡ first_in A x
-  first_before [] y some = absurd (omega arith)
-  first_before (b ∷ x) y some = let more = first_before x y in grind arith
