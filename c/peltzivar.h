@@ -21,16 +21,20 @@
  * A setter writes a flag, a group of flags, or a byte. An edit is a setter with a value. A word is lawful if it
  * satisfies all rules below. In the repository, docs/FORMAT.md describes each field and each rule.
  *
- * An argument that is a word, an edit, a number or a byte may have any value. A pointer that is passed with a length
- * must point to an array of at least that many elements, but it may be null if the length is 0. Any other pointer must
- * point to an object of the declared type, or to an array of at least the declared size. All input must be initialised.
- * This includes *fields in peltzivar_edit_fields, since *fields is both input and output. Memory that is only output
- * need not be initialised. Memory that a function writes to must not overlap memory to which another argument points.
+ * An argument that is a word, an edit, a syntax, a number or a byte may have any value. A pointer that is passed with a
+ * length must point to an array of at least that many elements, but it may be null if the length is 0. An input array
+ * of more than PTRDIFF_MAX bytes is refused and not read. Any other pointer must point to an object of the declared
+ * type, or to an array of at least the declared size, but it may be null if the object is only output. All input must
+ * be initialised. This includes *fields in peltzivar_edit_fields, since *fields is both input and output. Memory that
+ * is only output need not be initialised. Memory that a function writes to must not overlap memory to which another
+ * argument points.
  * No function allocates memory, retains a pointer or sets errno. Several threads may call these functions at the same
  * time, provided that no call writes memory that another call reads or writes.
  *
- * From 0.6 on, a setter, rule, role or error has the same number in every version. The SONAME of the shared library
- * contains the minor version, and changes only if a function, a structure or a result changes. */
+ * From 0.9 on, setters, rules, roles, parts, causes, spellings and errors keep their numbers. The SONAME of the shared
+ * library contains the major version and, before 1.0, the minor version. It changes if a function, a structure or a
+ * documented result changes, so a program never loads a library that does not fit it. It does not change if a function
+ * is added. The wording of sentences is not part of this promise. */
 #ifndef PELTZIVAR_H
 #define PELTZIVAR_H
 #include <stdbool.h>
@@ -38,19 +42,10 @@
 #include <stdint.h>
 
 /* The version of this header. PELTZIVAR_VERSION_NUMBER is (major << 16) | (minor << 8) | patch. */
-#define PELTZIVAR_VERSION "0.6.0"
-#define PELTZIVAR_VERSION_NUMBER 0x000600
+#define PELTZIVAR_VERSION "0.9.0"
+#define PELTZIVAR_VERSION_NUMBER 0x000900
 
-/* To link with the DLL of the library on Windows, define PELTZIVAR_SHARED before you include this header. */
-#ifndef PELTZIVAR_API
-#if defined(_WIN32) && defined(PELTZIVAR_SHARED)
-#define PELTZIVAR_API __declspec(dllimport)
-#else
-#define PELTZIVAR_API
-#endif
-#endif
-
-/* PELTZIVAR_MUST_USE marks functions whose result reports an error, or reports whether they wrote their output. */
+/* PELTZIVAR_MUST_USE marks functions whose result states whether they wrote their output. */
 #ifndef PELTZIVAR_MUST_USE
 #if (defined(__cplusplus) && __cplusplus >= 201703L) || (defined(__STDC_VERSION__) && __STDC_VERSION__ >= 202311L)
 #define PELTZIVAR_MUST_USE [[nodiscard]]
@@ -101,93 +96,95 @@ static const peltzivar_fields PELTZIVAR_NEW_FIELDS = PELTZIVAR_NEW_FIELDS_INIT;
 #define PELTZIVAR_SOURCE_SIZE 2048
 #define PELTZIVAR_TEXT_SIZE 256
 
-/* Results for a name without a setter, and for a byte that is not a digit. */
+/* The numbers of no setter, of no part of a number, and of a byte that is not a digit. */
 #define PELTZIVAR_NO_SETTER 255
+#define PELTZIVAR_NO_PART 255
 #define PELTZIVAR_NO_DIGIT UINT32_MAX
 
 /* Returns the version of the library in the form of PELTZIVAR_VERSION_NUMBER. */
-PELTZIVAR_API uint32_t peltzivar_version(void);
+uint32_t peltzivar_version(void);
 
 /* WORDS */
 
 /* Applies the edits, in order, to a copy of PELTZIVAR_NEW_FIELDS, packs it, writes the word to *out and returns true.
  * If a setter is unknown, returns false and leaves *out unchanged. The word may be unlawful (see peltzivar_check). */
-PELTZIVAR_MUST_USE PELTZIVAR_API bool peltzivar_build(const peltzivar_edit *edits, size_t len, peltzivar_word *out);
+PELTZIVAR_MUST_USE bool peltzivar_build(const peltzivar_edit *edits, size_t len, peltzivar_word *out);
 
 /* Applies the edits, in order, to the fields that peltzivar_fields_of returns, packs them, writes the word to *out and
  * returns true. If a setter is unknown, returns false and leaves *out unchanged. Since absent exponent bytes are
  * filled, and packing may drop the digit separator, two calls do not always give the same word as one call with all of
  * the edits. Edit the digit separator and its flags in the same call. */
-PELTZIVAR_MUST_USE PELTZIVAR_API bool peltzivar_edit_word(
+PELTZIVAR_MUST_USE bool peltzivar_edit_word(
     peltzivar_word format, const peltzivar_edit *edits, size_t len, peltzivar_word *out);
 
 /* Returns PELTZIVAR_SUCCESS if a word is lawful, and otherwise the error of the first rule that it breaks. */
-PELTZIVAR_MUST_USE PELTZIVAR_API peltzivar_error peltzivar_check(peltzivar_word format);
+peltzivar_error peltzivar_check(peltzivar_word format);
 
 /* Returns the normal form of a word: the same fields, except that the mantissa radix replaces each absent exponent
  * byte, that the digit separator is 0 if no digit separator flag is set, and that all reserved bits are 0. */
-PELTZIVAR_API peltzivar_word peltzivar_normal_form(peltzivar_word format);
+peltzivar_word peltzivar_normal_form(peltzivar_word format);
 
 /* Returns whether two words have the same normal form. */
-PELTZIVAR_API bool peltzivar_same_format(peltzivar_word a, peltzivar_word b);
+bool peltzivar_same_format(peltzivar_word a, peltzivar_word b);
 
 /* If the normal form of a word is lawful, writes it to *out and returns PELTZIVAR_SUCCESS. Otherwise, returns the error
  * of the first rule that the normal form breaks, and leaves *out unchanged. */
-PELTZIVAR_MUST_USE PELTZIVAR_API peltzivar_error peltzivar_migrate(peltzivar_word format, peltzivar_word *out);
+PELTZIVAR_MUST_USE peltzivar_error peltzivar_migrate(peltzivar_word format, peltzivar_word *out);
 
 /* Returns whether a word is one that peltzivar_pack can return: all its reserved bits are 0, and at least one of its
  * digit separator flags is set unless its digit separator is 0. */
-PELTZIVAR_API bool peltzivar_is_built(peltzivar_word format);
+bool peltzivar_is_built(peltzivar_word format);
 
-/* Fills the array with one edit for each field of a word. The edits that change PELTZIVAR_NEW_FIELDS come first, and
- * their number is returned. Applying only these edits to a copy of PELTZIVAR_NEW_FIELDS yields the fields of the word.
- * For an absent exponent byte, the value of the edit is 0, not the mantissa radix. */
-PELTZIVAR_API size_t peltzivar_edits_of(peltzivar_word format, peltzivar_edit edits[PELTZIVAR_FIELD_COUNT]);
+/* Returns the number of fields of a word that differ from PELTZIVAR_NEW_FIELDS, at most PELTZIVAR_FIELD_COUNT, and
+ * writes an edit for each to an array of len edits, as far as they fit. Applying all of these edits to a copy of
+ * PELTZIVAR_NEW_FIELDS yields the fields of the word, in which an absent exponent byte is 0. */
+size_t peltzivar_edits_of(peltzivar_word format, peltzivar_edit *edits, size_t len);
 
 /* Returns whether a flag, or at least one flag of a group, is set in a word. For any other setter, returns false. */
-PELTZIVAR_API bool peltzivar_flag(peltzivar_word format, peltzivar_setter setter);
+bool peltzivar_flag(peltzivar_word format, peltzivar_setter setter);
 
 /* Parses a string of len bytes, which need not be null-terminated. If the string is `0x` followed by 1 to 32
  * hexadecimal digits of either case, writes the word to *out and returns PELTZIVAR_SUCCESS. Otherwise, leaves *out
- * unchanged and returns PELTZIVAR_EMPTY if the string is empty, `0` or `0x`, PELTZIVAR_OVERFLOW if it is UTF-8 and
- * begins with `0x` and at least 33 hexadecimal digits, and PELTZIVAR_INVALID_DIGIT in every other case. */
-PELTZIVAR_MUST_USE PELTZIVAR_API peltzivar_error peltzivar_parse_word(
-    const char *text, size_t len, peltzivar_word *out);
+ * unchanged, writes the index for peltzivar_error_text to *index, and returns PELTZIVAR_EMPTY if the string is empty,
+ * `0` or `0x`, PELTZIVAR_OVERFLOW if it is UTF-8 and begins with `0x` and at least 33 hexadecimal digits, and
+ * PELTZIVAR_INVALID_DIGIT in every other case. */
+PELTZIVAR_MUST_USE peltzivar_error peltzivar_parse_word(
+    const char *text, size_t len, peltzivar_word *out, size_t *index);
 
 /* STRINGS
  *
- * Each function that ends in _text, and peltzivar_description, peltzivar_setter_name and peltzivar_source, write a
- * null-terminated ASCII string to a buffer of len bytes, as snprintf does. If the string and its null terminator do not
- * fit, they write only the beginning of the string and a null terminator. If len is 0, they write nothing. They always
- * return the length of the whole string, not counting the null terminator. The string is empty if no error, setter,
- * reason or note has the number or index that is passed. */
+ * Each function that ends in _text, and peltzivar_source, write a null-terminated ASCII string to a buffer of len bytes,
+ * as snprintf does. If the string and its null terminator do not fit, they write only the beginning of the string and a
+ * null terminator. If len is 0, they write nothing. They always return the length of the whole string, not counting the
+ * null terminator. A function that returns a const char * returns a null-terminated ASCII string that lasts as long as
+ * the program. A string is empty if nothing has the number or index that is passed. */
 
 /* Writes a word as `0x` followed by 32 uppercase hexadecimal digits. */
-PELTZIVAR_API size_t peltzivar_word_text(peltzivar_word format, char *text, size_t len);
+size_t peltzivar_word_text(peltzivar_word format, char *text, size_t len);
 
 /* Writes Rust code that builds a word, such as "NumberFormatBuilder::new().mantissa_radix(16).build_or_panic()". The
  * result of the code is the word itself if and only if peltzivar_is_built returns true for the word. */
-PELTZIVAR_API size_t peltzivar_source(peltzivar_word format, char *text, size_t len);
+size_t peltzivar_source(peltzivar_word format, char *text, size_t len);
 
-/* Writes the description of an error in single quotes, such as "'invalid radix for mantissa digits'". */
-PELTZIVAR_API size_t peltzivar_description(peltzivar_error error, char *text, size_t len);
+/* Returns the description of an error in single quotes, such as "'invalid radix for mantissa digits'". */
+const char *peltzivar_description(peltzivar_error error);
 
 /* Writes the full message of an error, such as "lexical parse error: 'numeric overflow occurred' at index 7". Only a
  * parse error has an index. The message of PELTZIVAR_SUCCESS is only its description. */
-PELTZIVAR_API size_t peltzivar_error_text(peltzivar_error error, size_t index, char *text, size_t len);
+size_t peltzivar_error_text(peltzivar_error error, size_t index, char *text, size_t len);
 
 /* FIELDS */
 
 /* Returns the fields of a word. In the result, the mantissa radix replaces each absent exponent byte. */
-PELTZIVAR_API peltzivar_fields peltzivar_fields_of(peltzivar_word format);
+peltzivar_fields peltzivar_fields_of(peltzivar_word format);
 
 /* Applies the edits, in order, to *fields. If a setter is unknown, returns false and leaves *fields unchanged. */
-PELTZIVAR_MUST_USE PELTZIVAR_API bool peltzivar_edit_fields(
+PELTZIVAR_MUST_USE bool peltzivar_edit_fields(
     peltzivar_fields *fields, const peltzivar_edit *edits, size_t len);
 
 /* Packs the fields into a word and returns the word, whether or not it is lawful. Packing sets the reserved bits to 0.
  * If no digit separator flag is set, packing drops the digit separator, that is, sets it to 0. */
-PELTZIVAR_API peltzivar_word peltzivar_pack(const peltzivar_fields *fields);
+peltzivar_word peltzivar_pack(const peltzivar_fields *fields);
 
 /* SETTINGS */
 
@@ -198,24 +195,27 @@ PELTZIVAR_API peltzivar_word peltzivar_pack(const peltzivar_fields *fields);
  * A flag or a group takes `true` or `false`. A byte takes one ASCII character in single quotes, `0x` followed by one or
  * two hexadecimal digits, or one to three decimal digits. Every byte except mantissa_radix also takes `none`, which
  * makes the byte absent, as 0 does. Spaces are not skipped. The name radix is read as mantissa_radix. */
-PELTZIVAR_MUST_USE PELTZIVAR_API bool peltzivar_parse_edit(const char *text, size_t len, peltzivar_edit *out);
+PELTZIVAR_MUST_USE bool peltzivar_parse_edit(const char *text, size_t len, peltzivar_edit *out);
+
+/* Does the same for the value of a byte alone, such as `'p'`, `0x70`, `112` or `none`, which is 0. */
+PELTZIVAR_MUST_USE bool peltzivar_parse_byte(const char *text, size_t len, uint8_t *out);
 
 /* Writes the reason why peltzivar_parse_edit rejects a string, such as "no_special takes `true` or `false`". The string
  * has len bytes, and the buffer `to` has to_len bytes. If peltzivar_parse_edit accepts it, writes an empty string. */
-PELTZIVAR_API size_t peltzivar_setting_error_text(const char *text, size_t len, char *to, size_t to_len);
+size_t peltzivar_setting_error_text(const char *text, size_t len, char *to, size_t to_len);
 
 /* Writes an edit as NAME=VALUE, where VALUE is `true`, `false`, `none` or a decimal number. peltzivar_parse_edit parses
  * this string into an edit that has the same effect. */
-PELTZIVAR_API size_t peltzivar_edit_text(peltzivar_edit edit, char *text, size_t len);
+size_t peltzivar_edit_text(peltzivar_edit edit, char *text, size_t len);
 
-/* Writes the name of a setter, such as "digit_separator": its constant in lowercase, without PELTZIVAR_SET_. */
-PELTZIVAR_API size_t peltzivar_setter_name(peltzivar_setter setter, char *text, size_t len);
+/* Returns the name of a setter, such as "digit_separator": its constant in lowercase, without PELTZIVAR_SET_. */
+const char *peltzivar_setter_name(peltzivar_setter setter);
 
 /* Returns the setter with a name of len bytes, or PELTZIVAR_NO_SETTER. radix is another name of mantissa_radix. */
-PELTZIVAR_API peltzivar_setter peltzivar_setter_of_name(const char *name, size_t len);
+peltzivar_setter peltzivar_setter_of_name(const char *name, size_t len);
 
 /* Returns a mask of the bits that a setter writes. The mask is 0 if the setter is unknown. */
-PELTZIVAR_API peltzivar_word peltzivar_setter_mask(peltzivar_setter setter);
+peltzivar_word peltzivar_setter_mask(peltzivar_setter setter);
 
 /* REASONS AND NOTES
  *
@@ -223,16 +223,19 @@ PELTZIVAR_API peltzivar_word peltzivar_setter_mask(peltzivar_setter setter);
  * of the first rule that each breaks. A word is lawful if and only if it has no reason. */
 
 /* Writes a reason as a sentence, such as "no_special and case_sensitive_special cannot both be set". */
-PELTZIVAR_API size_t peltzivar_reason_text(peltzivar_word format, size_t index, char *text, size_t len);
+size_t peltzivar_reason_text(peltzivar_word format, size_t index, char *text, size_t len);
 
 /* Returns a mask of the bits that a reason blames: every word in which these bits have the same values breaks every rule
  * of the reason. The mask is 0 if there is no such reason. If the word was built from a list of edits, an edit is to
  * blame for the reason if it wrote one of these bits and no later edit wrote that bit. */
-PELTZIVAR_API peltzivar_word peltzivar_reason_mask(peltzivar_word format, size_t index);
+peltzivar_word peltzivar_reason_mask(peltzivar_word format, size_t index);
 
 /* Returns the rules that a word breaks because of a reason: bit n is set for the rule with the number n. The result is
  * 0 if there is no such reason. */
-PELTZIVAR_API uint32_t peltzivar_reason_rules(peltzivar_word format, size_t index);
+uint32_t peltzivar_reason_rules(peltzivar_word format, size_t index);
+
+/* Returns what the rule with a number requires, such as "flags 6 and 14 are not both set". */
+const char *peltzivar_rule_condition(uint32_t rule);
 
 /* Writes a note on fields that have no effect, such as "no flag allows the digit separator '_'". A note is not an
  * error: the fields of a lawful word may have notes. Their indices are the numbers from 0 on.
@@ -240,10 +243,10 @@ PELTZIVAR_API uint32_t peltzivar_reason_rules(peltzivar_word format, size_t inde
  * A note is omitted if the packed word breaks a rule for a reason that depends on one of the note's fields. When you
  * build a format, pass the fields before you pack them, because packing may drop the digit separator. For the notes on
  * an existing word, pass the result of peltzivar_fields_of. */
-PELTZIVAR_API size_t peltzivar_note_text(const peltzivar_fields *fields, size_t index, char *text, size_t len);
+size_t peltzivar_note_text(const peltzivar_fields *fields, size_t index, char *text, size_t len);
 
 /* Returns a mask of the bits of the fields that a note describes. The mask is 0 if there is no such note. */
-PELTZIVAR_API peltzivar_word peltzivar_note_mask(const peltzivar_fields *fields, size_t index);
+peltzivar_word peltzivar_note_mask(const peltzivar_fields *fields, size_t index);
 
 /* OPTIONS AND BYTES OF A NUMBER
  *
@@ -253,25 +256,29 @@ PELTZIVAR_API peltzivar_word peltzivar_note_mask(const peltzivar_fields *fields,
  * may match a byte that the other option, the digit separator, the base prefix or the base suffix matches. The decimal
  * point matches only itself. If the exponent character is a letter, it matches both cases of the letter unless
  * case_sensitive_exponent is set. PELTZIVAR_RULE_PUNCTUATION_DIFFERS states which bytes the others match. Of a lawful
- * word, literal::Syntax::new of the Rust crate accepts more: it checks the normal form, in which a digit separator that
- * no flag allows is absent.
+ * word, peltzivar_syntax_check accepts more: it checks the normal form, in which a digit separator that no flag allows
+ * is absent.
  * Returns PELTZIVAR_SUCCESS, or the first of these errors that applies: PELTZIVAR_INVALID_EXPONENT_SYMBOL or
  * PELTZIVAR_INVALID_DECIMAL_POINT if this option is not punctuation, or PELTZIVAR_INVALID_PUNCTUATION. */
-PELTZIVAR_MUST_USE PELTZIVAR_API peltzivar_error peltzivar_check_options(
-    peltzivar_word format, uint8_t exponent, uint8_t decimal_point);
+peltzivar_error peltzivar_check_options(peltzivar_word format, uint8_t exponent, uint8_t decimal_point);
 
 /* Writes a reason why the options do not fit, such as "the exponent character 'e' is a digit in radix 16". */
-PELTZIVAR_API size_t peltzivar_options_reason_text(
+size_t peltzivar_options_reason_text(
     peltzivar_word format, uint8_t exponent, uint8_t decimal_point, size_t index, char *text, size_t len);
 
 /* Returns a mask of the bits of the word on which this reason depends. The mask is 0 if there are none. */
-PELTZIVAR_API peltzivar_word peltzivar_options_reason_mask(
+peltzivar_word peltzivar_options_reason_mask(
+    peltzivar_word format, uint8_t exponent, uint8_t decimal_point, size_t index);
+
+/* Returns the options that this reason blames: bit PELTZIVAR_ROLE_EXPONENT is set for the exponent character, and bit
+ * PELTZIVAR_ROLE_POINT for the decimal point. The result is 0 if there is no such reason. */
+uint32_t peltzivar_options_reason_roles(
     peltzivar_word format, uint8_t exponent, uint8_t decimal_point, size_t index);
 
 /* Return the value of a byte as a digit in the mantissa radix or the exponent radix, or PELTZIVAR_NO_DIGIT. Letters of
  * either case are the digits from 10 on. */
-PELTZIVAR_API uint32_t peltzivar_mantissa_digit(peltzivar_word format, uint8_t byte);
-PELTZIVAR_API uint32_t peltzivar_exponent_digit(peltzivar_word format, uint8_t byte);
+uint32_t peltzivar_mantissa_digit(peltzivar_word format, uint8_t byte);
+uint32_t peltzivar_exponent_digit(peltzivar_word format, uint8_t byte);
 
 /* The parts of a number, and where a part may have digit separators: between its digits, before them and after them.
  * `consecutive` states whether several separators in a row may stand where one may. */
@@ -281,15 +288,18 @@ typedef struct {
     bool internal, leading, trailing, consecutive;
 } peltzivar_separators;
 
+/* Returns the name of a part, such as "integer". */
+const char *peltzivar_part_name(peltzivar_part part);
+
 /* Returns where a part of a number may have digit separators. If there is no such part, all members are false. */
-PELTZIVAR_API peltzivar_separators peltzivar_separators_of(peltzivar_word format, peltzivar_part part);
+peltzivar_separators peltzivar_separators_of(peltzivar_word format, peltzivar_part part);
 
 /* Returns whether a byte is the digit separator of a word in which at least one digit separator flag is set. */
-PELTZIVAR_API bool peltzivar_is_separator(peltzivar_word format, uint8_t byte);
+bool peltzivar_is_separator(peltzivar_word format, uint8_t byte);
 
 /* Return whether the base prefix or the base suffix matches a byte, as PELTZIVAR_RULE_PUNCTUATION_DIFFERS states. */
-PELTZIVAR_API bool peltzivar_is_base_prefix(peltzivar_word format, uint8_t byte);
-PELTZIVAR_API bool peltzivar_is_base_suffix(peltzivar_word format, uint8_t byte);
+bool peltzivar_is_base_prefix(peltzivar_word format, uint8_t byte);
+bool peltzivar_is_base_suffix(peltzivar_word format, uint8_t byte);
 
 /* The roles of a byte in a number. */
 typedef uint8_t peltzivar_role;
@@ -306,8 +316,136 @@ enum {
 
 /* Returns the first role that a byte has in numbers with this exponent character and this decimal point. An option that
  * is 0 matches no byte. If a word is lawful and the options fit it, no byte has two roles. */
-PELTZIVAR_API peltzivar_role peltzivar_role_of(
-    peltzivar_word format, uint8_t exponent, uint8_t decimal_point, uint8_t byte);
+peltzivar_role peltzivar_role_of(peltzivar_word format, uint8_t exponent, uint8_t decimal_point, uint8_t byte);
+
+/* Returns the name of a role, such as "digit": its constant in lowercase, without PELTZIVAR_ROLE_. */
+const char *peltzivar_role_name(peltzivar_role role);
+
+/* LITERALS
+ *
+ * A literal is a text that is a number of a syntax. A syntax is a lawful word with an exponent character and a decimal
+ * point, or with 0 for both. Then literals are integers. Each call that takes a syntax checks it: if
+ * peltzivar_syntax_check refuses it, the call returns the same error, and writes nothing. In the repository,
+ * docs/FORMAT.md defines literals, and why a text is not one. */
+typedef struct {
+    peltzivar_word format;
+    uint8_t exponent, decimal_point;
+} peltzivar_syntax;
+
+/* Writes the syntax of a word, with its normal form, to *out and returns PELTZIVAR_SUCCESS if the word is lawful, and if
+ * the options fit its normal form or are both 0. Otherwise, leaves *out unchanged and returns the error of the first
+ * rule that the word breaks, or the error that peltzivar_check_options returns for the normal form. */
+PELTZIVAR_MUST_USE peltzivar_error peltzivar_syntax_check(
+    peltzivar_word format, uint8_t exponent, uint8_t decimal_point, peltzivar_syntax *out);
+
+/* The bytes of a text from the index `start` to below the index `end`. */
+typedef struct {
+    size_t start, end;
+} peltzivar_span;
+
+/* The parts of a literal, in the order of the text, and its length. An absent part is empty. The prefix includes the
+ * zero before it. The three parts with digits include digit separators, for which peltzivar_mantissa_digit and
+ * peltzivar_exponent_digit return PELTZIVAR_NO_DIGIT. A float has a point or an exponent character, or both. */
+typedef struct {
+    peltzivar_span sign, prefix, integer, point, fraction, exponent_character, exponent_sign, exponent, suffix;
+    size_t size;
+    bool is_float;
+} peltzivar_literal;
+
+/* The kinds of causes why a text is not a literal. */
+typedef uint8_t peltzivar_cause;
+enum {
+    PELTZIVAR_CAUSE_REQUIREMENT = 1, /* The text does not satisfy flags that are set. */
+    PELTZIVAR_CAUSE_SEPARATOR = 2, /* A digit separator is not allowed here. */
+    PELTZIVAR_CAUSE_CASE = 3, /* A letter has the wrong case. */
+    PELTZIVAR_CAUSE_BYTE = 4, /* A byte cannot follow the bytes before it. */
+    PELTZIVAR_CAUSE_MISSING = 5 /* Digits are missing. */
+};
+
+/* Why a text is not a literal. The first `valid_up_to` bytes are the longest beginning of the text that some literal
+ * begins with. If these are all of its bytes, bytes are missing, and a longer text may be a literal. `span` has the
+ * bytes to show, maybe none. `index` is the index for peltzivar_error_text. `mask` has the flags to blame, and `number`
+ * is the lowest as a setter. For a wrong byte and for missing digits, they are 0 and PELTZIVAR_NO_SETTER. `part` is the
+ * part of a separator or of missing digits, and otherwise PELTZIVAR_NO_PART. To end the cause, set one of the flags if
+ * it is a separator, and otherwise clear all of them. Then there may be another cause. */
+typedef struct {
+    size_t valid_up_to;
+    peltzivar_span span;
+    size_t index;
+    peltzivar_word mask;
+    peltzivar_cause cause;
+    peltzivar_setter number;
+    peltzivar_part part;
+} peltzivar_read_error;
+
+/* Reads a text of len bytes. If it is a literal, writes its parts to *literal and returns PELTZIVAR_SUCCESS. Otherwise,
+ * writes the reason to *error and returns a parse error. If the syntax is refused, or if the text is, which is
+ * PELTZIVAR_OVERFLOW, writes nothing. */
+PELTZIVAR_MUST_USE peltzivar_error peltzivar_read(
+    const peltzivar_syntax *syntax, const char *text, size_t len, peltzivar_literal *literal, peltzivar_read_error *error);
+
+/* Does the same for the longest beginning of the text that is a literal. What follows it may be anything. If there is
+ * none, the result and *error are those of peltzivar_read. Reads no byte behind the first that cannot follow. */
+PELTZIVAR_MUST_USE peltzivar_error peltzivar_read_prefix(
+    const peltzivar_syntax *syntax, const char *text, size_t len, peltzivar_literal *literal, peltzivar_read_error *error);
+
+/* Writes why peltzivar_read refuses a text or its syntax as a sentence, such as "no literal has the byte 'x' here" or
+ * "the exponent character 'e' is a digit in radix 16". The text has len bytes, and the buffer `to` has to_len bytes. If
+ * peltzivar_read accepts the text, writes an empty string. */
+size_t peltzivar_read_error_text(
+    const peltzivar_syntax *syntax, const char *text, size_t len, char *to, size_t to_len);
+
+/* SPECIAL VALUES AND LANGUAGES
+ *
+ * Spellings are null-terminated strings. A spelling that is null or empty matches no text. */
+typedef struct {
+    const char *nan, *inf, *infinity;
+} peltzivar_specials;
+
+/* A special value. `sign` is '+' or '-', or 0 if the text has no sign. */
+typedef struct {
+    uint8_t spelling, sign;
+} peltzivar_special;
+enum { PELTZIVAR_SPELLING_NAN = 1, PELTZIVAR_SPELLING_INF = 2, PELTZIVAR_SPELLING_INFINITY = 3 };
+
+/* Reads a text of len bytes as a special value: an optional sign, and the first of the spellings that matches. The flags
+ * of the syntax decide which signs, cases of letters and digit separators match. If the text is a special value, writes
+ * it to *out and returns PELTZIVAR_SUCCESS. Otherwise, leaves *out unchanged and returns PELTZIVAR_INVALID_DIGIT, or an
+ * error as peltzivar_read. A text can also be a literal, such as `inf` in radix 36. So call peltzivar_read first. */
+PELTZIVAR_MUST_USE peltzivar_error peltzivar_read_special(const peltzivar_syntax *syntax,
+    const peltzivar_specials *specials, const char *text, size_t len, peltzivar_special *out);
+
+/* If a language or file format has a name of len bytes, such as "JSON" or "C_HEX_FLOAT", writes its syntax and its
+ * spellings, which last as long as the program, and returns true. Otherwise, writes nothing and returns false. In the
+ * repository, rust/src/literal/language.rs describes each language. */
+PELTZIVAR_MUST_USE bool peltzivar_language(
+    const char *name, size_t len, peltzivar_syntax *syntax, peltzivar_specials *specials);
+
+/* Returns the name of a language. The languages have the indices from 0 on, in alphabetical order. */
+const char *peltzivar_language_name(size_t index);
+
+/* SETTINGS OF A TEXT
+ *
+ * A text, such as a file, has one setting a line, in the form that peltzivar_parse_edit describes, or `exponent=VALUE`
+ * or `point=VALUE` for the options, with a VALUE as for digit_separator. White space around the name and the value is
+ * skipped, and so are a line that is blank or begins with `#`, and a byte order mark. A character in quotes is not a
+ * radix or an exponent base. A setting overrides those before it. Fields without a setting have the values of
+ * PELTZIVAR_NEW_FIELDS, the exponent character is `e`, and the decimal point is `.`. If both are `none`, literals are
+ * integers. */
+
+/* Reads the settings of a text of len bytes, and writes the syntax that they build to *out. Returns the number of
+ * problems: first the lines that are refused, and then the reasons why the word is not lawful or the options do not fit
+ * it. If it is not 0, leaves *out unchanged. */
+PELTZIVAR_MUST_USE size_t peltzivar_read_settings(const char *text, size_t len, peltzivar_syntax *out);
+
+/* Writes a problem as a sentence, such as "unknown setting `base_suffx`; did you mean `base_suffix`?". The problems have
+ * the indices from 0 on. The notes have the indices behind them. They are on settings that are overridden, and on fields
+ * that have no effect. The buffer `to` has to_len bytes. */
+size_t peltzivar_settings_text(const char *text, size_t len, size_t index, char *to, size_t to_len);
+
+/* Returns the number of lines that cause the problem or note with an index. Writes their indices, in ascending order, to
+ * the array `to` of to_len elements, as far as they fit. The first line has the index 0, and a default has no line. */
+size_t peltzivar_settings_lines(const char *text, size_t len, size_t index, size_t *to, size_t to_len);
 
 #ifdef __cplusplus
 }
@@ -393,8 +531,8 @@ enum {
 
 /* The errors: 1 to 19 are parse errors, 20 to 36 are format errors, and 37 to 48 are option errors. A parse error is
  * found in a string, a format error in a word, and an option error in the options of a parser or writer. The functions
- * above return only PELTZIVAR_SUCCESS, format errors, and the three parse errors of peltzivar_parse_word. The other
- * errors are for parsers and writers that use this library. Two rules share PELTZIVAR_INVALID_SPECIAL. */
+ * above return only PELTZIVAR_SUCCESS, parse errors and format errors. The other errors are for parsers and writers that
+ * use this library. Two rules share PELTZIVAR_INVALID_SPECIAL. */
 enum {
     PELTZIVAR_SUCCESS = 0,
     PELTZIVAR_OVERFLOW = 1,

@@ -1,4 +1,4 @@
-"""Makes index.html from the sources here, the tables of docs/FORMAT.md and the recipes; `explorer/build` calls this.
+"""Makes index.html from the sources here, the tables of docs/FORMAT.md and the languages; `explorer/build` calls this.
 
 The page has a hash of its WebAssembly and of the sources of that. If it is the same, the WebAssembly is taken again.
 """
@@ -17,7 +17,7 @@ HERE = pathlib.Path(__file__).resolve().parent
 TOP = HERE.parent
 PAGE = HERE / "index.html"
 FORMAT = (TOP / "docs/FORMAT.md").read_text()
-SCRIPTS = ("library", "element", "number", "bits", "controls", "code", "report", "literal", "page")
+SCRIPTS = ("library", "element", "bits", "controls", "code", "report", "literal", "page")
 MOST_BYTES = 250_000
 TARGET = "wasm32-unknown-unknown"
 OPTIONS = [f"--target={TARGET}", "-Ctarget-feature=+bulk-memory", "-Copt-level=s", "-Cpanic=abort", "--cap-lints=allow"]
@@ -42,6 +42,27 @@ def rows(pattern):
     return re.findall(pattern, FORMAT, re.M) or sys.exit(f"docs/FORMAT.md: no row {pattern}")
 
 
+def section(title):
+    """Returns the text of a section of FORMAT."""
+    return FORMAT.partition(f"\n## {title}\n\n")[2].partition("\n## ")[0] or sys.exit(f"docs/FORMAT.md: no section {title}")
+
+
+def html(text):
+    """Returns paragraphs, lists and blocks of code in Markdown as HTML. Links become their texts."""
+    text = re.sub(r"\[([^\]]*)\]\([^)]*\)", r"\1", text).replace("&", "&amp;").replace("<", "&lt;")
+    text = re.sub(r"`([^`]*)`", r"<code>\1</code>", text)
+    text = re.sub(r"\*([^*]+)\*", r"<em>\1</em>", text)
+    made = ""
+    for block in text.strip("\n").split("\n\n"):
+        if block.startswith("    "):
+            made += f"<pre>{block.strip()}</pre>\n"
+        elif block.startswith("- "):
+            made += "<ul>" + "".join(f"<li>{item}</li>" for item in re.split(r"(?:^|\n)- ", block)[1:]) + "</ul>\n"
+        else:
+            made += f"<p>{block}</p>\n"
+    return made
+
+
 def fields():
     """Returns the flags, the groups of flags and the bytes: each with its name, its bit or bits, and its meaning."""
     groups = [
@@ -64,39 +85,45 @@ def fields():
 
 
 def setting(call):
-    """Returns a setter call of the recipes as a setting."""
+    """Returns a setter call of a language as a setting."""
     name, argument = re.fullmatch(r"\.(\w+)\((.*)\)", call).groups()
     value = re.sub(r"^NonZeroU8::new\((.*)\)$", r"\1", argument)
     value = re.sub(r"^b'\\?(.)'$", r"'\1'", value)
     if not re.fullmatch(r"'.'|\d+|true|false", value):
-        sys.exit(f"rust/examples/recipes.rs: not a value: {argument}")
+        sys.exit(f"rust/src/literal/language.rs: not a value: {argument}")
     return f"{name}={value}"
 
 
-def recipes():
-    """Returns the recipes: name, comment, settings with their comments, and exponent character."""
-    text = (TOP / "rust/examples/recipes.rs").read_text()
-    exponents = re.findall(r'^ +\("(\w+)", \w+, b\'(.)\'\),$', text, re.M)
-    constant = r"((?:^///.*\n)+)pub const (\w+): u128 = NumberFormatBuilder::new\(\)\n((?: +\..*\n)+)"
-    found = {name: (comment, body) for comment, name, body in re.findall(constant, text, re.M)}
-    for name, exponent in exponents:
-        comment, body = found[name]
-        calls = re.findall(r"^ +(\.\w+\(.*?\));?(?: // (.*))?$", body, re.M)
-        if calls.pop()[0] != ".build_or_panic()":
-            sys.exit(f"rust/examples/recipes.rs: {name} does not end with build_or_panic")
-        settings = [[setting(call), meaning] for call, meaning in calls]
-        about = " ".join(comment.replace("///", "").split())
-        yield {"name": name, "about": about, "settings": settings, "exponent": exponent}
+def numbers(name, has_specials):
+    """Returns the numbers of a language, one a line: those that it rejects behind a `!`. Spellings of NaN are no field."""
+    rows = re.findall(rf"^{name} +([+-]) +(\S+)", (TOP / "rust/tests/literals.txt").read_text(), re.M)
+    rows = [row for row in rows if not (has_specials and re.search("nan|inf", row[1], re.I))]
+    return "\n".join(text if mark == "+" else f"!{text}" for mark, text in rows)
+
+
+def languages():
+    """Returns the languages: name, comment, settings, options and numbers. Integers alone have the options 0."""
+    text = (TOP / "rust/src/literal/language.rs").read_text()
+    language = r"((?:^    ///.*\n)+)^    (\w+) = \w+\((?:b'(.)', )?NumberFormatBuilder::new\(\)((?:\n        \..*)*)\s*\),\s+(\w+)"
+    for comment, name, exponent, body, specials in re.findall(language, text, re.M):
+        yield {
+            "name": name,
+            "about": " ".join(comment.replace("///", "").split()),
+            "settings": [setting(call) for call in re.findall(r"^ +(\.\w+\(.*?\))(?: //.*)?$", body, re.M)],
+            "exponent": ord(exponent or "\0"),
+            "point": ord("." if exponent else "\0"),
+            "numbers": numbers(name, specials != "NONE"),
+        }
 
 
 def data():
     """Returns the data that the page shows."""
-    limits = FORMAT.partition("## What a format cannot express\n")[2].partition("\n## ")[0]
+    limits = section("What a format cannot express")
     header = (TOP / "c/peltzivar.h").read_text()
     return {
         **fields(),
         "rules": [demand for _, demand in rows(r"^\| (\d+) \| (.*?) \| `Invalid")],
-        "recipes": [*recipes()],
+        "languages": [*languages()],
         "limits": re.findall(r"^\| (.*) \| (.*) \|$", limits, re.M)[1:],
         "version": re.search(r'^#define PELTZIVAR_VERSION "(.*)"$', header, re.M)[1],
     }
@@ -105,7 +132,7 @@ def data():
 def hash_of(wasm):
     """Returns a hash of the WebAssembly and its sources. Comments and blank lines of the sources do not count."""
     whole = hashlib.sha256(json.dumps([wasm, OPTIONS]).encode())
-    for path in [HERE / "builtins.rs", HERE / "library.rs", *sorted((TOP / "rust/src").rglob("*.rs"))]:
+    for path in [*sorted(HERE.glob("*.rs")), *sorted((TOP / "rust/src").rglob("*.rs"))]:
         lines = [line.strip() for line in path.read_text().splitlines()]
         code = [line for line in lines if line and not line.startswith("//")]
         if code:
@@ -160,7 +187,12 @@ def page(wasm):
     script = "\n" + "\n".join((HERE / f"{name}.js").read_text() for name in SCRIPTS)
     embedded = json.dumps(data(), ensure_ascii=False, separators=(",", ":")).replace("<", "\\u003c")
     policy = f"default-src 'none'; script-src {digest(script)} 'wasm-unsafe-eval'; style-src {digest(style)}"
+    _, literals = section("How a reader applies the flags").split("A *literal* is", 1)
     parts = {
+        "literals": html("A *literal* is" + literals.partition("This answers the questions")[0]),
+        "rules": html("\n".join(f"- Rule {number}: {demand}." for number, demand in rows(r"^\| (\d+) \| (.*?) \| `Invalid"))),
+        "punctuation": html(section("The rules").partition("\n\n")[0].rpartition("\n[`Outcomes`")[0]),
+        "equivalent": html(section("Equivalent words")),
         "policy": f"{policy}; img-src data:; base-uri 'none'; form-action 'none'",
         "style": style,
         "data": embedded,

@@ -13,21 +13,26 @@ C, TOP = TESTS.parent, TESTS.parent.parent
 SHARED = pathlib.Path(os.environ["PELTZIVAR_LIBRARY"]).absolute()
 ARCHIVE = SHARED.with_suffix(".a")
 HEADER = (C / "peltzivar.h").read_text()
-STANDARD = "0x00000A0000000000000000000000000C"
 STRICT = ["-Wall", "-Wextra", "-Wpedantic", "-Wconversion", "-Wshadow", "-Werror", "-I", C]
 SANITIZERS = ["-g", "-fsanitize=address,undefined", "-fno-sanitize-recover=all"]
 COMPILERS = {"gcc": "c99 c11 c17 c2x", "clang": "c99 c11 c17 c2x", "g++": "c++11 c++14 c++17 c++20"}
 COMPILERS |= {"clang++": "c++11 c++14 c++17 c++20"}
-TYPES = {"peltzivar_word": "Word", "peltzivar_fields": "Fields", "peltzivar_edit": "NumberedEdit", "size_t": "usize"}
-TYPES |= {"bool": "bool", "char": "u8", "uint8_t": "u8", "uint32_t": "u32", "peltzivar_setter": "Setter"}
-TYPES |= {"peltzivar_error": "ErrorNumber", "peltzivar_part": "u8", "peltzivar_role": "Role"}
-TYPES |= {"peltzivar_separators": "Separators"}
+# The types in Rust that do not have the name of C in another case.
+TYPES = {"size_t": "usize", "bool": "bool", "char": "u8", "const char *": "*const u8", "uint8_t": "u8", "uint32_t": "u32"}
+TYPES |= {"peltzivar_edit": "NumberedEdit", "peltzivar_special": "NumberedSpecial", "peltzivar_error": "ErrorNumber"}
+TYPES |= {"peltzivar_part": "u8", "peltzivar_role": "u8"}
+LIBRARY = ctypes.CDLL(str(SHARED))
 
 
 def run(*command, **options):
     """Runs a command, and returns what it prints and its status."""
     ran = subprocess.run(command, stdout=subprocess.PIPE, stderr=subprocess.STDOUT, text=True, **options)
     return ran.stdout, ran.returncode
+
+
+def in_rust(kind):
+    """Returns a type of C as in Rust."""
+    return TYPES.get(kind) or kind.removeprefix("peltzivar").title().replace("_", "")
 
 
 def in_c(rust):
@@ -52,25 +57,24 @@ class Programs(unittest.TestCase):
                     if not shutil.which(compiler):
                         self.skipTest(compiler)
                     language = ["-x", "c++"] if "++" in compiler else []
-                    self.made(compiler, f"-std={standard}", *STRICT, *language, "-c", TESTS / "calls.c")
+                    self.made(compiler, f"-std={standard}", *STRICT, *language, "-c", TESTS / "calls.c", name="calls.o")
+                    self.assertEqual(run(self.made(compiler, self.folder / "calls.o", ARCHIVE)), ("", 0))
 
     def test_a_compiler_warns_if_an_error_is_ignored(self):
-        code = '#include "peltzivar.h"\nvoid f(peltzivar_word it) { peltzivar_check(it); }\n'
+        code = '#include "peltzivar.h"\nvoid f(peltzivar_word it) { (void)peltzivar_check(it); peltzivar_migrate(it, &it); }\n'
         for option in (["-x", "c"], ["-std=c2x", "-x", "c"]):
             printed, _ = run("cc", *option, "-I", C, "-c", "-o", self.folder / "object", "-", input=code)
-            self.assertIn("Wunused-result", printed)
-
-    def test_the_calls_return_what_they_should(self):
-        self.assertEqual(run(self.made("cc", "-std=c99", *STRICT, TESTS / "calls.c", ARCHIVE)), ("", 0))
-        self.assertEqual(run(self.made("cc", *STRICT, *SANITIZERS, TESTS / "calls.c", ARCHIVE)), ("", 0))
+            self.assertEqual(re.findall("ignoring return value of .(?:bool )?(\\w+)", printed), ["peltzivar_migrate"], printed)
 
     def test_the_calls_are_sound_with_the_checks_of_rust(self):
         build = self.folder / "checked"
+        target = re.search("host: (.*)", run("rustc", "-vV")[0])[1]
         on = {f"CARGO_PROFILE_RELEASE_{it}": "true" for it in ("DEBUG_ASSERTIONS", "OVERFLOW_CHECKS")}
+        on["CARGO_BUILD_TARGET"] = target
         command = ["make", "-s", "--no-print-directory", "-C", C, f"BUILD={build}", "build"]
         self.assertEqual(run(*command, env={**os.environ, **on}), ("", 0))
         for name, *arguments in (["calls"], ["fuzz", "20000"]):
-            program = self.made("cc", *STRICT, *SANITIZERS, TESTS / f"{name}.c", build / "release" / ARCHIVE.name)
+            program = self.made("cc", *STRICT, *SANITIZERS, TESTS / f"{name}.c", build / target / "release" / ARCHIVE.name)
             self.assertEqual(run(program, *arguments), ("", 0))
 
     def test_the_first_program_of_the_header(self):
@@ -82,10 +86,10 @@ class Programs(unittest.TestCase):
     def test_the_example(self):
         program = self.made("cc", *STRICT, *SANITIZERS, C / "example.c", ARCHIVE)
         rows = [
-            ("radix=2 base_suffix=57", 0, "0x0000023900000000000000000000000C\nbase_suffix=57\nmantissa_radix=2\n"),
-            ("18446744073709551615 18446744073709551616 1_0 1\x80", 0, f"{STANDARD}\n18446744073709551615 is 18446744073709551615\n18446744073709551616 is not an integer\n1_0 is not an integer\n1\x80 is not an integer\n"),
-            ("radix=16 base_suffix='b'", 1, "the base suffix 'b' is a digit in radix 16\n"),
-            ("no_special=1", 2, "no_special=1: no_special takes `true` or `false`\n"),
+            ("18446744073709551615 -1", 0, "18446744073709551615 is 18446744073709551615\n-1 is -1\n"),
+            ("digit_separator=95 18446744073709551616", 0, "no flag allows the digit separator '_'\n18446744073709551616 is a float, or too large\n"),
+            ("no_special=1", 1, "no_special takes `true` or `false`, not `1`\n"),
+            ("x=" * 2048, 2, ""),
         ]
         for settings, status, printed in rows:
             self.assertEqual(run(program, *settings.split()), (printed, status))
@@ -125,19 +129,31 @@ class Header(unittest.TestCase):
         self.assertEqual(self.numbers(r"ROLE_(\w+)"), {name: number for number, name in enumerate(roles)})
         errors = ["SUCCESS", *(it for it in variants("error.rs", "Error") if it != "SUCCESS")]
         numbered = {name: number for number, name in enumerate(errors)}
-        self.assertEqual(self.numbers(r"((?!SET_|RULE_|PART_|ROLE_)\w+)"), numbered)
+        self.assertEqual(self.numbers(r"((?!SET_|RULE_|PART_|ROLE_|CAUSE_|SPELLING_)\w+)"), numbered)
+
+    def test_names_and_conditions_are_those_of_the_header_and_of_format(self):
+        def strings(call):
+            function = getattr(LIBRARY, f"peltzivar_{call}")
+            function.restype = ctypes.c_char_p
+            return {number: text.decode() for number in range(256) if (text := function(number))}
+
+        for call, pattern in (("setter_name", r"SET_(\w+)"), ("role_name", r"ROLE_((?!NONE)\w+)"), ("part_name", r"PART_(\w+)")):
+            self.assertEqual(strings(call), {number: name.lower() for name, number in self.numbers(pattern).items()})
+        page = (TOP / "docs/FORMAT.md").read_text()
+        conditions = re.findall(r"^\| (\d+) \| (the .*?|no .*?|flags? .*?) \| `Invalid", page, re.M)
+        self.assertEqual(strings("rule_condition"), {int(number): text for number, text in conditions})
 
     def test_declarations_are_those_of_the_library(self):
         sources = " ".join("".join(path.read_text() for path in sorted((TOP / "rust/capi/src").glob("*.rs"))).split())
-        exported = re.findall(r'extern "C" fn (\w+)\( ?(.*?),? ?\) -> (\w+) \{', sources)
+        exported = re.findall(r"\bfn (peltzivar_\w+)\( ?(.*?) ?\) -> ([\w *]+) \{", sources)
         wanted = {
             (name, tuple(it.split(": ")[1] for it in re.split(r", (?=\w+: )", of) if it), result)
             for name, of, result in exported
         }
         code = " ".join(re.sub(r"/\*.*?\*/|^#.*?$", "", HEADER, flags=re.S | re.M).split())
-        declared = re.findall(r"(\w+) (peltzivar_\w+)\( ?([^()]*)\);", code)
+        declared = re.findall(r"(\w+ |const char \*)(peltzivar_\w+)\( ?([^()]*)\);", code)
         found = {
-            (name, tuple(self.argument(it, of) for it in of.split(", ") if it != "void"), TYPES[result])
+            (name, tuple(self.argument(it, of) for it in of.split(", ") if it != "void"), in_rust(result.strip()))
             for result, name, of in declared
         }
         self.assertEqual(found, wanted)
@@ -146,21 +162,21 @@ class Header(unittest.TestCase):
 
     def argument(self, text, others):
         """Returns the type in Rust of an argument in C. A pointer before a length is a raw pointer."""
-        const, kind, pointer, name, array = re.fullmatch(r"(const )?(\w+) (\*?)(\w+)(\[\w+\])?", text).groups()
-        if array:
-            return f"Out<[{TYPES[kind]}; FIELD_COUNT]>"
+        const, kind, pointer, name = re.fullmatch(r"(const )?(\w+) (\*?)(\w+)", text).groups()
         if not pointer:
-            return TYPES[kind]
+            return in_rust(kind)
         if re.search(rf"\*{name}, size_t (to_)?len\b", others):
-            return f"*{'const' if const else 'mut'} {TYPES[kind]}"
-        return f"Out<{TYPES[kind]}>" if name == "out" else f"&{'' if const else 'mut '}{TYPES[kind]}"
+            return f"*{'const' if const else 'mut'} {in_rust(kind)}"
+        if const or name == "fields":
+            return f"&{'' if const else 'mut '}{in_rust(kind)}"
+        return f"Out<{in_rust(kind)}>"
 
     def test_all_versions_are_the_same(self):
-        number = ctypes.CDLL(str(SHARED)).peltzivar_version()  # That of cargo.
+        number = LIBRARY.peltzivar_version()  # That of cargo.
         version = ".".join(map(str, number.to_bytes(3, "big")))
         self.assertIn(f'#define PELTZIVAR_VERSION "{version}"\n#define PELTZIVAR_VERSION_NUMBER 0x{number:06x}\n', HEADER)
         self.assertIn(f'version = "{version}"\n', (C / "pyproject.toml").read_text())
-        self.assertIn(f"_VERSION = 0x{number:06x}\n", (C / "peltzivar.py").read_text())
+        self.assertIn(f"_VERSION = 0x{number:06x}\n", (C / "peltzivar/__init__.py").read_text())
         self.assertIn(f"libpeltzivar_c.so.{version.rpartition('.')[0]}]", run("readelf", "-d", SHARED)[0])
         self.assertRegex((TOP / "CHANGELOG.md").read_text(), rf"\A# Changelog\n\n## {re.escape(version)}\b")
 

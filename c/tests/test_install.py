@@ -1,5 +1,4 @@
 """Tests what `make install` and pip install, below a prefix with a blank: `make -C c check`."""
-import importlib.util
 import os
 import pathlib
 import re
@@ -8,15 +7,21 @@ import subprocess
 import sys
 import tempfile
 import unittest
+import zipfile
 
 C = pathlib.Path(__file__).resolve().parent.parent
 PAGE = (C.parent / "docs/C-AND-PYTHON.md").read_text()
+VERSION = re.search('VERSION "(.*)"', (C / "peltzivar.h").read_text())[1]
 WORD = "0x0000100000000000000000000000000C"
 PROGRAM = "import peltzivar; print(peltzivar.Format.of(mantissa_radix=16), peltzivar.__file__)"
 IMPORT = [sys.executable, "-B", "-c", PROGRAM]
+NEEDS = "import setuptools, wheel, pip; assert int(setuptools.__version__.split('.')[0]) >= 66"
+# The first Python that can build packages. Where another one is first in PATH, that of the system may have what it needs.
+PYTHONS = filter(os.path.exists, (sys.executable, "/usr/bin/python3"))
+PACKAGER = next((it for it in PYTHONS if not subprocess.run([it, "-c", NEEDS], capture_output=True).returncode), None)
 
 
-class Install(unittest.TestCase):
+class InFolder(unittest.TestCase):
     def setUp(self):
         self.folder = pathlib.Path(tempfile.mkdtemp())
         self.addCleanup(shutil.rmtree, self.folder)
@@ -31,8 +36,10 @@ class Install(unittest.TestCase):
         self.assertEqual(ran.returncode, 0, (command, ran.stdout, ran.stderr))
         return ran.stdout
 
-    def make(self, *arguments):
-        return self.run_in("make", "-s", "-C", C, *arguments)
+
+class Install(InFolder):
+    def make(self, *arguments, **options):
+        return self.run_in("make", "-s", "-C", C, *arguments, **options)
 
     @unittest.skipUnless(shutil.which("pkg-config"), "pkg-config")
     def test_a_program_is_built_by_the_lines_of_the_page(self):
@@ -42,7 +49,7 @@ class Install(unittest.TestCase):
         self.assertTrue(lines)
         for line in lines:
             self.run_in("bash", "-c", line)
-            self.assertEqual(self.run_in("./example", "radix=16").split()[0], WORD)
+            self.assertEqual(self.run_in("./example", "radix=8", "17"), "17 is 15\n")
 
     def test_python_finds_the_library_below_the_prefix(self):
         self.make("install", f"PREFIX={self.prefix}")
@@ -57,26 +64,62 @@ class Install(unittest.TestCase):
         self.environment.pop("CARGO_TARGET_DIR", None)
         for command in (build, f"{compile_it} -o '{self.folder}/example'"):
             self.run_in("bash", "-c", command, cwd=C.parent)
-        self.assertEqual(self.run_in("./example", "radix=16").split()[0], WORD)
+        self.assertEqual(self.run_in("./example", "radix=8", "17"), "17 is 15\n")
 
-    def test_uninstall_removes_what_install_wrote(self):
+    def test_uninstall_removes_what_install_wrote_without_cargo_and_for_all_users(self):
         paths = ["PREFIX=/usr/my own", "LIBDIR=/usr/my own/lib here", f"DESTDIR={self.folder}/a root"]
-        self.make("install", *paths)
+        self.make("uninstall", *paths)
+        self.make("install", *paths, "CARGO=no-cargo", umask=0o077)
         root = self.folder / "a root/usr/my own"
-        self.assertTrue((root / "lib here/pkgconfig/peltzivar.pc").exists() and (root / "include/peltzivar.h").exists())
+        modes = {str(it.relative_to(root)): it.stat().st_mode & 0o777 for it in root.rglob("*") if not it.is_dir()}
+        self.assertEqual({mode for path, mode in modes.items() if ".so" not in path}, {0o644}, modes)
+        self.assertEqual({mode for path, mode in modes.items() if ".so" in path}, {0o755}, modes)
+        names = {"include/peltzivar.h", "lib here/libpeltzivar_c.a", "share/doc/peltzivar/LICENSE"}
+        self.assertEqual(names - set(modes), set())
+        self.assertNotIn("a root", (root / "lib here/pkgconfig/peltzivar.pc").read_text())
         self.make("uninstall", *paths)
         self.assertEqual([it for it in root.rglob("*") if not it.is_dir()], [])
+
+    def test_cargo_is_named_if_it_is_missing(self):
+        with self.assertRaisesRegex(AssertionError, "no-cargo is not found: install Rust"):
+            self.make("install", f"PREFIX={self.prefix}", f"BUILD={self.folder}/build", "CARGO=no-cargo")
+
+    @unittest.skipUnless(shutil.which("pkg-config"), "pkg-config")
+    def test_pkg_config_has_the_version_and_another_prefix(self):
+        self.make("install", f"PREFIX={self.prefix}")
+        self.assertEqual(self.run_in("pkg-config", "--modversion", "peltzivar"), f"{VERSION}\n")
+        self.run_in("pkg-config", "--exists", *re.search(r"(peltzivar)(>=)([\d.]+)\)", PAGE).groups())
+        moved = ["pkg-config", "--define-variable=prefix=/moved", "--variable=libdir", "peltzivar"]
+        self.assertEqual(self.run_in(*moved), "/moved/lib\n")
 
     def test_a_relative_prefix_is_refused(self):
         with self.assertRaisesRegex(AssertionError, "PREFIX must be an absolute path"):
             self.make("install", "PREFIX=relative", f"DESTDIR={self.folder}/")
 
-    @unittest.skipUnless(importlib.util.find_spec("pip"), "pip")
-    def test_pip_installs_the_checkout(self):
-        options = ["--no-build-isolation", "--no-index", "--no-deps", "--quiet", "--disable-pip-version-check"]
-        self.run_in(sys.executable, "-m", "pip", "install", *options, "--target", self.prefix, C)
-        self.environment["PYTHONPATH"] = str(self.prefix)
-        self.assertEqual(self.run_in(*IMPORT).split()[0], WORD)
+
+@unittest.skipUnless(PACKAGER, "pip, setuptools 66 and wheel")
+class Package(InFolder):
+    def build(self, what, source):
+        """Builds a wheel or a source distribution, and returns its path."""
+        code = f"import setuptools.build_meta as it; print(it.build_{what}('..'))"
+        return source.parent / self.run_in(PACKAGER, "-c", code, cwd=source).splitlines()[-1]
+
+    def test_packages_of_a_copy_of_the_checkout(self):
+        checkout = self.folder / "a copy/c"
+        shutil.copytree(C.parent, checkout.parent, ignore=shutil.ignore_patterns(".git", "crates", "target", "build", "*.so"))
+        wheel = self.build("wheel", checkout)
+        shutil.unpack_archive(self.build("sdist", checkout), self.folder / "sources")
+        (source,) = self.folder.glob("sources/*")
+        self.assertEqual(self.build("wheel", source).read_bytes(), wheel.read_bytes())
+        with zipfile.ZipFile(wheel) as opened:
+            files = {name.rpartition("/")[2]: opened.read(name) for name in opened.namelist()}
+        self.assertEqual((files["py.typed"], files["LICENSE"]), (b"", (C.parent / "LICENSE").read_bytes()))
+        self.assertRegex(files["METADATA"].decode(), r"(?ms)^License: MIT$.*^Requires-Python: >=3.9$.*^\n.* >>> from peltzivar import Format, Syntax$")
+        self.run_in(PACKAGER, "-m", "venv", "--system-site-packages", "--without-pip", "environment")
+        install = ["environment/bin/python", "-m", "pip", "install", "--no-build-isolation", "--no-index", "--no-deps", "--quiet"]
+        for package, folder in (([wheel], ".*/site-packages"), (["--editable", checkout], checkout)):
+            self.run_in(*install, *package)
+            self.assertRegex(self.run_in("environment/bin/python", *IMPORT[1:]), f"^{WORD} {folder}/peltzivar/__init__.py$")
 
 
 if __name__ == "__main__":

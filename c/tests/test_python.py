@@ -1,11 +1,13 @@
-"""Tests peltzivar.py: `make -C c check`. The expected values are the recorded results of lexical-util, the tables of
+"""Tests the Python module: `make -C c check`. The expected values are the recorded results of lexical-util, the tables of
 docs/FORMAT.md, and known words and sentences."""
 import copy
 import ctypes
 import doctest
+import inspect
 import os
 import pathlib
 import pickle
+import pydoc
 import re
 import shutil
 import string
@@ -13,19 +15,22 @@ import subprocess
 import sys
 import tempfile
 import unittest
+from random import Random
 
 TESTS = pathlib.Path(__file__).resolve().parent
 TOP = TESTS.parent.parent
 sys.path.insert(0, str(TESTS.parent))
 import peltzivar
-from peltzivar import Edit, Error, Format, FormatError, FormatView, Part, Role, Rule, Setter, notes_of
+from peltzivar import Cause, Edit, Error, Format, FormatError, FormatView, Language, LiteralError, OptionsError, Part, Role
+from peltzivar import Rule, Setter, SettingsError, Special, Specials, Spelling, Syntax, notes_of
 
 LINES = (TOP / "crates/recorded/data/results.txt").read_text().splitlines()
 PAGE = (TOP / "docs/FORMAT.md").read_text()
 FLAGS = re.findall(r"^\| (\d+) \| `(\w+)` \| (?:true|false) \|", PAGE, re.M)
 GROUPS = re.findall(r"^\| `(\w+)` \| (\d[\d ]*) \|", PAGE, re.M)
 BYTES = re.findall(r"^\| (\d+) to \d+ \| `(\w+)` \|", PAGE, re.M)
-RULES = re.findall(r"^\| (\d+) \| .* \| `(Invalid\w+)` \| `+('.*')`+ \| `(\w+)` \| (.*) \|$", PAGE, re.M)
+RULES = re.findall(r"^\| (\d+) \| (.*) \| `(Invalid\w+)` \| `+('.*')`+ \| `(\w+)` \| (.*) \|$", PAGE, re.M)
+CAUSES = re.findall(r"^\| (?:`(.*)` )?\| `(.*)` \| (\w+) ?(.*?) \| (\d+) \| (\d+)\.\.(\d+) \|$", PAGE, re.M)
 CALLS = peltzivar._library
 ERROR_TEXT = ctypes.CDLL(CALLS.path).peltzivar_error_text
 ERROR_TEXT.argtypes = [ctypes.c_uint32, ctypes.c_size_t, ctypes.c_char_p, ctypes.c_size_t]
@@ -43,7 +48,7 @@ def returned(kind, parts):
     """Returns what the module returns for the parts of a recorded line, and what was recorded."""
     if kind == "printed":
         index, name, text = parts
-        return peltzivar._text(ERROR_TEXT, error_of(name), int(index)), text
+        return peltzivar._text(ERROR_TEXT, error_of(name).value, int(index)), text
     word = int(parts[0], 16)
     if kind == "build":
         _, name, *settings = parts
@@ -71,13 +76,6 @@ class Recorded(unittest.TestCase):
                 continue
             got, wanted = returned(kind, rest.split(" ", 2 if kind == "printed" else -1))
             self.assertEqual(got, wanted, line)
-
-    def test_recorded_digits(self):
-        for _, byte, radix, wanted in (line.split() for line in LINES if line.startswith("digit ")):
-            if 0 < int(radix) < 256:
-                view = FormatView(int(radix) << 104)
-                digit = None if wanted == "none" else int(wanted)
-                self.assertEqual((view.mantissa_digit(int(byte)), view.exponent_digit(int(byte))), (digit, digit))
 
     def test_recorded_words_are_read_back(self):
         for line in LINES:
@@ -110,33 +108,18 @@ class Words(unittest.TestCase):
         self.assertNotEqual(self.HEXADECIMAL, formats[0])
         self.assertEqual(int(Format()), 0x00000A0000000000000000000000000C)
 
-    def test_what_is_not_a_word_is_refused(self):
-        for make in (FormatView, Format):
-            for word in (-1, 1 << 128):
-                self.assertRaisesRegex(ValueError, "a format word has 128 bits", make, word)
-            for word in (None, 12.0, "12"):
-                self.assertRaises(TypeError, make, word)
-            for text in ("", "0x", "C", " 0x0", "0x" + 33 * "0", "0x\u0660", "0x\udc80"):
-                self.assertRaisesRegex(ValueError, "is not a format word", make.parse, text)
-        for byte in {*map(chr, range(256))} - {*string.hexdigits}:
-            self.assertRaisesRegex(ValueError, "is not a format word", FormatView.parse, f"0x1{byte}0")
+    def test_a_text_that_is_not_a_word_is_refused(self):
+        texts = ["", "0x", "C", " 0x0", "0x" + 33 * "0", "0x\u0660", "0x\udc80"]
+        for text in texts + [f"0x1{byte}0" for byte in {*map(chr, range(256))} - {*string.hexdigits}]:
+            self.assertRaisesRegex(ValueError, "is not a format word", FormatView.parse, text)
 
-    def test_what_is_not_a_setting_is_refused(self):
-        rows = [
-            ({"colour": 7}, "colour=7: unknown setting name"),
-            ({"no_special": 1}, "no_special=1: no_special takes `true` or `false`"),
-            ({"mantissa_radix": None}, "mantissa_radix=none: mantissa_radix takes a number, 2 to 36 in a lawful format"),
-            ({"base_prefix": -1}, "base_prefix=-1: base_prefix takes a character such as '_', a number from 0 to 255, or `none`"),
-            ({"base_prefix": "\u00e9"}, "base_prefix='\u00e9': base_prefix takes a character such as '_', a number from 0 to 255, or `none`"),
-        ]
-        for fields, sentence in rows:
-            for call in (Format.of, FormatView.of, Format().edit, notes_of):
-                with self.assertRaises(ValueError) as caught:
-                    call(**fields)
-                self.assertEqual(str(caught.exception), sentence)
-        for text in ("radix", "radix =16", "radix=2\0", "r\udc80=1"):
-            self.assertRaises(ValueError, Format.of, text)
-        self.assertRaises(TypeError, Format.of, base_prefix=1.5)
+    def test_a_format_refuses_to_drop_a_separator(self):
+        separated = Format.of(digit_separator="_", internal_digit_separator=True)
+        for call in (Format.of, Format().edit, separated.edit):
+            fields = {"digit_separator": ",", "internal_digit_separator": False}
+            self.assertRaisesRegex(ValueError, "^no flag allows the digit separator ','$", call, **fields)
+        self.assertIsNone(separated.edit(internal_digit_separator=False).digit_separator)
+        self.assertEqual(FormatView.of(digit_separator="_"), FormatView())
 
     def test_an_unlawful_format_is_refused_with_all_reasons(self):
         fields = {"mantissa_radix": 16, "base_prefix": "b", "no_special": True, "special_digit_separator": True}
@@ -149,21 +132,22 @@ class Words(unittest.TestCase):
             error = pickle.loads(pickle.dumps(caught.exception))
             self.assertEqual(str(error), "; ".join(sentences))
             self.assertEqual([it.rules for it in error.reasons], [(rule,) for rule in rules])
+            self.assertEqual(error.error, Error.INVALID_BASE_PREFIX)
         self.assertEqual([it.mask for it in view.reasons()], [0xFF << 120 | 0xFF << 104 | 0xFF << 88, 1 << 10 | 1 << 44])
 
     def test_the_words_of_format_that_break_one_rule(self):
-        self.assertEqual([int(number) for number, *_ in RULES], list(Rule))
-        for number, error, description, word, sentence in RULES:
+        self.assertEqual([int(number) for number, *_ in RULES], [it.value for it in Rule])
+        for number, condition, error, description, word, sentence in RULES:
             view = FormatView.parse(word)
             rules = tuple(Rule)[:3] if number == "1" else (Rule(int(number)),)
             self.assertEqual([(it.text, it.rules) for it in view.reasons()], [(sentence, rules)])
-            self.assertEqual(view.error(), error_of(error))
-            self.assertEqual(peltzivar._text(CALLS.description, view.error()), description)
+            self.assertEqual((view.error(), view.error().description), (error_of(error), description))
+            self.assertEqual(rules[0].condition, condition)
 
     def test_notes(self):
         self.assertEqual([it.mask for it in notes_of("digit_separator=95")], [0x1FFF << 32 | 0xFF << 64])
         self.assertIn("digit separator '_'", str(notes_of(digit_separator="_")[0]))
-        self.assertEqual(Format.of(digit_separator="_").notes(), ())
+        self.assertEqual(FormatView.of(digit_separator="_").notes(), ())
         notes = Format(0x00000A0000000000000000000003000C).notes()
         self.assertEqual([it.mask for it in notes], [1 << 16 | 0xFF << 88, 1 << 17 | 0xFF << 96])
 
@@ -172,7 +156,7 @@ class Words(unittest.TestCase):
         self.assertEqual(int(edited), 0x0A0A10000000005F000000070000000C)
         self.assertEqual([it.value for it in edited.edits()], [True, True, True, "_", 16, 10, 10])
         self.assertEqual(Edit.of("base_prefix", "x"), Edit("base_prefix=0x78"))
-        self.assertEqual(Edit("radix=8"), Edit("mantissa_radix=8"))
+        self.assertEqual((Edit("radix=8"), Edit.of("radix", 8)), 2 * (Edit.of(Setter.MANTISSA_RADIX, 8),))
         self.assertEqual(len({Edit("no_special=true"), Edit.of("no_special", True), Edit("no_special=false")}), 2)
         self.assertEqual((Edit("required_digits=true").mask, Edit("exponent_radix=none").mask), (0xF, 0xFF << 120))
         self.assertEqual([Edit(f"{name}=none").value for name in ("exponent_base", "base_suffix")], [None, None])
@@ -183,7 +167,10 @@ class Words(unittest.TestCase):
         self.assertEqual(FormatView(0x0000100000000000000000000000040C).source(), source)
         self.assertRegex(FormatView((1 << 128) - 1).source(), r"^NumberFormatBuilder::new\(\).{900,}\.build_unchecked\(\)$")
         self.assertRaisesRegex(AttributeError, "no_special=True", setattr, Format(), "no_special", True)
+        self.assertEqual((f"{Format():>36}", f"{Format():#034x}"), (f"  {Format()}", "0x00000a0000000000000000000000000c"))
+        self.assertEqual((repr(Format.no_special), f"{Rule(7)}"), ("<field no_special>", "PUNCTUATION_DIFFERS"))
         self.assertEqual(doctest.testmod(peltzivar).failed, 0)
+        self.assertEqual(doctest.testfile(str(TOP / "docs/C-AND-PYTHON.md"), module_relative=False).failed, 0)
 
     def test_options(self):
         self.assertIsNone(Format().check_options("e", "."))
@@ -191,20 +178,18 @@ class Words(unittest.TestCase):
         sentence = "the exponent character 'e' is a digit in radix 16"
         (reason,) = FormatView.of(radix=16, exponent_radix=2).options_reasons("e", ".")
         self.assertEqual((str(reason), reason.mask, reason.rules), (sentence, 0xFF << 104, ()))
-        self.assertRaisesRegex(ValueError, f"^{sentence}; the decimal point '1' is", Format.of(radix=16).check_options, "e", "1")
-        for option in ("\u00e9", 256, -1):
-            self.assertRaisesRegex(ValueError, "an option is", Format().check_options, option, ".")
-        self.assertRaises(TypeError, Format().check_options, "ee", ".")
+        with self.assertRaisesRegex(OptionsError, f"^{sentence}; the decimal point '1' is") as caught:
+            Format.of(radix=16).check_options("e", "1")
+        self.assertEqual([it.options for it in pickle.loads(pickle.dumps(caught.exception)).reasons], [(Role.EXPONENT,), (Role.POINT,)])
 
     def test_bytes_are_numbers_or_characters(self):
         view = FormatView.of(radix=16, exponent_radix=10, base_prefix="x", base_suffix="H", case_sensitive_base_prefix=True,
                              digit_separator="_", fraction_internal_digit_separator=True)  # fmt: skip
         for call, characters in ((view.is_base_prefix, "x"), (view.is_base_suffix, "Hh"), (view.is_separator, "_")):
-            self.assertEqual("".join(filter(call, map(chr, range(512)))), characters)
-            self.assertEqual([it for it in range(-300, 300) if call(it)], [ord(it) for it in characters])
-            self.assertRaises(TypeError, call, "0x")
-        self.assertEqual([view.mantissa_digit(it) for it in "09afAFgG"] + [view.mantissa_digit(66)], [0, 9, 10, 15, 10, 15, None, None, 11])
-        self.assertEqual([view.exponent_digit(it) for it in "09a\u0660"], [0, 9, None, None])
+            self.assertEqual("".join(filter(call, map(chr, range(128)))), characters)
+            self.assertEqual([it for it in range(256) if call(it) and call(bytes([it]))], [ord(it) for it in characters])
+        self.assertEqual([view.mantissa_digit(it) for it in ("0", "9", b"a", "f", "A", b"F", "g", "G", 66)], [0, 9, 10, 15, 10, 15, None, None, 11])
+        self.assertEqual([view.exponent_digit(it) for it in "09a"], [0, 9, None])
         for byte in range(256):
             wanted = None if byte == 0 else chr(byte) if byte < 128 else byte
             self.assertEqual((Edit(f"base_prefix={byte}").value, FormatView.of(base_prefix=byte).base_prefix), (wanted, wanted))
@@ -212,14 +197,12 @@ class Words(unittest.TestCase):
     def test_roles_and_separators(self):
         view = Format.of(radix=16, base_prefix="x", base_suffix="H", digit_separator="_", internal_digit_separator=True)
         names = "DIGIT DIGIT SIGN SEPARATOR PREFIX SUFFIX EXPONENT POINT".split()
-        self.assertEqual([view.role_of("p", ".", byte) for byte in "0f+_XhP."], [Role[name] for name in names])
-        self.assertEqual([view.role_of(112, 0, byte) for byte in (112, ".", 0, "\u00e9", 256, "g")], [Role.EXPONENT] + 5 * [None])
-        self.assertRaisesRegex(ValueError, "an option is", view.role_of, "\u00e9", ".", "0")
+        self.assertEqual([view.role_of(byte, exponent="p", point=".") for byte in "0f+_XhP."], [Role[name] for name in names])
+        self.assertEqual([view.role_of(byte, exponent=112) for byte in (112, ".", 0, 233, "g")], [Role.EXPONENT] + 4 * [None])
         for number, name in FLAGS:
             if found := re.fullmatch(r"(\w+?)_(\w+)_digit_separator", name):
                 allowed = FormatView(1 << int(number)).separators(Part[found[1].upper()])
-                self.assertEqual((sum(allowed), getattr(allowed, found[2])), (1, True))
-        self.assertRaises(ValueError, view.separators, 3)
+                self.assertEqual((sum(vars(allowed).values()), getattr(allowed, found[2])), (1, True))
 
     def test_setters_have_the_bits_and_defaults_of_the_tables(self):
         masks = {name: 1 << int(bit) for bit, name in FLAGS} | {name: sum(1 << int(bit) for bit in bits.split()) for name, bits in GROUPS}
@@ -238,10 +221,159 @@ class Words(unittest.TestCase):
                 self.assertIs(getattr(view, name), str(bit) in bits.split(), (name, bit))
         names = {name for _, name in FLAGS + BYTES} | {name for name, _ in GROUPS}
         self.assertEqual({it.name.lower() for it in Setter}, names)
-        self.assertEqual({number for number in range(256) if bytes(CALLS.setter_mask(number)).strip(b"\0")}, set(Setter))
+        numbers = {number for number in range(256) if bytes(CALLS.setter_mask(number)).strip(b"\0")}
+        self.assertEqual(numbers, {it.value for it in Setter})
         for setter in Setter:
-            self.assertEqual(Edit(f"{setter.name.lower()}={'0x1' if 64 <= setter < 128 else 'true'}")._edit.setter, setter)
+            self.assertEqual(Edit(f"{setter.name.lower()}={'0x1' if 64 <= setter.value < 128 else 'true'}").setter, setter)
         self.assertEqual([getattr(FormatView(0), name) for _, name in BYTES], [None, None, None, 0, 0, 0])
+
+
+class Literals(unittest.TestCase):
+    def test_parts(self):
+        fields = {"digit_separator": "_", "internal_digit_separator": True, "base_prefix": "x", "base_suffix": "H"}
+        syntax = Syntax(Format.of(mantissa_radix=16, exponent_base=2, exponent_radix=10, **fields), exponent="p")
+        text = "-0x1_F.8_0p+1_2h"
+        parts = ["-", "0x", "1_F", ".", "8_0", "p", "+", "1_2", "h"]
+        for literal, in_type in ((syntax.read(text), str), (syntax.read(text.encode()), str.encode)):
+            self.assertEqual([*vars(literal).values()][2:], [*map(in_type, parts)])
+            self.assertEqual([*map(literal.digits, Part)], [*map(in_type, ["1F", "80", "12"])])
+        self.assertEqual([syntax.read(it).is_float for it in ("-F_F", "1.", "1p0")], [False, True, True])
+        literal, rest = syntax.read_prefix("1.8p+\u00e9")
+        self.assertEqual((literal.text, literal.fraction, rest), ("1.8", "8", "p+\u00e9"))
+
+    def test_causes_of_format(self):
+        self.assertGreater(len(CAUSES), 10)
+        for text, settings, cause, blamed, *numbers in CAUSES:
+            for given in (text, text.encode()):
+                with self.assertRaises(LiteralError) as caught:
+                    Syntax(FormatView.of(*settings.split()).check()).read(given)
+                error = pickle.loads(pickle.dumps(caught.exception))
+                got = error.text, error.cause, [error.valid_up_to, *error.span]
+                self.assertEqual(got, (given, Cause[cause.upper()], [*map(int, numbers)]), settings)
+                if cause == "missing":
+                    self.assertEqual((error.part, error.edits), (Part[blamed.upper()], ()))
+                else:
+                    edits = tuple(Edit.of(Setter(int(flag)), cause == "separator") for flag in blamed.split())
+                    self.assertEqual((error.edits, error.part is None), (edits, cause != "separator"), (text, settings))
+
+    def test_indexes_are_those_of_characters(self):
+        for text, index in (("12\u00e9", 2), ("\u20ac", 0), ("1.5\U0001F600e", 3), ("1e\ud800", 2), ("1x\u00e9", 1)):
+            with self.assertRaises(LiteralError) as caught:
+                Syntax(Format()).read(text)
+            error, sentence = caught.exception, f"no literal has the {'byte' if index == 1 else 'character'} {text[index]!r} here"
+            self.assertEqual((error.valid_up_to, error.error, str(error)), (index, Error.INVALID_DIGIT, sentence))
+
+    def test_syntaxes(self):
+        syntaxes = [Syntax(Format()), Syntax(Format(), b"e", 46), Syntax(Format().normal_form()), Syntax.integers(Format())]
+        got = [(it.exponent, it.point, it.role_of("e")) for it in syntaxes]
+        self.assertEqual(got, 3 * [("e", ".", Role.EXPONENT)] + [(None, None, None)])
+        for syntax in syntaxes:
+            copies = eval(repr(syntax)), pickle.loads(pickle.dumps(syntax)), copy.deepcopy(syntax)
+            self.assertEqual({syntax, *copies}, {syntaxes[3] if syntax is syntaxes[3] else syntaxes[0]})
+
+    def test_languages_read_the_texts_of_their_grammars(self):
+        rows = [row.split()[:3] for row in (TOP / "rust/tests/literals.txt").read_text().splitlines() if row and row[0] != "#"]
+        self.assertEqual({name for name, *_ in rows}, {it.name for it in Language})
+        for name, mark, text in rows:
+            try:
+                is_read = bool(getattr(peltzivar.languages, name).read(text))
+            except LiteralError:
+                is_read = False
+            self.assertEqual(is_read, mark in ("+", "-!"), (name, text))
+
+    def test_special_values(self):
+        for text, wanted in (("+inf", "+INF"), (b"-nan", "-NAN"), ("inf", "INF")):
+            special = Language.TOML.read(text)
+            self.assertEqual((str(special), repr(float(str(special)))), (wanted, repr(float(text))))
+        specials = Specials(nan="n\u00e4n", infinity="\u221e")
+        self.assertEqual(specials.read(Syntax(Format()), "-\u221e"), Special("-", Spelling.INFINITY))
+        self.assertIsNone(specials.read(Syntax(Format()), ""))
+
+    def test_settings_make_a_syntax(self):
+        lines = ["# hexadecimal\r\n", "radix = 16\n", "base_prefix='x'", "", "exponent = 'p'"]
+        self.assertEqual(Syntax.of(*lines), Syntax(Format.of(radix=16, base_prefix="x"), "p"))
+        self.assertEqual(Syntax.of(Edit("radix=16"), "exponent=none", "point=none"), Syntax.integers(Format.of(radix=16)))
+        notes = [(str(it), it.indexes) for it in Syntax.notes_of(*lines, "digit_separator = '_'", "radix = 16")]
+        self.assertEqual(notes, [("radix is overridden", (1, 6)), ("no flag allows the digit separator '_'", (5,))])
+        with self.assertRaises(SettingsError) as caught:
+            Syntax.of("base_suffx='h'", "radix=16", "base_prefix='b'", "exponent_radix='9'")
+        error = pickle.loads(pickle.dumps(caught.exception))
+        sentences = [
+            ("unknown setting `base_suffx`; did you mean `base_suffix`?", (0,)),
+            ("exponent_radix takes a number, 2 to 36 in a lawful format, or `none`, not `'9'`", (3,)),
+            ("the base prefix 'b' is a digit in radix 16", (1, 2)),
+        ]
+        self.assertEqual([(str(it), it.indexes) for it in error.reasons], sentences)
+
+
+BYTE = "one ASCII character or a number from 0 to 255"
+WRONG = [
+    ("Format(-1)", ValueError, "a format word is a number of at most 128 bits: -0x1"),
+    ("Format.of(no_special=1)", TypeError, "no_special is a bool, not int"),
+    ("FormatView.of(mantissa_radix='8')", TypeError, "mantissa_radix is a number from 0 to 255, not str"),
+    ("Format().edit(mantissa_radix=None)", TypeError, "mantissa_radix is a number from 0 to 255, not NoneType"),
+    ("Format.of(base_prefix='\u00e9')", ValueError, f"base_prefix is {BYTE}: '\u00e9'"),
+    ("Format().edit(colour=7)", TypeError, "edit() got an unexpected keyword argument 'colour'"),
+    ("Edit.of('colour', 7)", ValueError, "unknown setting name: 'colour'"),
+    ("Format().check_options('e', b'')", ValueError, f"point is {BYTE}: b''"),
+    ("Syntax.of('radix=16\\nradix=2')", ValueError, "a setting is one line: b'radix=16\\nradix=2'"),
+    ("Specials('a\\0').read(Syntax(Format()), '')", ValueError, "a spelling has a null character: Specials(nan='a\\x00', inf=None, infinity=None)"),
+]
+
+
+class Wrong(unittest.TestCase):
+    def test_wrong_arguments_are_named(self):
+        for code, error, sentence in WRONG:
+            with self.subTest(code), self.assertRaisesRegex(error, f"^{re.escape(sentence)}$"):
+                eval(code)
+
+    def test_random_objects_are_refused_by_name(self):
+        objects = [None, True, 1.5, float("nan"), -1, 0, 65, 256, 1 << 128, 10**5000, "", "x", "0x1", "\u00e9", "\ud800", "a\0b", b"", b"\xff"]
+        objects += [[], {}, object(), print, Edit, Format(), Edit("radix=8"), Part.INTEGER, Setter.NO_SPECIAL, Error.EMPTY, "radix=8"]
+        fields = [name for name in inspect.signature(Format.of).parameters if name != "settings"]
+        one, view, syntax, random = Format(), FormatView((1 << 128) - 1), Syntax(Format()), Random(1)
+        calls = {
+            "a byte": [view.is_separator, view.mantissa_digit, view.exponent_digit, view.role_of, syntax.role_of],
+            "a format word": [FormatView, Format, Format.parse],
+            "a setting|=|unknown|takes": [Edit, one.edit, Syntax.of, Syntax.notes_of],
+            "a text|here$|expected": [syntax.read, syntax.read_prefix, Language.JSON.read],
+            "part is": [view.separators, syntax.read("1").digits],
+            "format is|exponent|point": [Syntax.integers, Syntax],
+            "_": [lambda value: notes_of(**{random.choice(fields): value})],
+            "setter|unknown|_": [Edit.of],
+            "exponent|point": [one.check_options],
+            "spelling|syntax|a text": [Specials(5, []).read, Specials().read],
+        }
+        refused = 0
+        for _ in range(20000):
+            names, possible = random.choice(list(calls.items()))
+            call, arguments = random.choice(possible), random.choices(objects, k=2 if names in list(calls)[-3:] else 1)
+            try:
+                call(*arguments)
+            except FormatError:
+                pass
+            except (TypeError, ValueError) as error:
+                refused += 1
+                self.assertRegex(str(error), names, call)
+        self.assertGreater(refused, 10000)
+
+    @unittest.skipUnless(shutil.which("mypy"), "mypy")
+    def test_a_type_checker_refuses_wrong_arguments(self):
+        program = """from peltzivar import Edit, Format, Setter, notes_of
+Format.of("radix=16", Edit.of(Setter.NO_SPECIAL, True), mantissa_radix=16, base_prefix=b"x").edit(exponent_base=None)
+Format.of(mantissa_radix="x", base_prefx=3)
+Format().edit(no_special=1)
+notes_of(mantissa_radix=None)
+print(Format().no_special + "", Format().edit().check().error().description)
+"""
+        command = ["mypy", "--strict", "--cache-dir=/dev/null", peltzivar.__file__, "/dev/stdin"]
+        ran = subprocess.run(command, env={**os.environ, "MYPYPATH": str(TESTS.parent)}, input=program, capture_output=True, text=True)
+        self.assertEqual(re.findall(r"^(.*):(\d+): error", ran.stdout, re.M), [("/dev/stdin", line) for line in "33456"], ran)
+
+    def test_help_has_no_private_names(self):
+        text = pydoc.plain(pydoc.render_doc(peltzivar))
+        self.assertEqual(re.findall(r"^ +\|  (_[a-z]\w*)", text, re.M), [])
+        self.assertNotIn("builtins.int", text)
 
 
 class Loading(unittest.TestCase):
@@ -250,7 +382,7 @@ class Loading(unittest.TestCase):
     def setUp(self):
         self.folder = pathlib.Path(tempfile.mkdtemp())
         self.addCleanup(shutil.rmtree, self.folder)
-        shutil.copy(peltzivar.__file__, self.folder)
+        shutil.copy(peltzivar.__file__, self.folder / "peltzivar.py")
 
     def run_copy(self, **variables):
         command = [sys.executable, "-B", "-c", "import peltzivar; print(peltzivar._library.path)"]
@@ -261,21 +393,16 @@ class Loading(unittest.TestCase):
         self.assertEqual(self.run_copy(PELTZIVAR_LIBRARY=library).stdout, f"{library}\n")
         beside = shutil.copy(library, self.folder.resolve() / "libpeltzivar_c.so")
         self.assertEqual(self.run_copy().stdout, f"{beside}\n")
+        versioned = "libpeltzivar_c.so." + re.match(r"0\.\d+|\d+", peltzivar.__version__)[0]
+        (self.folder / "lib").mkdir()
+        os.rename(beside, self.folder / "lib" / versioned)
+        self.assertEqual(self.run_copy(LD_LIBRARY_PATH=str(self.folder / "lib")).stdout, f"{versioned}\n")
         self.assertRegex(self.run_copy(PELTZIVAR_LIBRARY="no.so").stderr, r"ImportError: .*no\.so.*: name its path in PELTZIVAR_LIBRARY")
 
     def test_another_library_is_refused(self):
-        for code, version in [("", "0.0"), ("unsigned peltzivar_version(void) { return 0x7F0203; }", "127.2")]:
+        for code, version in [("", "0.0.0"), ("unsigned peltzivar_version(void) { return 0x7F0203; }", "127.2.3")]:
             subprocess.run(["cc", "-shared", "-x", "c", "-", "-o", "other.so"], cwd=self.folder, input=code, text=True, check=True)
             self.assertRegex(self.run_copy(PELTZIVAR_LIBRARY="other.so").stderr, f"other.so has version {version}, and this file 0")
-
-    def test_the_example(self):
-        for settings, status, printed in [
-            (["digit_separator=95", "case_sensitive_special=true"], 0, "digits: 0123456789"),
-            (["no_special=true", "radix=none"], 2, "radix=none: radix takes a number, 2 to 36 in a lawful format"),
-            (["radix=16", "base_suffix='b'"], 1, "the base suffix 'b' is a digit in radix 16"),
-        ]:
-            ran = subprocess.run([sys.executable, "-B", TESTS.parent / "example.py", *settings], capture_output=True, text=True)
-            self.assertEqual((ran.returncode, printed in ran.stdout.splitlines(), ran.stderr), (status, True, ""))
 
 
 if __name__ == "__main__":

@@ -1,16 +1,15 @@
-//! Gives the shared library a name that changes with the minor version. A new minor version may change numbers and
-//! structs of the header, and a program that was built for another one must not find this library.
+//! Gives the shared library a name with the major version and, before 1.0, the minor version. A program that was built for
+//! another one must not find this library, since functions and structs of the header may differ.
 
 use std::env;
 
 fn main() {
     println!("cargo::rerun-if-changed=build.rs");
-    let is_elf = env::var_os("CARGO_CFG_UNIX").is_some()
-        && env::var("CARGO_CFG_TARGET_VENDOR").as_deref() != Ok("apple");
-    if is_elf {
-        let major = env!("CARGO_PKG_VERSION_MAJOR");
-        let minor = env!("CARGO_PKG_VERSION_MINOR");
-        let name = format!("libpeltzivar_c.so.{major}.{minor}");
+    if env::var("CARGO_CFG_TARGET_OS").as_deref() == Ok("linux") {
+        let name = match (env!("CARGO_PKG_VERSION_MAJOR"), env!("CARGO_PKG_VERSION_MINOR")) {
+            ("0", minor) => format!("libpeltzivar_c.so.0.{minor}"),
+            (major, _) => format!("libpeltzivar_c.so.{major}"),
+        };
         println!("cargo::rustc-cdylib-link-arg=-Wl,-soname,{name}");
         // The shared library needs `memcpy` of the C library, which rustc does not link without `std`.
         println!("cargo::rustc-cdylib-link-arg=-lc");

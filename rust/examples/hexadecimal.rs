@@ -2,7 +2,7 @@
 
 use core::num::NonZeroU8;
 use peltzivar::literal::Syntax;
-use peltzivar::{Format, NumberFormatBuilder};
+use peltzivar::{Format, NumberFormatBuilder, Part};
 
 /// Hexadecimal integers with separators, such as `00_ff`. A format that is not lawful does not compile.
 const HEXADECIMAL: Format = NumberFormatBuilder::new()
@@ -13,15 +13,12 @@ const HEXADECIMAL: Format = NumberFormatBuilder::new()
 
 /// Returns the value of an integer. Returns `None` if the text is not an integer of the syntax, or if it is too large.
 fn integer(syntax: &Syntax, text: &[u8]) -> Option<i64> {
-    let (format, parts) = (syntax.format(), syntax.read(text).ok()?);
-    let (mut value, radix) = (0i64, format.radix().into());
-    for &byte in parts.integer {
-        // A separator has no value.
-        if let Some(digit) = format.mantissa_digit(byte) {
-            value = value.checked_mul(radix)?.checked_add(digit.into())?;
-        }
+    let literal = syntax.read(text).ok()?;
+    let (mut value, radix) = (0i64, literal.radix(Part::Integer).into());
+    for digit in literal.digits(Part::Integer) {
+        value = value.checked_mul(radix)?.checked_add(digit.into())?;
     }
-    Some(if parts.sign == b"-" { -value } else { value })
+    Some(if literal.is_negative() { -value } else { value })
 }
 
 fn main() {

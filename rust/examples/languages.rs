@@ -2,10 +2,9 @@
 //! point does not fit it, and prints the reason. To see whose number a text is: `cargo run --example languages -- 0x1p3`
 
 use core::num::NonZeroU8;
-use peltzivar::{literal::Syntax, NumberFormatBuilder};
+use peltzivar::{literal::Language, literal::Syntax, NumberFormatBuilder};
 
 const PLAIN: NumberFormatBuilder = NumberFormatBuilder::new().no_positive_mantissa_sign(true);
-
 #[rustfmt::skip]
 const LANGUAGES: [(&str, Syntax); 5] = [
     ("JSON", numbers(PLAIN.required_digits(true).no_integer_leading_zeros(true).no_float_leading_zeros(true), b'e')),
@@ -23,7 +22,9 @@ const fn numbers(builder: NumberFormatBuilder, exponent: u8) -> Syntax {
 
 fn main() {
     let text = std::env::args_os().nth(1).unwrap_or_default();
-    for (name, syntax) in LANGUAGES {
-        println!("{name}: {}", syntax.read(text.as_encoded_bytes()).is_ok());
+    let others = Language::ALL.iter().map(|it| (it.name(), it.syntax()));
+    for (name, syntax) in LANGUAGES.into_iter().chain(others) {
+        let is_number = syntax.read(text.as_encoded_bytes()).is_ok();
+        println!("{name}: {is_number} {syntax}");
     }
 }

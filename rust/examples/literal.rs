@@ -7,7 +7,7 @@
 //! E and P do not fit it, and 2 if the arguments are malformed.
 
 use peltzivar::edits::byte_from_decimal;
-use peltzivar::literal::{Parts, Syntax};
+use peltzivar::literal::{Literal, Syntax};
 use peltzivar::{Format, FormatError, FormatView};
 use std::ffi::OsString;
 use std::io::{self, Write};
@@ -20,35 +20,24 @@ fn main() -> io::Result<ExitCode> {
         return Ok(ExitCode::from(2));
     };
     let mut out = io::stdout().lock();
-    let parts = match read(syntax, text) {
-        Ok(parts) => parts,
+    let literal = match read(syntax, text) {
+        Ok(literal) => literal,
         Err(line) => {
             writeln!(out, "{line}")?;
             return Ok(ExitCode::FAILURE);
         }
     };
-    let named = [
-        ("sign", parts.sign),
-        ("prefix", parts.prefix),
-        ("integer", parts.integer),
-        ("point", parts.point),
-        ("fraction", parts.fraction),
-        ("exponent_character", parts.exponent_character),
-        ("exponent_sign", parts.exponent_sign),
-        ("exponent", parts.exponent),
-        ("suffix", parts.suffix),
-    ];
-    for (name, bytes) in named.into_iter().filter(|(_, bytes)| !bytes.is_empty()) {
+    for (name, bytes) in literal.parts() {
         out.write_all(&[name.as_bytes(), b" ", bytes, b"\n"].concat())?;
     }
     Ok(ExitCode::SUCCESS)
 }
 
-/// Returns the parts of a literal, or the line that the program prints instead.
-fn read(syntax: Result<Syntax, FormatError>, text: &[u8]) -> Result<Parts<'_>, String> {
+/// Returns the literal, or the line that the program prints instead.
+fn read(syntax: Result<Syntax, FormatError>, text: &[u8]) -> Result<Literal<'_>, String> {
     let syntax = syntax.map_err(|error| error.code().to_string())?;
-    let parts = syntax.read(text);
-    parts.map_err(|error| format!("{}: {error}", error.valid_up_to()))
+    let literal = syntax.read(text);
+    literal.map_err(|error| format!("{}: {error}", error.valid_up_to()))
 }
 
 /// Returns the syntax, or the error of its word or options, and the text. Returns `None` if an argument is malformed.

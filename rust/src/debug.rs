@@ -90,7 +90,8 @@ impl fmt::Debug for Syntax {
     fn fmt(&self, f: &mut fmt::Formatter<'_>) -> fmt::Result {
         f.debug_struct("Syntax")
             .field("format", &self.view())
-            .field("options", &self.options())
+            .field("exponent", &self.exponent().map(char::from))
+            .field("point", &self.point().map(char::from))
             .finish()
     }
 }

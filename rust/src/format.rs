@@ -7,20 +7,25 @@
 //! `INTERFACE_FLAG_MASK`, `EXPONENT_FLAG_MASK` and those that end in `DIGIT_SEPARATOR_FLAG_MASK`.
 //!
 //! For a word that is known only at run time, use [`FormatView`], or [`Format`] if the word must be lawful. The
-//! prebuilt formats of `lexical-util` are not included. To copy one, see `examples/recipes.rs`.
+//! prebuilt formats of `lexical-util` are not included. [`Language`][crate::literal::Language] has formats of languages.
 
 #[doc(no_inline)]
 pub use crate::feature_format::NumberFormat;
 #[doc(no_inline)]
-pub use crate::format_builder::*;
-#[doc(no_inline)]
-pub use crate::format_flags::*;
+pub use crate::format_builder::{NonZeroU8, NumberFormatBuilder, OptionU8};
 #[doc(inline)]
 pub use crate::format_flags::{
     base_prefix, base_suffix, digit_separator, exponent_base, exponent_radix, is_clean,
     is_digit_of_either_radix, is_separator_allowed, is_valid_base_prefix, is_valid_base_suffix,
     is_valid_digit_separator, is_valid_exponent_flags, is_valid_options_punctuation,
     is_valid_punctuation, is_valid_radix, mantissa_radix, radix_from_flags,
+};
+#[doc(no_inline)]
+pub use crate::format_flags::{
+    Part, Rule, BASE_PREFIX, BASE_PREFIX_SHIFT, BASE_SUFFIX, BASE_SUFFIX_SHIFT, DIGIT_SEPARATOR,
+    DIGIT_SEPARATOR_SHIFT, EXPONENT_BASE, EXPONENT_BASE_SHIFT, EXPONENT_FLAG_MASK, EXPONENT_RADIX,
+    EXPONENT_RADIX_SHIFT, FLAG_MASK, INTERFACE_FLAG_MASK, MANTISSA_RADIX, MANTISSA_RADIX_SHIFT,
+    RADIX, RADIX_MASK, RADIX_SHIFT,
 };
 #[doc(no_inline)]
 pub use crate::lawful::Format;
@@ -30,6 +35,17 @@ pub use crate::view::FormatView;
 pub use crate::word::STANDARD;
 
 use crate::error::Error;
+use crate::short_text::ShortText;
+
+// Exports the constants of all flags and groups.
+macro_rules! constants {
+    (() { $($Flag:ident $flag:ident $FLAG:ident;)* } { $($Group:ident $group:ident $GROUP:ident;)* }) => {
+        #[doc(no_inline)]
+        pub use crate::format_flags::{$($FLAG,)* $($GROUP,)*};
+    };
+}
+
+crate::with_setters!(constants());
 
 /// Returns whether the format word `FORMAT` is lawful, that is, whether [`format_error`] returns `Success` for it.
 #[must_use]
@@ -82,7 +98,10 @@ impl NumberFormatBuilder {
     pub const fn build_or_panic(&self) -> u128 {
         match self.build_format() {
             Ok(format) => format.word(),
-            Err(error) => panic!("{}", error.message().as_str()),
+            Err(error) => {
+                let description = ShortText::of(error.code().description()).and(": ");
+                panic!("{}", description.and(error.text().as_str()).as_str())
+            }
         }
     }
 

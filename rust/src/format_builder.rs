@@ -10,6 +10,7 @@ mod getters;
 mod non_zero;
 mod setters;
 
+#[doc(no_inline)]
 pub use non_zero::NonZeroU8;
 
 // The bit at which the digit separator flags of a builder start. In a format word, they start at bit 32.

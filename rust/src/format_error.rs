@@ -26,6 +26,10 @@ pub struct FormatError {
     cause: Cause,
 }
 
+/// The text for options of which one is 0, since both or neither are absent.
+pub(crate) const ONE_OPTION: &str =
+    "only one of the exponent character and the decimal point is absent";
+
 /// What is rejected.
 #[derive(Clone, Copy, PartialEq, Eq, Hash)]
 pub(crate) enum Cause {
@@ -94,17 +98,14 @@ impl FormatError {
     #[must_use]
     pub const fn text(&self) -> ShortText {
         match (self.first_reason(), self.cause, self.code.index()) {
+            (_, Cause::Options(_, 0, 1..) | Cause::Options(_, 1.., 0), _) => {
+                ShortText::of(ONE_OPTION)
+            }
             (Some(reason), ..) => reason.text(),
-            (None, Cause::Bytes, _) => ShortText::of("options are two numbers from 0 to 255"),
+            (None, Cause::Bytes, _) => ShortText::of("options are two bytes, such as 'e' or 101"),
             (None, _, Some(0 | 1)) => ShortText::of("a format word begins with `0x`"),
             (None, ..) => self.code.text(),
         }
-    }
-
-    /// Returns the text of a panic: the description of the error, a colon, and the first reason as a sentence.
-    pub(crate) const fn message(&self) -> ShortText {
-        let description = ShortText::of(self.code.description());
-        description.and(": ").and(self.text().as_str())
     }
 }
 

@@ -69,7 +69,7 @@ impl Format {
         const {
             match Format::new(FORMAT) {
                 Ok(format) => format,
-                Err(error) => panic!("{}", error.message().as_str()),
+                Err(error) => panic!("{}", error.text().as_str()),
             }
         }
     }
@@ -126,6 +126,9 @@ impl Format {
     }
 
     /// Returns notes on the fields that are set but have no effect on any number, as [`FormatView::notes`] does.
+    ///
+    /// A builder drops a digit separator that no flag allows, so a format that one built never has the note on it. It is
+    /// in [`NumberFormatBuilder::notes`] and in [`Settings::notes`][crate::Settings::notes].
     pub fn notes(&self) -> impl Iterator<Item = Note> + Clone {
         self.view.notes()
     }
@@ -195,6 +198,15 @@ impl NumberFormatBuilder {
     }
 
     /// Packs the fields into a word, and returns the word as a [`Format`] if it is lawful.
+    ///
+    /// A digit separator that no flag allows is dropped, and is not an error. [`notes`][Self::notes] of the builder has a
+    /// note on it, which the notes of the format lack.
+    ///
+    /// ```
+    /// let builder = peltzivar::NumberFormatBuilder::new().digit_separator(core::num::NonZeroU8::new(b'_'));
+    /// assert_eq!(builder.notes().next().unwrap().to_string(), "no flag allows the digit separator '_'");
+    /// assert_eq!(builder.build_format().unwrap().notes().count(), 0);
+    /// ```
     ///
     /// # Errors
     ///

@@ -17,16 +17,21 @@
 //! |---|---|
 //! | write a format as a constant | [`NumberFormatBuilder`] and its [`build_format_or_panic`][NumberFormatBuilder::build_format_or_panic], or [`build_or_panic`][NumberFormatBuilder::build_or_panic] for the word |
 //! | take a checked format as an argument | [`Format`] |
-//! | read numbers | [`Syntax`][literal::Syntax], or a [`Reader`][literal::Reader] for many texts; [`Specials`][literal::Specials] for NaN and infinity; [`FormatView::mantissa_digit`] for the value of a digit |
+//! | read numbers of a language | [`Language`][literal::Language] |
+//! | read numbers of a format | [`Syntax`][literal::Syntax], or a [`Reader`][literal::Reader] for many texts; [`Specials`][literal::Specials] for NaN and infinity |
+//! | compute values | [`Literal::digits`][literal::Literal::digits] and [`radix`][literal::Literal::radix] |
 //! | report why a text is not a number | [`ReadError`][literal::ReadError] |
+//! | write numbers | the example of [`literal`], and [`digit_to_char`][digit::digit_to_char] |
 //! | write a reader of your own | [`FormatView::is_separator`], [`separators`][FormatView::separators], [`role_of`][FormatView::role_of] |
 //! | read the fields of any word, lawful or not | [`FormatView`]; [`NumberFormat`] for a word that is known at compile time |
-//! | parse settings | `str::parse` for each [`Edit`], or [`Edit::flag`] and [`Edit::byte`]; [`collect`][Iterator::collect] to turn edits into a builder, and [`build_format`][NumberFormatBuilder::build_format] to check it |
+//! | read a configuration | [`Settings`], which knows the lines to blame; [`Edit`] for a single setting, and [`collect`][Iterator::collect] to turn edits into a builder |
 //! | report the problems with a word | [`FormatError`], [`FormatView::reasons`], [`Reason::mask`], [`FormatView::notes`] |
 //! | derive a format from another | [`NumberFormatBuilder::from`], or [`edits::edit_word`] |
 //! | compare two formats | [`Format::normal_form`], [`edits::same_format`] |
 //! | store words as text | `Display` and `FromStr` of [`Format`], [`FormatView`] and [`Syntax`][literal::Syntax] |
 //! | convert words that `lexical-util` stored | [`edits::migrate`] |
+//!
+//! `FORMAT.txt` in the package defines each flag and rule, which texts are numbers, and why a text is not one.
 //!
 //! # From `lexical-util`
 //!
@@ -37,9 +42,11 @@
 //! - `build_strict` returns a `Result`. In a constant, call `build_or_panic` instead.
 //! - A base prefix, base suffix or exponent character that is a letter matches both cases, unless a flag makes it
 //!   case-sensitive. A word in which a reserved bit is set is not lawful.
-//! - The prebuilt formats of `lexical-util`, such as `JSON`, are not included. To copy one, see `examples/recipes.rs`.
+//! - The prebuilt formats of `lexical-util`, such as `JSON`, are not included. [`Language`][literal::Language] has formats
+//!   of languages.
 //!
-//! [`Format`], [`FormatView`], [`FormatError`], [`edits`], [`literal`], [`Reason`], [`Note`] and [`source`] are new.
+//! [`Format`], [`FormatView`], [`FormatError`], [`edits`], [`literal`], [`Settings`], [`Reason`], [`Note`] and
+//! [`source`] are new.
 //!
 //! # What is proved
 //!
@@ -47,8 +54,9 @@
 //! contract. From this code, a program in the repository generated the files that begin with `Made by`. In the
 //! documentation, `Proved of the source` heads what the contracts of a call state.
 //!
-//! The following parts are written by hand: [`Format`], [`NumberFormat`], the iterators and conversions, `Display`,
-//! `FromStr` and `Debug` of words and syntaxes, the syntax of a [`Format`] and the format of a syntax, `Display`,
+//! The following parts are written by hand: [`Format`], [`Settings`], [`NumberFormat`], [`Language`][literal::Language],
+//! the iterators and conversions, `Display`, `FromStr` and `Debug` of words and syntaxes, the syntax of a [`Format`] and
+//! the format of a syntax, [`Literal`][literal::Literal] around the parts that the proved code finds, `Display`,
 //! `is_incomplete`, `span` and `settings` of [`ReadError`][literal::ReadError], the methods that panic, and the tests of
 //! slices in [`ascii`]. A build of this crate proves nothing. You trust the program that generated the files, the
 //! handwritten parts, and `rustc`.
@@ -78,6 +86,7 @@ pub mod literal;
 mod numeral;
 #[doc(hidden)]
 pub mod reasons;
+mod settings;
 #[doc(hidden)]
 pub mod short_text;
 #[expect(clippy::exhaustive_structs, reason = "written by callers")]
@@ -105,6 +114,8 @@ pub use format_flags::{Part, Rule};
 pub use lawful::Format;
 #[doc(inline)]
 pub use reasons::{Byte, Cause, NamedByte, Note, Radixes, Reason};
+#[doc(inline)]
+pub use settings::{Finding, FindingKind, Settings, SettingsError};
 #[doc(inline)]
 pub use short_text::ShortText;
 #[doc(inline)]

@@ -59,7 +59,7 @@ impl FormatView {
     }
 
     /// Returns the edits that give a new builder the fields of the word. There is one edit for each field in which the
-    /// word differs from a new builder. The edits are in the same order as those that [`edits_of`] returns.
+    /// word differs from a new builder. The edits are in the order of the bits that they write.
     pub fn edits(&self) -> impl Iterator<Item = Edit> + Clone {
         let (edits, count) = edits_of(self.word());
         edits.into_iter().take(count)

@@ -1,8 +1,9 @@
 //! Literals: the texts that are numbers of a format, their parts, the calls that read them, and why a text is not one.
 //!
 //! A [`Syntax`] is a lawful format with an exponent character and a decimal point or, for integers alone, without both.
-//! A [`Reader`] has tables of a syntax, so that it reads a text in less time. A [`ReadError`] has the cause of a
-//! refusal, and the flags to blame. NaN and infinity are not literals: [`Specials`] reads them.
+//! A [`Reader`] has tables of a syntax, so that it reads a text in less time. A [`Literal`] has the parts of a text and
+//! the values of its digits. A [`ReadError`] has the cause of a refusal, and the flags to blame. NaN and infinity are not
+//! literals: [`Specials`] reads them. A [`Language`] has a reader and the special values of a language.
 //!
 //! ```
 //! use peltzivar::format::{Format, STANDARD};
@@ -10,17 +11,52 @@
 //!
 //! /// The numbers of the standard format. Its tables are made when this is compiled.
 //! static READER: Reader = Reader::new(Syntax::new_or_panic(Format::of::<STANDARD>(), b'e', b'.'));
-//! let parts = READER.read(b"-1.25e3").unwrap();
-//! assert_eq!((parts.sign, parts.integer, parts.fraction, parts.exponent), (&b"-"[..], &b"1"[..], &b"25"[..], &b"3"[..]));
+//! let literal = READER.read(b"-1.25e3").unwrap();
+//! assert!(literal.is_negative() && literal.is_float());
+//! assert_eq!((literal.integer(), literal.fraction(), literal.exponent()), (&b"1"[..], &b"25"[..], &b"3"[..]));
 //!
 //! // A second decimal point is refused. What is before it is a literal.
 //! let error = READER.read(b"1.25.3").unwrap_err();
 //! assert_eq!((error.valid_up_to(), error.to_string()), (4, "no literal has the byte '.' here".into()));
-//! assert_eq!(READER.read_prefix(b"1.25.3").unwrap().size, 4);
+//! let (literal, rest) = READER.read_prefix(b"1.25.3").unwrap();
+//! assert_eq!((literal.as_bytes(), rest), (&b"1.25"[..], &b".3"[..]));
+//! ```
+//!
+//! [`Literal`] has examples that compute values, and [`Syntax::read_prefix`] one that splits a text into numbers.
+//!
+//! # Writing numbers
+//!
+//! A format also determines how a number may be written. This writes an integer with a prefix and groups of three digits,
+//! where the format has them:
+//!
+//! ```
+//! use peltzivar::{digit::digit_to_char, literal::Language, Format, Part};
+//!
+//! fn write(mut value: u64, format: Format) -> Vec<u8> {
+//!     let (mut text, radix) = (Vec::new(), u64::from(format.radix()));
+//!     let separator = format.digit_separator().filter(|_| format.separators(Part::Integer).internal);
+//!     for count in 1.. {
+//!         text.push(digit_to_char((value % radix) as u32));
+//!         value /= radix;
+//!         match separator {
+//!             _ if value == 0 => break,
+//!             Some(separator) if count % 3 == 0 => text.push(separator.get()),
+//!             _ => (),
+//!         }
+//!     }
+//!     text.extend(format.base_prefix().into_iter().flat_map(|prefix| [prefix.get(), b'0']));
+//!     text.reverse();
+//!     text
+//! }
+//! let syntax = Language::RUST_HEX_INTEGER.syntax();
+//! let text = write(0xC0FFEE, syntax.format());
+//! assert_eq!((text.as_slice(), syntax.read(&text).is_ok()), (&b"0xC0F_FEE"[..], true));
 //! ```
 
 #[allow(clippy::redundant_pattern_matching, reason = "as it is proved")]
 mod cause;
+mod language;
+mod number;
 #[allow(clippy::needless_lifetimes, reason = "as it is proved")]
 mod read;
 mod sentence;
@@ -37,6 +73,8 @@ mod tables;
 mod text;
 
 pub use cause::{Cause, Place, ReadError};
-pub use read::{Front, Parts, Reader};
+pub use language::{Language, Number};
+pub use number::{Digits, Literal};
+pub use read::Reader;
 pub use specials::{Sign, Special, Specials, Spelling};
-pub use syntax::{Options, Syntax};
+pub use syntax::Syntax;

@@ -6,9 +6,11 @@ use core::str::FromStr;
 use crate::edits::{Edit, Fault, FlagSetter, Setter, SettingError};
 use crate::error::Error;
 use crate::format_error::{Cause, FormatError};
+use crate::format_flags::{Part, Rule};
 use crate::lawful::Format;
 use crate::reasons::Reason;
-use crate::view::FormatView;
+use crate::short_text::ShortText;
+use crate::view::{FormatView, Role};
 use crate::word_text::{parse_word, word_text};
 
 impl core::error::Error for SettingError {}
@@ -51,6 +53,20 @@ impl fmt::Display for Format {
     }
 }
 
+/// Prints the text.
+impl fmt::Display for ShortText {
+    fn fmt(&self, f: &mut fmt::Formatter<'_>) -> fmt::Result {
+        f.pad(self.as_str())
+    }
+}
+
+/// Prints the text in double quotes.
+impl fmt::Debug for ShortText {
+    fn fmt(&self, f: &mut fmt::Formatter<'_>) -> fmt::Result {
+        fmt::Debug::fmt(self.as_str(), f)
+    }
+}
+
 macro_rules! hexadecimal {
     ($($Trait:ident $Type:ident;)*) => {
         $(
@@ -69,6 +85,71 @@ hexadecimal! {
     UpperHex FormatView;
     LowerHex Format;
     UpperHex Format;
+}
+
+// For each type, defines a method that returns a constant text for each variant, and `Display`, which prints the text.
+macro_rules! texts {
+    ($($(#[$documentation:meta])* $Type:ident $method:ident { $($Variant:ident $text:literal)* })*) => {
+        $(
+            impl $Type {
+                $(#[$documentation])*
+                #[must_use]
+                pub const fn $method(self) -> &'static str {
+                    match self {
+                        $($Type::$Variant => $text,)*
+                    }
+                }
+            }
+
+            #[doc = concat!("Prints the [`", stringify!($method), "`][Self::", stringify!($method), "].")]
+            impl fmt::Display for $Type {
+                fn fmt(&self, f: &mut fmt::Formatter<'_>) -> fmt::Result {
+                    f.pad(self.$method())
+                }
+            }
+        )*
+    };
+}
+
+texts! {
+    /// Returns the name of the part, such as `integer`.
+    Part name {
+        Integer "integer"
+        Fraction "fraction"
+        Exponent "exponent"
+    }
+
+    /// Returns the name of the role, such as `separator`.
+    Role name {
+        Digit "digit"
+        Sign "sign"
+        Separator "separator"
+        Prefix "prefix"
+        Suffix "suffix"
+        Exponent "exponent"
+        Point "point"
+    }
+
+    /// Returns the condition that the rule imposes, such as `the mantissa radix is between 2 and 36`. It names flags by
+    /// their bits.
+    Rule condition {
+        MantissaRadixInRange "the mantissa radix is between 2 and 36"
+        ExponentBaseInRange "the exponent base is between 2 and 36"
+        ExponentRadixInRange "the exponent radix is between 2 and 36"
+        DigitSeparatorIsPunctuation "the digit separator is 0 or punctuation"
+        BasePrefixIsPunctuation "the base prefix is 0 or punctuation"
+        BaseSuffixIsPunctuation "the base suffix is 0 or punctuation"
+        PunctuationDiffers "no byte matches more than one of the digit separator, the base prefix and the base suffix"
+        ExponentFlagsAgree "flags 6 and 14 are not both set"
+        MantissaSignFlagsAgree "flags 4 and 5 are not both set"
+        ExponentSignFlagsAgree "flags 7 and 8 are not both set"
+        SpecialCaseFlagsAgree "flags 10 and 11 are not both set"
+        SpecialSeparatorFlagsAgree "flags 10 and 44 are not both set"
+        IntegerConsecutiveIsAllowed "flag 41 is set only if flag 32, 35 or 38 is set"
+        FractionConsecutiveIsAllowed "flag 42 is set only if flag 33, 36 or 39 is set"
+        ExponentConsecutiveIsAllowed "flag 43 is set only if flag 34, 37 or 40 is set"
+        ReservedBitsAreZero "the reserved bits are 0"
+    }
 }
 
 /// Parses `NAME=VALUE`, split at the first `=`. The name and the value are parsed as in [`Edit::from_setting`]. Parsing

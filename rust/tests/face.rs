@@ -2,7 +2,8 @@
 //! calls on many words, and with known texts on a few.
 
 use peltzivar::edits::{apply_all, edits_of, same_format};
-use peltzivar::format::{options_error, NumberFormatBuilder, BASE_PREFIX_SHIFT, BASE_SUFFIX_SHIFT, STANDARD};
+use peltzivar::format::{NumberFormatBuilder, BASE_PREFIX_SHIFT, BASE_SUFFIX_SHIFT, STANDARD};
+use peltzivar::format_flags::options_error;
 use peltzivar::literal::Syntax;
 use peltzivar::reasons::{notes, reasons};
 use peltzivar::{Error, FlagSetter, Format, FormatView, Rule};
@@ -22,8 +23,8 @@ const _: () = {
 /// A syntax is known then, too, and is small.
 const _: () = {
     let syntax = Syntax::new_or_panic(NumberFormatBuilder::new().build_format_or_panic(), b'e', b'.');
-    assert!(matches!(syntax.options(), Some(options) if options.exponent == b'e' && options.point == b'.'));
-    assert!(Syntax::integers(Format::of::<STANDARD>()).options().is_none() && size_of::<Syntax>() <= 32);
+    assert!(matches!((syntax.exponent(), syntax.point()), (Some(b'e'), Some(b'.'))));
+    assert!(Syntax::integers(syntax.format()).point().is_none() && size_of::<Syntax>() <= 32);
 };
 
 /// Random words, random words with lawful radixes, and words near the standard format.
@@ -228,7 +229,7 @@ fn a_syntax_is_a_format_with_options_that_fit_its_normal_form() {
     for format in words().filter_map(|word| Format::new(word).ok()) {
         let normal = format.normal_form();
         let integers = Syntax::integers(format);
-        assert_eq!((integers.format(), integers.options()), (normal, None));
+        assert_eq!((integers.format(), integers.exponent(), integers.point()), (normal, None, None));
         assert_eq!((integers.to_string(), normal.to_string().parse()), (normal.to_string(), Ok(integers)));
         syntaxes.push((normal, None, integers));
         for [exponent, point] in [*b"e.", *b"p,", *b"x.", *b"5.", *b"^-", *b"^^", *b"\0."] {
@@ -247,7 +248,7 @@ fn a_syntax_is_a_format_with_options_that_fit_its_normal_form() {
 
 #[test]
 fn syntaxes_are_parsed() {
-    const OPTION: &str = "options are two numbers from 0 to 255";
+    const OPTION: &str = "options are two bytes, such as 'e' or 101";
     const INTEGERS: &str = "0x0A0A0A0000000000000000000000000C";
     const NUMBERS: &str = "0x0A0A0A0000000000000000000000000C 101 46";
     #[rustfmt::skip]
@@ -255,6 +256,7 @@ fn syntaxes_are_parsed() {
         ("0x00000A0000000000000000000000000C", Ok(INTEGERS)),
         ("0x0A0A0A0000000000000000000000000C", Ok(INTEGERS)),
         ("0x00000a0000000000000000000000000c 101 046", Ok(NUMBERS)),
+        ("0x00000A0000000000000000000000000C 'e' 0x2e", Ok(NUMBERS)),
         // No flag allows the separator, so that it may be the decimal point.
         ("0x00000A000000002E000000000000000C 101 46", Ok(NUMBERS)),
         ("0x00000A0000000000000000000000000C 101", Err((Error::InvalidDigit(38), OPTION))),

@@ -1,14 +1,10 @@
 //! The reader of literals, over the tables of docs/FORMAT.md and the grammars of languages.
 
-#[rustfmt::skip]
-#[allow(dead_code, reason = "its main")]
-#[path = "../examples/recipes.rs"]
-mod recipes;
-
 use peltzivar::format::{CASE_SENSITIVE_SPECIAL, DIGIT_SEPARATOR_FLAG_MASK, NO_SPECIAL};
-use peltzivar::literal::{Cause, Parts, ReadError, Reader, Sign, Special, Specials, Spelling, Syntax};
-use peltzivar::{Edit, FlagSetter, FormatView, NumberFormatBuilder};
-use recipes::RECIPES;
+use peltzivar::literal::{
+    Cause, Language, Literal, Number, ReadError, Reader, Sign, Special, Specials, Spelling, Syntax,
+};
+use peltzivar::{Edit, FlagSetter, NumberFormatBuilder, Part};
 
 const PAGE: &str = include_str!("../../docs/FORMAT.md");
 
@@ -41,22 +37,36 @@ fn syntax(word: u128) -> Syntax {
 }
 
 /// Returns the parts that are present, one after another.
-fn present<'a>(parts: &Parts<'a>) -> Vec<&'a [u8]> {
-    let exponent = [parts.exponent_character, parts.exponent_sign, parts.exponent, parts.suffix];
-    let parts = [parts.sign, parts.prefix, parts.integer, parts.point, parts.fraction].into_iter().chain(exponent);
-    parts.filter(|part| !part.is_empty()).collect()
+fn present<'a>(literal: Literal<'a>) -> Vec<&'a [u8]> {
+    literal.parts().map(|(_, bytes)| bytes).collect()
 }
 
-/// Reads a text. The calls agree, and the parts of a literal are the text.
-fn read<'a>(reader: &Reader, syntax: Syntax, text: &'a [u8]) -> Result<Parts<'a>, ReadError> {
+/// The parts of a literal are its bytes, and its digits have the values that `char::to_digit` of std has.
+fn has_parts(literal: Literal<'_>) {
+    assert_eq!(present(literal).concat(), literal.as_bytes());
+    let parts = [(Part::Integer, literal.integer()), (Part::Fraction, literal.fraction())];
+    for (part, bytes) in parts.into_iter().chain([(Part::Exponent, literal.exponent())]) {
+        let values = bytes.iter().filter_map(|&byte| char::from(byte).to_digit(literal.radix(part)));
+        let (wanted, digits) = (Vec::from_iter(values), literal.digits(part));
+        let (least, most) = digits.size_hint();
+        assert_eq!(digits.clone().count(), wanted.len());
+        assert!(least <= wanted.len() && Some(wanted.len()) <= most);
+        assert!(digits.clone().map(u32::from).eq(wanted.iter().copied()), "{literal:?}");
+        assert!(digits.rev().map(u32::from).eq(wanted.into_iter().rev()), "{literal:?}");
+    }
+}
+
+/// Reads a text. The calls agree.
+fn read<'a>(reader: &Reader, syntax: Syntax, text: &'a [u8]) -> Result<Literal<'a>, ReadError> {
     let (result, prefix) = (reader.read(text), reader.read_prefix(text));
     assert_eq!((result, prefix), (syntax.read(text), syntax.read_prefix(text)), "{text:?}");
-    let longest = prefix.map_or(0, |front| front.size);
-    if let Ok(front) = prefix {
-        assert_eq!(present(&front.parts).concat(), text[..longest], "{text:?}");
+    let longest = prefix.map_or(0, |(literal, _)| literal.as_bytes().len());
+    if let Ok((literal, rest)) = prefix {
+        assert_eq!((literal.as_bytes(), rest), text.split_at(longest), "{text:?}");
+        has_parts(literal);
     }
     match result {
-        Ok(parts) => assert_eq!((Ok(parts), longest), (prefix.map(|front| front.parts), text.len())),
+        Ok(literal) => assert_eq!(prefix, Ok((literal, &[][..]))),
         Err(error) => {
             assert!(longest <= error.valid_up_to() && error.valid_up_to() <= text.len(), "{text:?}");
             assert_eq!(error.is_incomplete(), error.valid_up_to() == text.len(), "{text:?}");
@@ -77,7 +87,8 @@ fn settings_end_the_cause(error: ReadError, syntax: Syntax, text: &[u8]) {
         let mut builder = NumberFormatBuilder::from(syntax.format());
         builder.extend(edits);
         let format = builder.build_format().unwrap();
-        let edited = syntax.options().map(|it| Syntax::new(format, it.exponent, it.point).unwrap());
+        let options = syntax.exponent().zip(syntax.point());
+        let edited = options.map(|(exponent, point)| Syntax::new(format, exponent, point).unwrap());
         let result = edited.unwrap_or(Syntax::integers(format)).read(text);
         let blames_both = |it: ReadError| it.valid_up_to() == error.valid_up_to() && it.mask() & error.mask() != 0;
         assert!(!result.is_err_and(blames_both), "{text:?}: {edits:?}: {result:?}");
@@ -160,8 +171,8 @@ fn parts_are_known() {
     for (settings, text, wanted) in rows {
         let syntax = syntax(word(settings));
         let result = read(&Reader::new(syntax), syntax, text.as_bytes());
-        let front = syntax.read_prefix(text.as_bytes()).unwrap();
-        assert!(present(&front.parts).into_iter().eq(wanted.split(' ').map(str::as_bytes)), "{text}: {front:?}");
+        let (literal, _) = syntax.read_prefix(text.as_bytes()).unwrap();
+        assert!(present(literal).into_iter().eq(wanted.split(' ').map(str::as_bytes)), "{text}: {literal:?}");
         assert_eq!(result.is_ok(), text == wanted.replace(' ', ""), "{text}");
     }
 }
@@ -175,54 +186,85 @@ fn special_values_are_known() {
     assert_eq!((special(separators, "nf"), special("", "1"), special("no_special=true", "inf")), (None, None, None));
 }
 
-/// Returns the syntax of a recipe. A recipe whose name ends in `_INTEGER` has integers alone.
-fn recipe(name: &str) -> Syntax {
-    let (_, word, exponent) = RECIPES.into_iter().find(|recipe| recipe.0 == name).expect(name);
-    let is_integer = name.ends_with("_INTEGER");
-    if is_integer { Syntax::integers_of_word(word) } else { Syntax::of_word(word, exponent, b'.') }.unwrap()
+/// Returns the rows of literals.txt: a language, a text, and whether the format of the language accepts it.
+fn rows() -> impl Iterator<Item = (Language, &'static str, bool)> {
+    let rows = include_str!("literals.txt").lines().filter(|row| !row.is_empty() && !row.starts_with('#'));
+    rows.map(|row| {
+        let [name, mark, text] = [0, 1, 2].map(|column| row.split_whitespace().nth(column).expect(row));
+        assert!(["+", "-", "+!", "-!"].contains(&mark), "{row}");
+        (*Language::ALL.iter().find(|it| it.name() == name).expect(row), text, ["+", "-!"].contains(&mark))
+    })
 }
 
 #[test]
-fn recipes_accept_and_reject_what_their_grammars_do() {
-    let specials = Specials { nan: Some(b"nan"), inf: Some(b"inf"), infinity: Some(b"infinity") };
-    let rows = include_str!("literals.txt").lines();
-    for row in rows.filter(|row| !row.is_empty() && !row.starts_with('#')) {
-        let [name, mark, text] = [0, 1, 2].map(|column| row.split_whitespace().nth(column).expect(row));
-        let wanted = match mark {
-            "+" | "-!" => true,
-            "-" | "+!" => false,
-            _ => panic!("{row}"),
-        };
-        let syntax = recipe(name);
-        let result = read(&Reader::new(syntax), syntax, text.as_bytes());
-        let special = specials.read(&syntax, text.as_bytes());
-        assert_eq!(result.is_ok() || special.is_some(), wanted, "{row}: {result:?}");
+fn languages_accept_and_reject_what_their_grammars_do() {
+    for (language, text, is_accepted) in rows() {
+        let result = language.read(text.as_bytes());
+        let literal = read(language.reader(), language.syntax(), text.as_bytes());
+        assert_eq!(result.is_ok(), is_accepted, "{language}: {text}: {result:?}");
+        assert_eq!(matches!(result, Ok(Number::Literal(_))), literal.is_ok(), "{language}: {text}");
+    }
+}
+
+/// For each setting with which a language differs from a new builder, a row changes without it. The exponent base changes
+/// values alone. Where a format is not lawful without a setting, consecutive separators have a row.
+#[test]
+fn each_setting_of_a_language_has_a_row() {
+    for language in Language::ALL {
+        let (syntax, format, own) = (language.syntax(), language.syntax().format(), language.specials());
+        let specials = if own == Specials::default() { SPECIALS } else { own };
+        for edit in format.edits().filter(|edit| !matches!(edit, Edit::ExponentBase(_))) {
+            let others: NumberFormatBuilder = format.edits().filter(|it| *it != edit).collect();
+            let Ok(format) = others.build_format() else { continue };
+            let options = syntax.exponent().zip(syntax.point());
+            let with_options = options.map(|(exponent, point)| Syntax::new_or_panic(format, exponent, point));
+            let without = with_options.unwrap_or(Syntax::integers(format));
+            let is_number = |text| without.read(text).is_ok() || specials.read(&without, text).is_some();
+            let mut rows = rows().filter(|row| row.0 == *language);
+            let has_row = rows.any(|(_, text, is_accepted)| is_number(text.as_bytes()) != is_accepted);
+            assert!(has_row || without == syntax, "{language}: {edit}");
+        }
     }
 }
 
 /// The digits of a hexadecimal float are multiplied by a power of 2, and the digits of other floats by a power of 10.
 #[test]
-fn exponents_of_recipes_have_the_bases_of_their_grammars() {
-    for (name, word, _) in RECIPES {
-        let base = if name.ends_with("HEX_FLOAT") { 2 } else { 10 };
-        let is_integer = name.ends_with("_INTEGER");
-        assert!(is_integer || FormatView::new(word).exponent_base() == base, "{name}");
+fn exponents_of_languages_have_the_bases_of_their_grammars() {
+    for language in Language::ALL {
+        let base = if language.name().ends_with("HEX_FLOAT") { 2 } else { 10 };
+        let syntax = language.syntax();
+        assert_eq!(syntax.point().is_none(), language.name().ends_with("_INTEGER"), "{language}");
+        assert!(syntax.point().is_none() || syntax.format().exponent_base() == base, "{language}");
     }
 }
 
-/// All texts of up to three bytes that have a role, or none, in some recipe.
+/// Each text of up to five bytes that have a role, or none, in some language, and the pieces of long ones: no call panics,
+/// and a text is a literal if the longest one that it begins with is the text.
 #[test]
 fn any_bytes_are_read() {
+    let agree = |language: Language, text: &[u8]| {
+        let prefix = language.reader().read_prefix(text);
+        match (language.read(text), prefix) {
+            (Ok(Number::Literal(literal)), _) => assert_eq!(prefix, Ok((literal, &[][..])), "{language}: {text:?}"),
+            (Ok(Number::Special(_)), Err(_)) => (),
+            (Err(error), Err(other)) => assert_eq!(error, other, "{language}: {text:?}"),
+            (_, Ok((_, rest))) => assert!(!rest.is_empty(), "{language}: {text:?}"),
+        }
+    };
     let bytes = b"-0x_.eph\0\xFF";
     let mut texts = vec![vec![]];
-    for _ in 0..3 {
+    for _ in 0..5 {
         let longer = texts.iter().flat_map(|text| bytes.map(|byte| [text.as_slice(), &[byte]].concat()));
         texts = longer.chain([vec![]]).collect();
     }
-    for (name, ..) in RECIPES {
-        let (syntax, reader) = (recipe(name), Reader::new(recipe(name)));
-        for text in &texts {
-            let _ = read(&reader, syntax, text);
+    for language in Language::ALL {
+        texts.iter().for_each(|text| agree(*language, text));
+    }
+    for (language, text, _) in rows() {
+        let long = text.replace('1', &"1".repeat(99));
+        for (front, rest) in (0..=long.len()).map(|size| long.as_bytes().split_at(size)) {
+            agree(language, front);
+            agree(language, rest);
         }
     }
 }

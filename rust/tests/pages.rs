@@ -1,6 +1,7 @@
 //! The commands in the pages of the repository print what the pages show. `c/tests/test_python.py` tests the tables of
 //! FORMAT.
 
+use peltzivar::{Part, Role, Rule};
 use std::path::Path;
 use std::process::{Command, Output};
 
@@ -39,13 +40,25 @@ fn commands_print_what_pages_show() {
 }
 
 #[test]
+fn rules_print_the_conditions_of_format() {
+    let page = include_str!("../../docs/FORMAT.md");
+    for (number, rule) in (1..).zip(Rule::ALL) {
+        assert!(page.contains(&format!("\n| {number} | {rule} | `Invalid")), "{rule}");
+    }
+    assert_eq!([Part::Integer.to_string(), Role::Sign.to_string()], ["integer", "sign"]);
+}
+
+#[test]
 fn examples_end_as_their_comments_state() {
     #[rustfmt::skip]
     let rows = [
-        ("face_program", 0, ""),
-        ("languages -- 0x1'F.8p1", 0, "JSON: false\nPython: false\nAda: false\nC++ hexadecimal: true\nMASM hexadecimal: false\n"),
-        ("languages -- -12", 0, "JSON: true\nPython: true\nAda: true\nC++ hexadecimal: false\nMASM hexadecimal: true\n"),
-        ("settings -- rust/examples/settings.txt", 0, "    word: 0x000A10007800005F000000010000000C,"),
+        ("languages -- 0x1'F.8p1", 0, "C++ hexadecimal: true "),
+        ("languages -- -12", 0, "C++ hexadecimal: false "),
+        ("tokenizer -- x=0xFF*1_0.5", 0, "0..1: name x\n1..2: operator =\n2..6: integer 0xFF\n6..7: operator *\n7..12: number 1_0.5\n"),
+        ("tokenizer -- x+12ab", 1, "0..1: name x\n1..2: operator +\n4..5: no literal has the byte 'a' here\n"),
+        ("tokenizer -- 2*1e+", 1, "\n4..4: expected a digit after the exponent character, which required_exponent_digits requires\n"),
+        ("tokenizer -- 0x1__F", 1, "4..5: a digit separator after another, which requires integer_consecutive_digit_separator\n"),
+        ("settings -- rust/examples/settings.txt", 0, "0x100A10007800005F000000010000000C 112 46\n"),
         ("settings", 1, "\"\": No such file or directory (os error 2)\n"),
     ];
     for (example, wanted, part) in rows {

@@ -5,15 +5,10 @@
 //!
 //!     cargo test --release --test recogniser -- --ignored
 
-#[rustfmt::skip]
-#[allow(dead_code, reason = "its main")]
-#[path = "../examples/recipes.rs"]
-mod recipes;
-
 use core::{array, iter, mem, ops::Range};
-use peltzivar::literal::{self, Cause, Place, ReadError, Reader};
+use peltzivar::literal::{self, Cause, Language, Literal, Place, ReadError, Reader};
 use peltzivar::{format::FLAG_MASK, Error, Format, Part, Role};
-use {recipes::RECIPES, Error::*, Piece::*};
+use {Error::*, Piece::*};
 
 #[rustfmt::skip]
 #[derive(Clone, Copy)]
@@ -258,10 +253,13 @@ fn hostile_bytes(word: u128, options: Option<(u8, u8)>) -> Vec<u8> {
 }
 
 /// Returns the answer of the library.
-fn answer(read: Result<literal::Parts<'_>, ReadError>) -> Result<[&[u8]; 9], Failure> {
-    let parts = read.map_err(|why| (why.valid_up_to(), why.cause(), why.mask(), why.span(), why.code(), why.byte()))?;
-    let literal::Parts { sign, prefix, integer, point, fraction, exponent_sign, exponent, suffix, .. } = parts;
-    Ok([sign, prefix, integer, point, fraction, parts.exponent_character, exponent_sign, exponent, suffix])
+#[rustfmt::skip]
+fn answer(read: Result<Literal<'_>, ReadError>) -> Result<[&[u8]; 9], Failure> {
+    let it = read.map_err(|why| (why.valid_up_to(), why.cause(), why.mask(), why.span(), why.code(), why.byte()))?;
+    Ok([
+        it.sign(), it.prefix(), it.integer(), it.point(), it.fraction(), it.exponent_character(), it.exponent_sign(),
+        it.exponent(), it.suffix(),
+    ])
 }
 
 /// Compares the answers to texts of up to `longest` of `bytes`: all texts of one byte, and after each text that is compared
@@ -284,7 +282,7 @@ fn compare(word: u128, options: Option<(u8, u8)>, bytes: &[u8], longest: usize, 
         let failure = if is_missing { Some(syntax.failure(&text, true)) } else { wrong.clone() };
         let (read, prefix) = (reader.read(&text), reader.read_prefix(&text));
         assert_eq!((library.read(&text), library.read_prefix(&text)), (read, prefix), "{text:?} in {name}");
-        for (read, pieces) in [(read, literal), (prefix.map(|front| front.parts), front.clone())] {
+        for (read, pieces) in [(read, literal), (prefix.map(|(literal, _)| literal), front.clone())] {
             let wanted = pieces.map(|pieces| pieces.map(|piece| &text[piece])).ok_or(failure.clone());
             let answer = answer(read).map_err(|failure| has_failures.then_some(failure));
             assert_eq!(answer, wanted, "{} in {name}", text.escape_ascii());
@@ -297,11 +295,11 @@ fn compare(word: u128, options: Option<(u8, u8)>, bytes: &[u8], longest: usize, 
     }
 }
 
-/// Compares the formats of the recipes, and random words with random options and without.
-fn compare_all(recipe_eighths: u64, words: usize, eighths: u64) {
-    for (_, word, exponent) in RECIPES {
-        let options = Some((exponent, b'.'));
-        compare(word, options, &hostile_bytes(word, options)[..10], 6, true, recipe_eighths);
+/// Compares the syntaxes of the languages, and random words with random options and without.
+fn compare_all(language_eighths: u64, words: usize, eighths: u64) {
+    for syntax in Language::ALL.iter().map(Language::syntax) {
+        let (word, options) = (syntax.format().word(), syntax.exponent().zip(syntax.point()));
+        compare(word, options, &hostile_bytes(word, options)[..10], 6, true, language_eighths);
     }
     let mut random = 2;
     for at in 0..words {

@@ -1,71 +1,116 @@
-//! The example that reads a file of settings.
+//! Settings of a file, with the lines that the example prints.
 
 #[rustfmt::skip]
 #[path = "../examples/settings.rs"]
 #[allow(dead_code)]
 mod settings;
 
-use settings::format_of;
+use peltzivar::{SettingErrorKind, Settings};
+use settings::load;
 
-/// The problems of a file with a mistake of each kind, and with bytes that are not ASCII or cannot be seen.
+/// The syntax of a file, and the lines that are printed for it. The word of a syntax is in normal form.
 #[test]
-fn all_mistakes_are_found_in_one_round() {
-    let file = include_str!("../examples/mistakes.txt");
-    let wanted = [
-        "line 4: base_sufix = 'h': unknown setting name; did you mean base_suffix?",
-        "line 5: no_special = yes: no_special takes `true` or `false`",
-        r"line 8: no_float_leading_zeros =\xc2\xa0true: the line is not ASCII",
-        "lines 2, 11: mantissa_radix is set twice",
-        "line 6: the exponent base 1 is not between 2 and 36",
-        "lines 3, 11: the base prefix 'b' is a digit in radix 12",
-        "lines 7, 9: no_positive_mantissa_sign and required_mantissa_sign cannot both be set",
-        "line 10: no flag allows the digit separator '_'",
-    ];
-    assert_eq!(format_of(file.as_bytes()), (None, wanted.map(String::from).to_vec()));
-    let bytes = br"line 1: \xff\x00\x1b\x7f: the line is not ASCII";
-    let found = format_of(b"\xFF\0\x1B\x7F").1;
-    assert_eq!(found, [String::from_utf8_lossy(bytes)]);
-}
-
-#[test]
-fn problems_have_exactly_their_lines() {
+fn files_give_a_syntax_and_what_is_found() {
     #[rustfmt::skip]
-    let rows: [(&[u8], &[&str]); 8] = [
-        // Absent exponent bytes follow the mantissa radix.
-        (b"mantissa_radix=37", &["line 1: the mantissa radix 37 is not between 2 and 36"]),
-        (b"radix=10\nexponent_radix=16\nbase_prefix='b'", &["lines 2, 3: the base prefix 'b' is a digit in radix 16"]),
-        (b"base_prefix='b'\r\n\r\nbase_suffix='B'\r\ncase_sensitive_base_suffix=true\r\n",
-            &["lines 1, 3: the base prefix 'b' and the base suffix 'B' differ only in case, which requires case_sensitive_base_prefix"]),
-        // Later lines overwrite all bits of the second line under the mask of the reason.
-        (b"digit_separator='_'\ndigit_separator_flags=true\ninteger_digit_separator_flags=false\ninteger_consecutive_digit_separator=true",
+    let rows: [(&[u8], &str, &[&str]); 39] = [
+        (include_bytes!("../examples/settings.txt"), "0x100A10007800005F000000010000000C 112 46", &[]),
+        // Nothing is set.
+        (b"", "0x0A0A0A0000000000000000000000000C 101 46", &[]),
+        (b"\n \t\r\n\r\n", "0x0A0A0A0000000000000000000000000C 101 46", &[]),
+        // A byte order mark is read over before the first line alone.
+        (b"\xEF\xBB\xBFradix=8", "0x0808080000000000000000000000000C 101 46", &[]),
+        (b"\xEF\xBB\xBF# a comment\nradix=8", "0x0808080000000000000000000000000C 101 46", &[]),
+        (b"\n\xEF\xBB\xBFradix=8", "", &[r"line 2: unknown setting `\xef\xbb\xbfradix`; did you mean `radix`?"]),
+        // Ends of lines, as Windows writes them.
+        (b"radix=2\r\nbase_prefix='b'\r\n", "0x0202020062000000000000000000000C 101 46", &[]),
+        // Blanks are read over at both ends and around the first `=`, but not in quotes.
+        (b"\t digit_separator =\t' ' \n internal_digit_separator= true", "0x0A0A0A0000000020000000070000000C 101 46", &[]),
+        (b"base_suffix = '='", "0x0A0A0A3D00000000000000000000000C 101 46", &[]),
+        (b"no_special = true false", "", &["line 1: no_special takes `true` or `false`, not `true false`"]),
+        (b"no_special=\xC2\xA0true", "", &[r"line 1: no_special takes `true` or `false`, not `\xc2\xa0true`"]),
+        // A comment is a line of its own.
+        (b"# caf\xC3\xA9 = 1\n  # no = yes\nno_special=true # no", "", &["line 3: no_special takes `true` or `false`, not `true # no`"]),
+        (b"base_suffix='#'", "0x0A0A0A2300000000000000000000000C 101 46", &[]),
+        // Radixes are numbers.
+        (b"radix='\x10'\nmantissa_radix='x'\nexponent_base='2'\nexponent_radix=0x0A", "", &[
+            r"line 1: radix takes a number, 2 to 36 in a lawful format, not `'\x10'`",
+            "line 2: mantissa_radix takes a number, 2 to 36 in a lawful format, not `'x'`",
+            "line 3: exponent_base takes a number, 2 to 36 in a lawful format, or `none`, not `'2'`"]),
+        (b"radix=40", "", &["line 1: the mantissa radix 40 is not between 2 and 36"]),
+        (b"exponent_base=none\nradix=40\nexponent_radix=10", "", &["lines 1, 2: the mantissa radix 40 is not between 2 and 36"]),
+        (b"radix=10\nexponent_radix=16\nbase_prefix='b'", "", &["lines 2, 3: the base prefix 'b' is a digit in radix 16"]),
+        (b"exponent_base = 1", "", &["line 1: the exponent base 1 is not between 2 and 36"]),
+        // Later lines override.
+        (b"radix=8\nradix=16\nmantissa_radix=2", "0x0202020000000000000000000000000C 101 46",
+            &["lines 1, 2: radix is overridden", "lines 2, 3: radix is overridden"]),
+        (b"required_digits=true\nrequired_mantissa_digits=false", "0x0A0A0A00000000000000000000000007 101 46", &[]),
+        (b"digit_separator='_'\ntrailing_digit_separator=true\ninteger_digit_separator_flags=false\nfraction_digit_separator_flags=false\nexponent_digit_separator_flags=false\nspecial_digit_separator=true",
+            "0x0A0A0A000000005F000010000000000C 101 46", &["lines 2, 5: trailing_digit_separator is overridden"]),
+        (b"point=','\nexponent='x'\npoint='.'\nexponent=94", "0x0A0A0A0000000000000000000000000C 94 46",
+            &["lines 1, 3: point is overridden", "lines 2, 4: exponent is overridden"]),
+        // No such name, and none that is near.
+        (b"base_suffx='h'\nradx=8\nprefix=120\ndecimal_point=46\ncolour=7\n=8", "", &[
+            "line 1: unknown setting `base_suffx`; did you mean `base_suffix`?",
+            "line 2: unknown setting `radx`; did you mean `radix`?",
+            "line 3: unknown setting `prefix`; did you mean `base_prefix`?",
+            "line 4: unknown setting `decimal_point`; did you mean `point`?",
+            "line 5: unknown setting `colour`",
+            "line 6: unknown setting ``"]),
+        // No `=`.
+        (b"radix 16\n\xFF\0\x1B\x7F`\n-----------------------------------------", "", &[
+            "line 1: expected NAME=VALUE, not `radix 16`",
+            r"line 2: expected NAME=VALUE, not `\xff\x00\x1b\x7f``",
+            "line 3: expected NAME=VALUE, not `----------------------------------------..`"]),
+        // A separator that no flag allows.
+        (b"digit_separator='_'", "0x0A0A0A0000000000000000000000000C 101 46", &["line 1: no flag allows the digit separator '_'"]),
+        (b"digit_separator=','\npoint=','\ndigit_separator_flags=false", "0x0A0A0A0000000000000000000000000C 101 44",
+            &["lines 1, 3: no flag allows the digit separator ','"]),
+        (b"internal_digit_separator=true\ncase_sensitive_base_prefix=true", "0x0A0A0A0000000000000000070001000C 101 46", &[
+            "line 1: digit separator flags are set, but there is no digit separator",
+            "line 2: case_sensitive_base_prefix is set, but there is no base prefix"]),
+        // The format is not lawful, so the options are not checked.
+        (b"radix=16\nbase_prefix='b'\nno_positive_mantissa_sign=true\n\nrequired_mantissa_sign=true", "", &[
+            "lines 1, 2: the base prefix 'b' is a digit in radix 16",
+            "lines 3, 5: no_positive_mantissa_sign and required_mantissa_sign cannot both be set"]),
+        (b"digit_separator='_'\ndigit_separator_flags=true\ninteger_digit_separator_flags=false\ninteger_consecutive_digit_separator=true", "",
             &["lines 3, 4: integer_consecutive_digit_separator requires an internal, leading or trailing flag for the same part of the number"]),
-        // The same field twice.
-        (b"radix=16\nmantissa_radix=16\nradix=16", &["lines 1, 2: radix is set twice", "lines 2, 3: mantissa_radix is set twice"]),
-        // Later lines leave nothing of a group together.
-        (b"digit_separator='_'\ntrailing_digit_separator=true\ninteger_digit_separator_flags=true\nfraction_digit_separator_flags=true\nexponent_digit_separator_flags=true",
-            &["lines 2, 5: trailing_digit_separator is set twice"]),
-        (b"prefix=120", &["line 1: prefix=120: unknown setting name; did you mean base_prefix?"]),
-        (b"colour=7", &["line 1: colour=7: unknown setting name"]),
+        // Options that clash.
+        (b"radix=16", "", &["line 1: the exponent character 'e' is a digit in radix 16"]),
+        (b"exponent='e'\nexponent_radix=16\nradix=16", "",
+            &["lines 1, 2, 3: the exponent character 'e' is a digit in the mantissa radix 16 and the exponent radix 16"]),
+        (b"base_prefix='x'\npoint='x'", "", &["lines 1, 2: the decimal point 'x' and the base prefix 'x' are the same"]),
+        (b"point='E'\nexponent='e'", "",
+            &["lines 1, 2: the exponent character 'e' and the decimal point 'E' differ only in case, which requires case_sensitive_exponent"]),
+        (b"point=0x80\nexponent=256", "", &[
+            "line 2: exponent takes a character such as 'e', a number from 0 to 255, or `none`, not `256`",
+            "line 1: the decimal point 128 is not an allowed ASCII character"]),
+        // Both options or none.
+        (b"point=none", "", &["line 1: only one of the exponent character and the decimal point is absent"]),
+        (b"\npoint='.'\nexponent=none", "", &["lines 2, 3: only one of the exponent character and the decimal point is absent"]),
+        (b"point=none\nexponent=0\nradix=16", "0x1010100000000000000000000000000C", &[]),
+        (b"point=none\nexponent='e'\npoint='.'", "0x0A0A0A0000000000000000000000000C 101 46", &["lines 1, 3: point is overridden"]),
+        // A note beside an error.
+        (b"digit_separator='_'\ncolour=7", "", &["line 2: unknown setting `colour`", "line 1: no flag allows the digit separator '_'"]),
     ];
-    for (file, problems) in rows {
-        assert_eq!(format_of(file).1, problems, "{}", file.escape_ascii());
+    for (file, syntax, found) in rows {
+        let (read, printed) = load(file);
+        assert_eq!(printed, found, "{}", file.escape_ascii());
+        assert_eq!(read.map_or(String::new(), |it| it.to_string()), syntax, "{}", file.escape_ascii());
     }
 }
 
 #[test]
-fn a_format_is_read() {
-    #[rustfmt::skip]
-    let rows: [(&[u8], u128); 5] = [
-        (include_bytes!("../examples/settings.txt"), 0x000A1000_7800005F_00000001_0000000C),
-        (b"", 0x00000A00_00000000_00000000_0000000C),
-        (b"# \xC3\xA9\n\n  base_prefix\t=  '#'  ", 0x00000A00_23000000_00000000_0000000C),
-        // Flags refine a group before them.
-        (b"leading_digit_separator=true\ninteger_digit_separator_flags=true\ndigit_separator=39", 0x00000A00_00000027_00000279_0000000C),
-        // A note is not a problem.
-        (b"digit_separator='_'", 0x00000A00_00000000_00000000_0000000C),
-    ];
-    for (file, word) in rows {
-        let format = format_of(file).0.map(u128::from);
-        assert_eq!(format, Some(word), "{}", file.escape_ascii());
-    }
+fn reading_ends_at_the_first_error() {
+    let texts = ["", "radix=16", "no_special=yes", "radix=8", "?"];
+    let error = Settings::read(texts).unwrap_err();
+    assert_eq!((error.index(), error.kind()), (2, SettingErrorKind::BadValue));
+    let settings = Settings::read(&texts[..2]).unwrap();
+    // The options do not matter to the format.
+    assert_eq!(settings.build_format().unwrap().word(), 0x00001000_00000000_00000000_0000000C);
+    let error = Settings::read(["exponent=none"]).unwrap().build_syntax().unwrap_err();
+    assert_eq!(error.to_string(), "only one of the exponent character and the decimal point is absent");
+    // The first of many overridden settings have notes.
+    let many = Settings::read((0..1000).map(|radix| format!("radix={}", radix % 256))).unwrap();
+    let [first, last] = [many.notes().next(), many.reasons().next()].map(Option::unwrap);
+    assert_eq!((many.notes().count(), first.indexes(), last.indexes()), (32, &[0, 1][..], &[999][..]));
 }

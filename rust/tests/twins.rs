@@ -3,10 +3,12 @@
 
 use peltzivar::edits::edits_of;
 use peltzivar::format::{self, NumberFormatBuilder, STANDARD};
-use peltzivar::literal::{Cause, Front, Options, Parts, Place, ReadError, Reader, Special, Specials, Syntax};
+use peltzivar::literal::{
+    Cause, Digits, Language, Literal, Number, Place, ReadError, Reader, Special, Specials, Syntax,
+};
 use peltzivar::{
-    with_setters, word, Edit, Error, FlagSetter, Format, FormatError, FormatView, Note, NumberFormat, Part, Reason,
-    Rule, Setter, SettingError, SettingErrorKind,
+    with_setters, word, Edit, Error, Finding, FlagSetter, Format, FormatError, FormatView, Note, NumberFormat, Part,
+    Reason, Rule, Setter, SettingError, SettingErrorKind, Settings, SettingsError,
 };
 use std::error::Error as StdError;
 use std::fmt::Debug;
@@ -18,14 +20,19 @@ use std::sync::atomic::{AtomicU32, Ordering};
 const _: () = {
     const fn are_values<T: Copy + Debug + Eq + Hash + Send + Sync + Unpin>() {}
     const fn are_ordered<T: Ord>() {}
-    const fn are_errors<A: StdError, B: StdError, C: StdError, D: StdError, E: StdError>() {}
+    const fn is_error<T: StdError>() {}
     const fn is_shared<T: Clone + Debug + Send + Sync + Unpin>() {}
     are_values::<(Edit, Error, FlagSetter, Format, FormatError, FormatView, Note, NumberFormat<STANDARD>)>();
-    are_values::<(NumberFormatBuilder, Reason, Rule, SettingError, SettingErrorKind)>();
-    are_values::<(Cause, Front<'_>, Options, Parts<'_>, Place, ReadError, Special, Specials<'_>, Syntax)>();
-    is_shared::<Reader>();
+    are_values::<(NumberFormatBuilder, Reason, Rule, SettingError, SettingErrorKind, Finding, SettingsError)>();
+    are_values::<(Cause, Language, Literal<'_>, Number<'_>, Place, ReadError, Special, Specials<'_>, Syntax)>();
+    is_shared::<(Digits<'_>, Reader, Settings)>();
     are_ordered::<(Edit, Error, FlagSetter, Format, FormatView, Rule)>();
-    are_errors::<Error, FormatError, ReadError, Reason, SettingError>();
+    is_error::<Error>();
+    is_error::<FormatError>();
+    is_error::<ReadError>();
+    is_error::<Reason>();
+    is_error::<SettingError>();
+    is_error::<SettingsError>();
 };
 
 macro_rules! constants {

@@ -79,7 +79,9 @@ REPLACED = [
     ("read.rt", "\nfn cut<", "\nconst fn cut<"),
     ("read.rt", "\nfn read<", "\nconst fn read<"),
     ("read.rt", "\nfn read_prefix<", "\nconst fn read_prefix<"),
-    # Calls with these names are written by hand: they take or return a `Format`, or return a range.
+    # Calls with these names are written by hand: they take or return a `Format`, a `Literal` or a range.
+    ("read.rt", "Reader {\n    grammar: Grammar,\n    tables", "Reader {\n    pub(crate) grammar: Grammar,\n    tables"),
+    ("syntax.rt", "pub const fn options(&self)", "pub(crate) const fn options(&self)"),
     ("syntax.rt", "pub const fn new(word", "#[doc(hidden)] pub const fn of_word(word"),
     ("syntax.rt", "pub const fn integers(word", "#[doc(hidden)] pub const fn integers_of_word(word"),
     ("syntax.rt", "pub const fn format(&self)", "#[doc(hidden)] pub const fn view(&self)"),
@@ -90,14 +92,14 @@ REPLACED = [
 EVERYWHERE = [
     ("fn fmt<W: fmt::Write>(&self, f: &mut fmt::Formatter<W>)", "fn fmt(&self, f: &mut fmt::Formatter<'_>)"),
     ("rattlefmt::skip", "rustfmt::skip"),
-    ("pub fn read<'a>(", "pub const fn read<'a>("),
-    ("pub fn read_prefix<'a>(", "pub const fn read_prefix<'a>("),
+    ("pub fn read<'a>(", "#[inline(always)] pub(crate) const fn read_parts<'a>("),
+    ("pub fn read_prefix<'a>(", "#[inline(always)] pub(crate) const fn read_front<'a>("),
 ]
 
 # Types that may grow. In plain Rust, a match outside the crate has to have an arm for what they lack today.
 GROWS = {
     "enum": "ArgumentKind Byte Cause Class Edit Error FlagSetter Note Part Place Radixes Role Rule Setter SettingErrorKind",
-    "struct": "Front<'a> NamedByte Options Parts<'a> Separators",
+    "struct": "NamedByte Separators",
 }
 for kind, types in GROWS.items():
     items = [f"pub {kind} {name} {{" for name in types.split()]
@@ -110,6 +112,12 @@ ATTRIBUTES = [
     ("error.rt", "#[derive(Clone, Copy, Debug)]", f"#[derive({COMPARED}, Debug)]"),
     ("format_builder.rt", "#[derive(Drop)]", "#[derive(Clone, Copy, PartialEq, Eq, Hash)] #[must_use]"),
     ("format_builder.rt", "pub const fn build(&self)", f"{DEPRECATED} pub const fn build(&self)"),
+    # The types of these change with each new field. `FormatView::edits` is for users.
+    ("edits/listing.rt", "pub fn edits_of(", "#[doc(hidden)] pub fn edits_of("),
+    ("edits/setters.rt", "pub const FIELD_COUNT:", "#[doc(hidden)] pub const FIELD_COUNT:"),
+    ("edits/setters.rt", "pub const FLAG_COUNT:", "#[doc(hidden)] pub const FLAG_COUNT:"),
+    # The type of core has its own page.
+    ("format_builder.rt", "pub use non_zero::NonZeroU8;", "#[doc(no_inline)] pub use non_zero::NonZeroU8;"),
     ("feature_format.rt", "#[derive(Clone, Copy)]", f"#[derive({COMPARED})]"),
     ("short_text.rt", "#[derive(Drop)]", "#[derive(Clone, Copy)]"),
     ("read.rt", "#[derive(Drop)]", "#[derive(Clone)]"),

@@ -4,7 +4,7 @@
     rust/tools/literal_rows.py            writes the file
     rust/tools/literal_rows.py --check    ends with status 1 if the file is not up to date
 
-The words are those that the example `recipes` and `numfmt edit` print. A row has a word, the exponent character, or `none`
+The words are those that the example `languages` and `numfmt edit` print. A row has a word, the exponent character, or `none`
 if literals are integers alone, a mark, and a text, which is a literal if the mark is +. Special values are not literals.
 """
 import pathlib
@@ -15,7 +15,7 @@ import sys
 TOP = pathlib.Path(__file__).resolve().parents[2]
 ROWS = TOP / "crates/lexical_tests/src/literals/rows.rt"
 STANDARD = "0x00000A0000000000000000000000000C"
-SPECIAL = re.compile(r"[+-]?(nan|inf|infinity)$", re.I)
+SPECIAL = re.compile(r"[+-]?\.?(nan|inf|infinity)$", re.I)
 
 
 def cargo(*arguments):
@@ -23,14 +23,13 @@ def cargo(*arguments):
 
 
 def languages():
-    """Yields the row of each recipe. Recipes whose names end in `_INTEGER` are read without options."""
-    recipes = (TOP / "rust/examples/recipes.rs").read_text()
-    exponents = dict(re.findall(r'\("(\w+)", \w+, b\'(.)\'\)', recipes))
+    """Yields the row of each language: its word, its exponent character, and its texts."""
     lines = [line.split() for line in (TOP / "rust/tests/literals.txt").read_text().splitlines() if line[:1] not in ("", "#")]
-    for line in cargo("--example", "recipes").splitlines():
-        word, name = line.split()
-        texts = {text: mark in ("+", "-!") for recipe, mark, text, *_ in lines if recipe == name}
-        yield word, None if name.endswith("_INTEGER") else exponents[name], texts
+    # The languages of the crate come after those of the example.
+    printed = re.findall(r"^([A-Z_]+): \w+ (\w+)(?: (\d+) \d+)?$", cargo("--example", "languages"), re.M)
+    for name, (word, exponent) in {name: syntax for name, *syntax in printed}.items():
+        texts = {text: mark in ("+", "-!") for language, mark, text, *_ in lines if language == name}
+        yield word, exponent and chr(int(exponent)), texts
 
 
 def flags():

@@ -1,8 +1,8 @@
 -- Lemmas on the two cases of a letter, and on the roles that they play.
-use Rattle.std.proofs.Common.{ℕ, [], ◌∷◌, ◌≡◌, ◌≢◌, ◌<◌, ◌⊎◌, inl, inr, ◌∙◌, ◌↔◌, ◌==◌, ◌||◌, ◌&&◌, Bool, true, false}
+use Rattle.std.proofs.Common.{ℕ, [], ◌∷◌, ◌≡◌, ◌≢◌, ◌<◌, ◌⊎◌, ◌∙◌, ◌↔◌, ◌==◌, ◌||◌, ◌&&◌, Bool, true, false}
 use Rattle.std.proofs.Common.{not, IsTrue, bit_or, bit_xor, eqb-true, refl, ap, sym, subst, arith, min, nat_lt}
 use Rattle.std.specs.Prelude.{position, unwrap_or}
-use Rattle.std.proofs.lemmas.Bool.{true≢false, false≢true, or_parts, agree_below_at}
+use Rattle.std.proofs.lemmas.Bool.{false≢true, or_parts, agree_below_at}
 use Rattle.std.proofs.lemmas.Bool.Decides.{nat_tests}
 use Rattle.lexical_base.specs.Ascii.{letters}
 use Rattle.lexical_base.specs.Digits.{byte_value, digit_characters, uppercase}
@@ -11,18 +11,12 @@ use Rattle.lexical_flags.specs.Record.{Record, effective_exponent_radix}
 use Rattle.lexical_flags.specs.Roles.{Disjoint, AreDisjoint, cased, other_case, digits, signs, format_roles}
 use Rattle.lexical_flags.proofs.DisjointLemmas.{Disjoint-at, Disjoint-from}
 
--- If `not letter || same` is true and `letter` is true, then `same` is true.
-letter_flipped : (letter same : Bool) → (not letter || same) ≡ true → IsTrue letter → same ≡ true
-letter_flipped true same e h = e
-letter_flipped false same e h = cc
-
 -- The other case of a letter is the letter with the bit 0x20 flipped.
 pub flipped : (byte : ℕ) → byte < 256 → IsTrue (letters byte) → bit_xor byte 32 ≡ other_case byte
 flipped byte below is_letter =
     let all : (not (letters byte) || (bit_xor byte 32 == other_case byte)) ≡ true =
     agree_below_at (λ b. not (letters b) || (bit_xor b 32 == other_case b)) (λ _. true) 256 byte refl below in
-    let same : (bit_xor byte 32 == other_case byte) ≡ true = letter_flipped (letters byte) _ all is_letter in
-    grind (arith, nat_tests)
+    eqb-true _ _ (subst (λ t. (not t || (bit_xor byte 32 == other_case byte)) ≡ true) is_letter all)
 
 -- A byte that plays the role of `own` is `own` or its other case, and `own` is not absent.
 pub cased-cases : (counts : Bool) (own byte : ℕ) → IsTrue (cased counts own byte)
@@ -33,6 +27,10 @@ cased-cases counts own byte inside = grind (arith, nat_tests)
 other_case-twice : (byte : ℕ) → other_case (other_case byte) ≡ byte
 other_case-twice byte = grind (arith, nat_tests)
 
+-- A number that is one of two, or `f` of it, for an `f` that is its own inverse, shows that they are equal or `f` of one another.
+cases_met : (f : ℕ → ℕ) → ((n : ℕ) → f (f n) ≡ n) → (a b n : ℕ) → a ≢ b → b ≢ f a → (n ≡ a) ⊎ (n ≡ f a) → (n ≡ b) ⊎ (n ≡ f b) → ⊥
+cases_met f twice a b n differ other of_a of_b = let one = twice a in let two = twice b in grind arith
+
 -- If two bytes differ and are not the two cases of a letter, or if one is absent, then their roles are disjoint.
 present_apart : (a_counts : Bool) (a : ℕ) (b_counts : Bool) (b : ℕ)
     → (a ≢ 0 → b ≢ 0 → (a ≢ b) × (b ≢ other_case a))
@@ -41,16 +39,7 @@ present_apart a_counts a b_counts b differ = Disjoint-from _ _ (λ byte below is
     let of_a = cased-cases a_counts a byte is_a in
     let of_b = cased-cases b_counts b byte is_b in
     let apart = differ of_a.0 of_b.0 in
-    elim of_a.1 [
-      | inl a_same ↦ elim of_b.1 [
-        | inl b_same ↦ apart.0 (sym a_same ∙ b_same)
-        | inr b_other ↦ apart.1 (sym (other_case-twice b) ∙ ap other_case (sym b_other ∙ a_same))
-      ]
-      | inr a_other ↦ elim of_b.1 [
-        | inl b_same ↦ apart.1 (sym b_same ∙ a_other)
-        | inr b_other ↦ apart.0 (sym (other_case-twice a) ∙ ap other_case (sym a_other ∙ b_other) ∙ other_case-twice b)
-      ]
-    ])
+    cases_met other_case other_case-twice a b byte apart.0 apart.1 of_a.1 of_b.1)
 
 pub differ_apart : (a_counts : Bool) (a : ℕ) (b_counts : Bool) (b : ℕ) → (a ≢ 0 → (a ≢ b) × (b ≢ other_case a))
     → Disjoint (cased a_counts a) (cased b_counts b)
@@ -79,10 +68,7 @@ same_clash a_counts a b_counts below some apart =
 -- A role that is not case-sensitive has every byte of the role that the same byte plays elsewhere.
 cased-grows : (c d : Bool) (n byte : ℕ) → (c ≡ false → d ≡ false) → IsTrue (cased c n byte) → IsTrue (cased d n byte)
 unfolding cased
-cased-grows true true n byte weaker inside = inside
-cased-grows false false n byte weaker inside = inside
-cased-grows true false n byte weaker inside = grind (arith, nat_tests)
-cased-grows false true n byte weaker inside = absurd (true≢false (weaker refl))
+cased-grows c d n byte weaker inside = grind (arith, nat_tests)
 
 -- If two bytes clash, then they also clash where no role that was not case-sensitive is case-sensitive.
 pub still_clash : (ac : Bool) (a : ℕ) (bc : Bool) (b : ℕ) (dc ec : Bool) → (ac ≡ false → dc ≡ false) → (bc ≡ false → ec ≡ false)
@@ -111,15 +97,11 @@ own_roles_apart r {a} {b} {c} {ab} {ac} {bc} a_is b_is c_is a_fits b_fits ab_tol
     let suffix = r.flag layout.case_sensitive_base_suffix in
     let front = or_parts (ab || ac) bc none in
     let first = or_parts ab ac front.0 in
-    let a_below : a < 256 = subst (λ n. n < 256) (sym a_is) a_fits in
-    let b_below : b < 256 = subst (λ n. n < 256) (sym b_is) b_fits in
-    let a_b : Disjoint (cased true a) (cased prefix b) = far_apart true a prefix b a_below ab_told first.0 in
-    let a_c : Disjoint (cased true a) (cased suffix c) = far_apart true a suffix c a_below ac_told first.1 in
-    let b_c : Disjoint (cased prefix b) (cased suffix c) = far_apart prefix b suffix c b_below bc_told front.1 in
-    subst (λ n. AreDisjoint (cased true n ∷ cased prefix (r.byte layout.base_prefix) ∷ cased suffix (r.byte layout.base_suffix) ∷ [])) a_is
-    (subst (λ n. AreDisjoint (cased true a ∷ cased prefix n ∷ cased suffix (r.byte layout.base_suffix) ∷ [])) b_is
-    (subst (λ n. AreDisjoint (cased true a ∷ cased prefix b ∷ cased suffix n ∷ [])) c_is
-    ((a_b, (a_c, tt)), ((b_c, tt), (tt, tt)))))
+    let a_b = far_apart true a prefix b (omega arith) ab_told first.0 in
+    let a_c = far_apart true a suffix c (omega arith) ac_told first.1 in
+    let b_c = far_apart prefix b suffix c (omega arith) bc_told front.1 in
+    subst (λ X. X) (λ i. AreDisjoint (cased true (a_is i) ∷ cased prefix (b_is i) ∷ cased suffix (c_is i) ∷ []))
+    ((a_b, (a_c, tt)), ((b_c, tt), (tt, tt)))
 
 -- Two different bytes have disjoint roles if both roles are case-sensitive.
 both_count : (a b : ℕ) → a ≢ b → Disjoint (cased true a) (cased true b)
@@ -141,14 +123,8 @@ second_counts_not a b letter other apart =
 pub cases_apart : (a : ℕ) (a_counts : Bool) (b : ℕ) (b_counts : Bool) → a ≢ b → IsTrue (letters a) → b ≡ other_case a →
     IsTrue (a_counts && b_counts) ↔ Disjoint (cased a_counts a) (cased b_counts b)
 cases_apart a true b true differ letter other = (λ _. both_count a b differ, λ _. refl)
-cases_apart a true b false differ letter other = (
-  λ both. absurd (false≢true both),
-  λ apart. absurd (second_counts_not a b letter other apart),
-)
-cases_apart a false b b_counts differ letter other = (
-  λ both. absurd (false≢true both),
-  λ apart. absurd (first_counts_not a b_counts b letter other apart),
-)
+cases_apart a true b false differ letter other = (λ both. cc, λ apart. absurd (second_counts_not a b letter other apart))
+cases_apart a false b b_counts differ letter other = (λ both. cc, λ apart. absurd (first_counts_not a b_counts b letter other apart))
 
 uppercase-other_case : (byte : ℕ) → uppercase (other_case byte) ≡ uppercase byte
 uppercase-other_case byte = grind (arith, nat_tests)

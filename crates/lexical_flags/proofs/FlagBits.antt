@@ -18,10 +18,7 @@ use Rattle.lexical_flags.proofs.Masks.{ascends, and_all, or_all, sum-below}
 
 -- A bit times a power of two is 0 if and only if the bit is 0.
 moved_bit-set : (n p : ℕ) → n < 2 → 0 < p → not (n * p == 0) ≡ (n == 1)
-moved_bit-set n p small high = elim (cases_lt n 1) [
-  | inl l ↦ let none : n ≡ 0 = omega arith in rw none (rw (zero-mul p) refl)
-  | inr l ↦ let one : n ≡ 1 = omega arith in rw one (grind (arith, nat_tests))
-]
+moved_bit-set n p small high = grind (arith, nat_tests)
 
 -- The test of one flag, as the code writes it, is true if and only if its bit is 1.
 pub flag_test : (word k : ℕ) → not (bit_and word (2 ^ k) == 0) ≡ (part word k 1 == 1)

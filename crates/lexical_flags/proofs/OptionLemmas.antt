@@ -13,7 +13,6 @@ use Rattle.lexical_base.specs.declared.error.Error.TheVariants.{Success}
 use Rattle.lexical_flags.specs.Options.{OptionsFit, OptionsHaveOneRole, SomeOptionsHaveOneRole, IsOptionsError}
 use Rattle.lexical_flags.proofs.DisjointLemmas.{Disjoint-from, Disjoint-sym}
 use Rattle.lexical_flags.proofs.RoleLemmas.{Disjoint-digits-cased, Disjoint-signs-cased, not_in, no_digit}
-use Rattle.lexical_flags.proofs.RuleLemmas.{ErrorUnless-unique}
 
 -- The byte 0 is not allowed ASCII.
 text-positive : (byte : ℕ) → IsTrue (allowed_ascii byte) → byte ≢ 0
@@ -138,12 +137,9 @@ some_from_lawful word lawful =
 
 -- An exponent character and a decimal point have at most one error.
 pub one_options_error : (word e p : ℕ) (a b : Error) → IsOptionsError word e p a → IsOptionsError word e p b → a ≡ b
-one_options_error word e p = ErrorUnless-unique (ErrorUnless-unique (ErrorUnless-unique (λ a b h k. h ∙ sym k)))
+one_options_error word e p a b h k = grind arith
 
 -- The error of an exponent character and a decimal point is Success if and only if they are accepted.
 pub options_success : (word e p : ℕ) (error : Error) → IsOptionsError word e p error
     → (error ≡ Success) ↔ OptionsFit word e p
-options_success word e p error (inl h) = (λ same. cc, λ accepted. absurd (h.0 accepted.exponent_is_punctuation))
-options_success word e p error (inr (_, inl h)) = (λ same. cc, λ accepted. absurd (h.0 accepted.point_is_punctuation))
-options_success word e p error (inr (_, inr (_, inl h))) = (λ same. cc, λ accepted. absurd (h.0 accepted))
-options_success word e p error (inr (_, inr (_, inr h))) = (λ same. h.0, λ accepted. h.1)
+options_success word e p error h = grind arith

@@ -1,16 +1,15 @@
 -- Lemmas on packing a record, and on the record of a word.
-use Rattle.std.proofs.Common.{ℕ, zero, suc, ◌≡◌, ◌+◌, ◌*◌, ◌^◌, ◌<◌, ◌==◌, ◌⊎◌, ◌↔◌, Bool, true, false}
+use Rattle.std.proofs.Common.{ℕ, ◌≡◌, ◌+◌, ◌*◌, ◌^◌, ◌<◌, ◌==◌, ◌⊎◌, ◌↔◌, Bool}
 use Rattle.std.proofs.Common.{◌-◌, IsTrue, if◌then◌else◌, length, List, [], ◌∷◌}
-use Rattle.std.proofs.Common.{◌++◌, map, sum_by, refl, ap, sym, ◌∙◌, subst, inl, inr, arith}
+use Rattle.std.proofs.Common.{◌++◌, map, sum_by, refl, ap, sym, ◌∙◌, subst, arith}
 use Rattle.std.proofs.Math.Nat.{mod-eq_of_lt, mod-lt}
 use Rattle.std.proofs.lemmas.Nat.{pow_pos}
-use Rattle.std.proofs.lemmas.Bool.{cond_both}
 use Rattle.std.proofs.lemmas.Bool.Decides.{nat_tests}
 use Rattle.lexical_flags.specs.Layout.{part, Flag, Byte, bit, flags, bytes, base_flags, digit_separator_flags, shift}
 use Rattle.lexical_flags.specs.Layout.{IsClean}
 use Rattle.lexical_flags.specs.Layout as layout
 use Rattle.lexical_flags.specs.Record.{Record, raw, fill, trim, pack, word_of, byte_bits}
-use Rattle.lexical_flags.specs.Record.{effective, separator_allowed, HasBytes, IsBuilt}
+use Rattle.lexical_flags.specs.Record.{separator_allowed, HasBytes, IsBuilt}
 use Rattle.lexical_flags.proofs.RecordLemmas.{record_same}
 use Rattle.lexical_flags.proofs.Segments.{joined, segments, segments-joined, joined-segments, joined-below, Fit}
 
@@ -53,8 +52,7 @@ abbrev from_values : List ℕ → Record
 from_values vs = record { flag = λ f. value_at (bit f) 0 widths vs == 1; byte = λ b. value_at (shift b) 0 widths vs }
 
 bit_value-one : (b : Bool) → (bit_value b == 1) ≡ b
-bit_value-one true = refl
-bit_value-one false = refl
+bit_value-one b = grind arith
 
 from_values-values : (r : Record) → from_values (values r) ≡ r
 from_values-values r = record_same _ _ on_flag on_byte where
@@ -79,8 +77,7 @@ raw-segments w = record_same _ _ on_flag on_byte where
 
 -- The value that a flag adds to a word is its bit times a power of two.
 pub flag_bits-value : (b : Bool) (k : ℕ) → (if b then 2 ^ k else 0) ≡ bit_value b * 2 ^ k
-flag_bits-value true k = omega arith
-flag_bits-value false k = omega arith
+flag_bits-value b k = grind arith
 
 word_of-joined : (r : Record) → word_of r ≡ joined 0 widths (values r)
 unfolding word_of
@@ -89,8 +86,7 @@ word_of-joined r =
 
 -- A bit is 0 or 1.
 pub bit_value-lt : (b : Bool) → bit_value b < 2
-bit_value-lt true = omega arith
-bit_value-lt false = omega arith
+bit_value-lt b = grind arith
 
 values-fit : (r : Record) → HasBytes r → Fit widths (values r)
 values-fit r h = let byte = h.each in search (arith, bit_value-lt, byte)
@@ -116,8 +112,7 @@ word_of-lt r h = omega (arith, word_of-joined r, joined-below 0 widths (values r
 
 -- A number below 2 is the bit of the test whether it is 1.
 bit_value-test : (n : ℕ) → n < 2 → bit_value (n == 1) ≡ n
-bit_value-test zero l = refl
-bit_value-test (suc n) l = let none : n ≡ 0 = omega arith in rw none refl
+bit_value-test n l = grind (arith, nat_tests)
 
 values-raw : (w : ℕ) → IsClean w → values (raw w) ≡ segments 0 widths w
 values-raw w clean =
@@ -133,39 +128,19 @@ word_of-raw w l clean =
 pub HasBytes-by_name : (r : Record) → r.byte layout.digit_separator < 256 → r.byte layout.base_prefix < 256 → r.byte layout.base_suffix < 256
     → r.byte layout.mantissa_radix < 256 → r.byte layout.exponent_base < 256 → r.byte layout.exponent_radix < 256
     → HasBytes r
-HasBytes-by_name r separator prefix suffix radix base exponent = record { each = fits } where
-  fits : (b : Byte) → r.byte b < 256
-  fits layout.digit_separator = separator
-  fits layout.base_prefix = prefix
-  fits layout.base_suffix = suffix
-  fits layout.mantissa_radix = radix
-  fits layout.exponent_base = base
-  fits layout.exponent_radix = exponent
+HasBytes-by_name r separator prefix suffix radix base exponent = record { each = λ b. grind arith }
 
 -- The record of every word has bytes.
 pub HasBytes-raw : (w : ℕ) → HasBytes (raw w)
 HasBytes-raw w = record { each = λ b. mod-lt _ (pow_pos 8) }
 
-effective-lt : (own radix : ℕ) → own < 256 → radix < 256 → effective own radix < 256
-effective-lt own radix own_fits radix_fits = grind (arith, nat_tests)
-
 -- If a record has bytes, then so does the filled record.
 pub HasBytes-fill : (r : Record) → HasBytes r → HasBytes (fill r)
-HasBytes-fill r h = record { each = fits } where
-  fits : (b : Byte) → (fill r).byte b < 256
-  fits layout.exponent_base = effective-lt _ _ (h.each layout.exponent_base) (h.each layout.mantissa_radix)
-  fits layout.exponent_radix = effective-lt _ _ (h.each layout.exponent_radix) (h.each layout.mantissa_radix)
-  fits layout.digit_separator = h.each layout.digit_separator
-  fits b = h.each b
+HasBytes-fill r h = let each = h.each in record { each = λ b. grind (arith, nat_tests) }
 
 -- If a record has bytes, then so does the trimmed record.
 pub HasBytes-trim : (r : Record) → HasBytes r → HasBytes (trim r)
-HasBytes-trim r h = record { each = fits } where
-  fits : (b : Byte) → (trim r).byte b < 256
-  fits layout.digit_separator = cond_both (separator_allowed r) (r.byte layout.digit_separator) 0 (λ n. n < 256)
-      (λ _. h.each layout.digit_separator) (λ _. omega arith)
-  fits layout.base_prefix = h.each layout.base_prefix
-  fits b = h.each b
+HasBytes-trim r h = let each = h.each in record { each = λ b. grind (arith, nat_tests) }
 
 -- The record of a packed record is the trimmed record.
 pub raw-pack : (r : Record) → HasBytes r → raw (pack r) ≡ trim r
@@ -181,21 +156,15 @@ pack-lt r h = word_of-lt (trim r) (HasBytes-trim r h)
 
 -- If a separator is allowed or absent, then trimming does not change it.
 pub kept_same : (b : Bool) (n : ℕ) → IsTrue b ⊎ (n ≡ 0) → (if b then n else 0) ≡ n
-kept_same true n h = refl
-kept_same false n (inl on) = cc
-kept_same false n (inr absent) = sym absent
+kept_same b n h = grind arith
 
 -- If the separator is allowed or absent, then trimming changes nothing.
 pub trim-same : (r : Record) → IsTrue (separator_allowed r) ⊎ (r.byte layout.digit_separator ≡ 0) → trim r ≡ r
-trim-same r h = record_same _ _ (λ f. refl) on_byte where
-  on_byte : (b : Byte) → (trim r).byte b ≡ r.byte b
-  on_byte layout.digit_separator = kept_same (separator_allowed r) (r.byte layout.digit_separator) h
-  on_byte _ = refl
+trim-same r h = record_same _ _ (λ f. refl) (λ b. let kept = kept_same (separator_allowed r) (r.byte layout.digit_separator) h in grind arith)
 
 -- If trimming does not change a separator, then it is allowed or absent.
 pub trimmed_unused : (b : Bool) (n : ℕ) → n ≡ (if b then n else 0) → IsTrue b ⊎ (n ≡ 0)
-trimmed_unused true n e = inl refl
-trimmed_unused false n e = inr e
+trimmed_unused b n e = grind arith
 
 -- Packing the fields of a word results in the word if and only if the word is built.
 pub pack-raw : (w : ℕ) → w < 2 ^ 128 → (pack (raw w) ≡ w) ↔ IsBuilt w

@@ -1,5 +1,5 @@
 -- Lemmas that a record is determined by its flags and bytes.
-use Rattle.std.proofs.Common.{ℕ, ◌≡◌}
+use Rattle.std.proofs.Common.{ℕ, ◌≡◌, arith}
 use Rattle.lexical_flags.specs.Layout.{Flag, Byte}
 use Rattle.lexical_flags.specs.Layout as layout
 use Rattle.lexical_flags.specs.Record.{Record}
@@ -13,9 +13,4 @@ pub bytes_same : (p q : Byte → ℕ) → p layout.digit_separator ≡ q layout.
     → p layout.base_prefix ≡ q layout.base_prefix → p layout.base_suffix ≡ q layout.base_suffix
     → p layout.mantissa_radix ≡ q layout.mantissa_radix → p layout.exponent_base ≡ q layout.exponent_base
     → p layout.exponent_radix ≡ q layout.exponent_radix → (b : Byte) → p b ≡ q b
-bytes_same p q separator prefix suffix radix base exponent layout.digit_separator = separator
-bytes_same p q separator prefix suffix radix base exponent layout.base_prefix = prefix
-bytes_same p q separator prefix suffix radix base exponent layout.base_suffix = suffix
-bytes_same p q separator prefix suffix radix base exponent layout.mantissa_radix = radix
-bytes_same p q separator prefix suffix radix base exponent layout.exponent_base = base
-bytes_same p q separator prefix suffix radix base exponent layout.exponent_radix = exponent
+bytes_same p q separator prefix suffix radix base exponent b = grind arith

@@ -92,8 +92,7 @@ Meets-same v w reserved_zero same = refl
 Demands-same : (rule : Rule) (v w : ℕ) → bit_and v (mask_read rule) ≡ bit_and w (mask_read rule)
     → FieldsMeet (shape_of rule) (raw v) ≡ FieldsMeet (shape_of rule) (raw w)
 Demands-same rules.MantissaRadixInRange v w same =
-    let shape : Shape = shape_of rules.MantissaRadixInRange in
-    Meets-same v w shape (flags_agree v w _ same (flags_of shape) refl, bytes_agree v w _ same (bytes_of shape) refl)
+    Meets-same v w (radix_in_range layout.mantissa_radix) (tt, bytes_agree v w _ same (bytes_of (shape_of rules.MantissaRadixInRange)) refl)
 Demands-same rules.ReservedBitsAreZero v w same = refl
 Demands-same rule v w same =
     Meets-same v w (shape_of rule)

@@ -1,15 +1,14 @@
 -- Lemmas that a word is lawful if and only if it satisfies every rule, and that it has one error.
-use Rattle.std.proofs.Common.{◌≡◌, ℕ, ◌≢◌, ◌↔◌, inl, inr, Bool, true, IsTrue, List, [], ◌∷◌, sym, ◌∙◌}
+use Rattle.std.proofs.Common.{◌≡◌, ℕ, ◌≢◌, ◌<◌, ◌↔◌, inl, inr, Bool, true, List, [], ◌∷◌, sym, ◌∙◌}
 use Rattle.std.proofs.Common.{subst, arith}
 use Rattle.std.specs.List.{AllByRecursion}
-use Rattle.std.proofs.lemmas.Bool.{cases_eq}
 use Rattle.std.proofs.lemmas.Bool.Decides.{nat_tests}
 use Rattle.std.proofs.lemmas.List.Elements.{recursion_from_All}
 use Rattle.lexical_base.specs.declared.error.Error.{Error}
 use Rattle.lexical_base.specs.declared.error.Error.TheVariants.{InvalidFlags, Success}
 use Rattle.lexical_flags.specs.Layout as layout
 use Rattle.lexical_flags.specs.Layout.{IsClean}
-use Rattle.lexical_flags.specs.Record.{Record, raw, effective, effective_exponent_base, effective_exponent_radix}
+use Rattle.lexical_flags.specs.Record.{Record, raw, effective}
 use Rattle.lexical_flags.specs.Roles.{Disjoint, AreDisjoint, cased, digits, signs, format_roles, five_roles}
 use Rattle.lexical_flags.specs.declared.format_flags.rule.Rule.{Rule}
 use Rattle.lexical_flags.specs.declared.format_flags.rule.Rule.TheVariants as rules
@@ -18,24 +17,15 @@ use Rattle.lexical_flags.specs.Rules.{IsErrorOf, Lawful, error_of, flag_rules, r
 use Rattle.lexical_flags.specs.Rules.{ErrorUnless}
 use Rattle.lexical_flags.proofs.RoleLemmas.{Disjoint-digits-cased, Disjoint-signs-cased, Disjoint-digits-signs, not_in}
 
--- If a byte is absent or punctuation, and not 0, then it is not a digit.
-IsAbsentOrPunctuation-digit : (r : Record) (byte : ℕ) → IsAbsentOrPunctuation r byte → byte ≢ 0 → IsTrue (digits r byte)
-    → ⊥
-unfolding IsPunctuation
-IsAbsentOrPunctuation-digit r byte (inl none) positive is_digit = positive none
-IsAbsentOrPunctuation-digit r byte (inr free) positive is_digit = free.1 is_digit
-
--- If a byte is absent or punctuation, and not 0, then it is not a sign.
-IsAbsentOrPunctuation-sign : (r : Record) (byte : ℕ) → IsAbsentOrPunctuation r byte → byte ≢ 0 → IsTrue (signs byte) → ⊥
-unfolding IsPunctuation
-IsAbsentOrPunctuation-sign r byte (inl none) positive is_sign = positive none
-IsAbsentOrPunctuation-sign r byte (inr free) positive is_sign = free.2 is_sign
+-- If a byte is absent or punctuation, and not 0, then it is punctuation.
+present : (r : Record) (byte : ℕ) → IsAbsentOrPunctuation r byte → byte ≢ 0 → IsPunctuation r byte
+present r byte (inl none) some = absurd (some none)
+present r byte (inr free) some = free
 
 -- A byte that is absent or punctuation is absent or allowed ASCII.
 IsAbsentOrPunctuation-text : (r : Record) (byte : ℕ) → IsAbsentOrPunctuation r byte → IsTextOrNone byte
 unfolding IsPunctuation
-IsAbsentOrPunctuation-text r byte (inl none) = inl none
-IsAbsentOrPunctuation-text r byte (inr free) = inr free.0
+IsAbsentOrPunctuation-text r byte is = grind arith
 
 -- If a byte is absent or allowed ASCII, and its role is disjoint from the digits and the signs, then the byte is absent
 -- or punctuation.
@@ -44,26 +34,18 @@ IsAbsentOrPunctuation-from : (r : Record) (counts : Bool) (byte : ℕ) → IsTex
     → Disjoint signs (cased counts byte) → IsAbsentOrPunctuation r byte
 unfolding IsPunctuation
 IsAbsentOrPunctuation-from r counts byte text digits_apart signs_apart =
-    elim (cases_eq byte 0) [
+    elim text [
       | inl none ↦ inl none
-      | inr positive ↦ elim text [
-        | inl none ↦ inl none
-        | inr ascii ↦ inr (
-          ascii,
-          not_in (digits r) counts byte digits_apart (grind (arith, nat_tests)) positive,
-          not_in signs counts byte signs_apart (grind (arith, nat_tests)) positive,
-        )
-      ]
+      | inr ascii ↦
+          let some : byte ≢ 0 = λ none. grind (arith, nat_tests) in
+          let small : byte < 256 = grind (arith, nat_tests) in
+          inr (ascii, not_in (digits r) counts byte digits_apart small some, not_in signs counts byte signs_apart small some)
     ]
-
--- The mantissa radix in place of a mantissa radix of 0 is the mantissa radix.
-pub mantissa_itself : (radix : ℕ) → IsRadix radix ↔ IsRadix (effective radix radix)
-mantissa_itself radix = (λ h. grind (arith, nat_tests), λ h. grind (arith, nat_tests))
 
 -- A lawful word satisfies every rule.
 pub Holds-from_lawful : (rule : Rule) (word : ℕ) → Lawful word → Holds rule word
 unfolding Holds Lawful
-Holds-from_lawful rules.MantissaRadixInRange word h = (mantissa_itself _).0 h.mantissa_radix
+Holds-from_lawful rules.MantissaRadixInRange word h = let radix = h.mantissa_radix in grind (arith, nat_tests)
 Holds-from_lawful rules.ExponentBaseInRange word h = h.exponent_base
 Holds-from_lawful rules.ExponentRadixInRange word h = h.exponent_radix
 Holds-from_lawful rules.DigitSeparatorIsPunctuation word h =
@@ -79,39 +61,20 @@ Holds-from_lawful rules.PunctuationDiffers word h = let pairs = h.roles in let o
 Holds-from_lawful rules.ReservedBitsAreZero word h = h.clean
 Holds-from_lawful _ word h = let flags = h.flags in assumption flags
 
--- The radixes of a lawful word are between 2 and 36.
-pub Lawful-mantissa_radix : (word : ℕ) → Lawful word → IsRadix ((raw word).byte layout.mantissa_radix)
-unfolding Lawful
-Lawful-mantissa_radix word h = h.mantissa_radix
-
-pub Lawful-exponent_base : (word : ℕ) → Lawful word → IsRadix (effective_exponent_base (raw word))
-unfolding Lawful
-Lawful-exponent_base word h = h.exponent_base
-
-pub Lawful-exponent_radix : (word : ℕ) → Lawful word → IsRadix (effective_exponent_radix (raw word))
-unfolding Lawful
-Lawful-exponent_radix word h = h.exponent_radix
-
 -- If separator, prefix and suffix are absent or punctuation, and differ, then the five roles are disjoint.
 five_apart : (r : Record) → IsAbsentOrPunctuation r (r.byte layout.digit_separator)
     → IsAbsentOrPunctuation r (r.byte layout.base_prefix) → IsAbsentOrPunctuation r (r.byte layout.base_suffix)
     → AreDisjoint (format_roles r) → AreDisjoint (five_roles r)
-five_apart r separator prefix suffix own =
-    let digits_apart : (counts : Bool) (byte : ℕ) → IsAbsentOrPunctuation r byte
-    → Disjoint (digits r) (cased counts byte) = λ counts byte free. Disjoint-digits-cased r counts byte
-    (IsAbsentOrPunctuation-digit r byte free) in
-    let signs_apart : (counts : Bool) (byte : ℕ) → IsAbsentOrPunctuation r byte
-    → Disjoint signs (cased counts byte) = λ counts byte free. Disjoint-signs-cased counts byte
-    (IsAbsentOrPunctuation-sign r byte free) in (
-      (
-        Disjoint-digits-signs r,
-        (
-          digits_apart true _ separator,
-          (digits_apart _ _ prefix, (digits_apart _ _ suffix, tt)),
-        ),
-      ),
-      ((signs_apart true _ separator, (signs_apart _ _ prefix, (signs_apart _ _ suffix, tt))), own),
-    )
+unfolding IsPunctuation
+five_apart r separator prefix suffix own = (
+  (Disjoint-digits-signs r, (digits_apart true _ separator, (digits_apart _ _ prefix, (digits_apart _ _ suffix, tt)))),
+  ((signs_apart true _ separator, (signs_apart _ _ prefix, (signs_apart _ _ suffix, tt))), own),
+) where
+  digits_apart : (counts : Bool) (byte : ℕ) → IsAbsentOrPunctuation r byte → Disjoint (digits r) (cased counts byte)
+  digits_apart counts byte free = Disjoint-digits-cased r counts byte (λ some. (present r byte free some).1)
+
+  signs_apart : (counts : Bool) (byte : ℕ) → IsAbsentOrPunctuation r byte → Disjoint signs (cased counts byte)
+  signs_apart counts byte free = Disjoint-signs-cased counts byte (λ some. (present r byte free some).2)
 
 -- A word that satisfies every rule is lawful.
 pub Lawful-from_all : (word : ℕ) → ((rule : Rule) → Holds rule word) → Lawful word
@@ -122,7 +85,7 @@ Lawful-from_all word h =
     let prefix : IsAbsentOrPunctuation r (r.byte layout.base_prefix) = h rules.BasePrefixIsPunctuation in
     let suffix : IsAbsentOrPunctuation r (r.byte layout.base_suffix) = h rules.BaseSuffixIsPunctuation in
     record {
-      mantissa_radix = (mantissa_itself _).1 (h rules.MantissaRadixInRange);
+      mantissa_radix = let radix = h rules.MantissaRadixInRange in grind (arith, nat_tests);
       exponent_base = h rules.ExponentBaseInRange;
       exponent_radix = h rules.ExponentRadixInRange;
       flags = recursion_from_All (λ rule. Holds rule word) flag_rules (λ i d inside. h _);
@@ -133,91 +96,26 @@ Lawful-from_all word h =
       clean = h rules.ReservedBitsAreZero;
     }
 
--- No rule has the error Success.
-error_of-success : (rule : Rule) → error_of rule ≢ Success
-error_of-success rules.MantissaRadixInRange e = cc
-error_of-success _ e = cc
-
--- If the first error of a list of rules is Success, then each rule of the list is satisfied.
-all_from_success : (word : ℕ) (rules : List Rule) → IsFirstError rules word Success
-    → AllByRecursion (λ rule. Holds rule word) rules
-all_from_success word [] h = tt
-all_from_success word (rule ∷ rules) (inl broken) = absurd (error_of-success rule (sym broken.1))
-all_from_success word (rule ∷ rules) (inr kept) = (kept.0, all_from_success word rules kept.1)
-
--- If every rule is satisfied, then the first error of each list of rules is Success.
-success_from_all : (word : ℕ) (error : Error) → ((rule : Rule) → Holds rule word) → (rules : List Rule)
-    → IsFirstError rules word error → error ≡ Success
-success_from_all word error all [] h = h
-success_from_all word error all (rule ∷ rules) (inl broken) = absurd (broken.0 (all rule))
-success_from_all word error all (rule ∷ rules) (inr kept) = success_from_all word error all rules kept.1
-
--- If the rest of a list of demands has at most one error, then so has the list.
-pub ErrorUnless-unique : {demand : Type 0} {own : Error} {next : Error → Type 0}
-    → ((a b : Error) → next a → next b → a ≡ b)
-    → (a b : Error) → ErrorUnless demand own next a → ErrorUnless demand own next b → a ≡ b
-ErrorUnless-unique one a b (inl h) (inl k) = h.1 ∙ sym k.1
-ErrorUnless-unique one a b (inl h) (inr k) = absurd (h.0 k.0)
-ErrorUnless-unique one a b (inr h) (inl k) = absurd (k.0 h.0)
-ErrorUnless-unique one a b (inr h) (inr k) = one a b h.1 k.1
-
-pub IsFirstError-unique : (word : ℕ) (rules : List Rule) (a b : Error) → IsFirstError rules word a
-    → IsFirstError rules word b → a ≡ b
-IsFirstError-unique word [] a b h k = h ∙ sym k
-IsFirstError-unique word (rule ∷ rules) a b h k = ErrorUnless-unique (IsFirstError-unique word rules) a b h k
-
-pub IsErrorOf-unique : (word : ℕ) (a b : Error) → IsErrorOf word a → IsErrorOf word b → a ≡ b
+-- A word has one error.
+pub one_error : (word : ℕ) (a b : Error) → IsErrorOf word a → IsErrorOf word b → a ≡ b
 unfolding IsErrorOf
-IsErrorOf-unique word = IsFirstError-unique word rules_in_order
+one_error word a b h k = grind arith
 
 -- Words that satisfy the same rules have the same error.
-IsFirstError-same : (v w : ℕ) → ((rule : Rule) → Holds rule v ↔ Holds rule w) → (rules : List Rule) (error : Error)
-    → IsFirstError rules v error → IsFirstError rules w error
-IsFirstError-same v w same [] error h = h
-IsFirstError-same v w same (rule ∷ rules) error (inl broken) = inl (λ kept. broken.0 ((same rule).1 kept), broken.1)
-IsFirstError-same v w same (rule ∷ rules) error (inr kept) =
-    inr ((same rule).0 kept.0, IsFirstError-same v w same rules error kept.1)
-
 pub IsErrorOf-same : (v w : ℕ) → ((rule : Rule) → Holds rule v ↔ Holds rule w) → (error : Error) → IsErrorOf v error
     ↔ IsErrorOf w error
 unfolding IsErrorOf
-IsErrorOf-same v w same error = (
-  IsFirstError-same v w same rules_in_order error,
-  IsFirstError-same w v
-      (λ rule. ((same rule).1, (same rule).0)) rules_in_order error,
-)
-
--- A clean word satisfies the rule whose error is InvalidFlags.
-reserved-error : (rule : Rule) (word : ℕ) → error_of rule ≡ InvalidFlags → IsClean word → Holds rule word
-unfolding Holds
-reserved-error rules.ReservedBitsAreZero word e clean = clean
-reserved-error rules.MantissaRadixInRange word e clean = cc
-reserved-error _ word e clean = cc
-
-clean-first : (word : ℕ) (rules : List Rule) → IsClean word → IsFirstError rules word InvalidFlags → ⊥
-clean-first word [] clean h = cc
-clean-first word (rule ∷ rules) clean (inl broken) = broken.0 (reserved-error rule word (sym broken.1) clean)
-clean-first word (rule ∷ rules) clean (inr kept) = clean-first word rules clean kept.1
+IsErrorOf-same v w same error = grind arith
 
 -- The error of a clean word is never InvalidFlags.
 pub not_flags : (word : ℕ) (error : Error) → IsClean word → IsErrorOf word error → error ≢ InvalidFlags
-unfolding IsErrorOf
-not_flags word error clean h e = clean-first word rules_in_order clean (subst (IsErrorOf word) e h)
-
--- If each rule in the list of all rules is satisfied, then every rule is satisfied.
-every_rule : (word : ℕ) → AllByRecursion (λ rule. Holds rule word) rules_in_order → (rule : Rule) → Holds rule word
-every_rule word all rules.MantissaRadixInRange = assumption all
-every_rule word all _ = assumption all
-
--- A word without an error satisfies every rule, so it is lawful.
-pub Lawful-from_success : (word : ℕ) → IsErrorOf word Success → Lawful word
-unfolding IsErrorOf
-Lawful-from_success word h = Lawful-from_all word (every_rule word (all_from_success word rules_in_order h))
+unfolding IsErrorOf Holds
+not_flags word error clean h e = grind arith
 
 -- The error of a word is Success if and only if the word is lawful.
-pub Success-lawful : (word : ℕ) (error : Error) → IsErrorOf word error → ((error ≡ Success) ↔ Lawful word)
+pub success_lawful : (word : ℕ) (error : Error) → IsErrorOf word error → ((error ≡ Success) ↔ Lawful word)
 unfolding IsErrorOf
-Success-lawful word error h = (
-  λ e. Lawful-from_success word (subst (IsErrorOf word) e h),
-  λ lawful. success_from_all word error (λ rule. Holds-from_lawful rule word lawful) rules_in_order h,
+success_lawful word error h = (
+  λ e. Lawful-from_all word (λ rule. grind arith),
+  λ lawful. let all = λ (rule : Rule). Holds-from_lawful rule word lawful in grind arith,
 )

@@ -248,6 +248,7 @@ pub const fn base_suffix(format: u128) -> u8
 /// Returns the mantissa radix of `format`. The result is at most 255. If `format` is [lawful][Rule], the
 /// result is between 2 and 36.
 #[must_use]
+#[tactic(auto, using(crate::proofs::ByteParts::byte_parts), unfolding(crate::specs::Rules::Lawful))]
 pub const fn mantissa_radix(format: u128) -> u32
     ensures value { result ≡ (raw format).byte layout.mantissa_radix }
     ensures lawful { Lawful format → IsRadix result }
@@ -258,6 +259,7 @@ pub const fn mantissa_radix(format: u128) -> u32
 /// Returns the exponent base of `format`, or the mantissa radix if the exponent base is 0. If `format` is
 /// [lawful][Rule], the result is between 2 and 36.
 #[must_use]
+#[tactic(auto, using(crate::proofs::CommonLemmas::common_base), unfolding(crate::specs::Rules::Lawful))]
 pub const fn exponent_base(format: u128) -> u32
     ensures value { result ≡ effective_exponent_base (raw format) }
     ensures lawful { Lawful format → IsRadix result }
@@ -268,6 +270,7 @@ pub const fn exponent_base(format: u128) -> u32
 /// Returns the exponent radix of `format`, or the mantissa radix if the exponent radix is 0. If `format` is
 /// [lawful][Rule], the result is between 2 and 36.
 #[must_use]
+#[tactic(auto, using(crate::proofs::CommonLemmas::common_radix), unfolding(crate::specs::Rules::Lawful))]
 pub const fn exponent_radix(format: u128) -> u32
     ensures value { result ≡ effective_exponent_radix (raw format) }
     ensures lawful { Lawful format → IsRadix result }

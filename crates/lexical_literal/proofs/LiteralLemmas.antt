@@ -12,11 +12,12 @@ use Rattle.lexical_util.specs.declared.format_flags.Part.TheVariants as parts
 use Rattle.lexical_literal.specs.Notation.{Notation}
 use Rattle.lexical_literal.specs.Run.{is_run}
 use Rattle.lexical_literal.specs.Literal.{Literal, IsLiteral, Reads, text_of, is_present, is_absent, is_plus, is_none_or_one, is_none_or_prefix, is_zero_led}
-use Rattle.lexical_literal.specs.Additions.Summary.{Cuts, implies, has_digit, is_fresh, is_lone, is_led, after_digit, after_mark, after_point, may_follow, may_lead, is_signed, forbids_plus, gap_fits, digits_suffice, ends, continues, may_float, add, count, digits_piece, start, no_cuts}
+use Rattle.lexical_literal.specs.Additions.Summary.{Cuts, implies, has_digit, is_fresh, is_lone, is_led, after_digit, after_mark, after_point, may_follow, may_lead, is_signed, forbids_plus, gap_fits, digits_suffice, ends, continues, may_float, add, digits_piece, piece_of, start, no_cuts}
+use Rattle.lexical_literal.specs.declared.steps.Piece.TheVariants as pieces
 use Rattle.lexical_literal.specs.declared.steps.Stage.{Stage}
 use Rattle.lexical_literal.specs.declared.steps.Stage.TheVariants as stages
-use Rattle.lexical_literal.proofs.RunLemmas.{is_rest, rest_of_none, digits_present, digit_fits, after_run_digit, is_run_separator, separator_fits, after_run_separator, opens}
-use Rattle.lexical_literal.proofs.ScanLemmas.{HasRoles, Accepts, Arrives, plus, arrives_byte, digit_role, is_role}
+use Rattle.lexical_literal.proofs.RunLemmas.{is_rest, rest_of_none, digits_present, opens}
+use Rattle.lexical_literal.proofs.ScanLemmas.{HasRoles, Accepts, Arrives, add_all, arrives_byte, digit_role, is_role}
 use Rattle.lexical_literal.proofs.StepLemmas.{reading, led_after, stage_after, after_byte, passed, stage_at, sign_fits, prefix_fits, digits_fit, ends_exponent, ends_mantissa, fraction_fits, stops, scales, ends_part, text_after}
 use Rattle.lexical_literal.proofs.CutLemmas.{cut_of}
 
@@ -25,19 +26,19 @@ abbrev pub is_tail : List ℕ → List ℕ
 is_tail [] = []
 is_tail (b ∷ bytes) = bytes
 
--- `tail_cuts l c` has the lengths of the parts of `l` behind the mantissa, begun with `c`, and `cuts_of l` those of all its parts.
+-- `tail_cuts l c` counts the parts of `l` behind the mantissa, begun with `c`, and `cuts_of l` all its parts.
 abbrev tail_cuts : Literal → Cuts → Cuts
-tail_cuts l c = record c {
-  exponent_character = plus l.exponent_character c.exponent_character;
-  exponent_sign = plus l.exponent_sign c.exponent_sign;
-  exponent = plus l.exponent c.exponent;
-}
+tail_cuts l c = add_all (add_all (add_all (add_all c pieces.ExponentCharacter l.exponent_character) pieces.ExponentSign l.exponent_sign)
+    pieces.Exponent l.exponent) pieces.Suffix l.suffix
 
 abbrev end_cuts : Literal → Cuts → Cuts
-end_cuts l c = tail_cuts l (record c { point = plus l.point c.point; fraction = plus l.fraction c.fraction })
+end_cuts l c = tail_cuts l (add_all (add_all c pieces.Point l.point) pieces.Fraction l.fraction)
+
+abbrev prefix_cuts : List ℕ → Cuts → Cuts
+prefix_cuts prefix c = add_all (add_all c pieces.Integer (is_tail prefix)) pieces.Prefix (is_tail prefix)
 
 abbrev pub cuts_of : Literal → Cuts
-cuts_of l = end_cuts l (record no_cuts { sign = plus l.sign 0; prefix = plus (is_tail l.prefix) 0; integer = plus l.integer (plus (is_tail l.prefix) 0) })
+cuts_of l = end_cuts l (add_all (prefix_cuts l.prefix (add_all no_cuts pieces.Sign l.sign)) pieces.Integer l.integer)
 
 -- What the parts behind the mantissa satisfy, said of plain variables: `k`, `s` and `e` tell whether the exponent character, its
 -- sign and the exponent are absent.
@@ -121,8 +122,7 @@ module _ (any led p one_p f fits_f k : Bool) (flag : Flag → Bool) (only : Bool
 
       end_facts : implies k stops_so ≡ true → implies (not k) scales_so ≡ true
           → (fits_f ≡ true → digit ≡ not f) → (fits_f ≡ true → lone ≡ not (not f || any)) → EndFacts
-      end_facts stop scale seen counted =
-          let same_digit : digit ≡ not f = seen has_fraction in let same_lone : lone ≡ not (not f || any) = counted has_fraction in grind arith
+      end_facts stop scale seen counted = grind arith
 
 module _ (m : Notation) where
   -- Digits that are present have a digit.
@@ -230,20 +230,6 @@ module _ (m : Notation) (h : HasRoles m) where
     arrives : (gap : Bool) → gap_fits m part (has_digit last) gap false ≡ true → is_signed m part last ≡ true
         → Arrives m (Some (reading part last gap)) c rest d
 
-  -- `add_run part run c` counts the bytes of `run`.
-  abbrev add_run : Part → List ℕ → Cuts → Cuts
-  add_run parts.Integer run c = record c { integer = plus run c.integer }
-  add_run parts.Fraction run c = record c { fraction = plus run c.fraction }
-  add_run parts.Exponent run c = record c { exponent = plus run c.exponent }
-
-  add_more : (part : Part) (b : ℕ) (run : List ℕ) (c : Cuts) → add_run part (b ∷ run) c ≡ add_run part run (add c (digits_piece part))
-  add_more parts.Integer b run c = refl
-  add_more _ b run c = refl
-
-  add_none : (part : Part) (c : Cuts) → add_run part [] c ≡ c
-  add_none parts.Integer c = refl
-  add_none _ c = refl
-
   -- Where a digit follows, it may.
   follow : (D : ByteSet) (stage : Stage) (gap : Bool) (run : List ℕ) → (is_led (stage_after D stage gap run) ≡ true → may_lead m ≡ true) → list_any D run ≡ true
       → may_follow m stage ≡ true
@@ -251,31 +237,24 @@ module _ (m : Notation) (h : HasRoles m) where
 
   -- The digits of a part.
   run_arrives : (part : Part) (stage : Stage) (gap : Bool) (run rest : List ℕ) (c d : Cuts) → is_signed m part stage ≡ true
-      → is_rest m part (has_digit stage) gap run ≡ true → Goes part (stage_after (m.digit part) stage gap run) (add_run part run c) rest d
+      → is_rest m part (has_digit stage) gap run ≡ true → Goes part (stage_after (m.digit part) stage gap run) (add_all c (digits_piece part) run) rest d
       → Arrives m (Some (reading part stage gap)) c (run ++ rest) d
-  run_arrives part stage gap [] rest c d signed fit goes =
-      subst (λ c. Arrives m (Some (reading part stage gap)) c rest d) (add_none part c) (goes.arrives gap fit signed)
+  run_arrives part stage gap [] rest c d signed fit goes = goes.arrives gap fit signed
   run_arrives part stage gap (b ∷ run) rest c d signed fit goes =
       let more = add c (digits_piece part) in
-      let next : (t : Bool) → m.digit part b ≡ t → Goes part (after_byte (m.digit part) stage gap b run t) (add_run part run more) rest d =
-      λ t is. subst (λ t. Goes part (after_byte (m.digit part) stage gap b run t) (add_run part run more) rest d) is
-      (subst (λ c. Goes part (stage_after (m.digit part) stage gap (b ∷ run)) c rest d) (add_more part b run c) goes) in
+      let next : (t : Bool) → m.digit part b ≡ t → Goes part (after_byte (m.digit part) stage gap b run t) (add_all more (digits_piece part) run) rest d =
+      λ t is. subst (λ t. Goes part (after_byte (m.digit part) stage gap b run t) (add_all more (digits_piece part) run) rest d) is goes in
       elim (cases_Bool (m.digit part b)) [
-        | inl digit ↦ arrives_byte m h (reading part stage gap) b roles.Digit c (run ++ rest) d refl (digit_role m h part b digit)
-            (and_from _ _ signed (and_from _ _ (digit_fits m part (has_digit stage) gap b run digit fit)
-            (follow (m.digit part) stage gap (b ∷ run) goes.leads (or_left _ _ digit))))
-            (run_arrives part (after_digit stage gap (b == 48)) false run rest more d (grind arith)
-            (subst (λ t. is_rest m part t false run ≡ true) (grind arith)
-            (after_run_digit m part (has_digit stage) gap b run digit fit)) (next true digit))
+        | inl digit ↦
+            let may = follow (m.digit part) stage gap (b ∷ run) goes.leads (or_left _ _ digit) in
+            arrives_byte m h (reading part stage gap) b roles.Digit c (run ++ rest) d refl (digit_role m h part b digit) (grind arith)
+            (run_arrives part (after_digit stage gap (b == 48)) false run rest more d (grind arith) (grind arith) (next true digit))
         | inr other ↦
-            let fits = after_run_separator m part (has_digit stage) gap b run other fit in
+            let may = λ (some : list_any (m.digit part) run ≡ true). follow (m.digit part) stage gap (b ∷ run) goes.leads (or_right (m.digit part b) _ some) in
+            let closes = opens m part (has_digit stage) (may_follow m stage) run (grind arith) may in
             arrives_byte m h (reading part stage gap) b roles.Separator c (run ++ rest) d refl
-            (is_role m h part roles.Separator b (λ e. cc) (is_run_separator m part (has_digit stage) gap b run other fit))
-            (and_from _ _ signed (and_from _ _ (separator_fits m part (has_digit stage) gap b run other fit)
-            (opens m part (has_digit stage) (may_follow m stage) run fits
-            (λ some. follow (m.digit part) stage gap (b ∷ run) goes.leads (or_right (m.digit part b) _ some)))))
-            (run_arrives part (after_mark stage) true run rest more d (grind arith)
-            (subst (λ t. is_rest m part t true run ≡ true) (grind arith) fits) (next false other))
+            (is_role m h part roles.Separator b (λ e. cc) (grind arith)) (grind arith)
+            (run_arrives part (after_mark stage) true run rest more d (grind arith) (grind arith) (next false other))
       ]
 
   -- Digits of a part without a leading zero.
@@ -283,49 +262,42 @@ module _ (m : Notation) (h : HasRoles m) where
       → led_after (m.digit part) stage run ≡ false → is_rest m part false false run ≡ true
       → let last = stage_after (m.digit part) stage false run in
       ((gap : Bool) → gap_fits m part (has_digit last) gap false ≡ true → is_signed m part last ≡ true
-      → Arrives m (Some (reading part last gap)) (add_run part run c) rest d)
+      → Arrives m (Some (reading part last gap)) (add_all c (digits_piece part) run) rest d)
       → Arrives m (Some (reading part stage false)) c (run ++ rest) d
   unled_arrives part stage run rest c d signed none unled fit goes =
       run_arrives part stage false run rest c d signed (subst (λ t. is_rest m part t false run ≡ true) (sym none) fit)
       (record { leads = λ led. absurd (false≢true (sym ((passed (m.digit part) stage false run).led ∙ unled) ∙ led)); arrives = goes })
 
-  -- A sign, or none; `cuts` counts its bytes.
-  sign_arrives : (part : Part) (stage : Stage) (gap : Bool) (sign rest : List ℕ) (cuts : List ℕ → Cuts) (d : Cuts) → sign_fits m part stage sign ≡ true
-      → ((b : ℕ) → cuts (b ∷ []) ≡ count part (Some roles.Sign) (cuts []))
-      → (is_signed m part (stage_at stage sign []) ≡ true → Arrives m (Some (reading part (stage_at stage sign []) gap)) (cuts sign) rest d)
-      → Arrives m (Some (reading part stage gap)) (cuts []) (sign ++ rest) d
-  sign_arrives part stage gap [] rest cuts d fits one more = more (and_parts (implies (forbids_plus m part) true) (is_signed m part stage) fits).1
-  sign_arrives part stage gap (b ∷ []) rest cuts d fits one more =
-      let both = and_parts (signs b) _ fits in
-      let taken = and_parts (implies (forbids_plus m part) (not (b == 43))) (is_fresh stage) both.1 in
-      arrives_byte m h (reading part stage gap) b roles.Sign (cuts []) rest d refl (is_role m h part roles.Sign b (λ e. cc) both.0)
-      (and_from _ _ taken.1 taken.0) (subst (λ c. Arrives m (Some (reading part (after_mark stage) gap)) c rest d) (one b)
-      (more (grind arith)))
-  sign_arrives part stage gap (b ∷ x ∷ sign) rest cuts d fits one more = absurd (false≢true fits)
+  -- A sign, or none.
+  sign_arrives : (part : Part) (stage : Stage) (gap : Bool) (sign rest : List ℕ) (c d : Cuts) → sign_fits m part stage sign ≡ true
+      → (is_signed m part (stage_at stage sign []) ≡ true
+      → Arrives m (Some (reading part (stage_at stage sign []) gap)) (add_all c (piece_of part roles.Sign) sign) rest d)
+      → Arrives m (Some (reading part stage gap)) c (sign ++ rest) d
+  sign_arrives part stage gap [] rest c d fits more = more (and_parts (implies (forbids_plus m part) true) (is_signed m part stage) fits).1
+  sign_arrives part stage gap (b ∷ []) rest c d fits more =
+      arrives_byte m h (reading part stage gap) b roles.Sign c rest d refl (is_role m h part roles.Sign b (λ e. cc) (grind arith))
+      (grind arith) (more (grind arith))
+  sign_arrives part stage gap (b ∷ x ∷ sign) rest c d fits more = absurd (false≢true fits)
 
   -- The suffix, or nothing.
   stop_arrives : (part : Part) (stage : Stage) (gap : Bool) (c : Cuts) (suffix : List ℕ)
       → (ends m (reading part stage gap) && continues m part stage roles.Suffix) ≡ true → is_none_or_one m.suffix suffix ≡ true
-      → Arrives m (Some (reading part stage gap)) c suffix c
+      → Arrives m (Some (reading part stage gap)) c suffix (add_all c pieces.Suffix suffix)
   stop_arrives part stage gap c [] is one = (is, refl)
   stop_arrives part stage gap c (b ∷ []) is one =
-      arrives_byte m h (reading part stage gap) b roles.Suffix c [] c refl (is_role m h part roles.Suffix b (λ e. cc) one) is (refl, refl)
+      arrives_byte m h (reading part stage gap) b roles.Suffix c [] _ refl (is_role m h part roles.Suffix b (λ e. cc) one) is (refl, refl)
   stop_arrives part stage gap c (b ∷ x ∷ suffix) is one = absurd (false≢true one)
 
   -- What follows an exponent character.
   power_arrives : (l : Literal) (c : Cuts) → sign_fits m parts.Exponent stages.Mark l.exponent_sign ≡ true
       → digits_fit m parts.Exponent (stage_at stages.Mark l.exponent_sign []) l.exponent (ends_exponent m l) ≡ true
       → Arrives m (Some (reading parts.Exponent stages.Mark false)) c (l.exponent_sign ++ (l.exponent ++ l.suffix))
-      (record c { exponent_sign = plus l.exponent_sign c.exponent_sign; exponent = plus l.exponent c.exponent })
+      (add_all (add_all (add_all c pieces.ExponentSign l.exponent_sign) pieces.Exponent l.exponent) pieces.Suffix l.suffix)
   power_arrives l c sign fits =
-      let both = and_parts (is_rest m parts.Exponent false false l.exponent) _ fits in
-      let end = and_parts (digits_suffice m parts.Exponent (exponent_last m l)) _ both.1 in
-      let all : Cuts = record c { exponent_sign = plus l.exponent_sign c.exponent_sign; exponent = plus l.exponent c.exponent } in
-      sign_arrives parts.Exponent stages.Mark false l.exponent_sign (l.exponent ++ l.suffix) (λ x. record c { exponent_sign = plus x c.exponent_sign }) all
-      sign (λ b. refl) (λ signed. unled_arrives parts.Exponent (stage_at stages.Mark l.exponent_sign []) l.exponent l.suffix _ all signed
-      (grind arith) (grind arith) both.0
-      (λ gap closed signed. stop_arrives parts.Exponent (exponent_last m l) gap all l.suffix
-      (and_from _ true (and_from _ _ signed (and_from _ _ closed end.0)) refl) end.1))
+      sign_arrives parts.Exponent stages.Mark false l.exponent_sign (l.exponent ++ l.suffix) c _ sign
+      (λ signed. unled_arrives parts.Exponent (stage_at stages.Mark l.exponent_sign []) l.exponent l.suffix _ _ signed
+      (grind arith) (grind arith) (grind arith)
+      (λ gap closed signed. stop_arrives parts.Exponent (exponent_last m l) gap _ l.suffix (grind arith) (grind arith)))
 
   -- What follows the mantissa.
   tail_arrives : (l : Literal) (part : Part) (stage : Stage) (gap : Bool) (c : Cuts) → ends m (reading part stage gap) ≡ true
@@ -338,15 +310,13 @@ module _ (m : Notation) (h : HasRoles m) where
     go [] [] [] fits =
         let both = and_parts (continues m part stage roles.Suffix) _ fits in
         stop_arrives part stage gap c l.suffix (and_from _ _ end both.0) both.1
-    go [] sign exponent fits = absurd (false≢true (and_parts (continues m part stage roles.Suffix) false fits).1)
+    go [] sign exponent fits = absurd (grind arith)
     go (b ∷ []) sign exponent fits =
-        let character = and_parts (m.exponent_character b) _ fits in
-        let scale = and_parts (continues m part stage roles.Exponent) _ character.1 in
-        let power = and_parts (sign_fits m parts.Exponent stages.Mark sign) _ scale.1 in
+        let scale = and_parts (continues m part stage roles.Exponent) _ (and_parts (m.exponent_character b) _ fits).1 in
         arrives_byte m h (reading part stage gap) b roles.Exponent c (sign ++ (exponent ++ l.suffix)) _ refl
-        (is_role m h part roles.Exponent b (λ e. cc) character.0) (and_from _ _ end scale.0)
+        (is_role m h part roles.Exponent b (λ e. cc) (and_parts (m.exponent_character b) _ fits).0) (and_from _ _ end scale.0)
         (power_arrives (record l { exponent_character = b ∷ []; exponent_sign = sign; exponent = exponent })
-        (record c { exponent_character = c.exponent_character + 1 }) power.0 power.1)
+        (add c pieces.ExponentCharacter) (let fit = scale.1 in grind arith) (let fit = scale.1 in grind arith))
     go (b ∷ x ∷ character) sign exponent fits = absurd (false≢true fits)
 
   -- What follows the integer digits.
@@ -360,7 +330,7 @@ module _ (m : Notation) (h : HasRoles m) where
     go [] (f ∷ fraction) fits = absurd (false≢true fits)
     go (b ∷ []) fraction fits =
         let l : Literal = record l { point = b ∷ []; fraction = fraction } in
-        let more : Cuts = record c { point = c.point + 1 } in
+        let more = add c pieces.Point in
         let point = and_parts (m.point b) _ fits in
         let both = and_parts (fraction_fits m l stage) _ point.1 in
         let float = and_parts (may_float m stage) _ both.0 in
@@ -369,7 +339,7 @@ module _ (m : Notation) (h : HasRoles m) where
         (is_role m h parts.Integer roles.Point b (λ e. cc) point.0) (and_from _ _ end float.0)
         (unled_arrives parts.Fraction (after_point (has_digit stage)) fraction (text_after parts.Fraction l) more (end_cuts l c)
         (grind arith) (grind arith) (grind arith) run.0
-        (λ gap closed signed. tail_arrives l parts.Fraction (fraction_last m l (has_digit stage)) gap (record more { fraction = plus fraction c.fraction })
+        (λ gap closed signed. tail_arrives l parts.Fraction (fraction_last m l (has_digit stage)) gap (add_all more pieces.Fraction fraction)
         (and_from _ _ signed (and_from _ _ closed run.1)) both.1))
     go (b ∷ x ∷ point) fraction fits = absurd (false≢true fits)
 
@@ -377,13 +347,13 @@ module _ (m : Notation) (h : HasRoles m) where
   prefix_arrives : (stage : Stage) (prefix rest : List ℕ) (c d : Cuts) → may_follow m stage ≡ true → after_digit stage false true ≡ stages.Bare
       → is_signed m parts.Integer stage ≡ true → is_none_or_prefix m.prefix prefix ≡ true
       → (is_signed m parts.Integer (stage_at stage [] prefix) ≡ true → Arrives m (Some (reading parts.Integer (stage_at stage [] prefix) false))
-      (record c { prefix = plus (is_tail prefix) c.prefix; integer = plus (is_tail prefix) c.integer }) rest d)
+      (prefix_cuts prefix c) rest d)
       → Arrives m (Some (reading parts.Integer stage false)) c (prefix ++ rest) d
   prefix_arrives stage [] rest c d follows bare signed one more = more signed
   prefix_arrives stage (z ∷ []) rest c d follows bare signed one more = absurd (false≢true one)
   prefix_arrives stage (z ∷ b ∷ []) rest c d follows bare signed one more =
       let both = and_parts (z == 48) _ one in
-      let zero : Cuts = record c { integer = c.integer + 1 } in
+      let zero = add c pieces.Integer in
       subst (λ z. Arrives m (Some (reading parts.Integer stage false)) c (z ∷ b ∷ rest) d) (sym (eqb-true z 48 both.0))
       (arrives_byte m h (reading parts.Integer stage false) 48 roles.Digit c (b ∷ rest) d refl (digit_role m h parts.Integer 48 (h.zero_is_digit parts.Integer))
       (and_from _ _ signed follows) (subst (λ s. Arrives m (Some (reading parts.Integer s false)) zero (b ∷ rest) d) (sym bare)
@@ -416,13 +386,13 @@ module _ (m : Notation) (h : HasRoles m) where
     -- A literal is accepted, and its parts are counted.
     pub literal_arrives : Arrives m (Some start) no_cuts (text_of l) (cuts_of l)
     literal_arrives =
-        let signs : Cuts = record no_cuts { sign = plus l.sign 0 } in
-        let dressed : Cuts = record signs { prefix = plus (is_tail l.prefix) 0; integer = plus (is_tail l.prefix) 0 } in
-        sign_arrives parts.Integer stages.Start false l.sign _ (λ x. record no_cuts { sign = plus x 0 }) (cuts_of l) (grind arith) (λ b. refl)
+        let signs = add_all no_cuts pieces.Sign l.sign in
+        let dressed = prefix_cuts l.prefix signs in
+        sign_arrives parts.Integer stages.Start false l.sign _ no_cuts (cuts_of l) (grind arith)
         (λ signed. prefix_arrives (stage_at stages.Start l.sign []) l.prefix _ signs (cuts_of l) (grind arith) (grind arith) signed is.prefix
         (λ signed. run_arrives parts.Integer (stage_at stages.Start l.sign l.prefix) false l.integer _ dressed (cuts_of l) signed
         (subst (λ t. is_rest m parts.Integer t false l.integer ≡ true) (grind arith) (run parts.Integer l.integer is.integer)) (record {
           leads = λ led. leads _ _ _ _ _ _ _ _ _ end (grind arith) led;
-          arrives = λ gap closed signed. end_arrives l (integer_last m l) gap (record dressed { integer = plus l.integer (plus (is_tail l.prefix) 0) })
+          arrives = λ gap closed signed. end_arrives l (integer_last m l) gap (add_all dressed pieces.Integer l.integer)
               (and_from _ _ signed (and_from _ _ closed end.integer_digits)) ends_well;
         })))

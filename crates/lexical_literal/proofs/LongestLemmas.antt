@@ -1,20 +1,22 @@
 -- Fronts of a text, and where the loop is left.
-use Rattle.std.proofs.Common.{ℕ, Bool, Option, if◌then◌else◌, ◌≡◌, ◌<◌, ◌≤◌, ◌+◌, inl, inr, true, false, List, [], ◌∷◌, ◌++◌}
+use Rattle.std.proofs.Common.{ℕ, Bool, Option, if◌then◌else◌, ◌≡◌, ◌==◌, ◌<◌, ◌≤◌, ◌+◌, inl, inr, true, false, List, [], ◌∷◌, ◌++◌}
 use Rattle.std.proofs.Common.{length, get_or, take, drop, Some, None, Ok, refl, sym, ap, subst, append_assoc, append-nil, take-append-drop, ◌∙◌, arith}
 use Rattle.std.proofs.lemmas.Bool.{false≢true, false_from_ne_true, cases_lt}
+use Rattle.std.proofs.lemmas.Bool.Decides.{nat_tests}
 use Rattle.std.proofs.lemmas.List.{take-take, take_more, take_all}
 use Rattle.lexical_literal.specs.Notation.{Notation}
 use Rattle.lexical_literal.specs.Literal.{Literal, IsLiteral, Reads, is_none_or_prefix}
 use Rattle.lexical_literal.specs.Additions.Summary.{Cuts, class_of, in_part, scan, step, is_accepted, is_complete}
-use Rattle.lexical_literal.specs.Additions.Summary.{tally, count, start, no_cuts, HasLengths}
+use Rattle.lexical_literal.specs.Additions.Summary.{tally, count, add, piece_number, start, no_cuts, HasLengths}
 use Rattle.lexical_literal.specs.Front.{IsFront, IsValidUpTo, NoLiteral}
 use Rattle.lexical_literal.specs.Additions.Longest.{IsLongest, IsScanned}
 use Rattle.lexical_literal.specs.Additions.Tables as tables
 use Rattle.lexical_literal.specs.Parts.{IsReadPrefix, literal_of}
 use Rattle.lexical_literal.specs.declared.read.Parts.{Parts}
 use Rattle.lexical_literal.specs.declared.read.Scanned.{Scanned}
+use Rattle.lexical_literal.specs.declared.steps.Piece.{Piece}
 use Rattle.lexical_literal.specs.declared.steps.Summary.{Summary}
-use Rattle.lexical_literal.proofs.ScanLemmas.{HasRoles, IsReady, plus, scan_append, tally_append}
+use Rattle.lexical_literal.proofs.ScanLemmas.{HasRoles, IsReady, add_all, scan_append, tally_append}
 use Rattle.lexical_literal.proofs.LiteralLemmas.{literal_from, literal_arrives, cuts_of, is_tail}
 use Rattle.lexical_literal.proofs.FrontLemmas.{front_from, front_is_read}
 
@@ -28,30 +30,25 @@ front_shorter m text k n below is = record {
   };
 }
 
-plus_is : (bytes : List ℕ) (n : ℕ) → length bytes + n ≡ plus bytes n
-plus_is [] n = omega arith
-plus_is (b ∷ bytes) n = omega (arith, plus_is bytes (n + 1))
+added : (c : Cuts) (piece other : Piece) (bytes : List ℕ)
+    → add_all c piece bytes other ≡ (if piece_number other == piece_number piece then c other + length bytes else c other)
+added c piece other [] = grind (arith, nat_tests)
+added c piece other (b ∷ bytes) = let rest = added (add c piece) piece other bytes in grind (arith, nat_tests)
 
 -- The lengths that are counted are those of the parts.
 pub has_lengths : (m : Notation) → HasRoles m → (l : Literal) → IsLiteral m l → HasLengths l (cuts_of l)
-has_lengths m h l is = record {
-  sign = from_zero l.sign;
-  prefix = prefix l.prefix is.prefix;
-  integer = plus_is l.integer (plus (is_tail l.prefix) 0);
-  point = from_zero l.point;
-  fraction = from_zero l.fraction;
-  exponent_character = from_zero l.exponent_character;
-  exponent_sign = from_zero l.exponent_sign;
-  exponent = from_zero l.exponent;
+has_lengths m h l is = let twice = prefix l.prefix is.prefix in record {
+  sign = simp added (omega arith);
+  prefix = simp added (omega arith);
+  integer = simp added (omega arith);
+  point = simp added (omega arith);
+  fraction = simp added (omega arith);
+  exponent_character = simp added (omega arith);
+  exponent_sign = simp added (omega arith);
+  exponent = simp added (omega arith);
 } where
-  from_zero : (bytes : List ℕ) → length bytes ≡ plus bytes 0
-  from_zero bytes = omega (arith, plus_is bytes 0)
-
-  prefix : (x : List ℕ) → is_none_or_prefix m.prefix x ≡ true → length x ≡ plus (is_tail x) 0 + plus (is_tail x) 0
-  prefix [] one = refl
-  prefix (z ∷ []) one = cc
-  prefix (z ∷ b ∷ []) one = refl
-  prefix (z ∷ b ∷ c ∷ x) one = cc
+  prefix : (x : List ℕ) → is_none_or_prefix m.prefix x ≡ true → length x ≡ length (is_tail x) + length (is_tail x)
+  prefix x one = grind arith
 
 -- `HasRead m text i s c longest` holds if the first `i` bytes of `text` have the summary `s` and parts with the lengths `c`,
 -- and if `longest` is their longest front that is a literal.
@@ -76,10 +73,7 @@ module _ (m : Notation) (text : List ℕ) where
 
   -- Where the longest literal is shorter, the front is none.
   none_at : (n : ℕ) (longest : Option ℕ) → IsLongest m text n longest → (longest ≡ Some n → ⊥) → NoLiteral m (take n text)
-  none_at n longest is other = is.no_longer n (omega arith) (λ size found. elim (cases_lt size n) [
-    | inl small ↦ small
-    | inr large ↦ let same : size ≡ n = omega (arith, (is.found size found).0) in absurd (other (found ∙ ap Some same))
-  ])
+  none_at n longest is other = grind arith
 
   module _ (scanned : Scanned) (is : IsScanned m text scanned) where
     -- Where a literal ends at the first wrong byte, its parts have been counted.
@@ -119,17 +113,7 @@ module _ (m : Notation) (ready : IsReady m) (text : List ℕ) where
   none_complete is = grind arith
 
   pub read_nothing : HasRead m text 0 start no_cuts None
-  read_nothing = record {
-    ready = ready;
-    within = omega arith;
-    read = refl;
-    counted = refl;
-    longest_is = record {
-      found = λ size is. cc;
-      no_longer = λ more over past l reads.
-          let none : more ≡ 0 = omega arith in none_complete (accepted 0 l (subst (λ n. Reads m l (take n text)) none reads));
-    };
-  }
+  read_nothing = grind arith
 
   module _ (i : ℕ) (s : Summary) (c : Cuts) (longest : Option ℕ) (has : HasRead m text i s c longest) where
     next_scan : i < length text → scan m (Some start) (take (i + 1) text) ≡ step m s (class_of m (get_or text i 0))
@@ -213,17 +197,7 @@ module _ (m : Notation) (ready : IsReady m) (text : List ℕ) where
       let exponent_character = same_part l.exponent_character k.exponent_character _ _ (a.exponent_character ∙ sym b.exponent_character) fraction.1 in
       let exponent_sign = same_part l.exponent_sign k.exponent_sign _ _ (a.exponent_sign ∙ sym b.exponent_sign) exponent_character.1 in
       let exponent = same_part l.exponent k.exponent _ _ (a.exponent ∙ sym b.exponent) exponent_sign.1 in
-      λ j. record {
-        sign = sign.0 j;
-        prefix = prefix.0 j;
-        integer = integer.0 j;
-        point = point.0 j;
-        fraction = fraction.0 j;
-        exponent_character = exponent_character.0 j;
-        exponent_sign = exponent_sign.0 j;
-        exponent = exponent.0 j;
-        suffix = exponent.1 j;
-      } where
+      grind arith where
         same_part : (x y X Y : List ℕ) → length x ≡ length y → x ++ X ≡ y ++ Y → (x ≡ y) × (X ≡ Y)
         same_part [] [] X Y same e = (refl, e)
         same_part [] (b ∷ y) X Y same e = cc

@@ -1,5 +1,5 @@
 -- In a syntax, no byte plays two roles.
-use Rattle.std.proofs.Common.{ℕ, ◌≡◌, ◌<◌, ◌↔◌, Bool, true, false, nat_lt, min, ◌||◌, ◌&&◌}
+use Rattle.std.proofs.Common.{ℕ, ◌≡◌, ◌<◌, ◌↔◌, Bool, true, false, nat_lt, ◌&&◌}
 use Rattle.std.proofs.Common.{IsTrue, List, [], ◌∷◌, Option, Some, None, refl, sym, arith}
 use Rattle.std.proofs.lemmas.Bool.{lt-ltb, false≢true}
 use Rattle.std.proofs.lemmas.Bool.Decides.{nat_tests}
@@ -7,7 +7,7 @@ use Rattle.std.specs.List.{AllByRecursion}
 use Rattle.lexical_util.specs.Additions.ByteRoles as bytes
 use Rattle.lexical_util.specs.Ascii.{ByteSet, allowed_ascii}
 use Rattle.lexical_util.specs.Layout as layout
-use Rattle.lexical_util.specs.Record.{raw, effective_exponent_radix}
+use Rattle.lexical_util.specs.Record.{raw}
 use Rattle.lexical_util.specs.Roles as sets
 use Rattle.lexical_util.specs.Options.{OptionsFit, OptionsHaveOneRole}
 use Rattle.lexical_util.specs.Unfoldable.{cased, Disjoint, Lawful, Holds, byte_value}
@@ -31,16 +31,11 @@ abbrev point_byte : Option Options → ℕ
 point_byte None = 0
 point_byte (Some options) = options.point
 
-digit_is : (v mantissa exponent : ℕ) → mantissa < 37 → exponent < 37 → ((nat_lt v mantissa || nat_lt v mantissa) || nat_lt v exponent) ≡ true
-    → (nat_lt v (min mantissa 36) || nat_lt v (min exponent 36)) ≡ true
-digit_is v mantissa exponent small also is = grind (arith, nat_tests)
-
 -- A byte that plays a role of a syntax plays it in the format with the options.
 own : (word : ℕ) → Lawful word → (o : Option Options) (role : Role) (byte : ℕ) → IsTrue (role_set (notation_of (record { word = word; options = o })) role byte)
     → IsTrue (bytes.role_set (raw word) (exponent_byte o) (point_byte o) role byte)
 unfolding Lawful
-own word lawful o roles.Digit byte is = digit_is (byte_value byte) ((raw word).byte layout.mantissa_radix) (effective_exponent_radix (raw word))
-    (omega (arith, lawful.mantissa_radix.1)) (omega (arith, lawful.exponent_radix.1)) is
+own word lawful o roles.Digit byte is = grind (arith, nat_tests)
 own word lawful None roles.Exponent byte is = absurd (false≢true is)
 own word lawful None roles.Point byte is = absurd (false≢true is)
 own word lawful o _ byte is = is
@@ -101,8 +96,7 @@ module _ (law : (A B : ByteSet) → Disjoint A B ↔ ((byte : ℕ) → byte < 25
     agree = exponent_flags_agree g.word is.lawful;
   } where
     integers : (o : Option Options) → lacks_options o ≡ true → (byte : ℕ) → (point_of o byte ≡ false) × (exponent_character_of (raw g.word) o byte ≡ false)
-    integers None lacks byte = (refl, refl)
-    integers (Some o) lacks byte = absurd (false≢true lacks)
+    integers o lacks byte = grind arith
 
     chosen : (o : Option Options) → FitIfAny g.word o → lacks_options o ≡ false
         → (exponent_character_of (raw g.word) o (exponent_byte o) ≡ true) × (point_of o (point_byte o) ≡ true)

@@ -47,29 +47,6 @@ module _ (m : Notation) (part : Part) where
   pub rest_of_none : (run : List ℕ) → is_rest m part false false run ≡ are_fit m part [] run
   rest_of_none run = rest_is [] run
 
-module _ (m : Notation) (part : Part) (h g : Bool) (b : ℕ) (u : List ℕ) where
-  pub run_with_digit : m.digit part b ≡ true → gap_fits m part h g true ≡ true → is_rest m part true false u ≡ true → is_rest m part h g (b ∷ u) ≡ true
-  run_with_digit digit fits rest = grind arith
-
-  pub run_with_separator : m.digit part b ≡ false → m.separator b ≡ true → (not g || m.flag (separators_in part).consecutive) ≡ true
-      → is_rest m part h true u ≡ true → is_rest m part h g (b ∷ u) ≡ true
-  run_with_separator other separator fits rest = grind arith
-
-  pub digit_fits : m.digit part b ≡ true → is_rest m part h g (b ∷ u) ≡ true → gap_fits m part h g true ≡ true
-  digit_fits digit is = grind arith
-
-  pub after_run_digit : m.digit part b ≡ true → is_rest m part h g (b ∷ u) ≡ true → is_rest m part true false u ≡ true
-  after_run_digit digit is = grind arith
-
-  pub is_run_separator : m.digit part b ≡ false → is_rest m part h g (b ∷ u) ≡ true → m.separator b ≡ true
-  is_run_separator other is = grind arith
-
-  pub separator_fits : m.digit part b ≡ false → is_rest m part h g (b ∷ u) ≡ true → (not g || m.flag (separators_in part).consecutive) ≡ true
-  separator_fits other is = grind arith
-
-  pub after_run_separator : m.digit part b ≡ false → is_rest m part h g (b ∷ u) ≡ true → is_rest m part h true u ≡ true
-  after_run_separator other is = grind arith
-
 -- After a separator, a digit follows or the run may end.
 gap_closes : (m : Notation) (part : Part) (h : Bool) (u : List ℕ) → is_rest m part h true u ≡ true → is_open m part h (list_any (m.digit part) u) ≡ true
 gap_closes m part h [] is = or_right (is_place m part h true && false) _ is

@@ -1,10 +1,9 @@
 -- A reader sees no difference between equivalent formats.
-use Rattle.std.proofs.Common.{ℕ, ◌≡◌, Bool, true, ◌&&◌, nat_lt, Option, Some, None, refl, arith}
-use Rattle.std.specs.List.{list_any}
+use Rattle.std.proofs.Common.{ℕ, ◌≡◌, nat_lt, Option, Some, None, refl, arith}
 use Rattle.lexical_util.specs.Digits.{byte_value}
 use Rattle.lexical_util.specs.Layout as layout
 use Rattle.lexical_util.specs.NormalForm.{SameFormat}
-use Rattle.lexical_util.specs.Record.{Record, raw, separator_allowed}
+use Rattle.lexical_util.specs.Record.{Record, raw}
 use Rattle.lexical_util.specs.Roles.{cased, used_separator}
 use Rattle.lexical_util.specs.declared.format_flags.Part.{Part}
 use Rattle.lexical_util.specs.declared.format_flags.Part.TheVariants as parts
@@ -18,10 +17,7 @@ module _ (r s : Record) (same : SameFormat r s) where
   same_radix parts.Exponent = same.exponent_radix
 
   same_separator : (byte : ℕ) → used_separator r byte ≡ used_separator s byte
-  same_separator byte = both (separator_allowed r) (separator_allowed s) _ _ (λ j. list_any (λ f. same.flags f j) layout.digit_separator_flags)
-      (λ is j. cased true (same.digit_separator is j) byte) where
-        both : (a b x y : Bool) → a ≡ b → (a ≡ true → x ≡ y) → (a && x) ≡ (b && y)
-        both a b x y same is = grind arith
+  same_separator byte = grind arith
 
   same_character : (options : Option Options) (byte : ℕ) → exponent_character_of r options byte ≡ exponent_character_of s options byte
   same_character None byte = refl

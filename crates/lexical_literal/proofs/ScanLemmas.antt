@@ -1,17 +1,18 @@
 -- How a text is read, byte by byte.
 use Rattle.std.proofs.Common.{ℕ, ◌≡◌, Bool, true, false, not, IsTrue, ◌==◌, ◌&&◌, ◌+◌, if◌then◌else◌, List, [], ◌∷◌, ◌++◌, Option, Some, None}
 use Rattle.std.proofs.Common.{refl, sym, ap, subst, ◌∙◌, arith}
-use Rattle.std.proofs.lemmas.Bool.{false≢true, false_from_ne_true, or_left, eqb-true}
+use Rattle.std.proofs.lemmas.Bool.{false≢true, false_from_ne_true, or_left}
 use Rattle.lexical_util.specs.Layout as layout
 use Rattle.lexical_util.specs.declared.feature_format.roles.Role.{Role}
 use Rattle.lexical_util.specs.declared.feature_format.roles.Role.TheVariants as roles
 use Rattle.lexical_util.specs.declared.format_flags.Part.{Part}
 use Rattle.lexical_util.specs.declared.format_flags.Part.TheVariants as parts
 use Rattle.lexical_literal.specs.Notation.{Notation, role_set, IsOnlyRole}
-use Rattle.lexical_literal.specs.Additions.Summary.{Cuts, class_of, role_of, in_part, is_plus, is_zero, takes, after}
+use Rattle.lexical_literal.specs.Additions.Summary.{Cuts, add, class_of, role_of, in_part, is_plus, is_zero, takes, after}
 use Rattle.lexical_literal.specs.Additions.Summary.{move, scan, step, is_accepted, count, tally}
 use Rattle.lexical_literal.specs.declared.steps.Class.{Class}
 use Rattle.lexical_literal.specs.declared.steps.Class.TheVariants as classes
+use Rattle.lexical_literal.specs.declared.steps.Piece.{Piece}
 use Rattle.lexical_literal.specs.declared.steps.Summary.{Summary}
 
 -- `HasRoles m` holds if no byte plays two roles, 0 is a digit, the mantissa has one radix, and integers have neither a
@@ -38,10 +39,10 @@ Accepts m o text = is_accepted m (scan m o text) ≡ true
 abbrev pub Arrives : Notation → Option Summary → Cuts → List ℕ → Cuts → Type 0
 Arrives m o c text d = Accepts m o text × (tally m o c text ≡ d)
 
--- `plus bytes n` is `n` and the length of `bytes`.
-abbrev pub plus : List ℕ → ℕ → ℕ
-plus [] n = n
-plus (b ∷ bytes) n = plus bytes (n + 1)
+-- `add_all c piece bytes` counts `bytes`, which belong to `piece`.
+abbrev pub add_all : Cuts → Piece → List ℕ → Cuts
+add_all c piece [] = c
+add_all c piece (b ∷ bytes) = add_all (add c piece) piece bytes
 
 -- `role_in m part b` is the role of `b` after a front that ends in `part`.
 abbrev pub role_in : Notation → Part → ℕ → Option Role
@@ -98,11 +99,7 @@ module _ (m : Notation) (h : HasRoles m) where
       grind arith
 
   class_zero : (b : ℕ) → is_zero (class_of m b) ≡ (b == 48)
-  class_zero b =
-      let digit : (part : Part) → (b == 48) ≡ true → m.digit part b ≡ true = λ part zero. ap (m.digit part) (eqb-true b 48 zero) ∙ h.zero_is_digit part in
-      let integer = digit parts.Integer in
-      let exponent = digit parts.Exponent in
-      grind arith
+  class_zero b = grind arith
 
   -- What a role says of a byte.
   pub as_digit : (part : Part) (b : ℕ) → role_in m part b ≡ Some roles.Digit → m.digit part b ≡ true
@@ -120,11 +117,7 @@ module _ (m : Notation) (h : HasRoles m) where
     go part class is = grind arith
 
   pub is_role : (part : Part) (r : Role) (b : ℕ) → (roles.Digit ≡ r → ⊥) → role_set m r b ≡ true → role_in m part b ≡ Some r
-  is_role part r b other is = go part (class_of m b) ((only_role b r).0 is) where
-    go : (part : Part) (class : Class) → role_of class ≡ Some r → in_part part class ≡ Some r
-    go part classes.MantissaDigit role = absurd (other cc)
-    go part classes.ExponentDigit role = absurd (other cc)
-    go part _ role = role
+  is_role part r b other is = let only = (only_role b r).0 is in grind arith
 
   -- What a byte makes of a summary.
   pub moved : (s : Summary) (b : ℕ) (o : Option Role) → role_in m s.part b ≡ o → step m s (class_of m b) ≡ move m s (b == 43) (b == 48) o

@@ -1,6 +1,5 @@
 -- Which texts of mantissa digits are literals.
 use Rattle.std.proofs.Common.{ℕ, ◌≡◌, ◌≢◌, ◌↔◌, Bool, true, false, not, ◌==◌, ◌&&◌, ◌||◌, if◌then◌else◌, IsFalse, List, [], ◌∷◌, Some, None, refl, sym, ap, ◌∙◌, arith}
-use Rattle.std.proofs.lemmas.Bool.{ne_eqb}
 use Rattle.lexical_util.specs.Layout as layout
 use Rattle.lexical_util.specs.declared.feature_format.roles.Role.TheVariants as roles
 use Rattle.lexical_util.specs.declared.format_flags.Part.TheVariants as parts
@@ -28,9 +27,7 @@ module _ (m : Notation) (h : HasRoles m) where
   -- Digits that follow a digit that is not 0.
   more_digits : (digits : List ℕ) → AllIn (m.digit parts.Integer) digits
       → is_accepted m (scan m (Some (reading parts.Integer stages.Digits false)) digits) ≡ not (needs_exponent m)
-  more_digits [] all = complete (m.flag layout.required_integer_digits) (m.flag layout.no_integer_leading_zeros) (needs_exponent m) where
-    complete : (i z e : Bool) → (implies i true && (not e && implies z true)) ≡ not e
-    complete i z e = grind arith
+  more_digits [] all = grind arith
   more_digits (b ∷ digits) all =
       ap (λ o. is_accepted m (scan m o digits)) (moved m h (reading parts.Integer stages.Digits false) b (Some roles.Digit)
       (digit_role m h parts.Integer b all.0)) ∙ more_digits digits all.1
@@ -38,8 +35,7 @@ module _ (m : Notation) (h : HasRoles m) where
   module _ (first : ℕ) (digits : List ℕ) (not_zero : first ≢ 48) (all : AllIn (m.digit parts.Integer) (first ∷ digits)) where
     -- The first digit, which is not 0.
     first_digit : (stage : Stage) → let s = reading parts.Integer stage false in step m s (class_of m first) ≡ move m s (first == 43) false (Some roles.Digit)
-    first_digit stage = moved m h (reading parts.Integer stage false) first (Some roles.Digit) (digit_role m h parts.Integer first all.0)
-        ∙ ap (λ z. move m (reading parts.Integer stage false) (first == 43) z (Some roles.Digit)) (ne_eqb first 48 not_zero)
+    first_digit stage = grind arith
 
     pub digits_read : ((l : Literal) × Reads m l (first ∷ digits))
         ↔ IsFalse (m.flag layout.required_mantissa_sign || (m.flag layout.required_exponent_notation && not m.integers_only))

@@ -2,8 +2,8 @@
 
 ghost use Rattle.std.specs.Prelude.{◌≡◌, ◌<◌};
 ghost use Rattle.lexical_literal.specs.Notation.{Notation, notation_of};
-ghost use Rattle.lexical_literal.specs.Additions.Summary.{class_of, is_complete};
-ghost use Rattle.lexical_literal.specs.Additions.Tables.{EachIs, HasTables, IsClass, IsRow, IsStep, class_at, part_at, piece_number, stage_at, summary_at};
+ghost use Rattle.lexical_literal.specs.Additions.Summary.{class_of, is_complete, piece_number};
+ghost use Rattle.lexical_literal.specs.Additions.Tables.{EachIs, HasTables, IsClass, IsRow, IsStep, class_at, part_at, stage_at, summary_at};
 
 use crate::steps::{self, Class, Piece, Stage, Summary};
 use crate::syntax::Grammar;
@@ -103,6 +103,7 @@ const fn stage_number(stage: Stage) -> usize
 }
 
 // Returns the row of a summary.
+#[tactic(auto, using(crate::proofs::TableLemmas::number_back))]
 const fn row_number(read: Summary) -> u8
     ensures back { summary_at result ≡ read }
     ensures small { result < 108 }

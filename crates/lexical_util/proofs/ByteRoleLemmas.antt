@@ -89,11 +89,7 @@ module _ (law : (A B : ByteSet)
     below : (role : Role) → roles.Digit ≢ role → (byte : ℕ) → IsTrue (stored_set (raw word) e p role byte) → byte < 256
     below roles.Digit other byte is = absurd (other refl)
     below roles.Sign other byte is = grind (arith, nat_tests)
-    below roles.Separator other byte is = cased_below true _ byte (omega arith) is
-    below roles.Prefix other byte is = cased_below _ _ byte (omega arith) is
-    below roles.Suffix other byte is = cased_below _ _ byte (omega arith) is
-    below roles.Exponent other byte is = cased_below _ e byte apart.exponent_below is
-    below roles.Point other byte is = cased_below true p byte apart.point_below is
+    below _ other byte is = cased_below _ _ byte (omega arith) is
 
     -- If a byte is in two stored sets, then their roles are equal.
     one_below : (byte : ℕ) → byte < 256 → (a b : Role) → IsTrue (stored_set (raw word) e p a byte)

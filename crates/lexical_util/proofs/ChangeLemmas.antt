@@ -1,5 +1,5 @@
 -- Lemmas on the edits of flags and groups that change a new builder.
-use Rattle.std.proofs.Common.{◌≡◌, Bool, true, false, refl}
+use Rattle.std.proofs.Common.{◌≡◌, Bool, true, false, refl, arith}
 use Rattle.lexical_util.specs.Private.{differs_from_new}
 use Rattle.lexical_util.specs.declared.edits.setters.FlagSetter.{FlagSetter}
 use Rattle.lexical_util.specs.declared.edits.setters.FlagSetter.TheVariants as setters
@@ -17,5 +17,4 @@ flag_change _ false a b c = refl
 
 -- An edit of the group of required digits changes a new builder, whether its value is true or false.
 pub group_change : (v : Bool) → differs_from_new (edits.Flag setters.RequiredDigits v) ≡ true
-group_change true = refl
-group_change false = refl
+group_change v = grind arith

@@ -33,8 +33,7 @@ overwrites_one (write_byte layout.digit_separator v) r = refl
 overwrites_one (write_byte _ v) r = refl
 
 at_most_both : (p q : Bool) → cond (p || q) 1 0 ≤ cond p 1 0 + cond q 1 0
-at_most_both true q = omega arith
-at_most_both false q = omega arith
+at_most_both p q = grind arith
 
 count_either : (p q : Write → Bool) (ys : List Write) → count_by (λ y. p y || q y) ys ≤ count_by p ys + count_by q ys
 count_either p q [] = omega arith
@@ -68,8 +67,7 @@ count_fewer p q (y ∷ ys) all = omega (
 )
 
 none_or : {T : Type 0} (o : Option T) (d : T) → is_some o ≡ false → unwrap_or o d ≡ d
-none_or None d none = refl
-none_or (Some v) d none = absurd (true≢false none)
+none_or o d none = grind arith
 
 -- If no write is to a field, then the value of the field is the same.
 untouched : {T : Type 0} (h : Write → Option T) (L : List Write) (d : T) → list_any (λ x. is_some (h x)) L ≡ false
@@ -80,8 +78,7 @@ untouched h (x ∷ L) d none =
     left_by-cons h x L d ∙ ap (left_by h L) (none_or (h x) d parts.0) ∙ untouched h L d parts.1
 
 at_most_one : (t : Bool) → cond t 1 0 ≤ 1
-at_most_one true = omega arith
-at_most_one false = omega arith
+at_most_one t = grind arith
 
 -- If a field has another value after some writes, then one of them is to the field.
 touched : {T : Type 0} (h : Write → Option T) (L : List Write) (d : T) (differs : T → Bool) → differs d ≡ false
@@ -93,8 +90,7 @@ touched h L d differs same = elim (cases_Bool (list_any (λ x. is_some (h x)) L)
 ]
 
 beq-same : (v : Bool) → not (beq v v) ≡ false
-beq-same true = refl
-beq-same false = refl
+beq-same v = grind arith
 
 -- Writes that lead from a new record to a record are to all fields in which the trimmed record differs from a new one.
 needed_overwritten : (L : List Write) → let r : Record = trim (after new_record L) in
@@ -117,11 +113,7 @@ needed_overwritten L = All-field_writes (λ y. cond (changes new_record y) 1 0 �
   on_byte : (b : Byte) → cond (not (new_record.byte b == (trim (after new_record L)).byte b)) 1 0
       ≤ cond (list_any (λ x. is_some (byte_written x b)) L) 1 0
   on_byte layout.digit_separator = separator (separator_allowed (after new_record L))
-  on_byte layout.base_prefix = kept layout.base_prefix
-  on_byte layout.base_suffix = kept layout.base_suffix
-  on_byte layout.mantissa_radix = kept layout.mantissa_radix
-  on_byte layout.exponent_base = kept layout.exponent_base
-  on_byte layout.exponent_radix = kept layout.exponent_radix
+  on_byte b = kept b
 
 pub fewest_writes : (w : ℕ) (L : List Write) → All IsLegal L → pack (after new_record L) ≡ w
     → length (needed_writes (raw w)) ≤ length L

@@ -45,12 +45,10 @@ only t None = None
 only t (Some v) = if t then Some v else None
 
 only_true : {T : Type 0} (o : Option T) → only true o ≡ o
-only_true None = refl
-only_true (Some v) = refl
+only_true o = grind arith
 
 only_false : {T : Type 0} (o : Option T) → only false o ≡ None
-only_false None = refl
-only_false (Some v) = refl
+only_false o = grind arith
 
 -- What the writes that pass a test write is what each write writes, only if it passes.
 filter_map-filter : {T : Type 0} (h : Write → Option T) (p : Write → Bool) (writes : List Write)
@@ -65,8 +63,7 @@ filter_map-filter h p (x ∷ writes) =
 
 last_of_one : {T : Type 0} (t : Bool) (v d : T)
     → unwrap_or (last_or None (cons_option (if t then Some v else None) [])) d ≡ (if t then v else d)
-last_of_one true v d = refl
-last_of_one false v d = refl
+last_of_one t v d = grind arith
 
 -- After the field writes of `r` that pass a test, each field has its value in `r` if its write passes.
 module _ (p : Write → Bool) (s r : Record) where
@@ -94,8 +91,7 @@ module _ (p : Write → Bool) (s r : Record) where
         own b = last_of_one (p (write_byte b (r.byte b))) (r.byte b) (s.byte b)
 
 same_either_way : {T : Type 0} (t : Bool) (v : T) → (if t then v else v) ≡ v
-same_either_way true v = refl
-same_either_way false v = refl
+same_either_way t v = grind arith
 
 -- Writing some of its own field writes into a record changes nothing.
 pub after-own : (p : Write → Bool) (r : Record) → after r (filter p (field_writes r)) ≡ r
@@ -109,7 +105,4 @@ unfolding after
 after-changes s r = record_same _ _ (λ f. flag_passed (changes s) s r f ∙ new_flag (s.flag f) (r.flag f))
     (λ b. byte_passed (changes s) s r b ∙ grind (arith, nat_tests)) where
       new_flag : (old new : Bool) → (if not (beq old new) then new else old) ≡ new
-      new_flag true true = refl
-      new_flag true false = refl
-      new_flag false true = refl
-      new_flag false false = refl
+      new_flag old new = grind arith

@@ -1,6 +1,6 @@
 -- Lemmas on the words that a builder can pack.
 use Rattle.std.proofs.Common.{◌≡◌, ℕ, ◌<◌, ◌^◌, ◌↔◌, ◌⊎◌, inl, inr, Bool, true, false, if◌then◌else◌, IsTrue}
-use Rattle.std.proofs.Common.{refl, sym, ap, ◌∙◌, subst}
+use Rattle.std.proofs.Common.{refl, sym, ap, ◌∙◌, subst, arith}
 use Rattle.lexical_flags.specs.Layout as layout
 use Rattle.lexical_flags.specs.Record.{Record, raw, pack, separator_allowed, HasBytes, IsBuilt}
 use Rattle.lexical_builder.specs.Writes.{new_record, after}
@@ -9,8 +9,7 @@ use Rattle.lexical_util.proofs.FieldWrites.{after-field_writes, legal-field_writ
 use Rattle.lexical_util.specs.Listing.{field_writes, IsBuiltByWrites}
 
 used_or_none : (on : Bool) (n : ℕ) → IsTrue on ⊎ ((if on then n else 0) ≡ 0)
-used_or_none true n = inl refl
-used_or_none false n = inr refl
+used_or_none on n = grind arith
 
 -- The word into which a record packs is built.
 IsBuilt-pack : (R : Record) → HasBytes R → IsBuilt (pack R)

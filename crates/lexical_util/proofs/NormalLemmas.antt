@@ -35,13 +35,10 @@ used_same p q x y e h t = grind (arith, nat_tests)
 pub trim-same_format : (R S : Record) → SameFormat R S → trim (fill R) ≡ trim (fill S)
 trim-same_format R S s = λ i. record { flag = λ f. s.flags f i; byte = λ b. on_byte b i } where
   on_byte : (b : Byte) → (trim (fill R)).byte b ≡ (trim (fill S)).byte b
-  on_byte layout.digit_separator = use_same (separator_allowed R) (separator_allowed S) (R.byte layout.digit_separator) (S.byte layout.digit_separator)
-      (list_any_same R.flag S.flag digit_separator_flags s.flags) s.digit_separator
-  on_byte layout.base_prefix = s.base_prefix
-  on_byte layout.base_suffix = s.base_suffix
-  on_byte layout.mantissa_radix = s.mantissa_radix
-  on_byte layout.exponent_base = s.exponent_base
-  on_byte layout.exponent_radix = s.exponent_radix
+  on_byte b =
+      let allowed = list_any_same R.flag S.flag digit_separator_flags s.flags in
+      let used = use_same (separator_allowed R) (separator_allowed S) (R.byte layout.digit_separator) (S.byte layout.digit_separator) allowed s.digit_separator in
+      grind arith
 
 -- If two records are equal after they are filled and trimmed, then they are equivalent.
 pub SameFormat-from_trim : (R S : Record) → trim (fill R) ≡ trim (fill S) → SameFormat R S
@@ -89,14 +86,9 @@ pub bytes_joined : (r : Record) → HasBytes r → bit_or (bit_or (r.byte layout
 bytes_joined r h =
     let base : ℕ = r.byte layout.exponent_base in
     let radix : ℕ = r.byte layout.exponent_radix in
-    let fits : lower_bytes r < 2 ^ 48 = omega (
-      arith,
-      h.each layout.digit_separator,
-      h.each layout.base_prefix,
-      h.each layout.base_suffix,
-      h.each layout.mantissa_radix,
-    ) in
-    let base_fits : base * 2 ^ 48 < 2 ^ 56 = omega (arith, h.each layout.exponent_base) in
+    let each = h.each in
+    let fits : lower_bytes r < 2 ^ 48 = omega arith in
+    let base_fits : base * 2 ^ 48 < 2 ^ 56 = omega arith in
     let exponents : bit_or (base * 2 ^ 48) (radix * 2 ^ 56) ≡ (base + radix * 2 ^ 8) * 2 ^ 48 =
     or_comm (base * 2 ^ 48) (radix * 2 ^ 56) ∙ or_shifted radix 56 (base * 2 ^ 48) base_fits ∙ omega arith in
     ap (λ n. n * 2 ^ 64) (ap (λ n. bit_or n (lower_bytes r)) exponents
@@ -112,8 +104,8 @@ unfolding after
 raw_normal w = edited-fields w [] (All-nil IsLegal)
 
 -- If the normal forms of two words are equal, then the words are equivalent.
-pub SameFormat-from_normal : (a b : ℕ) → normal_form_of a ≡ normal_form_of b → SameFormat (raw a) (raw b)
-SameFormat-from_normal a b e = SameFormat-from_trim (raw a) (raw b) (sym (raw_normal a) ∙ ap raw e ∙ raw_normal b)
+pub same_from_normal : (a b : ℕ) → normal_form_of a ≡ normal_form_of b → SameFormat (raw a) (raw b)
+same_from_normal a b e = SameFormat-from_trim (raw a) (raw b) (sym (raw_normal a) ∙ ap raw e ∙ raw_normal b)
 
 effective_again : (own radix : ℕ) → effective own radix ≡ effective (effective own radix) radix
 effective_again own radix = grind (arith, nat_tests)
@@ -187,10 +179,7 @@ module _ (w : ℕ) where
 filled_again : (R : Record) → SeparatorAllowedOrAbsent R → fill (trim (fill R)) ≡ fill R
 filled_again R used = λ i. record { flag = R.flag; byte = λ b. on_byte b i } where
   on_byte : (b : Byte) → (fill (trim (fill R))).byte b ≡ (fill R).byte b
-  on_byte layout.digit_separator = kept_same (separator_allowed R) (R.byte layout.digit_separator) used
-  on_byte layout.exponent_base = sym (effective_again (R.byte layout.exponent_base) (R.byte layout.mantissa_radix))
-  on_byte layout.exponent_radix = sym (effective_again (R.byte layout.exponent_radix) (R.byte layout.mantissa_radix))
-  on_byte _ = refl
+  on_byte b = let kept = kept_same (separator_allowed R) (R.byte layout.digit_separator) used in grind (arith, nat_tests)
 
 -- If the separator of a word is allowed or absent, then edits of its normal form and of the word give the same word.
 pub edited-normal : (w : ℕ) (L : List Write) → SeparatorAllowedOrAbsent (raw w)

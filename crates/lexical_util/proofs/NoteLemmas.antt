@@ -64,23 +64,17 @@ blamed_by_none (Some r ∷ list) m =
     )
 
 then_some_is : (t : Bool) (a b : Note) → then_some t a ≡ Some b → IsTrue t × (a ≡ b)
-then_some_is true a b same = (refl, same_Some a b same)
-then_some_is false a b same = absurd (none-some b same)
+then_some_is t a b same = grind arith
 
 -- A note is left if and only if it was there and names no field under the mask.
 unless_is : (mask : ℕ) (o : Option Note) (note : Note)
     → (unless_blamed mask o ≡ Some note) ↔ ((o ≡ Some note) × (bit_and mask (mask_of_note note) ≡ 0))
-unless_is mask None note = (λ is. absurd (none-some note is), λ both. both.0)
-unless_is mask (Some own) note = (
-  λ is. grind (arith, nat_tests),
-  λ both. let same = same_Some own note both.0 in grind (arith, nat_tests),
-)
+unless_is mask o note = grind (arith, nat_tests)
 
 separator_when : (r : Record) (note : Note) → separator_note r ≡ Some note → IsIdle r note
 separator_when r (notes.SeparatorWithoutFlag b) is = grind (arith, nat_tests)
 separator_when r notes.FlagsWithoutSeparator is = grind (arith, nat_tests)
-separator_when r (notes.CaseFlagWithoutByte f name) is = absurd (grind (arith, nat_tests))
-separator_when r (notes.CaseFlagOfNonLetter f b) is = absurd (grind (arith, nat_tests))
+separator_when r _ is = absurd (grind (arith, nat_tests))
 
 case_when : (r : Record) (f : FlagSetter) (name : Byte) → (is_cased r name ≡ true → IsSetCaseFlag r f name) → (note : Note)
     → case_note r f name ≡ Some note → IsIdle r note
@@ -101,10 +95,7 @@ InSlot r note = (separator_note r ≡ Some note)
 
 case_slot : (r : Record) (f : FlagSetter) (name : Byte) (note : Note) → IsSetCaseFlag r f name
     → (is_cased r name ≡ true → case_note r f name ≡ Some note) → InSlot r note
-case_slot r f name note (inl (f_is, name_is, on)) there =
-    inr (inl (sym (λ i. case_note r (f_is i) (name_is i)) ∙ there (ap (is_cased r) name_is ∙ on)))
-case_slot r f name note (inr (f_is, name_is, on)) there =
-    inr (inr (sym (λ i. case_note r (f_is i) (name_is i)) ∙ there (ap (is_cased r) name_is ∙ on)))
+case_slot r f name note set there = grind arith
 
 in_slot : (r : Record) (note : Note) → IsIdle r note → InSlot r note
 in_slot r (notes.SeparatorWithoutFlag b) (off, name, has, some) = inl (grind (arith, nat_tests))
@@ -185,10 +176,9 @@ idle_agrees v w mask note is same = agrees note (subst (λ m. bit_and v m ≡ bi
 -- If a byte is the same in both cases, then its role has the same bytes, whether it is case-sensitive or not.
 no_case : (c d : Bool) (n : ℕ) → other_case n ≡ n → cased c n ≡ cased d n
 unfolding cased
-no_case c d n same = λ i b. at c d b i where
-  at : (c d : Bool) (b : ℕ) → cased c n b ≡ cased d n b
-  at true true b = refl
-  at c d b = grind (arith, nat_tests)
+no_case c d n same = λ i b. at b i where
+  at : (b : ℕ) → cased c n b ≡ cased d n b
+  at b = grind (arith, nat_tests)
 
 -- An absent byte plays no role.
 apart_from_absent : (a c : Bool) (m n : ℕ) → n ≡ 0 → Disjoint (cased a m) (cased c n)
@@ -318,10 +308,7 @@ case_without r t f name value set has same = elim set [
 idle_without : (r : Record) (t : Bool) (note : Note) → IsIdle r note
     → (idle : Idle) × ((idle_mask note ≡ mask_at idle) × Without (trim_if t r) idle)
 idle_without r t (notes.SeparatorWithoutFlag b) h = (lone_separator, (refl, h.0))
-idle_without r t notes.FlagsWithoutSeparator h = (lone_flags, (refl, still t)) where
-  still : (t : Bool) → (if t then r.byte layout.digit_separator else 0) ≡ 0
-  still true = h.1
-  still false = refl
+idle_without r t notes.FlagsWithoutSeparator h = (lone_flags, (refl, (let absent = h.1 in grind arith)))
 idle_without r t (notes.CaseFlagWithoutByte f name) (set, absent) = case_without r t f name 0 set absent refl
 idle_without r t (notes.CaseFlagOfNonLetter f b) (set, has, some, same) = case_without r t f b.name b.value set has same
 

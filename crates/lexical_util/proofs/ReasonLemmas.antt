@@ -161,8 +161,7 @@ alone P D (Some c) h = ((h, tt), λ none. absurd (let is = none.0 in cc))
 
 settled_if : (P : Cause → Type 0) (D : Type 0) (b : Bool) (c : Cause) → (IsTrue b → P c) → (b ≡ false → D)
     → MatchOption (then_some b c) D P
-settled_if P D true c some none = some refl
-settled_if P D false c some none = none refl
+settled_if P D b c some none = grind arith
 
 settled_there : (P : Cause → Type 0) (D : Type 0) (b : NamedByte) (o : Option Cause) → (b.value ≡ 0 → D)
     → (b.value ≢ 0 → MatchOption o D P) → MatchOption (if_present b o) D P
@@ -186,22 +185,16 @@ effective_self n = grind (arith, nat_tests)
 -- A radix that is used is absent or in range, and one that is absent or in range is in range where it is used, unless
 -- it is absent and the mantissa radix is out of range.
 used_radix : (n m : ℕ) → IsRadix (effective n m) → (n ≡ 0) ⊎ IsRadix n
-used_radix n m radix = elim (cases_eq n 0) [
-  | inl none ↦ inl none
-  | inr some ↦ inr (grind (arith, nat_tests))
-]
+used_radix n m radix = grind (arith, nat_tests)
 
 effective_radix : (n m : ℕ) → (n ≡ 0 → IsRadix m) → (n ≡ 0) ⊎ IsRadix n → IsRadix (effective n m)
-effective_radix n m follows (inl none) = let own = follows none in grind (arith, nat_tests)
-effective_radix n m follows (inr radix) = grind (arith, nat_tests)
+effective_radix n m follows own = grind (arith, nat_tests)
 
 -- PUNCTUATION
 
 -- A digit of the mantissa radix or of the exponent radix is a digit of the format.
 is_digit : (w n : ℕ) (found : Radixes) → AreDigits w n found → IsTrue (digits (raw w) n)
-is_digit w n (radixes.Mantissa m) are = grind (arith, nat_tests)
-is_digit w n (radixes.Exponent x) are = grind (arith, nat_tests)
-is_digit w n (radixes.Both m x) are = grind (arith, nat_tests)
+is_digit w n found are = grind (arith, nat_tests)
 
 no_digits : (m x n : ℕ) → digits_of m n ≡ false → digits_of x n ≡ false
     → IsTrue (digits_of m n || digits_of (effective x m) n) → ⊥
@@ -243,13 +236,8 @@ present r n k some same (inr free) = subst (IsPunctuation r) same free
 -- If two roles share a byte, then their bytes are present, and equal or the two cases of a letter.
 clash_facts : (ac : Bool) (a : ℕ) (bc : Bool) (b : ℕ) → (Disjoint (cased ac a) (cased bc b) → ⊥)
     → (a ≢ 0) × (b ≢ a → b ≡ other_case a)
-clash_facts ac a bc b clash = (
-  λ none. clash (differ_apart ac a bc b (λ some. absurd (some none))),
-  λ differ. elim (cases_eq b (other_case a)) [
-    | inl other ↦ other
-    | inr not_other ↦ absurd (clash (differ_apart ac a bc b (λ some. (λ same. differ (sym same), not_other))))
-  ],
-)
+clash_facts ac a bc b clash =
+    let apart : (a ≢ 0 → (a ≢ b) × (b ≢ other_case a)) → ⊥ = λ h. clash (differ_apart ac a bc b h) in grind (arith, nat_tests)
 
 -- The flag of a setter is set if and only if the setter's test says so.
 set_is : (w : ℕ) (f : Flag) → any_flag w (flags_of (setter_of f)) ≡ (raw w).flag f
@@ -504,7 +492,8 @@ blames word rule c other h follow same =
 
 rule_blames : (word other : ℕ) (rule : Rule) → EachReason (Blames word other) (slots word rule)
 unfolding Holds
-rule_blames word other rules.MantissaRadixInRange = (one _ (shape_settled (radix_in_range layout.mantissa_radix) word).0.0, tt) where
+rule_blames word other rules.MantissaRadixInRange =
+    let ((own, none), enough) = shape_settled (radix_in_range layout.mantissa_radix) word in (one _ own, tt) where
   cause : Cause
   cause = causes.OutOfRange (named (raw word) 0 0 bytes.MantissaRadix)
 

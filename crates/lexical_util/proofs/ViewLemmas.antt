@@ -29,9 +29,7 @@ flags_ascend setters.RequiredIntegerDigits = refl
 flags_ascend _ = refl
 
 one_bit : (n k : ℕ) → n < 2 → n * 2 ^ k ≡ (if n == 1 then 2 ^ k else 0)
-one_bit zero k small = omega arith
-one_bit (suc zero) k small = omega arith
-one_bit (suc (suc n)) k small = absurd (omega arith)
+one_bit n k small = grind (arith, nat_tests)
 
 flag_bits-raw : (word : ℕ) (f : Flag) → part word (bit f) 1 * 2 ^ bit f ≡ flag_bits (raw word) f
 flag_bits-raw word f = one_bit (part word (bit f) 1) (bit f) (mod-lt _ (omega arith))
@@ -67,16 +65,12 @@ ByteTells word mask shift = ((bit_and word mask ≡ 0) × (part word shift 8 ≡
     ((bit_and word mask ≢ 0) × (part word shift 8 ≢ 0))
 
 zero_factor : (n p : ℕ) → 0 < p → n * p ≡ 0 → n ≡ 0
-zero_factor zero p high e = refl
-zero_factor (suc n) p high e = absurd (omega (arith, e, high))
+zero_factor n p high e = grind arith
 
 -- If the bits under a mask are a byte times a power of two, then they are 0 if and only if the byte is 0.
 byte_tells : (word mask shift : ℕ) → bit_and word mask ≡ part word shift 8 * 2 ^ shift → 0 < 2 ^ shift
     → ByteTells word mask shift
-byte_tells word mask shift is high = elim (cases_eq (part word shift 8) 0) [
-  | inl none ↦ inl (is ∙ rw none (zero-mul (2 ^ shift)), none)
-  | inr some ↦ inr (rw is (λ e. some (zero_factor (part word shift 8) (2 ^ shift) high e)), some)
-]
+byte_tells word mask shift is high = let zero = zero_factor (part word shift 8) (2 ^ shift) high in grind (arith, nat_tests)
 
 pub digit_separator_tells : (word : ℕ) → ByteTells word 0x00000000_000000FF_00000000_00000000 64
 digit_separator_tells word = byte_tells word _ 64 (and_high word 8 64) (pow_pos 64)

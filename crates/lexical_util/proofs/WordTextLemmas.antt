@@ -192,7 +192,4 @@ IsPrintedForm-unique s t form form' same =
 -- If a truth value is true if and only if a byte has a digit value, then it is equal to the test of the byte.
 pub is_digit_of_digit : (test truth : Bool) (value : ℕ) → IsTrue truth ↔ IsSome (cond test (Some value) None)
     → truth ≡ test
-is_digit_of_digit true true value told = refl
-is_digit_of_digit true false value told = told.1 refl
-is_digit_of_digit false true value told = sym (told.0 refl)
-is_digit_of_digit false false value told = refl
+is_digit_of_digit test truth value told = grind arith

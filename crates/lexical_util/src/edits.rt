@@ -66,6 +66,7 @@ const fn apply_flag(
 /// [`build_strict`][NumberFormatBuilder::build_strict]. The mantissa radix is used in place of an exponent base or
 /// exponent radix that no edit sets.
 #[inline(always)]
+#[tactic(auto, using(crate::proofs::EditLemmas::applied_all))]
 pub const fn apply_all(mut builder: NumberFormatBuilder, edits: &[Edit]) -> NumberFormatBuilder
     ensures fields { result ≡ after builder (all_writes edits.now) }
     ensures legal { All IsLegal (all_writes edits.now) }

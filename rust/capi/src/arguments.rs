@@ -1,37 +1,73 @@
 //! The arguments that are pointers: input, output and text. A C caller may leave output uninitialised, so no reference
 //! to a value points to it.
 
+use crate::numbers::{error_number, ErrorNumber};
 use core::fmt::{self, Display, Write};
-use core::mem::MaybeUninit;
-use core::slice;
+use core::{ptr, slice};
+use peltzivar::Error;
 
-/// Returns the `len` values that begin at `start`. A null pointer with length 0 becomes an empty slice.
+/// Returns the `len` values that begin at `start`. A null pointer with length 0 becomes an empty slice. Returns `None` if
+/// no object in C has so many bytes.
 ///
 /// # Safety
 ///
 /// If `len` is not 0, `start` must point to `len` bytes or edits that a C caller passes. Nothing may write to them
 /// during the call that passes them.
-pub unsafe fn input<'a, T>(start: *const T, len: usize) -> &'a [T] {
+pub unsafe fn input<'a, T>(start: *const T, len: usize) -> Option<&'a [T]> {
     if len == 0 {
-        return &[];
+        return Some(&[]);
+    }
+    if len > isize::MAX as usize / size_of::<T>() {
+        return None;
     }
     // SAFETY: the caller guarantees the values. Bytes and edits need no alignment, and all bit patterns are valid for
-    // them. No object in C has more than `isize::MAX` bytes.
-    unsafe { slice::from_raw_parts(start, len) }
+    // them.
+    Some(unsafe { slice::from_raw_parts(start, len) })
 }
 
-/// Memory for one value that a call only writes.
+/// Memory for one value that a call only writes, or a null pointer.
 ///
 /// No code here creates an `Out`, since each one is an argument that a C caller passes. The header requires a pointer
-/// to an object of type `T` that nothing else reads or writes during the call.
+/// to an object of type `T` that nothing else reads or writes during the call, or a null pointer.
 #[repr(transparent)]
 pub struct Out<T>(*mut T);
 
 impl<T> Out<T> {
-    /// Writes the value.
+    /// Writes the value, unless the pointer is null.
     pub fn write(self, value: T) {
-        // SAFETY: C passed the pointer, and it points to an object of this type, as the comment of the type states.
-        unsafe { self.0.write(value) }
+        if !self.0.is_null() {
+            // SAFETY: C passed the pointer, and it points to an object of this type, as the comment of the type states.
+            unsafe { self.0.write(value) }
+        }
+    }
+
+    /// Writes the value, if there is one, and returns whether there is.
+    pub fn write_some(self, value: Option<impl Into<T>>) -> bool {
+        value.map(|value| self.write(value.into())).is_some()
+    }
+
+    /// Writes the value and returns the number of success, or returns the number of the error.
+    pub fn write_ok(self, value: Result<impl Into<T>, Error>) -> ErrorNumber {
+        match value {
+            Err(error) => error_number(error),
+            Ok(value) => {
+                self.write(value.into());
+                error_number(Error::Success)
+            }
+        }
+    }
+}
+
+/// Writes the first `len` of the values to the array that begins at `start`.
+///
+/// # Safety
+///
+/// `start` must point to `len` values that a C caller passes, initialised or not, or to as many as there are. Nothing
+/// else may read or write them during the call that passes them.
+pub unsafe fn write_list<T>(start: *mut T, len: usize, values: impl Iterator<Item = T>) {
+    for (index, value) in values.take(len).enumerate() {
+        // SAFETY: the caller guarantees this value.
+        unsafe { start.add(index).write(value) };
     }
 }
 
@@ -41,38 +77,34 @@ impl<T> Out<T> {
 ///
 /// # Safety
 ///
-/// If `len` is not 0, `start` must point to `len` bytes that a C caller passes, initialised or not. Nothing else may
-/// read or write them during the call that passes them.
+/// `start` must point to `len` bytes that a C caller passes, initialised or not, or to as many as are written. Nothing
+/// else may read or write them during the call that passes them.
 pub unsafe fn write_text(start: *mut u8, len: usize, value: Option<impl Display>) -> usize {
-    let buffer: &mut [MaybeUninit<u8>] = if len == 0 {
-        &mut []
-    } else {
-        // SAFETY: the caller guarantees the bytes. A byte that may be uninitialised needs no alignment and no value. No
-        // object in C has more than `isize::MAX` bytes.
-        unsafe { slice::from_raw_parts_mut(start.cast(), len) }
-    };
-    let mut text = Text { buffer, len: 0 };
+    let mut text = Text { start, room: len.saturating_sub(1), len: 0 };
     if let Some(value) = value {
         // `Text` never fails, and no `Display` here fails of its own.
         let _ = write!(text, "{value}");
     }
-    let end = text.len.min(len.saturating_sub(1));
-    if let Some(byte) = text.buffer.get_mut(end) {
-        byte.write(0);
+    if len != 0 {
+        // SAFETY: the caller guarantees this byte.
+        unsafe { start.add(text.len.min(text.room)).write(0) };
     }
     text.len
 }
 
-/// Text that is written into a buffer as far as it fits. `len` is the length of the whole text.
-struct Text<'a> {
-    buffer: &'a mut [MaybeUninit<u8>],
+/// Text that is written to `room` bytes as far as it fits. `len` is the length of the whole text.
+struct Text {
+    start: *mut u8,
+    room: usize,
     len: usize,
 }
 
-impl Write for Text<'_> {
+impl Write for Text {
     fn write_str(&mut self, piece: &str) -> fmt::Result {
-        for (byte, place) in piece.bytes().zip(self.buffer.iter_mut().skip(self.len)) {
-            place.write(byte);
+        let size = piece.len().min(self.room.saturating_sub(self.len));
+        if size != 0 {
+            // SAFETY: the caller of `write_text` guarantees `room` bytes, and these are not behind them.
+            unsafe { ptr::copy_nonoverlapping(piece.as_ptr(), self.start.add(self.len), size) };
         }
         self.len += piece.len();
         Ok(())

@@ -1,7 +1,8 @@
 //! The structs of C, and the numbers that C uses for setters, rules and errors.
 
 use core::num::NonZeroU8;
-use peltzivar::{Edit, Error, FlagSetter, FormatView, NumberFormatBuilder, Reason, Rule};
+use peltzivar::edits::{self, FLAG_COUNT};
+use peltzivar::{Byte, Cause, Edit, Error, FormatView, NumberFormatBuilder, Part, Reason, Role, Rule};
 
 /// A format word as two halves, since C has no 128-bit integer type that every compiler supports.
 #[repr(C)]
@@ -25,10 +26,7 @@ impl Word {
 
 impl From<u128> for Word {
     fn from(number: u128) -> Word {
-        Word {
-            low: number as u64,
-            high: (number >> 64) as u64,
-        }
+        Word { low: number as u64, high: (number >> 64) as u64 }
     }
 }
 
@@ -41,23 +39,13 @@ pub struct Fields {
     bytes: [u8; 6],
 }
 
-fn byte_or_zero(byte: Option<NonZeroU8>) -> u8 {
-    byte.map_or(0, NonZeroU8::get)
-}
-
 impl From<NumberFormatBuilder> for Fields {
     fn from(builder: NumberFormatBuilder) -> Fields {
-        Fields {
-            flags: builder.view().flags() as u64,
-            bytes: [
-                byte_or_zero(builder.get_digit_separator()),
-                byte_or_zero(builder.get_base_prefix()),
-                byte_or_zero(builder.get_base_suffix()),
-                builder.get_mantissa_radix(),
-                byte_or_zero(builder.get_exponent_base()),
-                byte_or_zero(builder.get_exponent_radix()),
-            ],
-        }
+        let word = Word::from(builder.build_unchecked());
+        let [_, _, _, prefix, suffix, radix, base, exponent_radix] = word.high.to_le_bytes();
+        // The word lacks a separator that no flag allows.
+        let separator = builder.get_digit_separator().map_or(0, NonZeroU8::get);
+        Fields { flags: word.low, bytes: [separator, prefix, suffix, radix, base, exponent_radix] }
     }
 }
 
@@ -65,34 +53,36 @@ impl Fields {
     /// Returns a builder with these fields.
     pub fn builder(self) -> NumberFormatBuilder {
         let [separator, prefix, suffix, radix, base, exponent_radix] = self.bytes;
-        NumberFormatBuilder::from_word(u128::from(self.flags))
-            .digit_separator(NonZeroU8::new(separator))
-            .base_prefix(NonZeroU8::new(prefix))
-            .base_suffix(NonZeroU8::new(suffix))
-            .mantissa_radix(radix)
-            .exponent_base(NonZeroU8::new(base))
-            .exponent_radix(NonZeroU8::new(exponent_radix))
+        let high = u64::from_le_bytes([separator, 0, 0, prefix, suffix, radix, base, exponent_radix]);
+        NumberFormatBuilder::from_word(Word { low: self.flags, high }.number())
     }
 }
 
-/// The number of a setter: the bit of a flag, the lowest bit of a byte, or the number of a group in [`GROUPS`].
+/// The number of a setter: the lowest bit that it writes or, for a group, 128 plus its index.
 pub type Setter = u8;
 
 /// The number of no setter.
 pub const NO_SETTER: Setter = 255;
 
-/// The groups with their numbers.
-const GROUPS: &[(Setter, FlagSetter)] = &[
-    (128, FlagSetter::RequiredDigits),
-    (129, FlagSetter::InternalDigitSeparator),
-    (130, FlagSetter::LeadingDigitSeparator),
-    (131, FlagSetter::TrailingDigitSeparator),
-    (132, FlagSetter::ConsecutiveDigitSeparator),
-    (133, FlagSetter::DigitSeparatorFlags),
-    (134, FlagSetter::IntegerDigitSeparatorFlags),
-    (135, FlagSetter::FractionDigitSeparatorFlags),
-    (136, FlagSetter::ExponentDigitSeparatorFlags),
-];
+/// Returns the number of a setter.
+pub const fn setter_number(setter: edits::Setter) -> Setter {
+    match setter {
+        edits::Setter::Flag(flag) if flag as usize >= FLAG_COUNT => (flag as usize - FLAG_COUNT) as Setter + 128,
+        _ => setter.mask().trailing_zeros() as Setter,
+    }
+}
+
+/// Returns the setter with a number. Of the two names of the mantissa radix, `mantissa_radix` comes first.
+pub const fn setter_of(number: Setter) -> Option<edits::Setter> {
+    let mut all = edits::Setter::ALL;
+    while let [setter, rest @ ..] = all {
+        if setter_number(*setter) == number {
+            return Some(*setter);
+        }
+        all = rest;
+    }
+    None
+}
 
 /// An edit as the number of its setter and a value.
 #[repr(C)]
@@ -102,57 +92,47 @@ pub struct NumberedEdit {
     value: u8,
 }
 
-/// Returns the edit with a setter and a value, or `None` if the setter is unknown.
-pub fn edit_of(setter: Setter, value: u8) -> Option<Edit> {
-    let byte = NonZeroU8::new(value);
-    match setter {
-        64 => Some(Edit::DigitSeparator(byte)),
-        88 => Some(Edit::BasePrefix(byte)),
-        96 => Some(Edit::BaseSuffix(byte)),
-        104 => Some(Edit::MantissaRadix(value)),
-        112 => Some(Edit::ExponentBase(byte)),
-        120 => Some(Edit::ExponentRadix(byte)),
-        _ => Some(Edit::Flag(flag_setter(setter)?, value != 0)),
-    }
-}
-
-/// Returns the setter of a flag or a group.
-pub fn flag_setter(setter: Setter) -> Option<FlagSetter> {
-    let bit = |flag: &FlagSetter| Edit::Flag(*flag, true).mask().trailing_zeros() as Setter;
-    let flags = FlagSetter::FLAGS.iter().map(|flag| (bit(flag), *flag));
-    let mut numbered = flags.chain(GROUPS.iter().copied());
-    numbered.find_map(|(number, it)| (number == setter).then_some(it))
-}
-
 impl NumberedEdit {
-    /// Returns the number of the setter.
-    pub fn setter(self) -> Setter {
-        self.setter
-    }
-
     /// Returns the edit, or `None` if the setter is unknown.
     pub fn edit(self) -> Option<Edit> {
-        edit_of(self.setter, self.value)
+        Some(setter_of(self.setter)?.with_byte(self.value))
     }
 }
 
 impl From<Edit> for NumberedEdit {
     fn from(edit: Edit) -> NumberedEdit {
-        let is_set = |group| matches!(edit, Edit::Flag(setter, _) if setter == group);
-        let group = GROUPS.iter().find(|(_, group)| is_set(*group));
-        let bit = edit.mask().trailing_zeros() as Setter;
-        NumberedEdit {
-            setter: group.map_or(bit, |(number, _)| *number),
-            value: edit.argument_byte(),
-        }
+        NumberedEdit { setter: setter_number(edit.setter()), value: edit.argument_byte() }
     }
 }
+
+/// The parts of a number, by their numbers.
+pub const PARTS: [Part; 3] = [Part::Integer, Part::Fraction, Part::Exponent];
+
+/// The number of no part.
+pub const NO_PART: u8 = 255;
+
+/// The roles, by their numbers less 1. Role 0 is none.
+pub const ROLES: [Role; 7] =
+    [Role::Digit, Role::Sign, Role::Separator, Role::Prefix, Role::Suffix, Role::Exponent, Role::Point];
 
 /// Returns the rules that a word breaks because of a reason. Bit n is the rule with the number n.
 pub fn broken_rules(reason: Reason) -> u32 {
     let numbered = (1..).zip(Rule::ALL);
     let broken = numbered.filter(|(_, rule)| reason.breaks(**rule));
     broken.fold(0, |bits, (number, _)| bits | 1 << number)
+}
+
+/// Returns the options that a reason blames. Bit n is the role with the number n.
+pub fn blamed_options(reason: Reason) -> u32 {
+    let (first, second) = match reason.cause() {
+        Cause::NotText(byte) | Cause::IsSign(byte) | Cause::IsDigit(byte, _) => (byte, byte),
+        Cause::Same(first, second) | Cause::DifferInCase { first, second, .. } => (first, second),
+        _ => return 0,
+    };
+    let options = [(Byte::ExponentCharacter, 6), (Byte::DecimalPoint, 7)];
+    let is_blamed = |name| first.name == name || second.name == name;
+    let blamed = options.into_iter().filter(|(name, _)| is_blamed(*name));
+    blamed.fold(0, |bits, (_, role)| bits | 1 << role)
 }
 
 /// The number that C uses for an [`Error`]: 0 for success, and otherwise the rank plus 1.
@@ -167,10 +147,10 @@ pub fn error_number(error: Error) -> ErrorNumber {
 }
 
 /// Returns the error with a number. A parse error holds `index`.
-pub fn error_of(number: ErrorNumber, index: usize) -> Option<Error> {
-    let Some(rank) = number.checked_sub(1) else {
-        return Some(Error::Success);
-    };
-    let error = Error::from_rank(u8::try_from(rank).ok()?, index)?;
-    (error_number(error) == number).then_some(error)
+pub const fn error_of(number: ErrorNumber, index: usize) -> Option<Error> {
+    match number {
+        0 => Some(Error::Success),
+        1..=48 => Error::from_rank(number as u8 - 1, index),
+        _ => None,
+    }
 }

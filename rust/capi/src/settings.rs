@@ -1,62 +1,88 @@
-//! Calls that name setters, and that parse and print settings.
+//! Calls that find setters, and that parse and print settings, one or all of a text.
 
-use crate::arguments::{input, write_text, Out};
-use crate::numbers::{edit_of, NumberedEdit, Setter, Word, NO_SETTER};
+use crate::arguments::{input, write_list, write_text, Out};
+use crate::literals::Syntax;
+use crate::numbers::{setter_number, setter_of, NumberedEdit, Setter, Word, NO_SETTER};
+use core::fmt::Display;
 use core::str::from_utf8;
-use peltzivar::{Edit, SettingError};
+use peltzivar::{edits, Edit, SettingError, Settings};
 
-/// Parses a setting. A string that is not UTF-8 is read as one with an unknown name.
-fn parsed(setting: &[u8]) -> Result<Edit, SettingError> {
-    from_utf8(setting).unwrap_or("=").parse()
+/// Parses a setting. A string that is too long or not UTF-8 is read as one with an unknown name.
+unsafe fn parsed(text: *const u8, len: usize) -> Result<Edit, SettingError> {
+    let text = input(text, len).and_then(|it| from_utf8(it).ok());
+    text.unwrap_or("=").parse()
 }
 
-#[unsafe(no_mangle)]
-pub unsafe extern "C" fn peltzivar_parse_edit(
-    text: *const u8,
-    len: usize,
-    out: Out<NumberedEdit>,
-) -> bool {
-    let edit = parsed(input(text, len));
-    if let Ok(edit) = edit {
-        out.write(edit.into());
+/// Returns the lines of a text. A text that is too long is read as one with an unknown name.
+unsafe fn lines<'a>(text: *const u8, len: usize) -> impl Iterator<Item = &'a [u8]> {
+    let text = input(text, len).unwrap_or(b"=");
+    text.split(|byte| *byte == b'\n')
+}
+
+/// Passes the sentence and the lines of a problem or note to `report`, or nothing if there is none with this index.
+fn report<'a>(
+    lines: impl Iterator<Item = &'a [u8]>,
+    index: usize,
+    report: impl FnOnce(Option<&dyn Display>, &[usize]) -> usize,
+) -> usize {
+    let (mut settings, mut before) = (Settings::new(), index);
+    for line in lines {
+        match (settings.add(line), before.checked_sub(1)) {
+            (Ok(()), _) => (),
+            (Err(_), Some(fewer)) => before = fewer,
+            (Err(error), None) => return report(Some(&error), &[error.index()]),
+        }
     }
-    edit.is_ok()
+    let mut findings = settings.reasons().chain(settings.notes());
+    match findings.nth(before) {
+        Some(finding) => report(Some(&finding), finding.indexes()),
+        None => report(None, &[]),
+    }
 }
 
-#[unsafe(no_mangle)]
-pub unsafe extern "C" fn peltzivar_setting_error_text(
-    text: *const u8,
-    len: usize,
-    to: *mut u8,
-    to_len: usize,
-) -> usize {
-    write_text(to, to_len, parsed(input(text, len)).err())
-}
+calls! {
+    fn peltzivar_parse_edit(text: *const u8, len: usize, out: Out<NumberedEdit>) -> bool {
+        out.write_some(parsed(text, len).ok())
+    }
 
-#[unsafe(no_mangle)]
-pub unsafe extern "C" fn peltzivar_edit_text(
-    edit: NumberedEdit,
-    text: *mut u8,
-    len: usize,
-) -> usize {
-    write_text(text, len, edit.edit())
-}
+    fn peltzivar_setting_error_text(text: *const u8, len: usize, to: *mut u8, to_len: usize) -> usize {
+        write_text(to, to_len, parsed(text, len).err())
+    }
 
-#[unsafe(no_mangle)]
-pub unsafe extern "C" fn peltzivar_setter_name(setter: Setter, text: *mut u8, len: usize) -> usize {
-    write_text(text, len, edit_of(setter, 0).map(Edit::name))
-}
+    fn peltzivar_edit_text(edit: NumberedEdit, text: *mut u8, len: usize) -> usize {
+        write_text(text, len, edit.edit())
+    }
 
-#[unsafe(no_mangle)]
-pub unsafe extern "C" fn peltzivar_setter_of_name(name: *const u8, len: usize) -> Setter {
-    let name = input(name, len);
-    let edits = (0..NO_SETTER).filter_map(|setter| edit_of(setter, 0));
-    let mut known = edits.chain([Edit::Radix(0)]);
-    let edit = known.find(|edit| edit.name().as_bytes() == name);
-    edit.map_or(NO_SETTER, |edit| NumberedEdit::from(edit).setter())
-}
+    fn peltzivar_parse_byte(text: *const u8, len: usize, out: Out<u8>) -> bool {
+        let text = input(text, len).and_then(|it| from_utf8(it).ok());
+        let edit = text.and_then(|it| edits::Setter::DigitSeparator.parse(it).ok());
+        out.write_some(edit.map(Edit::argument_byte))
+    }
 
-#[unsafe(no_mangle)]
-pub extern "C" fn peltzivar_setter_mask(setter: Setter) -> Word {
-    edit_of(setter, 0).map_or(0, Edit::mask).into()
+    fn peltzivar_setter_of_name(name: *const u8, len: usize) -> Setter {
+        let name = input(name, len).and_then(|it| from_utf8(it).ok());
+        let setter = name.and_then(edits::Setter::from_name);
+        setter.map_or(NO_SETTER, setter_number)
+    }
+
+    fn peltzivar_setter_mask(setter: Setter) -> Word { setter_of(setter).map_or(0, |it| it.mask()).into() }
+
+    fn peltzivar_read_settings(text: *const u8, len: usize, out: Out<Syntax>) -> usize {
+        let mut settings = Settings::new();
+        let refused = lines(text, len).filter(|line| settings.add(line).is_err());
+        let problems = refused.count() + settings.reasons().count();
+        out.write_some(settings.build_syntax().ok().filter(|_| problems == 0));
+        problems
+    }
+
+    fn peltzivar_settings_text(text: *const u8, len: usize, index: usize, to: *mut u8, to_len: usize) -> usize {
+        report(lines(text, len), index, |sentence, _| write_text(to, to_len, sentence))
+    }
+
+    fn peltzivar_settings_lines(text: *const u8, len: usize, index: usize, to: *mut usize, to_len: usize) -> usize {
+        report(lines(text, len), index, |_, blamed| {
+            write_list(to, to_len, blamed.iter().copied());
+            blamed.len()
+        })
+    }
 }

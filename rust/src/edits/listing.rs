@@ -40,6 +40,7 @@ const fn is_separator_allowed_or_absent(format: u128) -> bool {
 /// assert_eq!(edits[..count], needed);
 /// ```
 #[must_use]
+#[doc(hidden)]
 pub fn edits_of(format: u128) -> ([Edit; FIELD_COUNT], usize) {
     // In the first array, the needed edits are moved to the front. The other edits are copied from the second array.
     let mut edits = field_edits_of(format);

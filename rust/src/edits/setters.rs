@@ -220,9 +220,11 @@ macro_rules! variants {
 }
 
 /// The number of flags in a format word.
+#[doc(hidden)]
 pub const FLAG_COUNT: usize = u128::count_ones(FLAG_MASK) as usize;
 
 /// The number of fields in a format word: all flags and six bytes.
+#[doc(hidden)]
 pub const FIELD_COUNT: usize = FLAG_COUNT + 6;
 
 /// All setters that take a `bool`, in the order of the variants of [`FlagSetter`]: first the flag setters, then the

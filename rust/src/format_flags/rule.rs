@@ -11,8 +11,8 @@ use crate::format_flags::*;
 /// The variants are in the order in which the rules are checked. The name of each variant states the condition that the
 /// rule imposes. A byte of 0 is *absent*. *Punctuation* is any byte that
 /// [`is_valid_ascii`][crate::ascii::is_valid_ascii] accepts, except signs (`+` and `-`) and
-/// [digits][is_digit_of_either_radix] of the format. `Rule` does not implement `Display`. To explain why a word breaks a
-/// rule, print a [`Reason`][crate::reasons::Reason].
+/// [digits][is_digit_of_either_radix] of the format. To explain why a word breaks a rule, print a
+/// [`Reason`][crate::reasons::Reason].
 #[derive(Debug, Clone, Copy, PartialEq, Eq, Hash, PartialOrd, Ord)]
 #[non_exhaustive]
 pub enum Rule {

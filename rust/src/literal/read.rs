@@ -11,7 +11,6 @@ use crate::literal::tables::{
 
 /// The parts of a literal, in the order of the text. An absent part has no bytes.
 #[derive(Debug, Clone, Copy, PartialEq, Eq, Hash)]
-#[non_exhaustive]
 pub struct Parts<'a> {
     /// The sign, `+` or `-`.
     pub sign: &'a [u8],
@@ -35,7 +34,6 @@ pub struct Parts<'a> {
 
 /// A leading piece of a text that is a literal.
 #[derive(Debug, Clone, Copy, PartialEq, Eq, Hash)]
-#[non_exhaustive]
 pub struct Front<'a> {
     /// The parts of the literal.
     pub parts: Parts<'a>,
@@ -49,7 +47,8 @@ impl Syntax {
     /// # Errors
     ///
     /// If `text` is not a literal, returns why, and how far it is right.
-    pub const fn read<'a>(&self, text: &'a [u8]) -> Result<Parts<'a>, ReadError> {
+    #[inline(always)]
+    pub(crate) const fn read_parts<'a>(&self, text: &'a [u8]) -> Result<Parts<'a>, ReadError> {
         read(self.grammar(), None, text)
     }
 
@@ -59,7 +58,8 @@ impl Syntax {
     /// # Errors
     ///
     /// If no front of `text` is a literal, returns the error of [`read`][Self::read].
-    pub const fn read_prefix<'a>(&self, text: &'a [u8]) -> Result<Front<'a>, ReadError> {
+    #[inline(always)]
+    pub(crate) const fn read_front<'a>(&self, text: &'a [u8]) -> Result<Front<'a>, ReadError> {
         read_prefix(self.grammar(), None, text)
     }
 }
@@ -68,7 +68,7 @@ impl Syntax {
 /// where many texts are read.
 #[derive(Clone)]
 pub struct Reader {
-    grammar: Grammar,
+    pub(crate) grammar: Grammar,
     tables: Tables,
 }
 
@@ -88,7 +88,8 @@ impl Reader {
     /// # Errors
     ///
     /// If `text` is not a literal, returns why, and how far it is right.
-    pub const fn read<'a>(&self, text: &'a [u8]) -> Result<Parts<'a>, ReadError> {
+    #[inline(always)]
+    pub(crate) const fn read_parts<'a>(&self, text: &'a [u8]) -> Result<Parts<'a>, ReadError> {
         read(self.grammar, Some(&self.tables), text)
     }
 
@@ -98,7 +99,8 @@ impl Reader {
     /// # Errors
     ///
     /// If no front of `text` is a literal, returns the error of [`read`][Self::read].
-    pub const fn read_prefix<'a>(&self, text: &'a [u8]) -> Result<Front<'a>, ReadError> {
+    #[inline(always)]
+    pub(crate) const fn read_front<'a>(&self, text: &'a [u8]) -> Result<Front<'a>, ReadError> {
         read_prefix(self.grammar, Some(&self.tables), text)
     }
 }

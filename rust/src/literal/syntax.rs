@@ -9,7 +9,6 @@ use crate::word::{check, options_error, FormatView, Role};
 
 /// The bytes of numbers that a format does not define.
 #[derive(Debug, Clone, Copy, PartialEq, Eq, Hash, PartialOrd, Ord)]
-#[non_exhaustive]
 pub struct Options {
     /// The exponent character.
     pub exponent: u8,
@@ -85,7 +84,7 @@ impl Syntax {
 
     /// Returns the exponent character and the decimal point, or `None` if literals are integers.
     #[must_use]
-    pub const fn options(&self) -> Option<Options> {
+    pub(crate) const fn options(&self) -> Option<Options> {
         self.grammar.options
     }
 

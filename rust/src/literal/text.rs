@@ -1,6 +1,6 @@
 //! Syntaxes of a [`Format`], and the text of syntaxes, which are written by hand.
 
-use crate::{edits::byte_from_decimal, format_error::Cause, literal::Syntax};
+use crate::{edits::Setter, format_error::Cause, literal::Syntax};
 use crate::{Error, Format, FormatError};
 use core::{fmt, str::FromStr};
 
@@ -62,13 +62,22 @@ impl Syntax {
 impl fmt::Display for Syntax {
     fn fmt(&self, f: &mut fmt::Formatter<'_>) -> fmt::Result {
         write!(f, "{}", self.view())?;
-        let options = self.options();
-        options.map_or(Ok(()), |it| write!(f, " {} {}", it.exponent, it.point))
+        match (self.exponent(), self.point()) {
+            (Some(exponent), Some(point)) => write!(f, " {exponent} {point}"),
+            _ => Ok(()),
+        }
     }
 }
 
-/// Parses a lawful word, as [`Format`] does, alone or with two options in decimal, with a space before each. For
-/// an option that is missing or not a byte, the error's [`code`][FormatError::code] has the index at which it begins.
+/// Parses a byte as in a setting.
+fn byte(text: &str) -> Option<u8> {
+    let edit = Setter::MantissaRadix.parse(text).ok()?;
+    Some(edit.argument_byte())
+}
+
+/// Parses a lawful word, as [`Format`] does, alone or with two options, with a space before each. An option is a byte as
+/// in a [setting][crate::Setter::parse], such as `'e'` or 101, but a space is not in quotes. For an option that is missing
+/// or not a byte, the error's [`code`][FormatError::code] has the index at which it begins.
 impl FromStr for Syntax {
     type Err = FormatError;
 
@@ -79,8 +88,8 @@ impl FromStr for Syntax {
         let format = word.parse()?;
         let (exponent, point) = options.split_once(' ').unwrap_or((options, ""));
         let error = |rest| FormatError::new(Error::InvalidDigit(text.len() - rest), Cause::Bytes);
-        let exponent = byte_from_decimal(exponent).ok_or(error(options.len()))?;
-        let point = byte_from_decimal(point).ok_or(error(point.len()))?;
+        let exponent = byte(exponent).ok_or(error(options.len()))?;
+        let point = byte(point).ok_or(error(point.len()))?;
         Syntax::new(format, exponent, point)
     }
 }

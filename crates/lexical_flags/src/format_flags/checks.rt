@@ -76,7 +76,7 @@ pub const fn is_digit_of_either_radix(format: u128, byte: u8) -> bool
 
 // Returns whether `byte` is absent, that is, 0, or punctuation in the word `format`.
 #[inline]
-#[tactic(auto)]
+#[tactic(auto, using(crate::proofs::PunctuationBytes::free_below_limit))]
 const fn is_absent_or_punctuation(format: u128, byte: u8) -> bool
     ensures { IsTrue result ↔ IsAbsentOrPunctuation (raw format) byte }
 {
@@ -94,7 +94,7 @@ pub(crate) const fn is_punctuation(format: u128, byte: u8) -> bool
 
 // Returns whether two bytes are the two cases of one letter.
 #[inline]
-#[tactic(auto)]
+#[tactic(auto, using(crate::proofs::CaseLemmas::flipped))]
 const fn is_case_pair(a: u8, b: u8) -> bool
     ensures { IsTrue result ↔ (IsTrue (letters a) × (b ≡ other_case a)) }
 {
@@ -106,7 +106,7 @@ const fn is_case_pair(a: u8, b: u8) -> bool
 /// which means absent, no byte plays it. `lexical-util` has no such function.
 #[must_use]
 #[inline]
-#[tactic(auto, using(crate::proofs::CaseLemmas::same_clash, crate::proofs::CaseLemmas::differ_apart))]
+#[tactic(auto, using(crate::proofs::CaseLemmas::same_clash, crate::proofs::CaseLemmas::differ_apart, crate::proofs::CaseLemmas::cases_apart))]
 pub const fn roles_disjoint(a: u8, a_case_sensitive: bool, b: u8, b_case_sensitive: bool) -> bool
     ensures { IsTrue result ↔ Disjoint (cased a_case_sensitive a) (cased b_case_sensitive b) }
 {
@@ -329,6 +329,7 @@ pub(crate) const fn is_valid_exponent_consecutive_flags(format: u128) -> bool
 /// Returns whether all reserved bits of `format` are 0. The reserved bits hold neither a flag nor a byte.
 #[must_use]
 #[inline]
+#[tactic(auto, using(crate::proofs::ReservedBits::reserved_bits))]
 pub const fn is_clean(format: u128) -> bool
     ensures { IsTrue result ↔ IsClean format }
 {
@@ -494,6 +495,7 @@ pub const fn radix_error_impl(format: u128) -> Error
 ///
 /// `lexical-util` compares raw bytes in the seventh rule, and has no rule for reserved bits.
 #[must_use]
+#[tactic(auto, using(crate::proofs::RuleLemmas::success_lawful, crate::proofs::RuleLemmas::one_error, crate::proofs::RuleLemmas::not_flags))]
 pub const fn format_error_impl(format: u128) -> Error
     ensures first { IsErrorOf format result }
     ensures lawful { (result ≡ Error.Success) ↔ Lawful format }

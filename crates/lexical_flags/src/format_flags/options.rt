@@ -61,7 +61,7 @@ const fn is_disjoint_from_format_roles(format: u128, byte: u8, case_sensitive: b
 /// - Each lawful format accepts at least one pair of bytes.
 #[must_use]
 #[inline]
-#[tactic(auto)]
+#[tactic(auto, using(crate::proofs::OptionLemmas::accepted_roles, crate::proofs::OptionLemmas::some_from_lawful))]
 pub const fn is_valid_options_punctuation(format: u128, exponent: u8, decimal_point: u8) -> bool
     ensures accepted { IsTrue result ↔ OptionsFit format exponent decimal_point }
     // In a lawful format, the options are accepted if and only if they are allowed ASCII and no byte plays two roles.
@@ -90,6 +90,7 @@ pub const fn is_valid_options_punctuation(format: u128, exponent: u8, decimal_po
 /// Of a lawful word, `Syntax::new` of `lexical_literal` (in plain Rust, `literal::Syntax::new`) accepts more: it checks
 /// the normal form, in which a digit separator that no flag allows is absent.
 #[must_use]
+#[tactic(auto, using(crate::proofs::OptionLemmas::options_success, crate::proofs::OptionLemmas::one_options_error))]
 pub const fn options_error(format: u128, exponent: u8, decimal_point: u8) -> Error
     ensures first { IsOptionsError format exponent decimal_point result }
     ensures accepted { (result ≡ Error.Success) ↔ OptionsFit format exponent decimal_point }

@@ -13,8 +13,8 @@ use lexical_base::error::Error;
 /// The variants are in the order in which the rules are checked. The name of each variant states the condition that the
 /// rule imposes. A byte of 0 is *absent*. *Punctuation* is any byte that
 /// [`is_valid_ascii`][lexical_base::ascii::is_valid_ascii] accepts, except signs (`+` and `-`) and
-/// [digits][is_digit_of_either_radix] of the format. `Rule` does not implement `Display`. To explain why a word breaks a
-/// rule, print a [`Reason`][lexical_util::reasons::Reason].
+/// [digits][is_digit_of_either_radix] of the format. To explain why a word breaks a rule, print a
+/// [`Reason`][lexical_util::reasons::Reason].
 #[derive(Debug, Clone, Copy, PartialEq, Eq, Hash, PartialOrd, Ord)]
 pub enum Rule {
     /// The mantissa radix is between 2 and 36.

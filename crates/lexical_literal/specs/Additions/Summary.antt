@@ -230,28 +230,25 @@ piece_of part roles.Point = pieces.Point
 piece_of part roles.Exponent = pieces.ExponentCharacter
 piece_of part roles.Suffix = pieces.Suffix
 
--- `Cuts` has the number of bytes of each piece that has been read. The zero of a prefix counts as a digit of the integer, and the suffix does not count.
-pub record Cuts : Type 0 where
-  pub sign : ℕ
-  pub prefix : ℕ
-  pub integer : ℕ
-  pub point : ℕ
-  pub fraction : ℕ
-  pub exponent_character : ℕ
-  pub exponent_sign : ℕ
-  pub exponent : ℕ
+-- `piece_number piece` is the place of `piece` in a list of lengths.
+abbrev pub piece_number : Piece → ℕ
+piece_number pieces.Sign = 0
+piece_number pieces.Prefix = 1
+piece_number pieces.Integer = 2
+piece_number pieces.Point = 3
+piece_number pieces.Fraction = 4
+piece_number pieces.ExponentCharacter = 5
+piece_number pieces.ExponentSign = 6
+piece_number pieces.Exponent = 7
+piece_number pieces.Suffix = 8
+
+-- `Cuts` has the number of bytes of each piece that has been read. The zero of a prefix counts as a digit of the integer.
+abbrev pub Cuts : Type 0
+Cuts = Piece → ℕ
 
 -- `add c piece` counts one more byte of `piece`.
 abbrev pub add : Cuts → Piece → Cuts
-add c pieces.Sign = record c { sign = c.sign + 1 }
-add c pieces.Prefix = record c { prefix = c.prefix + 1 }
-add c pieces.Integer = record c { integer = c.integer + 1 }
-add c pieces.Point = record c { point = c.point + 1 }
-add c pieces.Fraction = record c { fraction = c.fraction + 1 }
-add c pieces.ExponentCharacter = record c { exponent_character = c.exponent_character + 1 }
-add c pieces.ExponentSign = record c { exponent_sign = c.exponent_sign + 1 }
-add c pieces.Exponent = record c { exponent = c.exponent + 1 }
-add c pieces.Suffix = c
+add c piece other = if piece_number other == piece_number piece then c other + 1 else c other
 
 -- `count part role c` counts one more byte with the role `role` in `part`.
 abbrev pub count : Part → Option Role → Cuts → Cuts
@@ -287,15 +284,15 @@ tally m (Some s) c (byte ∷ text) = tally m (step m s (class_of m byte)) (count
 
 -- `no_cuts` counts no bytes.
 abbrev pub no_cuts : Cuts
-no_cuts = record { sign = 0; prefix = 0; integer = 0; point = 0; fraction = 0; exponent_character = 0; exponent_sign = 0; exponent = 0 }
+no_cuts piece = 0
 
 -- `HasLengths l c` holds if the parts of `l` have the lengths `c`.
 pub record HasLengths (l : Literal) (c : Cuts) : Type 0 where
-  pub sign : length l.sign ≡ c.sign
-  pub prefix : length l.prefix ≡ c.prefix + c.prefix
-  pub integer : length l.integer + c.prefix ≡ c.integer
-  pub point : length l.point ≡ c.point
-  pub fraction : length l.fraction ≡ c.fraction
-  pub exponent_character : length l.exponent_character ≡ c.exponent_character
-  pub exponent_sign : length l.exponent_sign ≡ c.exponent_sign
-  pub exponent : length l.exponent ≡ c.exponent
+  pub sign : length l.sign ≡ c pieces.Sign
+  pub prefix : length l.prefix ≡ c pieces.Prefix + c pieces.Prefix
+  pub integer : length l.integer + c pieces.Prefix ≡ c pieces.Integer
+  pub point : length l.point ≡ c pieces.Point
+  pub fraction : length l.fraction ≡ c pieces.Fraction
+  pub exponent_character : length l.exponent_character ≡ c pieces.ExponentCharacter
+  pub exponent_sign : length l.exponent_sign ≡ c pieces.ExponentSign
+  pub exponent : length l.exponent ≡ c pieces.Exponent

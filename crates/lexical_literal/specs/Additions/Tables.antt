@@ -3,14 +3,12 @@ use Rattle.std.specs.Prelude.{ℕ, ◌≡◌, ◌/◌, ◌%◌, ◌<◌, ◌==�
 use Rattle.lexical_util.specs.declared.format_flags.Part.{Part}
 use Rattle.lexical_util.specs.declared.format_flags.Part.TheVariants as parts
 use Rattle.lexical_literal.specs.Notation.{Notation}
-use Rattle.lexical_literal.specs.Additions.Summary.{Cuts, class_of, step, in_part, count, add, is_complete}
+use Rattle.lexical_literal.specs.Additions.Summary.{Cuts, class_of, step, in_part, count, add, is_complete, piece_number}
 use Rattle.lexical_literal.specs.declared.steps.Class.{Class}
 use Rattle.lexical_literal.specs.declared.steps.Class.TheVariants as classes
 use Rattle.lexical_literal.specs.declared.steps.Stage.{Stage}
 use Rattle.lexical_literal.specs.declared.steps.Stage.TheVariants as stages
 use Rattle.lexical_literal.specs.declared.steps.Summary.{Summary}
-use Rattle.lexical_literal.specs.declared.steps.Piece.{Piece}
-use Rattle.lexical_literal.specs.declared.steps.Piece.TheVariants as pieces
 use Rattle.lexical_literal.specs.declared.tables.TheConstants.{PARTS, STAGES, CLASSES}
 use Rattle.lexical_literal.specs.declared.tables.Row.{Row}
 use Rattle.lexical_literal.specs.declared.tables.Step.{Step}
@@ -56,27 +54,6 @@ pub record HasTables (m : Notation) (t : Tables) : Type 0 where
   pub classes : EachIs (IsClass m) t.classes 256
   pub rows : EachIs (IsRow m) t.rows 108
 
--- `piece_number piece` is the place of `piece` in a list of lengths.
-abbrev pub piece_number : Piece → ℕ
-piece_number pieces.Sign = 0
-piece_number pieces.Prefix = 1
-piece_number pieces.Integer = 2
-piece_number pieces.Point = 3
-piece_number pieces.Fraction = 4
-piece_number pieces.ExponentCharacter = 5
-piece_number pieces.ExponentSign = 6
-piece_number pieces.Exponent = 7
-piece_number pieces.Suffix = 8
-
 -- `cuts_of counts` has the lengths in the list `counts`.
 abbrev pub cuts_of : List ℕ → Cuts
-cuts_of counts = record {
-  sign = slice_index counts 0;
-  prefix = slice_index counts 1;
-  integer = slice_index counts 2;
-  point = slice_index counts 3;
-  fraction = slice_index counts 4;
-  exponent_character = slice_index counts 5;
-  exponent_sign = slice_index counts 6;
-  exponent = slice_index counts 7;
-}
+cuts_of counts piece = slice_index counts (piece_number piece)

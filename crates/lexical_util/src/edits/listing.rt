@@ -18,6 +18,7 @@ use lexical_flags::format_flags as flags;
 ///
 /// - The result is true if and only if setter calls on a new builder can build `format`.
 #[must_use]
+#[tactic(auto, using(crate::proofs::ImageLemmas::built_by_writes))]
 pub const fn is_built(format: u128) -> bool
     ensures rule { IsTrue result ↔ IsBuilt format }
 

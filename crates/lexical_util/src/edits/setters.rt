@@ -296,6 +296,7 @@ impl FlagSetter {
     /// Returns whether the flag of this setter is set in `format`. For a group setter, returns whether any flag of the
     /// group is set.
     #[must_use]
+    #[tactic(auto, using(crate::proofs::ViewLemmas::any_by_mask, crate::proofs::ViewLemmas::flags_ascend))]
     pub const fn is_set(self, format: u128) -> bool
         ensures { result ≡ any_flag format (flags_of self) }
     {

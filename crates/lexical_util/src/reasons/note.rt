@@ -39,6 +39,7 @@ impl Note {
     /// Returns the mask of the bits of the fields that the note names. On a format word that has the same values in
     /// these bits, the note is as true. A note is left out if this mask and the mask of a reason share a bit.
     #[must_use]
+    #[tactic(auto, using(crate::proofs::NoteLemmas::idle_agrees))]
     pub const fn mask(&self) -> u128
         ensures fields { result ≡ mask_of_note self.now }
         ensures depends { (word other : ℕ) → bit_and word result ≡ bit_and other result

@@ -6,7 +6,7 @@ use Rattle.lexical_literal.specs.Additions.Causes.{allows, class_of_next}
 use Rattle.lexical_literal.specs.Notation.{notation_of}
 use Rattle.lexical_literal.specs.Additions.Tables.{summary_at, cuts_of}
 use Rattle.lexical_literal.proofs.RoleLemmas.{ready}
-use Rattle.lexical_literal.proofs.TableLemmas.{count_one, small_more}
+use Rattle.lexical_literal.proofs.TableLemmas.{no_counts, count_one, small_more}
 use Rattle.lexical_literal.proofs.LongestLemmas.{HasRead, read_nothing, read_more, wrong_at, wrong_at_end, longest_from, counted_from, not_complete}
 use Rattle.lexical_literal.proofs.read.scan.Goals as goal
 use Rattle.lexical_literal.proofs.read.scan.Goals.{then-is_complete_by, else-is_complete_by}
@@ -18,7 +18,7 @@ pub loop-index-init : goal.loop-index-init
 loop-index-init c =
     let m = notation_of c.args.grammar in
     let is_ready = ready c.role_facts.ensures.disjoint c.role_facts.ensures.five c.role_facts.ensures.lawful c.args.grammar c.requires.syntax in
-    record { is_row = omega arith; size = refl; small = search rules; has = read_nothing m is_ready c.args.text.now }
+    record { is_row = omega arith; size = refl; small = search rules; has = rw (← no_counts) (read_nothing m is_ready c.args.text.now) }
 
 pub loop-index-preserved : goal.loop-index-preserved
 loop-index-preserved c =

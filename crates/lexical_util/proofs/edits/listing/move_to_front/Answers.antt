@@ -6,10 +6,7 @@ use Rattle.lexical_util.proofs.edits.listing.move_to_front.Goals as goal
 
 -- If a test is equal to the wanted truth value, then this comparison is the chosen test.
 passes : (changed t : Bool) → (if changed then t else not t) ≡ beq t changed
-passes true true = refl
-passes true false = refl
-passes false true = refl
-passes false false = refl
+passes changed t = grind arith
 
 pub loop-index-preserved : goal.loop-index-preserved
 loop-index-preserved c =

@@ -1,0 +1,1415 @@
+"""Builds, reads, checks and edits number formats, which are 128-bit words, and reads the numbers of a format.
+
+    >>> from peltzivar import Format, Syntax
+    >>> format = Format.of(mantissa_radix=16, base_prefix="x")
+    >>> print(format)
+    0x0000100078000000000000000000000C
+    >>> Syntax.integers(format).read("-0x1F").integer
+    '1F'
+
+A word is lawful if it satisfies all rules. A `FormatView` holds any word, and a `Format` a lawful one. A `Syntax` reads
+literals, which are the numbers of a format, and `languages` has those of languages. In the repository, docs/FORMAT.md
+describes fields, rules and literals. A value of a wrong type raises a TypeError, and another wrong value a ValueError.
+
+This module needs the shared library of peltzivar.h, but no other package. `make install` and pip install both. To use
+another library, set PELTZIVAR_LIBRARY to its path. If none is found, importing this module raises an ImportError.
+"""
+
+from __future__ import annotations
+
+import functools
+import operator
+import os
+import reprlib
+from ctypes import CDLL, POINTER, Structure, c_bool, c_char_p, c_size_t, c_uint8, c_uint32, c_uint64
+from ctypes import create_string_buffer
+from dataclasses import dataclass, field
+from enum import Enum
+from itertools import count, islice, repeat, takewhile
+from pathlib import Path
+from types import SimpleNamespace
+from typing import Any, AnyStr, Callable, Dict, Generic, Iterable, List, Optional, Tuple, Type, TypeVar, Union, cast
+
+__all__ = ["STANDARD", "Byte", "Cause", "Edit", "Error", "Format", "FormatError", "FormatView", "Language", "Literal"]
+__all__ += ["LiteralError", "Note", "OptionsError", "Part", "Reason", "ReasonsError", "Role", "Rule", "Separators"]
+__all__ += ["Setter", "SettingsError", "Special", "Specials", "Spelling", "Syntax", "Value", "languages", "notes_of"]
+
+# Made by make_python.py: constants
+__version__ = "0.9.0"
+_VERSION = 0x000900
+STANDARD = 0x00000A0000000000000000000000000C
+_NEW_FIELDS = (0xC, 0, 0, 0, 10, 0, 0)
+_FIELD_COUNT = 37
+_SOURCE_SIZE = 2048
+_TEXT_SIZE = 256
+_NO_PART = 255
+_NO_DIGIT = 4294967295
+
+
+class Setter(Enum):
+    """The setters. A member has the name of the setter in uppercase."""
+
+    REQUIRED_INTEGER_DIGITS = 0
+    REQUIRED_FRACTION_DIGITS = 1
+    REQUIRED_EXPONENT_DIGITS = 2
+    REQUIRED_MANTISSA_DIGITS = 3
+    NO_POSITIVE_MANTISSA_SIGN = 4
+    REQUIRED_MANTISSA_SIGN = 5
+    NO_EXPONENT_NOTATION = 6
+    NO_POSITIVE_EXPONENT_SIGN = 7
+    REQUIRED_EXPONENT_SIGN = 8
+    NO_EXPONENT_WITHOUT_FRACTION = 9
+    NO_SPECIAL = 10
+    CASE_SENSITIVE_SPECIAL = 11
+    NO_INTEGER_LEADING_ZEROS = 12
+    NO_FLOAT_LEADING_ZEROS = 13
+    REQUIRED_EXPONENT_NOTATION = 14
+    CASE_SENSITIVE_EXPONENT = 15
+    CASE_SENSITIVE_BASE_PREFIX = 16
+    CASE_SENSITIVE_BASE_SUFFIX = 17
+    INTEGER_INTERNAL_DIGIT_SEPARATOR = 32
+    FRACTION_INTERNAL_DIGIT_SEPARATOR = 33
+    EXPONENT_INTERNAL_DIGIT_SEPARATOR = 34
+    INTEGER_LEADING_DIGIT_SEPARATOR = 35
+    FRACTION_LEADING_DIGIT_SEPARATOR = 36
+    EXPONENT_LEADING_DIGIT_SEPARATOR = 37
+    INTEGER_TRAILING_DIGIT_SEPARATOR = 38
+    FRACTION_TRAILING_DIGIT_SEPARATOR = 39
+    EXPONENT_TRAILING_DIGIT_SEPARATOR = 40
+    INTEGER_CONSECUTIVE_DIGIT_SEPARATOR = 41
+    FRACTION_CONSECUTIVE_DIGIT_SEPARATOR = 42
+    EXPONENT_CONSECUTIVE_DIGIT_SEPARATOR = 43
+    SPECIAL_DIGIT_SEPARATOR = 44
+    DIGIT_SEPARATOR = 64
+    BASE_PREFIX = 88
+    BASE_SUFFIX = 96
+    MANTISSA_RADIX = 104
+    EXPONENT_BASE = 112
+    EXPONENT_RADIX = 120
+    REQUIRED_DIGITS = 128
+    INTERNAL_DIGIT_SEPARATOR = 129
+    LEADING_DIGIT_SEPARATOR = 130
+    TRAILING_DIGIT_SEPARATOR = 131
+    CONSECUTIVE_DIGIT_SEPARATOR = 132
+    DIGIT_SEPARATOR_FLAGS = 133
+    INTEGER_DIGIT_SEPARATOR_FLAGS = 134
+    FRACTION_DIGIT_SEPARATOR_FLAGS = 135
+    EXPONENT_DIGIT_SEPARATOR_FLAGS = 136
+
+    def __str__(self) -> str:
+        return self.name
+
+
+class Rule(Enum):
+    """The rules, in the order in which they are checked."""
+
+    MANTISSA_RADIX_IN_RANGE = 1
+    EXPONENT_BASE_IN_RANGE = 2
+    EXPONENT_RADIX_IN_RANGE = 3
+    DIGIT_SEPARATOR_IS_PUNCTUATION = 4
+    BASE_PREFIX_IS_PUNCTUATION = 5
+    BASE_SUFFIX_IS_PUNCTUATION = 6
+    PUNCTUATION_DIFFERS = 7
+    EXPONENT_FLAGS_AGREE = 8
+    MANTISSA_SIGN_FLAGS_AGREE = 9
+    EXPONENT_SIGN_FLAGS_AGREE = 10
+    SPECIAL_CASE_FLAGS_AGREE = 11
+    SPECIAL_SEPARATOR_FLAGS_AGREE = 12
+    INTEGER_CONSECUTIVE_IS_ALLOWED = 13
+    FRACTION_CONSECUTIVE_IS_ALLOWED = 14
+    EXPONENT_CONSECUTIVE_IS_ALLOWED = 15
+    RESERVED_BITS_ARE_ZERO = 16
+
+    def __str__(self) -> str:
+        return self.name
+
+    @property
+    def condition(self) -> str:
+        """What the rule requires of a word."""
+        return str(_library.rule_condition(self.value).decode())
+
+
+class Error(Enum):
+    """The errors, and success, which is 0 and false."""
+
+    SUCCESS = 0
+    OVERFLOW = 1
+    UNDERFLOW = 2
+    INVALID_DIGIT = 3
+    EMPTY = 4
+    EMPTY_MANTISSA = 5
+    EMPTY_EXPONENT = 6
+    EMPTY_INTEGER = 7
+    EMPTY_FRACTION = 8
+    INVALID_POSITIVE_MANTISSA_SIGN = 9
+    MISSING_MANTISSA_SIGN = 10
+    INVALID_EXPONENT = 11
+    INVALID_POSITIVE_EXPONENT_SIGN = 12
+    MISSING_EXPONENT_SIGN = 13
+    EXPONENT_WITHOUT_FRACTION = 14
+    INVALID_LEADING_ZEROS = 15
+    MISSING_EXPONENT = 16
+    MISSING_SIGN = 17
+    INVALID_POSITIVE_SIGN = 18
+    INVALID_NEGATIVE_SIGN = 19
+    INVALID_MANTISSA_RADIX = 20
+    INVALID_EXPONENT_BASE = 21
+    INVALID_EXPONENT_RADIX = 22
+    INVALID_DIGIT_SEPARATOR = 23
+    INVALID_DECIMAL_POINT = 24
+    INVALID_EXPONENT_SYMBOL = 25
+    INVALID_BASE_PREFIX = 26
+    INVALID_BASE_SUFFIX = 27
+    INVALID_PUNCTUATION = 28
+    INVALID_EXPONENT_FLAGS = 29
+    INVALID_MANTISSA_SIGN = 30
+    INVALID_EXPONENT_SIGN = 31
+    INVALID_SPECIAL = 32
+    INVALID_CONSECUTIVE_INTEGER_DIGIT_SEPARATOR = 33
+    INVALID_CONSECUTIVE_FRACTION_DIGIT_SEPARATOR = 34
+    INVALID_CONSECUTIVE_EXPONENT_DIGIT_SEPARATOR = 35
+    INVALID_FLAGS = 36
+    INVALID_NAN_STRING = 37
+    NAN_STRING_TOO_LONG = 38
+    INVALID_INF_STRING = 39
+    INF_STRING_TOO_LONG = 40
+    INVALID_INFINITY_STRING = 41
+    INFINITY_STRING_TOO_LONG = 42
+    INFINITY_STRING_TOO_SHORT = 43
+    INVALID_FLOAT_PARSE_ALGORITHM = 44
+    INVALID_RADIX = 45
+    INVALID_FLOAT_PRECISION = 46
+    INVALID_NEGATIVE_EXPONENT_BREAK = 47
+    INVALID_POSITIVE_EXPONENT_BREAK = 48
+
+    def __str__(self) -> str:
+        return self.name
+
+    @property
+    def description(self) -> str:
+        """The description of the error in single quotes."""
+        return str(_library.description(self.value).decode())
+
+    def __bool__(self) -> bool:
+        return self is not Error.SUCCESS
+
+
+class Part(Enum):
+    """The parts of a number that can have digit separators."""
+
+    INTEGER = 0
+    FRACTION = 1
+    EXPONENT = 2
+
+    def __str__(self) -> str:
+        return self.name
+
+
+class Role(Enum):
+    """The roles of a byte in a number."""
+
+    DIGIT = 1
+    SIGN = 2
+    SEPARATOR = 3
+    PREFIX = 4
+    SUFFIX = 5
+    EXPONENT = 6
+    POINT = 7
+
+    def __str__(self) -> str:
+        return self.name
+
+
+class Cause(Enum):
+    """The kinds of causes why a text is not a literal."""
+
+    REQUIREMENT = 1
+    SEPARATOR = 2
+    CASE = 3
+    BYTE = 4
+    MISSING = 5
+
+    def __str__(self) -> str:
+        return self.name
+
+
+class Spelling(Enum):
+    """The spellings of special values."""
+
+    NAN = 1
+    INF = 2
+    INFINITY = 3
+
+    def __str__(self) -> str:
+        return self.name
+
+
+class _Word(Structure):
+    _fields_ = [
+        ("low", c_uint64),
+        ("high", c_uint64),
+    ]
+
+
+class _Fields(Structure):
+    _fields_ = [
+        ("flags", c_uint64),
+        ("digit_separator", c_uint8),
+        ("base_prefix", c_uint8),
+        ("base_suffix", c_uint8),
+        ("mantissa_radix", c_uint8),
+        ("exponent_base", c_uint8),
+        ("exponent_radix", c_uint8),
+    ]
+
+
+class _Edit(Structure):
+    _fields_ = [
+        ("setter", c_uint8),
+        ("value", c_uint8),
+    ]
+
+
+class _Separators(Structure):
+    _fields_ = [
+        ("internal", c_bool),
+        ("leading", c_bool),
+        ("trailing", c_bool),
+        ("consecutive", c_bool),
+    ]
+
+
+class _Syntax(Structure):
+    _fields_ = [
+        ("format", _Word),
+        ("exponent", c_uint8),
+        ("decimal_point", c_uint8),
+    ]
+
+
+class _Span(Structure):
+    _fields_ = [
+        ("start", c_size_t),
+        ("end", c_size_t),
+    ]
+
+
+class _Literal(Structure):
+    _fields_ = [
+        ("sign", _Span),
+        ("prefix", _Span),
+        ("integer", _Span),
+        ("point", _Span),
+        ("fraction", _Span),
+        ("exponent_character", _Span),
+        ("exponent_sign", _Span),
+        ("exponent", _Span),
+        ("suffix", _Span),
+        ("size", c_size_t),
+        ("is_float", c_bool),
+    ]
+
+
+class _ReadError(Structure):
+    _fields_ = [
+        ("valid_up_to", c_size_t),
+        ("span", _Span),
+        ("index", c_size_t),
+        ("mask", _Word),
+        ("cause", c_uint8),
+        ("number", c_uint8),
+        ("part", c_uint8),
+    ]
+
+
+class _Specials(Structure):
+    _fields_ = [
+        ("nan", c_char_p),
+        ("inf", c_char_p),
+        ("infinity", c_char_p),
+    ]
+
+
+class _Special(Structure):
+    _fields_ = [
+        ("spelling", c_uint8),
+        ("sign", c_uint8),
+    ]
+
+
+_CALLS: Dict[str, Tuple[Any, List[Any]]] = {
+    "version": (c_uint32, []),
+    "build": (c_bool, [POINTER(_Edit), c_size_t, POINTER(_Word)]),
+    "edit_word": (c_bool, [_Word, POINTER(_Edit), c_size_t, POINTER(_Word)]),
+    "check": (c_uint32, [_Word]),
+    "normal_form": (_Word, [_Word]),
+    "same_format": (c_bool, [_Word, _Word]),
+    "migrate": (c_uint32, [_Word, POINTER(_Word)]),
+    "is_built": (c_bool, [_Word]),
+    "edits_of": (c_size_t, [_Word, POINTER(_Edit), c_size_t]),
+    "flag": (c_bool, [_Word, c_uint8]),
+    "parse_word": (c_uint32, [c_char_p, c_size_t, POINTER(_Word), POINTER(c_size_t)]),
+    "word_text": (c_size_t, [_Word, c_char_p, c_size_t]),
+    "source": (c_size_t, [_Word, c_char_p, c_size_t]),
+    "description": (c_char_p, [c_uint32]),
+    "error_text": (c_size_t, [c_uint32, c_size_t, c_char_p, c_size_t]),
+    "fields_of": (_Fields, [_Word]),
+    "edit_fields": (c_bool, [POINTER(_Fields), POINTER(_Edit), c_size_t]),
+    "pack": (_Word, [POINTER(_Fields)]),
+    "parse_edit": (c_bool, [c_char_p, c_size_t, POINTER(_Edit)]),
+    "parse_byte": (c_bool, [c_char_p, c_size_t, POINTER(c_uint8)]),
+    "setting_error_text": (c_size_t, [c_char_p, c_size_t, c_char_p, c_size_t]),
+    "edit_text": (c_size_t, [_Edit, c_char_p, c_size_t]),
+    "setter_name": (c_char_p, [c_uint8]),
+    "setter_of_name": (c_uint8, [c_char_p, c_size_t]),
+    "setter_mask": (_Word, [c_uint8]),
+    "reason_text": (c_size_t, [_Word, c_size_t, c_char_p, c_size_t]),
+    "reason_mask": (_Word, [_Word, c_size_t]),
+    "reason_rules": (c_uint32, [_Word, c_size_t]),
+    "rule_condition": (c_char_p, [c_uint32]),
+    "note_text": (c_size_t, [POINTER(_Fields), c_size_t, c_char_p, c_size_t]),
+    "note_mask": (_Word, [POINTER(_Fields), c_size_t]),
+    "check_options": (c_uint32, [_Word, c_uint8, c_uint8]),
+    "options_reason_text": (c_size_t, [_Word, c_uint8, c_uint8, c_size_t, c_char_p, c_size_t]),
+    "options_reason_mask": (_Word, [_Word, c_uint8, c_uint8, c_size_t]),
+    "options_reason_roles": (c_uint32, [_Word, c_uint8, c_uint8, c_size_t]),
+    "mantissa_digit": (c_uint32, [_Word, c_uint8]),
+    "exponent_digit": (c_uint32, [_Word, c_uint8]),
+    "part_name": (c_char_p, [c_uint8]),
+    "separators_of": (_Separators, [_Word, c_uint8]),
+    "is_separator": (c_bool, [_Word, c_uint8]),
+    "is_base_prefix": (c_bool, [_Word, c_uint8]),
+    "is_base_suffix": (c_bool, [_Word, c_uint8]),
+    "role_of": (c_uint8, [_Word, c_uint8, c_uint8, c_uint8]),
+    "role_name": (c_char_p, [c_uint8]),
+    "syntax_check": (c_uint32, [_Word, c_uint8, c_uint8, POINTER(_Syntax)]),
+    "read": (c_uint32, [POINTER(_Syntax), c_char_p, c_size_t, POINTER(_Literal), POINTER(_ReadError)]),
+    "read_prefix": (c_uint32, [POINTER(_Syntax), c_char_p, c_size_t, POINTER(_Literal), POINTER(_ReadError)]),
+    "read_error_text": (c_size_t, [POINTER(_Syntax), c_char_p, c_size_t, c_char_p, c_size_t]),
+    "read_special": (c_uint32, [POINTER(_Syntax), POINTER(_Specials), c_char_p, c_size_t, POINTER(_Special)]),
+    "language": (c_bool, [c_char_p, c_size_t, POINTER(_Syntax), POINTER(_Specials)]),
+    "language_name": (c_char_p, [c_size_t]),
+    "read_settings": (c_size_t, [c_char_p, c_size_t, POINTER(_Syntax)]),
+    "settings_text": (c_size_t, [c_char_p, c_size_t, c_size_t, c_char_p, c_size_t]),
+    "settings_lines": (c_size_t, [c_char_p, c_size_t, c_size_t, POINTER(c_size_t), c_size_t]),
+}
+# End
+
+
+def _candidates() -> Iterable[str]:
+    """Returns the paths where the library may be: the given one, or those in the folder of this file and the three
+    folders above it, and then the names that the system's loader looks for."""
+    if given := os.environ.get("PELTZIVAR_LIBRARY"):
+        return [os.path.abspath(given)]
+    major, minor, _ = __version__.split(".")
+    names = (f"libpeltzivar_c.so.{major if int(major) else f'0.{minor}'}", "libpeltzivar_c.so")
+    folders = list(Path(__file__).resolve().parents)[:4]
+    return [*(str(it) for folder in folders for name in names if (it := folder / name).exists()), *names]
+
+
+def _load() -> Any:
+    """Loads the library, checks its version and returns its calls."""
+    why: List[str] = []
+    for path in _candidates():
+        try:
+            library = CDLL(path)
+            break
+        except OSError as error:
+            why.append(str(error))
+    else:
+        raise ImportError(
+            f"the shared library of peltzivar.h does not load ({why[0]}): name its path in PELTZIVAR_LIBRARY, "
+            f"put it beside {__file__}, or install it where the system's loader finds it"
+        )
+    version = getattr(library, "peltzivar_version", lambda: 0)()
+    unchanged = 16 if _VERSION >> 16 else 8
+    if version >> unchanged != _VERSION >> unchanged or version < _VERSION:
+        found = ".".join(map(str, (version & 0xFFFFFF).to_bytes(3, "big")))
+        raise ImportError(f"{path} has version {found}, and this file {__version__}")
+    calls = SimpleNamespace(path=path)
+    for name, (result, arguments) in _CALLS.items():
+        call = getattr(library, f"peltzivar_{name}")
+        call.restype, call.argtypes = result, arguments
+        setattr(calls, name, call)
+    return calls
+
+
+_library = _load()
+
+# A byte: a number from 0 to 255, or one ASCII character.
+Byte = Union[int, str, bytes]
+# The value of a setting: a bool for a flag or a group, and otherwise a number or a Byte, or None if it is absent.
+Value = Union[bool, Byte, None]
+Typed = TypeVar("Typed")
+View = TypeVar("View", bound="FormatView")
+Call = TypeVar("Call", bound=Callable[..., Any])
+
+_RADIXES = (Setter.MANTISSA_RADIX, Setter.EXPONENT_BASE, Setter.EXPONENT_RADIX)
+_BYTES = (Setter.DIGIT_SEPARATOR, Setter.BASE_PREFIX, Setter.BASE_SUFFIX)
+_SETTERS = {**{it.name.lower(): it for it in Setter}, "radix": Setter.MANTISSA_RADIX}
+
+
+def _text(call: Any, *arguments: Any, size: int = _TEXT_SIZE) -> str:
+    """Returns the text that a call writes."""
+    buffer = create_string_buffer(size)
+    call(*arguments, buffer, size)
+    return buffer.value.decode("ascii")
+
+
+def _texts(call: Any, *of: Any) -> Iterable[str]:
+    """Returns the texts that a call writes for the indices from 0 on."""
+    return takewhile(bool, (_text(call, *of, index) for index in count()))
+
+
+def _members(kind: Type[Any], bits: int) -> Tuple[Any, ...]:
+    """Returns the members whose numbers are those of bits that are set."""
+    return tuple(it for it in kind if bits >> it.value & 1)
+
+
+def _joined(halves: _Word) -> int:
+    """Returns the word of two halves."""
+    return int(halves.high << 64 | halves.low)
+
+
+def _typed(name: str, value: object, kind: Type[Typed]) -> Typed:
+    """Returns a value of this type. Raises an error that names the argument if the value has another one."""
+    if not isinstance(value, kind):
+        raise TypeError(f"{name} is a {kind.__name__}, not {type(value).__name__}")
+    return value
+
+
+def _number(name: str, value: Any, limit: int = 256, wanted: str = "a number from 0 to 255") -> int:
+    """Returns a number below the limit. Raises an error that names the argument if the value is not one."""
+    if isinstance(value, bool) or not hasattr(type(value), "__index__"):
+        raise TypeError(f"{name} is {wanted}, not {type(value).__name__}")
+    number = operator.index(value)
+    if not 0 <= number < limit:
+        raise ValueError(f"{name} is {wanted}: {number:#x}")
+    return number
+
+
+def _byte(name: str, value: Any) -> int:
+    """Returns a byte as a number. Raises an error that names the argument if the value is not a byte."""
+    wanted = "one ASCII character or a number from 0 to 255"
+    if not isinstance(value, (str, bytes)):
+        return _number(name, value, wanted=wanted)
+    if len(value) != 1 or isinstance(value, str) and not value.isascii():
+        raise ValueError(f"{name} is {wanted}: {reprlib.repr(value)}")
+    return ord(value)
+
+
+def _encoded(name: str, text: object) -> bytes:
+    """Returns a text as bytes. Raises an error that names the argument if it is not a text."""
+    return text if isinstance(text, bytes) else _typed(name, text, str).encode("utf-8", "surrogatepass")
+
+
+def _takes_fields(call: Call) -> Call:
+    """Makes a call pass its keyword arguments as edits, in order and behind its settings."""
+
+    @functools.wraps(call)
+    def calling(*settings: Any, **fields: Any) -> Any:
+        for name in fields:
+            if name not in _SETTERS:
+                raise TypeError(f"{call.__name__}() got an unexpected keyword argument {name!r}")
+        return call(*settings, *(Edit.of(name, value) for name, value in fields.items()))
+
+    return cast(Call, calling)
+
+
+@dataclass(frozen=True, init=False, repr=False)
+class Edit:
+    """An edit: a setter and its value, parsed from a text NAME=VALUE such as `Edit("digit_separator='_'")`.
+
+    A flag or a group takes `true` or `false`. A byte takes one ASCII character in single quotes, one to three decimal
+    digits, or `0x` followed by one or two hexadecimal digits. Every byte except `mantissa_radix` also takes `none`.
+    Spaces are not skipped. `radix` is another name of `mantissa_radix`. Raises ValueError if the text is not a setting.
+    `value` is a bool, an ASCII character, a number, or None. A byte of 128 or more is a number.
+    """
+
+    setter: Setter
+    value: Union[bool, int, str, None]
+
+    def __init__(self, text: str) -> None:
+        edit, setting = _Edit(), _encoded("a setting", _typed("a setting", text, str))
+        if not _library.parse_edit(setting, len(setting), edit):
+            raise ValueError(f"{text}: {_text(_library.setting_error_text, setting, len(setting))}")
+        vars(self).update(setter=Setter(edit.setter), value=_value(Setter(edit.setter), edit.value))
+
+    @classmethod
+    def of(cls, setter: Union[Setter, str], value: Value) -> Edit:
+        """Returns the edit with this setter, or the setter with this name, and this value, such as
+        `Edit.of("digit_separator", "_")`. Raises TypeError or ValueError if the setter does not take the value."""
+        named = _SETTERS.get(setter) if isinstance(setter, str) else _typed("setter", setter, Setter)
+        if named is None:
+            raise ValueError(f"unknown setting name: {reprlib.repr(setter)}")
+        edit = cls.__new__(cls)
+        vars(edit).update(setter=named, value=_value(named, _number_of(named, value)))
+        return edit
+
+    @property
+    def name(self) -> str:
+        """The name of the setter in lower case."""
+        return self.setter.name.lower()
+
+    @property
+    def mask(self) -> int:
+        """A mask of the bits of a word that the edit writes."""
+        return _joined(_library.setter_mask(self.setter.value))
+
+    def _numbers(self) -> _Edit:
+        return _Edit(self.setter.value, _number_of(self.setter, self.value))
+
+    def __str__(self) -> str:
+        """Returns NAME=VALUE."""
+        return _text(_library.edit_text, self._numbers())
+
+    def __repr__(self) -> str:
+        return f"Edit({str(self)!r})"
+
+
+def _number_of(setter: Setter, value: Value) -> int:
+    """Returns the number of a value. Raises an error that names the setter if it does not take the value."""
+    name = setter.name.lower()
+    if value is None and (setter in _BYTES or setter in _RADIXES[1:]):
+        return 0
+    if setter in _BYTES or setter in _RADIXES:
+        return _byte(name, value) if setter in _BYTES else _number(name, value)
+    return _typed(name, value, bool)
+
+
+def _value(setter: Setter, number: int) -> Union[bool, int, str, None]:
+    """Returns the value that a setter has as this number."""
+    if setter in _BYTES:
+        return chr(number) if 0 < number < 128 else number or None
+    if setter in _RADIXES:
+        return None if number == 0 and setter != Setter.MANTISSA_RADIX else number
+    return bool(number)
+
+
+@dataclass(frozen=True)
+class Note:
+    """A note on fields that have no effect, with a mask of their bits, or on settings, with their indexes."""
+
+    text: str
+    mask: int = 0
+    indexes: Tuple[int, ...] = ()
+
+    def __str__(self) -> str:
+        return self.text
+
+
+@dataclass(frozen=True)
+class Reason(Note):
+    """A reason why a word is not lawful, or why options do not fit it: its text, a mask of the bits that it blames, the
+    rules that it breaks, and the options that it blames, which are `Role.EXPONENT` and `Role.POINT`. An edit is to
+    blame if its mask has a bit in common with this mask that no later edit writes. If settings cause the reason, it has
+    the indexes of those to blame instead.
+    """
+
+    rules: Tuple[Rule, ...] = ()
+    options: Tuple[Role, ...] = ()
+
+
+@dataclass(frozen=True)
+class Separators:
+    """Where a part of a number may have digit separators: between, before and after digits, and several in a row."""
+
+    internal: bool
+    leading: bool
+    trailing: bool
+    consecutive: bool
+
+
+@dataclass(eq=False)
+class ReasonsError(ValueError):
+    """Raised with each reason why there is no such format or syntax."""
+
+    reasons: Tuple[Reason, ...]
+
+    def __str__(self) -> str:
+        return "; ".join(reason.text for reason in self.reasons)
+
+
+@dataclass(eq=False)
+class FormatError(ReasonsError):
+    """Raised if a word is not lawful. `view` is the view of the word, and `error` its error."""
+
+    view: FormatView
+    error: Error
+
+
+class OptionsError(ReasonsError):
+    """Raised if an exponent character and a decimal point do not fit a format."""
+
+
+class SettingsError(ReasonsError):
+    """Raised if settings make no syntax."""
+
+
+@dataclass(eq=False)
+class LiteralError(ValueError):
+    """Raised if a text is not a literal. `str` returns the cause as a sentence. If it is mended, another may follow.
+
+    `valid_up_to` is the length of the longest beginning of the text that some literal begins with. If it is the length
+    of the text, characters are missing. `span` is the first index and the end of the characters to show, maybe none, as
+    in `text[slice(*span)]`. `cause` is the kind of the cause, and `part` the part of a separator or of missing digits.
+    `mask` has the flags to blame as bits of a word. A wrong byte and missing digits blame none. `error` is the error of
+    `lexical-util`.
+    """
+
+    sentence: str
+    text: Union[str, bytes]
+    valid_up_to: int
+    span: Tuple[int, int]
+    cause: Cause
+    part: Optional[Part]
+    mask: int
+    error: Error
+
+    @property
+    def edits(self) -> Tuple[Edit, ...]:
+        """The edits of the format that end the cause: each alone for a separator, and otherwise all together."""
+        return tuple(Edit.of(it, self.cause is Cause.SEPARATOR) for it in _members(Setter, self.mask))
+
+    def __str__(self) -> str:
+        return self.sentence
+
+
+class _Field:
+    """A field or a group of a view. Its name is the name of its setter."""
+
+    def __init__(self, meaning: str) -> None:
+        self.__doc__ = meaning
+
+    def __set_name__(self, owner: type, name: str) -> None:
+        self._name, self._setter = name, _SETTERS[name]
+
+    def __get__(self, view: Optional[FormatView], owner: type) -> Any:
+        if view is None:
+            return self
+        if self._setter not in _BYTES + _RADIXES:
+            return bool(_library.flag(view._halves, self._setter.value))
+        byte = getattr(view._unpacked(), self._name)
+        return _value(self._setter, byte) if self._setter in _BYTES else byte
+
+    def __set__(self, view: FormatView, value: Value) -> None:
+        raise AttributeError(f"a view does not change: edit({self._name}={value!r}) returns another one")
+
+    def __repr__(self) -> str:
+        return f"<field {self._name}>"
+
+
+_field: Any = _Field
+# The default of an argument whose field keeps its value.
+_KEPT: Any = ...
+
+
+class FormatView:
+    """A view of a format word, lawful or not. `int(view)` is the word, and `str(view)` is its text.
+
+    An absent digit separator, base prefix or base suffix is None. An absent exponent base or exponent radix has the
+    value of the mantissa radix. Raises ValueError if the word is negative or has more than 128 bits.
+    """
+
+    __slots__ = ("_word", "_halves")
+
+    # Made by make_python.py: attributes
+    required_integer_digits: bool = _field("Whether the format requires digits before the decimal point. If so, a parser rejects `.5`.")
+    required_fraction_digits: bool = _field("Whether the format requires digits after a decimal point. If so, a parser rejects `1.` but accepts `1`.")
+    required_exponent_digits: bool = _field("Whether the format requires digits after an exponent character. If so, a parser rejects `1e`. The default is `true`.")
+    required_mantissa_digits: bool = _field("Whether the format requires a digit in the mantissa of a float. If so, a parser rejects `.`. Otherwise, `.` is parsed as 0. An empty string is always rejected. The default is `true`.")
+    no_positive_mantissa_sign: bool = _field("Whether the format forbids a `+` before an integer or a float. If so, a parser rejects `+1` but accepts `-1`.")
+    required_mantissa_sign: bool = _field("Whether the format requires a sign before an integer or a float. If so, a parser rejects `1`, and a writer writes `+1`.")
+    no_exponent_notation: bool = _field("Whether the format forbids an exponent in a float. If so, a parser rejects `1e5`, and a writer writes out all digits.")
+    no_positive_exponent_sign: bool = _field("Whether the format forbids a `+` in the exponent. If so, a parser rejects `1e+5` but accepts `1e5` and `1e-5`.")
+    required_exponent_sign: bool = _field("Whether the format requires a sign in the exponent. If so, a parser rejects `1e5`, and a writer writes `1e+5`.")
+    no_exponent_without_fraction: bool = _field("Whether the format requires a decimal point before an exponent. If so, a parser rejects `1e5` but accepts `1.0e5`. No digit is required after that decimal point.")
+    no_special: bool = _field("Whether the format forbids all special values. If so, a parser rejects `NaN` and `inf`.")
+    case_sensitive_special: bool = _field("Whether special values are case-sensitive. If so, a parser rejects `nan` when the spelling of NaN is `NaN`. Otherwise, it accepts any case.")
+    no_integer_leading_zeros: bool = _field("Whether the format forbids leading zeros in an integer. If so, a parser rejects the integer `01` but accepts `0`.")
+    no_float_leading_zeros: bool = _field("Whether the format forbids leading zeros in a float. If so, a parser rejects `01.0` but accepts `0.1`. It also rejects `01` as a float.")
+    required_exponent_notation: bool = _field("Whether the format requires an exponent in a float. If so, a parser rejects `1.0`, and a writer writes every float with an exponent.")
+    case_sensitive_exponent: bool = _field("Whether the exponent character is case-sensitive. If so, a parser rejects `1E5` when the exponent character is `e`. Otherwise, it accepts both cases.")
+    case_sensitive_base_prefix: bool = _field("Whether the base prefix is case-sensitive. If so, a parser rejects `0X1F` when the base prefix is `x`. Otherwise, it accepts both cases.")
+    case_sensitive_base_suffix: bool = _field("Whether the base suffix is case-sensitive. If so, a parser rejects `1FH` when the base suffix is `h`. Otherwise, it accepts both cases.")
+    integer_internal_digit_separator: bool = _field("Whether the format allows a digit separator between integer digits. If so, a parser accepts `1_2`.")
+    fraction_internal_digit_separator: bool = _field("Whether the format allows a digit separator between fraction digits. If so, a parser accepts `0.1_2`.")
+    exponent_internal_digit_separator: bool = _field("Whether the format allows a digit separator between exponent digits. If so, a parser accepts `1e1_2`.")
+    integer_leading_digit_separator: bool = _field("Whether the format allows a digit separator before the integer digits. If so, a parser accepts `_12`.")
+    fraction_leading_digit_separator: bool = _field("Whether the format allows a digit separator before the fraction digits. If so, a parser accepts `0._12`.")
+    exponent_leading_digit_separator: bool = _field("Whether the format allows a digit separator before the exponent digits. If so, a parser accepts `1e_12`.")
+    integer_trailing_digit_separator: bool = _field("Whether the format allows a digit separator after the integer digits. If so, a parser accepts `12_`.")
+    fraction_trailing_digit_separator: bool = _field("Whether the format allows a digit separator after the fraction digits. If so, a parser accepts `0.12_`.")
+    exponent_trailing_digit_separator: bool = _field("Whether the format allows a digit separator after the exponent digits. If so, a parser accepts `1e12_`.")
+    integer_consecutive_digit_separator: bool = _field("Whether the format allows consecutive digit separators in the integer part. If so, a parser accepts several separators in a row wherever it accepts a single one: `1__2`, `__12`, `12__`. In a lawful format, this flag is set only if the internal, leading or trailing separator flag of the integer part is set too.")
+    fraction_consecutive_digit_separator: bool = _field("Whether the format allows consecutive digit separators in the fraction. If so, a parser accepts several separators in a row wherever it accepts a single one: `0.1__2`, `0.__12`, `0.12__`. In a lawful format, this flag is set only if the internal, leading or trailing separator flag of the fraction is set too.")
+    exponent_consecutive_digit_separator: bool = _field("Whether the format allows consecutive digit separators in the exponent. If so, a parser accepts several separators in a row wherever it accepts a single one: `1e1__2`, `1e__12`, `1e12__`. In a lawful format, this flag is set only if the internal, leading or trailing separator flag of the exponent is set too.")
+    special_digit_separator: bool = _field("Whether the format allows digit separators in special values. If so, a parser accepts `N__a_N_` as `NaN`. Digit separators can be before, between and after the letters, and can be consecutive.")
+    digit_separator: Union[str, int, None] = _field("The digit separator: the byte that separates groups of digits, such as the `_` in `1_000`.")
+    base_prefix: Union[str, int, None] = _field("The base prefix: the byte that may follow a leading zero to indicate the radix, such as the `x` in `0x1F`.")
+    base_suffix: Union[str, int, None] = _field("The base suffix: the byte that may follow the digits to indicate the radix, such as the `h` in `1Fh`.")
+    mantissa_radix: int = _field("The mantissa radix: the radix of the integer and fraction digits.")
+    exponent_base: int = _field("The exponent base: the base that is raised to the exponent, such as the 2 in 1 * 2^3.")
+    exponent_radix: int = _field("The exponent radix: the radix of the exponent digits.")
+    required_digits: bool = _field("Whether any of the flags that require digits is set. An integer parser always requires a digit.")
+    internal_digit_separator: bool = _field("Whether any of the flags that allow a digit separator between digits is set.")
+    leading_digit_separator: bool = _field("Whether any of the flags that allow a digit separator before digits is set.")
+    trailing_digit_separator: bool = _field("Whether any of the flags that allow a digit separator after digits is set.")
+    consecutive_digit_separator: bool = _field("Whether any of the flags that allow consecutive digit separators is set.")
+    digit_separator_flags: bool = _field("Whether any of the flags that allow digit separators is set, including the flag that allows them in special values.")
+    integer_digit_separator_flags: bool = _field("Whether any of the flags that allow digit separators in the integer part is set.")
+    fraction_digit_separator_flags: bool = _field("Whether any of the flags that allow digit separators in the fraction is set.")
+    exponent_digit_separator_flags: bool = _field("Whether any of the flags that allow digit separators in the exponent is set.")
+    # End
+
+    def __init__(self, word: int = STANDARD) -> None:
+        self._word = _number("a format word", word, 1 << 128, "a number of at most 128 bits")
+        self._halves = _Word(self._word & (1 << 64) - 1, self._word >> 64)
+
+    @classmethod
+    @_takes_fields
+    def of(
+        cls: Type[View],
+        *settings: Union[Edit, str],
+        # Made by make_python.py: parameters
+        required_integer_digits: bool = _KEPT,
+        required_fraction_digits: bool = _KEPT,
+        required_exponent_digits: bool = _KEPT,
+        required_mantissa_digits: bool = _KEPT,
+        no_positive_mantissa_sign: bool = _KEPT,
+        required_mantissa_sign: bool = _KEPT,
+        no_exponent_notation: bool = _KEPT,
+        no_positive_exponent_sign: bool = _KEPT,
+        required_exponent_sign: bool = _KEPT,
+        no_exponent_without_fraction: bool = _KEPT,
+        no_special: bool = _KEPT,
+        case_sensitive_special: bool = _KEPT,
+        no_integer_leading_zeros: bool = _KEPT,
+        no_float_leading_zeros: bool = _KEPT,
+        required_exponent_notation: bool = _KEPT,
+        case_sensitive_exponent: bool = _KEPT,
+        case_sensitive_base_prefix: bool = _KEPT,
+        case_sensitive_base_suffix: bool = _KEPT,
+        integer_internal_digit_separator: bool = _KEPT,
+        fraction_internal_digit_separator: bool = _KEPT,
+        exponent_internal_digit_separator: bool = _KEPT,
+        integer_leading_digit_separator: bool = _KEPT,
+        fraction_leading_digit_separator: bool = _KEPT,
+        exponent_leading_digit_separator: bool = _KEPT,
+        integer_trailing_digit_separator: bool = _KEPT,
+        fraction_trailing_digit_separator: bool = _KEPT,
+        exponent_trailing_digit_separator: bool = _KEPT,
+        integer_consecutive_digit_separator: bool = _KEPT,
+        fraction_consecutive_digit_separator: bool = _KEPT,
+        exponent_consecutive_digit_separator: bool = _KEPT,
+        special_digit_separator: bool = _KEPT,
+        digit_separator: Optional[Byte] = _KEPT,
+        base_prefix: Optional[Byte] = _KEPT,
+        base_suffix: Optional[Byte] = _KEPT,
+        mantissa_radix: int = _KEPT,
+        exponent_base: Optional[int] = _KEPT,
+        exponent_radix: Optional[int] = _KEPT,
+        required_digits: bool = _KEPT,
+        internal_digit_separator: bool = _KEPT,
+        leading_digit_separator: bool = _KEPT,
+        trailing_digit_separator: bool = _KEPT,
+        consecutive_digit_separator: bool = _KEPT,
+        digit_separator_flags: bool = _KEPT,
+        integer_digit_separator_flags: bool = _KEPT,
+        fraction_digit_separator_flags: bool = _KEPT,
+        exponent_digit_separator_flags: bool = _KEPT,
+        radix: int = _KEPT,
+        # End
+    ) -> View:
+        """Applies the settings and then the fields, in order, to the default fields, and returns a view of the word.
+
+            FormatView.of(mantissa_radix=16, base_prefix="x")
+            FormatView.of("mantissa_radix=16", "base_prefix='x'")
+
+        If no flag allows the digit separator, a `FormatView` drops it, and `notes_of` reports it. A `Format` raises a
+        ValueError then, and a FormatError if the word is not lawful.
+        """
+        return cls._packed(_Fields(*_NEW_FIELDS), settings)
+
+    @classmethod
+    def parse(cls: Type[View], text: str) -> View:
+        """Parses `0x` followed by 1 to 32 hexadecimal digits. Raises ValueError if the text has another form."""
+        word, digits = _Word(), _encoded("a format word", _typed("a format word", text, str))
+        if error := _library.parse_word(digits, len(digits), word, None):
+            raise ValueError(f"{reprlib.repr(text)} is not a format word: {Error(error).description}")
+        return cls(_joined(word))
+
+    def mantissa_digit(self, byte: Byte) -> Optional[int]:
+        """Returns the value of a byte as a digit of the integer or the fraction, or None if it is not one."""
+        digit = _library.mantissa_digit(self._halves, _byte("a byte", byte))
+        return None if digit == _NO_DIGIT else int(digit)
+
+    def exponent_digit(self, byte: Byte) -> Optional[int]:
+        """Returns the value of a byte as a digit of the exponent, or None if it is not one."""
+        digit = _library.exponent_digit(self._halves, _byte("a byte", byte))
+        return None if digit == _NO_DIGIT else int(digit)
+
+    def separators(self, part: Part) -> Separators:
+        """Returns where a part of a number may have digit separators, such as `separators(Part.FRACTION).internal`."""
+        allowed = _library.separators_of(self._halves, _typed("part", part, Part).value)
+        return Separators(allowed.internal, allowed.leading, allowed.trailing, allowed.consecutive)
+
+    def is_separator(self, byte: Byte) -> bool:
+        """Returns whether a byte is the digit separator, and some flag allows it."""
+        return bool(_library.is_separator(self._halves, _byte("a byte", byte)))
+
+    def is_base_prefix(self, byte: Byte) -> bool:
+        """Returns whether the base prefix matches a byte. A letter matches both cases unless it is case-sensitive."""
+        return bool(_library.is_base_prefix(self._halves, _byte("a byte", byte)))
+
+    def is_base_suffix(self, byte: Byte) -> bool:
+        """Returns whether the base suffix matches a byte. A letter matches both cases unless it is case-sensitive."""
+        return bool(_library.is_base_suffix(self._halves, _byte("a byte", byte)))
+
+    def role_of(self, byte: Byte, *, exponent: Byte = 0, point: Byte = 0) -> Optional[Role]:
+        """Returns the first role that a byte has in numbers with this exponent character and this decimal point, or
+        None. An option that is 0 matches no byte. If this is a `Format` and the options fit it, no byte has two roles.
+        """
+        options = _byte("exponent", exponent), _byte("point", point)
+        role = _library.role_of(self._halves, *options, _byte("a byte", byte))
+        return Role(role) if role else None
+
+    @_takes_fields
+    def edit(
+        self: View,
+        *settings: Union[Edit, str],
+        # Made by make_python.py: parameters
+        required_integer_digits: bool = _KEPT,
+        required_fraction_digits: bool = _KEPT,
+        required_exponent_digits: bool = _KEPT,
+        required_mantissa_digits: bool = _KEPT,
+        no_positive_mantissa_sign: bool = _KEPT,
+        required_mantissa_sign: bool = _KEPT,
+        no_exponent_notation: bool = _KEPT,
+        no_positive_exponent_sign: bool = _KEPT,
+        required_exponent_sign: bool = _KEPT,
+        no_exponent_without_fraction: bool = _KEPT,
+        no_special: bool = _KEPT,
+        case_sensitive_special: bool = _KEPT,
+        no_integer_leading_zeros: bool = _KEPT,
+        no_float_leading_zeros: bool = _KEPT,
+        required_exponent_notation: bool = _KEPT,
+        case_sensitive_exponent: bool = _KEPT,
+        case_sensitive_base_prefix: bool = _KEPT,
+        case_sensitive_base_suffix: bool = _KEPT,
+        integer_internal_digit_separator: bool = _KEPT,
+        fraction_internal_digit_separator: bool = _KEPT,
+        exponent_internal_digit_separator: bool = _KEPT,
+        integer_leading_digit_separator: bool = _KEPT,
+        fraction_leading_digit_separator: bool = _KEPT,
+        exponent_leading_digit_separator: bool = _KEPT,
+        integer_trailing_digit_separator: bool = _KEPT,
+        fraction_trailing_digit_separator: bool = _KEPT,
+        exponent_trailing_digit_separator: bool = _KEPT,
+        integer_consecutive_digit_separator: bool = _KEPT,
+        fraction_consecutive_digit_separator: bool = _KEPT,
+        exponent_consecutive_digit_separator: bool = _KEPT,
+        special_digit_separator: bool = _KEPT,
+        digit_separator: Optional[Byte] = _KEPT,
+        base_prefix: Optional[Byte] = _KEPT,
+        base_suffix: Optional[Byte] = _KEPT,
+        mantissa_radix: int = _KEPT,
+        exponent_base: Optional[int] = _KEPT,
+        exponent_radix: Optional[int] = _KEPT,
+        required_digits: bool = _KEPT,
+        internal_digit_separator: bool = _KEPT,
+        leading_digit_separator: bool = _KEPT,
+        trailing_digit_separator: bool = _KEPT,
+        consecutive_digit_separator: bool = _KEPT,
+        digit_separator_flags: bool = _KEPT,
+        integer_digit_separator_flags: bool = _KEPT,
+        fraction_digit_separator_flags: bool = _KEPT,
+        exponent_digit_separator_flags: bool = _KEPT,
+        radix: int = _KEPT,
+        # End
+    ) -> View:
+        """Applies the settings and then the fields to the word, in order, and returns a view of the new word.
+
+        Before that, the mantissa radix replaces an absent exponent base or exponent radix. After that, a separator that
+        no flag allows is dropped. So set a digit separator and its flags in one call. A `Format` raises a ValueError if
+        it would drop a separator that was passed, and a FormatError if the new word is not lawful.
+        """
+        return self._packed(self._unpacked(), settings)
+
+    def edits(self) -> Tuple[Edit, ...]:
+        """Returns an edit for each field of the word that differs from its default, in the order of the bits."""
+        edits = (_Edit * _FIELD_COUNT)()
+        changed = _library.edits_of(self._halves, edits, len(edits))
+        return tuple(Edit.of(Setter(it.setter), _value(Setter(it.setter), it.value)) for it in edits[:changed])
+
+    def normal_form(self: View) -> View:
+        """Returns the normal form of the word. Equivalent words have the same normal form."""
+        return type(self)(_joined(_library.normal_form(self._halves)))
+
+    def check(self) -> Format:
+        """Returns the word as a `Format`. Raises FormatError if the word is not lawful."""
+        return Format(self._word)
+
+    def error(self) -> Error:
+        """Returns the error of the first rule that the word breaks, or `Error.SUCCESS` if the word is lawful."""
+        return Error(_library.check(self._halves))
+
+    def reasons(self) -> Tuple[Reason, ...]:
+        """Returns each reason why the word is not lawful."""
+        word = self._halves
+        masks = (_joined(_library.reason_mask(word, index)) for index in count())
+        rules = (_members(Rule, _library.reason_rules(word, index)) for index in count())
+        return tuple(map(Reason, _texts(_library.reason_text, word), masks, repeat(()), rules))
+
+    def options_reasons(self, exponent: Byte, point: Byte) -> Tuple[Reason, ...]:
+        """Returns each reason why an exponent character and a decimal point do not fit the word."""
+        options = self._halves, _byte("exponent", exponent), _byte("point", point)
+        masks = (_joined(_library.options_reason_mask(*options, index)) for index in count())
+        roles = (_members(Role, _library.options_reason_roles(*options, index)) for index in count())
+        return tuple(map(Reason, _texts(_library.options_reason_text, *options), masks, repeat(()), repeat(()), roles))
+
+    def notes(self) -> Tuple[Note, ...]:
+        """Returns the notes on fields of the word that have no effect."""
+        return _notes(self._unpacked())
+
+    def source(self) -> str:
+        """Returns Rust code that sets the fields of the word and packs them."""
+        return _text(_library.source, self._halves, size=_SOURCE_SIZE)
+
+    @classmethod
+    def _packed(cls: Type[View], fields: _Fields, settings: Iterable[Union[Edit, str]]) -> View:
+        """Applies settings to fields, and returns a view of the word."""
+        edits = _apply(settings, fields)
+        view = cls(_joined(_library.pack(fields)))
+        is_dropped = fields.digit_separator and view.digit_separator is None
+        if is_dropped and issubclass(cls, Format) and Setter.DIGIT_SEPARATOR in [edit.setter for edit in edits]:
+            raise ValueError("; ".join(note.text for note in _notes(fields) if note.mask >> 64 & 255))
+        return view
+
+    def _unpacked(self) -> _Fields:
+        return cast(_Fields, _library.fields_of(self._halves))
+
+    def __int__(self) -> int:
+        return self._word
+
+    __index__ = __int__
+
+    def __str__(self) -> str:
+        return _text(_library.word_text, self._halves)
+
+    def __format__(self, specification: str) -> str:
+        """Formats the text of the word or, if the specification is one of numbers such as `#x`, the number."""
+        return format(self._word if specification.endswith(tuple("bdoxX")) else str(self), specification)
+
+    def __repr__(self) -> str:
+        name = type(self).__name__
+        if not _library.is_built(self._halves):
+            return f"{name}({self})"
+        return f"{name}.of({', '.join(f'{edit.name}={edit.value!r}' for edit in self.edits())})"
+
+    def __eq__(self, other: object) -> bool:
+        if not isinstance(other, FormatView):
+            return NotImplemented
+        return self._word == other._word
+
+    def __hash__(self) -> int:
+        return hash(self._word)
+
+
+class Format(FormatView):
+    """A view of a lawful word. Raises FormatError if the word is not lawful."""
+
+    __slots__ = ()
+
+    def __init__(self, word: int = STANDARD) -> None:
+        super().__init__(word)
+        if error := self.error():
+            raise FormatError(self.reasons(), FormatView(word), error)
+
+    def check_options(self, exponent: Byte, point: Byte) -> None:
+        """Raises OptionsError with every reason if an exponent character and a decimal point do not fit the format."""
+        if reasons := self.options_reasons(exponent, point):
+            raise OptionsError(reasons)
+
+
+@dataclass(frozen=True)
+class Literal(Generic[AnyStr]):
+    """A text that is a literal of a syntax, and its parts in the order of the text. An absent part is empty. The prefix
+    includes the zero before it, and a part with digits includes digit separators.
+
+    The number of an integer is `int(literal.sign + literal.digits(Part.INTEGER), syntax.format.mantissa_radix)`. If all
+    radixes are 10, that of a float is:
+
+        integer, fraction, exponent = map(literal.digits, Part)
+        float(f"{literal.sign}{integer}.{fraction}e{literal.exponent_sign}{exponent or 0}")
+    """
+
+    syntax: Syntax = field(repr=False)
+    text: AnyStr
+    sign: AnyStr
+    prefix: AnyStr
+    integer: AnyStr
+    point: AnyStr
+    fraction: AnyStr
+    exponent_character: AnyStr
+    exponent_sign: AnyStr
+    exponent: AnyStr
+    suffix: AnyStr
+
+    @property
+    def is_float(self) -> bool:
+        """Whether the literal has a decimal point or an exponent character."""
+        return bool(self.point or self.exponent_character)
+
+    def digits(self, part: Part) -> AnyStr:
+        """Returns the digits of a part without digit separators."""
+        written: AnyStr = getattr(self, _typed("part", part, Part).name.lower())
+        separator = str(self.syntax.format.digit_separator or "")
+        if isinstance(written, bytes):
+            return written.replace(separator.encode(), b"")
+        return written.replace(separator, "")
+
+
+@dataclass(frozen=True)
+class Syntax:
+    """What literals are read by: a format, and an exponent character and a decimal point that fit it. If both are None,
+    literals are integers.
+
+        >>> syntax = Syntax(Format.of(mantissa_radix=16, base_prefix="x", exponent_radix=10), exponent="p")
+        >>> literal = syntax.read("-0x1.8p3")
+        >>> literal.integer, literal.fraction, literal.exponent
+        ('1', '8', '3')
+
+    The format is in normal form, so equivalent formats have the same syntax. Raises OptionsError if the exponent
+    character or the decimal point does not fit the normal form.
+    """
+
+    format: Format
+    exponent: Optional[Byte] = "e"
+    point: Optional[Byte] = "."
+    _numbers: _Syntax = field(init=False, repr=False, compare=False)
+
+    def __post_init__(self) -> None:
+        format, options = _typed("format", self.format, Format).normal_form(), (0, 0)
+        if self.exponent is not None or self.point is not None:
+            options = _byte("exponent", self.exponent), _byte("point", self.point)
+            format.check_options(*options)
+        exponent, point = (chr(it) if it else None for it in options)
+        vars(self).update(format=format, exponent=exponent, point=point, _numbers=_Syntax(format._halves, *options))
+
+    @classmethod
+    def integers(cls, format: Format) -> Syntax:
+        """Returns the syntax of the integers of a format."""
+        return cls(format, None, None)
+
+    @classmethod
+    def of(cls, *settings: Union[Edit, str]) -> Syntax:
+        """Returns the syntax that settings make, such as the lines of a file. Raises SettingsError if there is none.
+
+            Syntax.of("mantissa_radix = 16", "base_prefix = 'x'", "exponent = 'p'")
+
+        A setting has the form that `Edit` takes, and a setting of `exponent` or `point` that of `base_prefix`. If both
+        are `none`, literals are integers. White space around a name or a value is skipped, and so is a setting that is
+        blank or begins with `#`. A number is not in quotes. A setting overrides those before it.
+        """
+        text, made = _lines(settings), _Syntax()
+        if problems := _library.read_settings(text, len(text), made):
+            raise SettingsError(tuple(Reason(*it) for it in islice(_findings(text), problems)))
+        return cls._of_numbers(made)
+
+    @classmethod
+    def notes_of(cls, *settings: Union[Edit, str]) -> Tuple[Note, ...]:
+        """Returns the notes on settings that later ones override, and on those that have no effect, such as a digit
+        separator that no flag allows, which the syntax lacks."""
+        text = _lines(settings)
+        problems = _library.read_settings(text, len(text), _Syntax())
+        return tuple(Note(*it) for it in islice(_findings(text), problems, None))
+
+    @classmethod
+    def _of_numbers(cls, numbers: _Syntax) -> Syntax:
+        return cls(Format(_joined(numbers.format)), numbers.exponent or None, numbers.decimal_point or None)
+
+    def role_of(self, byte: Byte) -> Optional[Role]:
+        """Returns the only role that a byte has in literals, or None."""
+        return self.format.role_of(byte, exponent=self.exponent or 0, point=self.point or 0)
+
+    def read(self, text: AnyStr) -> Literal[AnyStr]:
+        """Returns a text as a literal. Raises LiteralError if it is not one.
+
+        Each index is one of the text: of characters in a `str`, and of bytes in `bytes`.
+        """
+        return self._read(_library.read, text)
+
+    def read_prefix(self, text: AnyStr) -> Tuple[Literal[AnyStr], AnyStr]:
+        """Returns the longest literal that a text begins with, and the rest. Raises LiteralError if there is none.
+
+            >>> literal, rest = Syntax(Format()).read_prefix("1.25.3")
+            >>> literal.text, rest
+            ('1.25', '.3')
+        """
+        literal = self._read(_library.read_prefix, text)
+        return literal, text[len(literal.text) :]
+
+    def _read(self, call: Any, text: AnyStr) -> Literal[AnyStr]:
+        """Calls peltzivar_read or peltzivar_read_prefix."""
+        literal, refused, data, numbers = _Literal(), _ReadError(), _readable(text), self._numbers
+        if error := call(numbers, data, len(data), literal, refused):
+            sentence, index = _text(_library.read_error_text, numbers, data, len(data)), refused.valid_up_to
+            if isinstance(text, str) and data[index : index + 1] == b"\xff":
+                sentence = f"no literal has the character {text[index]!r} here"
+            part = Part(refused.part) if refused.part != _NO_PART else None
+            span, cause, mask = (refused.span.start, refused.span.end), Cause(refused.cause), _joined(refused.mask)
+            raise LiteralError(sentence, text, index, span, cause, part, mask, Error(error))
+        parts = (getattr(literal, name) for name, kind in _Literal._fields_ if kind is _Span)
+        return Literal(self, text[: literal.size], *(text[part.start : part.end] for part in parts))
+
+
+def _readable(text: object) -> bytes:
+    """Returns a text as bytes, up to the first character that is not ASCII, for which it has a byte that is not."""
+    try:
+        return text if isinstance(text, bytes) else _typed("a text", text, str).encode("ascii")
+    except UnicodeEncodeError as error:
+        return error.object[: error.start].encode("ascii") + b"\xff"
+
+
+def _lines(settings: Iterable[Union[Edit, str]]) -> bytes:
+    """Returns settings as the lines of a text."""
+    lines = [_encoded("a setting", str(it) if isinstance(it, Edit) else it).rstrip(b"\r\n") for it in settings]
+    if more := [line for line in lines if b"\n" in line]:
+        raise ValueError(f"a setting is one line: {reprlib.repr(more[0])}")
+    return b"\n".join(lines)
+
+
+def _findings(text: bytes) -> Iterable[Tuple[str, int, Tuple[int, ...]]]:
+    """Returns the text, no mask and the indexes of each problem of settings, and then of each note on them."""
+    for index, sentence in enumerate(_texts(_library.settings_text, text, len(text))):
+        lines = (c_size_t * _FIELD_COUNT)()
+        blamed = _library.settings_lines(text, len(text), index, lines, len(lines))
+        yield sentence, 0, tuple(lines[:blamed])
+
+
+@dataclass(frozen=True)
+class Special:
+    """A special value: its sign, which is `+`, `-` or empty, and its spelling. `float(str(special))` is its number."""
+
+    sign: str
+    spelling: Spelling
+
+    def __str__(self) -> str:
+        return f"{self.sign}{self.spelling}"
+
+
+@dataclass(frozen=True)
+class Specials:
+    """The spellings of NaN and infinity. A spelling that is None or empty matches no text."""
+
+    nan: Optional[str] = None
+    inf: Optional[str] = None
+    infinity: Optional[str] = None
+
+    def read(self, syntax: Syntax, text: Union[str, bytes]) -> Optional[Special]:
+        """Returns the special value that a text is, or None. The flags of the syntax decide which signs, cases of
+        letters and digit separators it may have. A text can also be a literal, such as `inf` in radix 36."""
+        data, special, numbers = _encoded("a text", text), _Special(), _typed("syntax", syntax, Syntax)._numbers
+        spellings = [_encoded("a spelling", "" if it is None else it) for it in (self.nan, self.inf, self.infinity)]
+        if any(b"\0" in it for it in spellings):
+            raise ValueError(f"a spelling has a null character: {self}")
+        if _library.read_special(numbers, _Specials(*spellings), data, len(data), special):
+            return None
+        return Special(chr(special.sign) if special.sign else "", Spelling(special.spelling))
+
+
+class Language(Enum):
+    # Made by make_python.py: languages
+    """How a language, or a file, writes numbers: a syntax, and the spellings of NaN and infinity.
+
+    ADA: Ada's decimal literals (Reference Manual 2012, 2.4.1). A format cannot accept `1.0E-3` but reject `1E-3`.
+
+    C_FLOAT: C's decimal floating constants (C23, Floating constants). A format cannot accept both `1.0f` and `1.0L`.
+
+    C_HEX_FLOAT: C's hexadecimal floating constants (C23, Floating constants): `0x1.8p3` is 1.5 * 2^3. A format cannot
+        accept both `0x1p3f` and `0x1p3L`.
+
+    C_SHARP: C#'s real literals and decimal integers (C# standard, 6.4.5.3 and 6.4.5.4). A format cannot accept `1L`,
+        `1f` and `1m`.
+
+    FORTRAN: Fortran's signed integers and reals (ISO/IEC 1539-1:2018, 7.4.3). A format cannot accept both `1E3` and
+        `1D3`, or a kind as in `1.0_8`.
+
+    GO_HEX_FLOAT: Go's hexadecimal floats (Language Specification, Floating-point literals).
+
+    HASKELL: Haskell's floats and decimal integers (Haskell 2010 Report, 2.5).
+
+    JAVA: Java's floats and decimal integers (Language Specification 21, 3.10.1 and 3.10.2). A format cannot accept
+        `1L`, `1f` and `1d`.
+
+    JAVASCRIPT: JavaScript's decimal literals in strict code (ECMA-262, Numeric Literals). A format cannot accept `1n`
+        but reject `1.5n`.
+
+    JSON: JSON's numbers (RFC 8259, 6. Numbers).
+
+    JULIA: Julia's floats and decimal integers (Manual 1.11, Integers and Floating-Point Numbers). A format cannot
+        accept both `1e3` and `1f3`.
+
+    KOTLIN: Kotlin's real literals and decimal integers (Kotlin language specification 1.9, Literals). A format cannot
+        accept `1L`, `1f` and `1u`.
+
+    NASM_HEX_INTEGER: NASM's hexadecimal integers with a suffix (NASM manual, Numeric Constants). A format cannot
+        accept `0FFh` but reject `FFh`, which is a name.
+
+    OCAML: OCaml's floats and decimal integers (Manual 5.2, 11.1 Lexical conventions). A format cannot accept `1._`,
+        whose fraction has a separator alone, or `1l`, `1L` and `1n`.
+
+    PYTHON: Python's floats and decimal integers (Language Reference 3.12, 2.4.5 and 2.4.6). A format cannot accept
+        `00` and reject `01`.
+
+    PYTHON_HEX_INTEGER: Python's hexadecimal integers (Language Reference 3.12, 2.4.5).
+
+    RUBY: Ruby's floats and decimal integers (ISO/IEC 30170:2012, 8.7.6.2). A format cannot accept `1r` and `1i`.
+
+    RUST_HEX_INTEGER: Rust's hexadecimal integers (Reference, Integer literals). A format cannot accept the suffix in
+        `0x1F_u8`.
+
+    SPREADSHEET_CSV: Numbers in CSV, as spreadsheets write cells of the format `#,##0.00`, in quotes (RFC 4180):
+        `"1,234.50"`. A format cannot require groups of three digits. For `1.234,50` use the separator `.` and the
+        decimal point `,`.
+
+    SQL: SQL's signed numeric literals (ISO/IEC 9075-2:2016, 5.3 `<literal>`).
+
+    SWIFT_HEX_FLOAT: Swift's hexadecimal floats (The Swift Programming Language, Lexical Structure, Floating-Point
+        Literals).
+
+    TOML: TOML's floats and decimal integers (TOML 1.0.0, Integer and Float).
+
+    YAML: YAML's floats and decimal integers (YAML 1.2.2, 10.3.2 Tag Resolution): those of the standard format. A
+        format cannot accept `.inf` and `.INF` but reject `.iNF`, or accept `-.inf` but reject `-.nan`.
+    """
+
+    ADA = "ADA"
+    C_FLOAT = "C_FLOAT"
+    C_HEX_FLOAT = "C_HEX_FLOAT"
+    C_SHARP = "C_SHARP"
+    FORTRAN = "FORTRAN"
+    GO_HEX_FLOAT = "GO_HEX_FLOAT"
+    HASKELL = "HASKELL"
+    JAVA = "JAVA"
+    JAVASCRIPT = "JAVASCRIPT"
+    JSON = "JSON"
+    JULIA = "JULIA"
+    KOTLIN = "KOTLIN"
+    NASM_HEX_INTEGER = "NASM_HEX_INTEGER"
+    OCAML = "OCAML"
+    PYTHON = "PYTHON"
+    PYTHON_HEX_INTEGER = "PYTHON_HEX_INTEGER"
+    RUBY = "RUBY"
+    RUST_HEX_INTEGER = "RUST_HEX_INTEGER"
+    SPREADSHEET_CSV = "SPREADSHEET_CSV"
+    SQL = "SQL"
+    SWIFT_HEX_FLOAT = "SWIFT_HEX_FLOAT"
+    TOML = "TOML"
+    YAML = "YAML"
+
+    def __str__(self) -> str:
+        return self.name
+    # End
+
+    @functools.cached_property
+    def _definition(self) -> Tuple[Syntax, Specials]:
+        syntax, specials = _Syntax(), _Specials()
+        _library.language(self.name.encode(), len(self.name), syntax, specials)
+        spellings = (getattr(specials, it) for it, _ in _Specials._fields_)
+        return Syntax._of_numbers(syntax), Specials(*(it and it.decode() for it in spellings))
+
+    @property
+    def syntax(self) -> Syntax:
+        """The syntax of literals."""
+        return self._definition[0]
+
+    @property
+    def specials(self) -> Specials:
+        """The spellings of NaN and infinity. A language in which they are names, or do not exist, has none."""
+        return self._definition[1]
+
+    def read(self, text: AnyStr) -> Union[Literal[AnyStr], Special]:
+        """Returns the number that a text is: a literal or a special value. Raises LiteralError if it is neither."""
+        try:
+            return self.syntax.read(text)
+        except LiteralError:
+            if special := self.specials.read(self.syntax, text):
+                return special
+            raise
+
+
+languages = Language
+
+
+@_takes_fields
+def notes_of(
+    *settings: Union[Edit, str],
+    # Made by make_python.py: parameters
+    required_integer_digits: bool = _KEPT,
+    required_fraction_digits: bool = _KEPT,
+    required_exponent_digits: bool = _KEPT,
+    required_mantissa_digits: bool = _KEPT,
+    no_positive_mantissa_sign: bool = _KEPT,
+    required_mantissa_sign: bool = _KEPT,
+    no_exponent_notation: bool = _KEPT,
+    no_positive_exponent_sign: bool = _KEPT,
+    required_exponent_sign: bool = _KEPT,
+    no_exponent_without_fraction: bool = _KEPT,
+    no_special: bool = _KEPT,
+    case_sensitive_special: bool = _KEPT,
+    no_integer_leading_zeros: bool = _KEPT,
+    no_float_leading_zeros: bool = _KEPT,
+    required_exponent_notation: bool = _KEPT,
+    case_sensitive_exponent: bool = _KEPT,
+    case_sensitive_base_prefix: bool = _KEPT,
+    case_sensitive_base_suffix: bool = _KEPT,
+    integer_internal_digit_separator: bool = _KEPT,
+    fraction_internal_digit_separator: bool = _KEPT,
+    exponent_internal_digit_separator: bool = _KEPT,
+    integer_leading_digit_separator: bool = _KEPT,
+    fraction_leading_digit_separator: bool = _KEPT,
+    exponent_leading_digit_separator: bool = _KEPT,
+    integer_trailing_digit_separator: bool = _KEPT,
+    fraction_trailing_digit_separator: bool = _KEPT,
+    exponent_trailing_digit_separator: bool = _KEPT,
+    integer_consecutive_digit_separator: bool = _KEPT,
+    fraction_consecutive_digit_separator: bool = _KEPT,
+    exponent_consecutive_digit_separator: bool = _KEPT,
+    special_digit_separator: bool = _KEPT,
+    digit_separator: Optional[Byte] = _KEPT,
+    base_prefix: Optional[Byte] = _KEPT,
+    base_suffix: Optional[Byte] = _KEPT,
+    mantissa_radix: int = _KEPT,
+    exponent_base: Optional[int] = _KEPT,
+    exponent_radix: Optional[int] = _KEPT,
+    required_digits: bool = _KEPT,
+    internal_digit_separator: bool = _KEPT,
+    leading_digit_separator: bool = _KEPT,
+    trailing_digit_separator: bool = _KEPT,
+    consecutive_digit_separator: bool = _KEPT,
+    digit_separator_flags: bool = _KEPT,
+    integer_digit_separator_flags: bool = _KEPT,
+    fraction_digit_separator_flags: bool = _KEPT,
+    exponent_digit_separator_flags: bool = _KEPT,
+    radix: int = _KEPT,
+    # End
+) -> Tuple[Note, ...]:
+    """Returns the notes on the fields that settings write, also on a digit separator that `FormatView.of` drops."""
+    fields = _Fields(*_NEW_FIELDS)
+    _apply(settings, fields)
+    return _notes(fields)
+
+
+def _notes(fields: _Fields) -> Tuple[Note, ...]:
+    """Returns the notes on fields."""
+    texts = enumerate(_texts(_library.note_text, fields))
+    return tuple(Note(text, _joined(_library.note_mask(fields, index))) for index, text in texts)
+
+
+def _apply(settings: Iterable[Union[Edit, str]], fields: _Fields) -> List[Edit]:
+    """Applies settings to fields, and returns their edits."""
+    edits = [it if isinstance(it, Edit) else Edit(it) for it in settings]
+    _library.edit_fields(fields, (_Edit * len(edits))(*(edit._numbers() for edit in edits)), len(edits))
+    return edits

@@ -1,0 +1,61 @@
+"""Builds the package: its library with cargo, for each Python 3, and a source distribution with cargo's workspace."""
+import ast
+import json
+import os
+import shutil
+import subprocess
+import sys
+from pathlib import Path
+
+from setuptools import Extension, setup
+from setuptools.command.build_ext import build_ext
+from setuptools.command.sdist import sdist
+
+try:
+    from setuptools.command.bdist_wheel import bdist_wheel
+except ImportError:
+    from wheel.bdist_wheel import bdist_wheel
+
+HERE = Path(__file__).resolve().parent
+# A source distribution has a copy of the workspace. In the repository, it is the folder above.
+WORKSPACE = next(it for it in (HERE / "workspace", HERE.parent) if (it / "Cargo.lock").exists())
+LIBRARY = "libpeltzivar_c.so"
+# The files of a wheel have this time, the first that a ZIP file can have, so that the same sources give the same wheel.
+os.environ.setdefault("SOURCE_DATE_EPOCH", "315532800")
+
+
+class BuildLibrary(build_ext):
+    def get_ext_filename(self, fullname):
+        return os.path.join(*fullname.split(".")[:-1], LIBRARY)
+
+    def build_extension(self, ext):
+        if not shutil.which("cargo"):
+            sys.exit("cargo is not found: install Rust 1.85 or later")
+        remap = f"target.'cfg(all())'.rustflags = ['--remap-path-prefix={WORKSPACE}=peltzivar']"
+        command = ["cargo", "build", "--release", "--locked", "--package=peltzivar-capi", "--message-format=json"]
+        ran = subprocess.run([*command, "--config", remap], cwd=WORKSPACE, check=True, stdout=subprocess.PIPE)
+        built = [it for line in ran.stdout.splitlines() for it in json.loads(line).get("filenames", ())]
+        path = Path(self.get_ext_fullpath(ext.name))
+        path.parent.mkdir(parents=True, exist_ok=True)
+        shutil.copy(next(it for it in built if it.endswith(LIBRARY)), path)
+
+
+class Wheel(bdist_wheel):
+    def get_tag(self):
+        return "py3", "none", super().get_tag()[2]
+
+
+class SourceDistribution(sdist):
+    def make_release_tree(self, base_dir, files):
+        super().make_release_tree(base_dir, files)
+        shutil.copytree(WORKSPACE / "rust", Path(base_dir, "workspace/rust"), ignore=shutil.ignore_patterns("target"))
+        for name in ("Cargo.toml", "Cargo.lock"):
+            shutil.copy(WORKSPACE / name, Path(base_dir, "workspace"))
+
+
+setup(
+    long_description=ast.get_docstring(ast.parse((HERE / "peltzivar/__init__.py").read_text(encoding="utf8"))),
+    long_description_content_type="text/plain",
+    ext_modules=[Extension("peltzivar.library", [])],
+    cmdclass={"build_ext": BuildLibrary, "bdist_wheel": Wheel, "sdist": SourceDistribution},
+)

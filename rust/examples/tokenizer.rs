@@ -1,0 +1,60 @@
+//! Prints the tokens of a line of a small language, each with its span: names, operators, and numbers such as `1_000`,
+//! `1.5e-3` and `0xFF`. If a number is refused, prints the span to blame and the reason, and ends with status 1.
+//!
+//!     cargo run --example tokenizer -- 'x1 = 0xFF + 1_000'
+
+use core::num::NonZeroU8;
+use peltzivar::literal::{ReadError, Reader, Syntax};
+use peltzivar::NumberFormatBuilder;
+
+const PLAIN: NumberFormatBuilder = NumberFormatBuilder::new()
+    .required_digits(true)
+    .no_integer_leading_zeros(true)
+    .no_float_leading_zeros(true)
+    .digit_separator(NonZeroU8::new(b'_'))
+    .internal_digit_separator(true);
+const SYNTAX: Syntax = Syntax::new_or_panic(PLAIN.build_format_or_panic(), b'e', b'.');
+const PREFIXED: NumberFormatBuilder = PLAIN.mantissa_radix(16).base_prefix(NonZeroU8::new(b'x'));
+
+static DECIMAL: Reader = Reader::new(SYNTAX);
+static HEXADECIMAL: Reader = Reader::new(Syntax::integers(PREFIXED.build_format_or_panic()));
+
+/// Returns the length of the number that `text` begins with. Letters, digits, `_` and `.` behind a number belong to it.
+fn number(reader: &Reader, text: &[u8]) -> Result<usize, ReadError> {
+    let (literal, rest) = reader.read_prefix(text)?;
+    let is_end = |it: &u8| it.is_ascii() && !it.is_ascii_alphanumeric() && !b"_.".contains(it);
+    let more = rest.iter().position(is_end).unwrap_or(rest.len());
+    let all = &text[..literal.as_bytes().len() + more];
+    reader.read(all).map(|_| all.len())
+}
+
+/// Returns the kind and the length of the token that `text` begins with.
+fn token(text: &str) -> Result<(&str, usize), ReadError> {
+    let name = text.find(|it: char| !it.is_alphanumeric() && it != '_');
+    match text.as_bytes() {
+        text @ [b'0', b'x', ..] => number(&HEXADECIMAL, text).map(|size| ("integer", size)),
+        text @ [b'0'..=b'9', ..] => number(&DECIMAL, text).map(|size| ("number", size)),
+        _ if name == Some(0) => Ok(("operator", text.chars().map(char::len_utf8).next().unwrap())),
+        _ => Ok(("name", name.unwrap_or(text.len()))),
+    }
+}
+
+fn main() {
+    let line = std::env::args().nth(1).unwrap_or_default();
+    let mut start = 0;
+    while let Some(skipped) = line[start..].find(|it: char| !it.is_whitespace()) {
+        start += skipped;
+        match token(&line[start..]) {
+            Ok((kind, size)) => {
+                let end = start + size;
+                println!("{start}..{end}: {kind} {}", &line[start..end]);
+                start = end;
+            }
+            Err(error) => {
+                let (first, end) = (start + error.span().start, start + error.span().end);
+                println!("{first}..{end}: {error}");
+                std::process::exit(1);
+            }
+        }
+    }
+}

@@ -1,0 +1,403 @@
+//! Languages as constants, which are written by hand. The comment of a setter has a text that is accepted or rejected
+//! because of the setter.
+
+use crate::literal::{Literal, ReadError, Reader, Special, Specials, Syntax};
+use crate::NumberFormatBuilder;
+use core::{fmt, hash, num::NonZeroU8};
+
+/// How a language, or a file, writes numbers: a [`Syntax`], and the spellings of NaN and infinity. Its [`Reader`] is a
+/// constant, so no tables are made at run time.
+///
+/// The documentation of each language names the section of the grammar that it follows, and what a format cannot
+/// express. No format rejects `-`, and no format requires its base prefix or suffix. A language whose name ends in
+/// `HEX_INTEGER` has integers alone. To copy a format, print its setter calls with [`source`][crate::source].
+///
+/// ```
+/// use peltzivar::literal::{Language, Number};
+///
+/// let Ok(Number::Literal(literal)) = Language::TOML.read(b"1_000.5") else { unreachable!() };
+/// assert_eq!((literal.integer(), literal.fraction()), (&b"1_000"[..], &b"5"[..]));
+/// assert!(matches!(Language::TOML.read(b"-inf"), Ok(Number::Special(_))));
+///
+/// let error = Language::TOML.read(b"1_000.").unwrap_err();
+/// assert_eq!(error.to_string(), "expected a digit after the decimal point, which required_fraction_digits requires");
+/// ```
+#[derive(Clone, Copy)]
+pub struct Language(&'static Definition);
+
+/// What a language consists of.
+struct Definition {
+    name: &'static str,
+    syntax: Syntax,
+    reader: fn() -> &'static Reader,
+    specials: Specials<'static>,
+}
+
+/// A number of a language.
+#[derive(Debug, Clone, Copy, PartialEq, Eq, Hash)]
+#[allow(clippy::exhaustive_enums, reason = "numbers are of two kinds")]
+pub enum Number<'a> {
+    /// A literal.
+    Literal(Literal<'a>),
+    /// NaN or infinity.
+    Special(Special),
+}
+
+impl Language {
+    /// Returns the name of the constant, such as `C_HEX_FLOAT`.
+    #[must_use]
+    pub const fn name(&self) -> &'static str {
+        self.0.name
+    }
+
+    /// Returns the syntax of literals, which has the format.
+    #[must_use]
+    pub const fn syntax(&self) -> Syntax {
+        self.0.syntax
+    }
+
+    /// Returns the reader of literals, for which NaN and infinity are not numbers.
+    #[must_use]
+    pub fn reader(&self) -> &'static Reader {
+        (self.0.reader)()
+    }
+
+    /// Returns the spellings of NaN and infinity. A language in which they are names, or do not exist, has none.
+    #[must_use]
+    pub const fn specials(&self) -> Specials<'static> {
+        self.0.specials
+    }
+
+    /// Returns the number that `text` is.
+    ///
+    /// # Errors
+    ///
+    /// If `text` is neither a literal nor a special value, returns why it is not a literal.
+    pub fn read<'a>(&self, text: &'a [u8]) -> Result<Number<'a>, ReadError> {
+        match self.reader().read(text) {
+            Ok(literal) => Ok(Number::Literal(literal)),
+            Err(error) => match self.0.specials.read(&self.0.syntax, text) {
+                Some(special) => Ok(Number::Special(special)),
+                None => Err(error),
+            },
+        }
+    }
+}
+
+/// Languages are equal if they have the same name.
+impl PartialEq for Language {
+    fn eq(&self, other: &Self) -> bool {
+        self.name() == other.name()
+    }
+}
+
+impl Eq for Language {}
+
+impl hash::Hash for Language {
+    fn hash<H: hash::Hasher>(&self, state: &mut H) {
+        self.name().hash(state);
+    }
+}
+
+/// Prints the name.
+impl fmt::Display for Language {
+    fn fmt(&self, f: &mut fmt::Formatter<'_>) -> fmt::Result {
+        f.pad(self.name())
+    }
+}
+
+/// Prints the name.
+impl fmt::Debug for Language {
+    fn fmt(&self, f: &mut fmt::Formatter<'_>) -> fmt::Result {
+        f.pad(self.name())
+    }
+}
+
+/// Returns the syntax of numbers with an exponent character and the decimal point `.`.
+const fn numbers(exponent: u8, builder: NumberFormatBuilder) -> Syntax {
+    Syntax::new_or_panic(builder.build_format_or_panic(), exponent, b'.')
+}
+
+/// Returns the syntax of integers alone.
+const fn integers(builder: NumberFormatBuilder) -> Syntax {
+    Syntax::integers(builder.build_format_or_panic())
+}
+
+/// No special values.
+const NONE: Specials = Specials {
+    nan: None,
+    inf: None,
+    infinity: None,
+};
+
+/// A type for each language, which has its syntax.
+trait Grammar {
+    const SYNTAX: Syntax;
+}
+
+/// Returns the reader of a language. It is generic, so that the compiler makes the tables of those languages alone that a
+/// program reads.
+fn reader<T: Grammar>() -> &'static Reader {
+    const { &Reader::new(T::SYNTAX) }
+}
+
+/// Defines the constants: the documentation, the name, the syntax and the special values of each.
+macro_rules! languages {
+    ($($(#[$about:meta])+ $name:ident = $syntax:expr, $specials:expr;)+) => {
+        impl Language {
+            /// All languages, in alphabetical order.
+            pub const ALL: &'static [Language] = &[$(Language::$name),+];
+
+            $($(#[$about])+
+            pub const $name: Language = {
+                enum It {}
+                impl Grammar for It {
+                    const SYNTAX: Syntax = $syntax;
+                }
+                Language(&Definition {
+                    name: stringify!($name),
+                    syntax: It::SYNTAX,
+                    reader: reader::<It>,
+                    specials: $specials,
+                })
+            };)+
+        }
+    };
+}
+
+languages! {
+    /// Ada's decimal literals (Reference Manual 2012, 2.4.1). A format cannot accept `1.0E-3` but reject `1E-3`.
+    ADA = numbers(b'e', NumberFormatBuilder::new()
+        .required_digits(true) // rejects `.5`, `1.`, `1e` and `.`
+        .no_positive_mantissa_sign(true) // rejects `+1`, in which `+` is an operator
+        .no_special(true) // rejects `NaN` and `inf`, which are names
+        .digit_separator(NonZeroU8::new(b'_')) // the byte, which the flags below allow
+        .internal_digit_separator(true) // accepts `1_0.0_1E1_0`, not `1__0`, `_1` or `1_`
+    ), NONE;
+
+    /// C's decimal floating constants (C23, Floating constants). A format cannot accept both `1.0f` and `1.0L`.
+    C_FLOAT = numbers(b'e', NumberFormatBuilder::new()
+        .no_positive_mantissa_sign(true) // rejects `+1.0`, in which `+` is an operator
+        .no_special(true) // rejects `NAN` and `INFINITY`, which are macros
+        .digit_separator(NonZeroU8::new(b'\'')) // the byte; leave out these two lines for C17
+        .internal_digit_separator(true) // accepts `1'000.5`
+    ), NONE;
+
+    /// C's hexadecimal floating constants (C23, Floating constants): `0x1.8p3` is 1.5 × 2^3. A format cannot accept both
+    /// `0x1p3f` and `0x1p3L`.
+    C_HEX_FLOAT = numbers(b'p', NumberFormatBuilder::new()
+        .mantissa_radix(16) // the digits before and after the point
+        .exponent_base(NonZeroU8::new(2)) // `p3` means 2^3
+        .exponent_radix(NonZeroU8::new(10)) // the digits after `p` are decimal
+        .base_prefix(NonZeroU8::new(b'x')) // accepts `0x1p3` and `0X1p3`
+        .required_exponent_notation(true) // rejects `0x1.8`
+        .no_positive_mantissa_sign(true) // rejects `+0x1p3`
+        .no_special(true) // rejects `NAN` and `INFINITY`
+        .digit_separator(NonZeroU8::new(b'\'')) // the byte; leave out these two lines for C17
+        .internal_digit_separator(true) // accepts `0x1'000p3`
+    ), NONE;
+
+    /// C#'s real literals and decimal integers (C# standard, 6.4.5.3 and 6.4.5.4). A format cannot accept `1L`, `1f` and
+    /// `1m`.
+    C_SHARP = numbers(b'e', NumberFormatBuilder::new()
+        .required_fraction_digits(true) // rejects `1.`, not `.5`
+        .no_positive_mantissa_sign(true) // rejects `+1`, in which `+` is an operator
+        .no_special(true) // rejects `NaN`, which is a name
+        .digit_separator(NonZeroU8::new(b'_')) // the byte, which the flags below allow
+        .internal_digit_separator(true) // accepts `1_0.0_1e1_0`, not `_1` or `1_`
+        .consecutive_digit_separator(true) // accepts `1__0`
+    ), NONE;
+
+    /// Fortran's signed integers and reals (ISO/IEC 1539-1:2018, 7.4.3). A format cannot accept both `1E3` and `1D3`,
+    /// or a kind as in `1.0_8`.
+    FORTRAN = numbers(b'e', NumberFormatBuilder::new()
+        .no_special(true) // rejects `NaN` and `inf`
+    ), NONE;
+
+    /// Go's hexadecimal floats (Language Specification, Floating-point literals).
+    GO_HEX_FLOAT = numbers(b'p', NumberFormatBuilder::new()
+        .mantissa_radix(16) // the digits before and after the point
+        .exponent_base(NonZeroU8::new(2)) // `p3` means 2^3
+        .exponent_radix(NonZeroU8::new(10)) // the digits after `p` are decimal
+        .base_prefix(NonZeroU8::new(b'x')) // accepts `0x1p3` and `0X1p3`
+        .required_exponent_notation(true) // rejects `0x1.8`
+        .no_positive_mantissa_sign(true) // rejects `+0x1p3`
+        .no_special(true) // rejects `NaN` and `Inf`, which are names
+        .digit_separator(NonZeroU8::new(b'_')) // the byte, which the flags below allow
+        .internal_digit_separator(true) // accepts `0x1_0.0_8p1_0`, not `0x1__0p0` or `0x1_p0`
+        .integer_leading_digit_separator(true) // accepts `0x_1p0`
+    ), NONE;
+
+    /// Haskell's floats and decimal integers (Haskell 2010 Report, 2.5).
+    HASKELL = numbers(b'e', NumberFormatBuilder::new()
+        .required_digits(true) // rejects `.5`, `1.`, `1e` and `.`
+        .no_positive_mantissa_sign(true) // rejects `+1`, in which `+` is an operator
+        .no_special(true) // rejects `NaN` and `inf`
+    ), NONE;
+
+    /// Java's floats and decimal integers (Language Specification 21, 3.10.1 and 3.10.2). A format cannot accept
+    /// `1L`, `1f` and `1d`.
+    JAVA = numbers(b'e', NumberFormatBuilder::new()
+        .no_positive_mantissa_sign(true) // rejects `+1`, in which `+` is an operator
+        .no_integer_leading_zeros(true) // rejects `01`, which is octal, not `01.0`
+        .no_special(true) // rejects `NaN`, which is a name
+        .digit_separator(NonZeroU8::new(b'_')) // the byte, which the flags below allow
+        .internal_digit_separator(true) // accepts `1_0.0_1e1_0`, not `_1` or `1_`
+        .consecutive_digit_separator(true) // accepts `1__0`
+    ), NONE;
+
+    /// JavaScript's decimal literals in strict code (ECMA-262, Numeric Literals). A format cannot accept `1n` but reject
+    /// `1.5n`.
+    JAVASCRIPT = numbers(b'e', NumberFormatBuilder::new()
+        .no_positive_mantissa_sign(true) // rejects `+1`, in which `+` is an operator
+        .no_integer_leading_zeros(true) // rejects `01`
+        .no_float_leading_zeros(true) // rejects `01.0`
+        .no_special(true) // rejects `NaN` and `Infinity`, which are names
+        .digit_separator(NonZeroU8::new(b'_')) // the byte, which the flags below allow
+        .internal_digit_separator(true) // accepts `1_0.0_1e1_0`, not `1__0`, `_1` or `1_`
+    ), NONE;
+
+    /// JSON's numbers (RFC 8259, 6. Numbers).
+    JSON = numbers(b'e', NumberFormatBuilder::new()
+        .required_digits(true) // rejects `.5`, `1.`, `1e` and `.`
+        .no_positive_mantissa_sign(true) // rejects `+1`
+        .no_integer_leading_zeros(true) // rejects `01`
+        .no_float_leading_zeros(true) // rejects `01.0`
+        .no_special(true) // rejects `NaN` and `inf`
+    ), NONE;
+
+    /// Julia's floats and decimal integers (Manual 1.11, Integers and Floating-Point Numbers). A format cannot accept
+    /// both `1e3` and `1f3`.
+    JULIA = numbers(b'e', NumberFormatBuilder::new()
+        .no_positive_mantissa_sign(true) // rejects `+1`, in which `+` is an operator
+        .no_special(true) // rejects `NaN` and `Inf`, which are names
+        .digit_separator(NonZeroU8::new(b'_')) // the byte, which the flags below allow
+        .integer_internal_digit_separator(true) // accepts `1_000`, not `1__0`, `_1` or `1_`
+        .fraction_internal_digit_separator(true) // accepts `0.000_1`, and no separator in an exponent
+    ), NONE;
+
+    /// Kotlin's real literals and decimal integers (Kotlin language specification 1.9, Literals). A format cannot accept
+    /// `1L`, `1f` and `1u`.
+    KOTLIN = numbers(b'e', NumberFormatBuilder::new()
+        .required_fraction_digits(true) // rejects `1.`, not `.5`
+        .no_positive_mantissa_sign(true) // rejects `+1`, in which `+` is an operator
+        .no_integer_leading_zeros(true) // rejects `01`, not `01.0`
+        .no_special(true) // rejects `NaN`, which is a name
+        .digit_separator(NonZeroU8::new(b'_')) // the byte, which the flags below allow
+        .internal_digit_separator(true) // accepts `1_0.0_1e1_0`, not `_1` or `1_`
+        .consecutive_digit_separator(true) // accepts `1__0`
+    ), NONE;
+
+    /// NASM's hexadecimal integers with a suffix (NASM manual, Numeric Constants). A format cannot accept `0FFh` but
+    /// reject `FFh`, which is a name.
+    NASM_HEX_INTEGER = integers(NumberFormatBuilder::new()
+        .mantissa_radix(16) // digits 0-9, a-f and A-F
+        .base_suffix(NonZeroU8::new(b'h')) // accepts `0C8h` and `0C8H`
+        .no_positive_mantissa_sign(true) // rejects `+1h`, in which `+` is an operator
+        .digit_separator(NonZeroU8::new(b'_')) // the byte, which the flag below allows
+        .integer_internal_digit_separator(true) // accepts `0C8_00h`
+    ), NONE;
+
+    /// OCaml's floats and decimal integers (Manual 5.2, 11.1 Lexical conventions). A format cannot accept `1._`, whose
+    /// fraction has a separator alone, or `1l`, `1L` and `1n`.
+    OCAML = numbers(b'e', NumberFormatBuilder::new()
+        .required_integer_digits(true) // rejects `.5`, not `1.`
+        .no_positive_mantissa_sign(true) // rejects `+1`
+        .no_special(true) // rejects `nan` and `infinity`, which are names
+        .digit_separator(NonZeroU8::new(b'_')) // the byte, which the flags below allow
+        .internal_digit_separator(true) // accepts `1_0.0_1e1_0`
+        .fraction_leading_digit_separator(true) // accepts `1._5`, not `_1` or `1e_5`
+        .trailing_digit_separator(true) // accepts `1_.5_e5_`
+        .consecutive_digit_separator(true) // accepts `1__0`
+    ), NONE;
+
+    /// Python's floats and decimal integers (Language Reference 3.12, 2.4.5 and 2.4.6). A format cannot accept `00` and
+    /// reject `01`.
+    PYTHON = numbers(b'e', NumberFormatBuilder::new()
+        .no_positive_mantissa_sign(true) // rejects `+1`, in which `+` is an operator
+        .no_integer_leading_zeros(true) // rejects `01`, not `01.0`
+        .no_special(true) // rejects `nan` and `inf`, which are names
+        .digit_separator(NonZeroU8::new(b'_')) // the byte, which the flags below allow
+        .internal_digit_separator(true) // accepts `1_0.0_1e1_0`, not `1__0`, `_1` or `1_`
+    ), NONE;
+
+    /// Python's hexadecimal integers (Language Reference 3.12, 2.4.5).
+    PYTHON_HEX_INTEGER = integers(NumberFormatBuilder::new()
+        .mantissa_radix(16) // digits 0-9, a-f and A-F
+        .base_prefix(NonZeroU8::new(b'x')) // accepts `0x1F` and `0X1F`
+        .no_positive_mantissa_sign(true) // rejects `+0x1F`
+        .digit_separator(NonZeroU8::new(b'_')) // the byte, which the flags below allow
+        .integer_internal_digit_separator(true) // accepts `0x1_F`, not `0x1__F` or `0x1F_`
+        .integer_leading_digit_separator(true) // accepts `0x_1F`
+    ), NONE;
+
+    /// Ruby's floats and decimal integers (ISO/IEC 30170:2012, 8.7.6.2). A format cannot accept `1r` and `1i`.
+    RUBY = numbers(b'e', NumberFormatBuilder::new()
+        .required_digits(true) // rejects `.5`, `1.`, `1e` and `.`
+        .no_integer_leading_zeros(true) // rejects `01`, which is octal
+        .no_float_leading_zeros(true) // rejects `01.0`
+        .no_special(true) // rejects `NaN`, which is a name
+        .digit_separator(NonZeroU8::new(b'_')) // the byte, which the flags below allow
+        .internal_digit_separator(true) // accepts `1_0.0_1e1_0`, not `1__0`, `_1` or `1_`
+    ), NONE;
+
+    /// Rust's hexadecimal integers (Reference, Integer literals). A format cannot accept the suffix in `0x1F_u8`.
+    RUST_HEX_INTEGER = integers(NumberFormatBuilder::new()
+        .mantissa_radix(16) // digits 0-9, a-f and A-F
+        .base_prefix(NonZeroU8::new(b'x')) // accepts `0x1F`
+        .case_sensitive_base_prefix(true) // rejects `0X1F`
+        .digit_separator(NonZeroU8::new(b'_')) // the byte, which the flags below allow
+        .integer_digit_separator_flags(true) // accepts `0x1_F`, `0x_1F`, `0x1F_` and `0x1__F`
+        .no_positive_mantissa_sign(true) // rejects `+0x1F`
+    ), NONE;
+
+    /// Numbers in CSV, as spreadsheets write cells of the format `#,##0.00`, in quotes (RFC 4180): `"1,234.50"`. A format
+    /// cannot require groups of three digits. For `1.234,50` use the separator `.` and the decimal point `,`.
+    SPREADSHEET_CSV = numbers(b'e', NumberFormatBuilder::new()
+        .required_digits(true) // rejects `.50`, `1.` and `.`
+        .no_positive_mantissa_sign(true) // rejects `+1.00`
+        .no_exponent_notation(true) // rejects `1.5e3`
+        .no_integer_leading_zeros(true) // rejects `01`
+        .no_float_leading_zeros(true) // rejects `01.00`
+        .no_special(true) // rejects `NaN` and `inf`
+        .digit_separator(NonZeroU8::new(b',')) // the byte, which the flag below allows
+        .integer_internal_digit_separator(true) // accepts `1,234.50`, not `0.123,4`
+    ), NONE;
+
+    /// SQL's signed numeric literals (ISO/IEC 9075-2:2016, 5.3 `<literal>`).
+    SQL = numbers(b'e', NumberFormatBuilder::new()
+        .no_special(true) // rejects `NaN` and `inf`
+    ), NONE;
+
+    /// Swift's hexadecimal floats (The Swift Programming Language, Lexical Structure, Floating-Point Literals).
+    SWIFT_HEX_FLOAT = numbers(b'p', NumberFormatBuilder::new()
+        .mantissa_radix(16) // the digits before and after the point
+        .exponent_base(NonZeroU8::new(2)) // `p3` means 2^3
+        .exponent_radix(NonZeroU8::new(10)) // the digits after `p` are decimal
+        .base_prefix(NonZeroU8::new(b'x')) // accepts `0x1p3`
+        .case_sensitive_base_prefix(true) // rejects `0X1p3`
+        .required_digits(true) // rejects `0x.8p3`, `0x1.p3` and `0x1p`
+        .required_exponent_notation(true) // rejects `0x1.8`
+        .no_positive_mantissa_sign(true) // rejects `+0x1p3`
+        .no_special(true) // rejects `nan` and `inf`, which are names
+        .digit_separator(NonZeroU8::new(b'_')) // the byte, which the flags below allow
+        .internal_digit_separator(true) // accepts `0x1_0.0_8p1_0`, not `0x_1p0`
+        .trailing_digit_separator(true) // accepts `0x1_.8_p3_`
+        .consecutive_digit_separator(true) // accepts `0x1__0p3`
+    ), NONE;
+
+    /// TOML's floats and decimal integers (TOML 1.0.0, Integer and Float).
+    TOML = numbers(b'e', NumberFormatBuilder::new()
+        .required_digits(true) // rejects `.5`, `1.`, `1e` and `.`
+        .no_integer_leading_zeros(true) // rejects `01`
+        .no_float_leading_zeros(true) // rejects `01.0`
+        .case_sensitive_special(true) // rejects `NaN` and `Inf`, not `nan` and `inf`
+        .digit_separator(NonZeroU8::new(b'_')) // the byte, which the flags below allow
+        .internal_digit_separator(true) // accepts `1_0.0_1e1_0`, not `1__0`, `_1` or `1_`
+    ), Specials { nan: Some(b"nan"), inf: Some(b"inf"), infinity: None };
+
+    /// YAML's floats and decimal integers (YAML 1.2.2, 10.3.2 Tag Resolution): those of the standard format. A format
+    /// cannot accept `.inf` and `.INF` but reject `.iNF`, or accept `-.inf` but reject `-.nan`.
+    YAML = numbers(b'e', NumberFormatBuilder::new()),
+        Specials { nan: Some(b".nan"), inf: Some(b".inf"), infinity: None };
+}

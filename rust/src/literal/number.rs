@@ -1,0 +1,298 @@
+//! Literals that were read, with their parts and digits, which are written by hand.
+
+use core::{fmt, iter::FusedIterator, slice};
+
+use crate::digit::char_to_valid_digit_const;
+use crate::format_flags::Part;
+use crate::literal::read::{Front, Parts};
+use crate::literal::syntax::Grammar;
+use crate::literal::{ReadError, Reader, Syntax};
+use crate::view::FormatView;
+
+impl Syntax {
+    /// Returns `text` as a literal. For many texts, a [`Reader`] takes less time.
+    ///
+    /// # Errors
+    ///
+    /// If `text` is not a literal, returns why, and how far it is right.
+    pub const fn read<'a>(&self, text: &'a [u8]) -> Result<Literal<'a>, ReadError> {
+        literal(self.grammar(), text, self.read_parts(text))
+    }
+
+    /// Returns the longest literal that `text` begins with, and the rest of `text`, which may be anything. No byte
+    /// behind the first that no literal can have is looked at.
+    ///
+    /// # Errors
+    ///
+    /// If `text` does not begin with a literal, returns the error of [`read`][Self::read].
+    ///
+    /// ```
+    /// use peltzivar::{literal::Syntax, Format};
+    ///
+    /// let syntax = Syntax::new_or_panic(Format::default(), b'e', b'.');
+    /// let mut rest = &b"1.5-3e2+.25"[..];
+    /// while !rest.is_empty() {
+    ///     let (literal, after) = syntax.read_prefix(rest)?;
+    ///     println!("{}", literal.as_bytes().escape_ascii()); // 1.5, then -3e2, then +.25
+    ///     rest = after;
+    /// }
+    /// # Ok::<(), peltzivar::literal::ReadError>(())
+    /// ```
+    pub const fn read_prefix<'a>(
+        &self,
+        text: &'a [u8],
+    ) -> Result<(Literal<'a>, &'a [u8]), ReadError> {
+        front(self.grammar(), text, self.read_front(text))
+    }
+
+    /// Returns the exponent character, or `None` if literals are integers.
+    #[must_use]
+    pub const fn exponent(&self) -> Option<u8> {
+        match self.options() {
+            Some(options) => Some(options.exponent),
+            None => None,
+        }
+    }
+
+    /// Returns the decimal point, or `None` if literals are integers.
+    #[must_use]
+    pub const fn point(&self) -> Option<u8> {
+        match self.options() {
+            Some(options) => Some(options.point),
+            None => None,
+        }
+    }
+}
+
+impl Reader {
+    /// Returns `text` as a literal, as [`Syntax::read`] does.
+    ///
+    /// # Errors
+    ///
+    /// If `text` is not a literal, returns why, and how far it is right.
+    pub const fn read<'a>(&self, text: &'a [u8]) -> Result<Literal<'a>, ReadError> {
+        literal(self.grammar, text, self.read_parts(text))
+    }
+
+    /// Returns the longest literal that `text` begins with, and the rest of `text`, as [`Syntax::read_prefix`] does.
+    ///
+    /// # Errors
+    ///
+    /// If `text` does not begin with a literal, returns the error of [`read`][Self::read].
+    pub const fn read_prefix<'a>(
+        &self,
+        text: &'a [u8],
+    ) -> Result<(Literal<'a>, &'a [u8]), ReadError> {
+        front(self.grammar, text, self.read_front(text))
+    }
+}
+
+#[inline(always)]
+const fn literal<'a>(
+    grammar: Grammar,
+    text: &'a [u8],
+    parts: Result<Parts<'a>, ReadError>,
+) -> Result<Literal<'a>, ReadError> {
+    match parts {
+        Err(error) => Err(error),
+        Ok(parts) => Ok(Literal {
+            text,
+            parts,
+            view: grammar.view(),
+        }),
+    }
+}
+
+#[inline(always)]
+const fn front<'a>(
+    grammar: Grammar,
+    text: &'a [u8],
+    front: Result<Front<'a>, ReadError>,
+) -> Result<(Literal<'a>, &'a [u8]), ReadError> {
+    match front {
+        Err(error) => Err(error),
+        Ok(Front { parts, size }) => {
+            let (text, rest) = text.split_at(size);
+            let view = grammar.view();
+            Ok((Literal { text, parts, view }, rest))
+        }
+    }
+}
+
+/// A text that was read as a literal: its parts, and the values of its digits.
+///
+/// A part that is absent has no bytes. All bytes are [allowed ASCII][crate::ascii::is_valid_ascii]. Two literals are
+/// equal if they have the same format, up to its [normal form][crate::Format::normal_form], and the same parts.
+///
+/// ```
+/// use peltzivar::literal::{Literal, Syntax};
+/// use peltzivar::{Format, NumberFormatBuilder, Part};
+/// use std::num::NonZeroU8;
+///
+/// /// Returns the value of an integer, or `None` if it is too large.
+/// fn integer(literal: Literal<'_>) -> Option<u64> {
+///     let mut value = 0u64;
+///     for digit in literal.digits(Part::Integer) {
+///         value = value.checked_mul(literal.radix(Part::Integer).into())?.checked_add(digit.into())?;
+///     }
+///     Some(value)
+/// }
+///
+/// /// Returns the value of a decimal number with the decimal point `.` and the exponent character `e`.
+/// fn float(literal: Literal<'_>) -> Result<f64, std::num::ParseFloatError> {
+///     let without_separators = literal.as_bytes().iter().filter(|&&byte| byte != b'_');
+///     String::from_iter(without_separators.map(|&byte| char::from(byte))).parse()
+/// }
+///
+/// let builder = NumberFormatBuilder::new().digit_separator(NonZeroU8::new(b'_')).internal_digit_separator(true);
+/// let syntax = Syntax::new(builder.build_format()?, b'e', b'.')?;
+/// let literal = syntax.read(b"1_000")?;
+/// assert_eq!((literal.is_float(), integer(literal)), (false, Some(1000)));
+/// let literal = syntax.read(b"-1_000.5e-3")?;
+/// assert_eq!((literal.is_float(), float(literal)), (true, Ok(-1.0005)));
+/// assert_eq!((literal.integer(), literal.fraction()), (&b"1_000"[..], &b"5"[..]));
+/// # Ok::<(), Box<dyn std::error::Error>>(())
+/// ```
+#[derive(Clone, Copy, PartialEq, Eq, Hash)]
+pub struct Literal<'a> {
+    text: &'a [u8],
+    parts: Parts<'a>,
+    /// The format, in normal form.
+    view: FormatView,
+}
+
+impl<'a> Literal<'a> {
+    /// Returns all bytes of the literal.
+    #[must_use]
+    pub const fn as_bytes(&self) -> &'a [u8] {
+        self.text
+    }
+
+    /// Returns whether the literal is a float: whether it has a decimal point or an exponent character.
+    #[must_use]
+    pub const fn is_float(&self) -> bool {
+        !self.point().is_empty() || !self.exponent_character().is_empty()
+    }
+
+    /// Returns whether the sign is `-`.
+    #[must_use]
+    pub const fn is_negative(&self) -> bool {
+        matches!(self.sign(), b"-")
+    }
+
+    /// Returns the radix of the digits of a part, a number from 2 to 36.
+    #[must_use]
+    pub const fn radix(&self, part: Part) -> u32 {
+        match part {
+            Part::Integer | Part::Fraction => self.view.mantissa_radix(),
+            Part::Exponent => self.view.exponent_radix(),
+        }
+    }
+
+    /// Returns the values of the digits of a part, without digit separators. Each is below the [`radix`][Self::radix].
+    pub fn digits(&self, part: Part) -> Digits<'a> {
+        let bytes = match part {
+            Part::Integer => self.integer(),
+            Part::Fraction => self.fraction(),
+            Part::Exponent => self.exponent(),
+        };
+        Digits {
+            bytes: bytes.iter(),
+            separator: self.view.digit_separator().map_or(0, |byte| byte.get()),
+        }
+    }
+}
+
+/// Makes the calls that return the parts, and a list of them.
+macro_rules! parts {
+    ($($(#[$doc:meta])* $name:ident)*) => {
+        impl<'a> Literal<'a> {
+            $(
+                $(#[$doc])*
+                #[must_use]
+                pub const fn $name(&self) -> &'a [u8] {
+                    self.parts.$name
+                }
+            )*
+
+            /// Returns the name and the bytes of each part that is present, in the order of the text. The name is that
+            /// of the call that returns the part, such as `integer`.
+            pub fn parts(&self) -> impl Iterator<Item = (&'static str, &'a [u8])> + Clone {
+                let all = [$((stringify!($name), self.$name())),*];
+                all.into_iter().filter(|(_, bytes)| !bytes.is_empty())
+            }
+        }
+    };
+}
+
+parts! {
+    /// Returns the sign, `+` or `-`.
+    sign
+    /// Returns the base prefix, with the zero before it.
+    prefix
+    /// Returns the integer digits, with their separators.
+    integer
+    /// Returns the decimal point.
+    point
+    /// Returns the fraction digits, with their separators.
+    fraction
+    /// Returns the exponent character.
+    exponent_character
+    /// Returns the sign of the exponent, `+` or `-`.
+    exponent_sign
+    /// Returns the exponent digits, with their separators.
+    exponent
+    /// Returns the base suffix.
+    suffix
+}
+
+/// Writes the parts that are present, such as `Literal { integer: "1", point: ".", fraction: "5" }`.
+impl fmt::Debug for Literal<'_> {
+    fn fmt(&self, f: &mut fmt::Formatter<'_>) -> fmt::Result {
+        let mut text = f.debug_struct("Literal");
+        for (name, bytes) in self.parts() {
+            text.field(name, &core::str::from_utf8(bytes).unwrap_or_default());
+        }
+        text.finish()
+    }
+}
+
+/// The values of the digits of a part, which [`Literal::digits`] returns.
+#[derive(Debug, Clone)]
+#[must_use = "iterators are lazy"]
+pub struct Digits<'a> {
+    bytes: slice::Iter<'a, u8>,
+    separator: u8,
+}
+
+/// Returns the value of a digit.
+fn value(byte: &u8) -> u8 {
+    char_to_valid_digit_const(*byte, 36) as u8
+}
+
+impl Iterator for Digits<'_> {
+    type Item = u8;
+
+    fn next(&mut self) -> Option<u8> {
+        let separator = self.separator;
+        self.bytes.find(|&&byte| byte != separator).map(value)
+    }
+
+    fn size_hint(&self) -> (usize, Option<usize>) {
+        let bytes = self.bytes.len();
+        (if self.separator == 0 { bytes } else { 0 }, Some(bytes))
+    }
+
+    fn count(self) -> usize {
+        self.bytes.filter(|&&byte| byte != self.separator).count()
+    }
+}
+
+impl DoubleEndedIterator for Digits<'_> {
+    fn next_back(&mut self) -> Option<u8> {
+        let separator = self.separator;
+        self.bytes.rfind(|&&byte| byte != separator).map(value)
+    }
+}
+
+impl FusedIterator for Digits<'_> {}

@@ -1,0 +1,409 @@
+//! Settings that are read from texts, and what they build.
+
+use core::fmt::{self, Write};
+use core::str::from_utf8;
+
+use crate::edits::{apply, Edit, Fault, Setter, SettingError, SettingErrorKind, FIELD_COUNT};
+use crate::format_builder::NumberFormatBuilder;
+use crate::format_error::{self, ONE_OPTION};
+use crate::literal::Syntax;
+use crate::reasons::{Byte, Cause, NamedByte, Note, Reason};
+use crate::{Format, FormatError};
+
+/// The settings of options: the exponent character and the decimal point.
+const OPTIONS: [&str; 2] = ["exponent", "point"];
+const DEFAULTS: [u8; 2] = *b"e.";
+
+/// The bits that stand for the options in masks. They hold no field of a word.
+const EXPONENT: u128 = 1 << 18;
+const POINT: u128 = 1 << 19;
+
+/// The number of fields and options, and thereby the largest number of settings that are not overridden.
+const LIVE: usize = FIELD_COUNT + OPTIONS.len();
+
+/// The number of overridden settings that are kept.
+const OVERRIDDEN: usize = 32;
+
+/// The largest number of settings that one reason or note blames: a digit separator and all flags that allow one.
+const BLAMED: usize = 14;
+
+/// The number of bytes of a refused text that are printed.
+const SHOWN: usize = 40;
+
+/// Settings that are read from texts, such as the lines of a file, and the format or syntax that they build.
+///
+/// A setting has the form `NAME=VALUE`. NAME is one of [`Edit::NAMES`], or `exponent` or `point` for the exponent
+/// character and the decimal point. VALUE is a value that [`Setter::parse`] takes, but quotes are refused for
+/// the mantissa radix, the exponent base and the exponent radix. `exponent` and `point` take what `digit_separator`
+/// takes. ASCII white space around NAME and VALUE is skipped, such as the carriage return at the end of a line. A text
+/// that is blank or begins with `#` sets nothing. A byte order mark before the first text is skipped.
+///
+/// A setting overrides those before it. Fields without a setting have the values of a new builder, the exponent
+/// character is `e`, and the decimal point is `.`. If both are `none`, literals are integers.
+///
+/// The *index* of a text is the number of texts before it, so the index of the first line is 0.
+///
+/// ```
+/// use peltzivar::Settings;
+///
+/// let file = "# hexadecimal\nradix = 16\nbase_prefix = 'b'\nexponent = 'p'\ndigit_separator = '_'";
+/// let mut settings = Settings::read(file.lines())?;
+/// let reason = settings.reasons().next().unwrap();
+/// assert_eq!(reason.to_string(), "the base prefix 'b' is a digit in radix 16");
+/// assert_eq!(reason.indexes(), [1, 2]);
+///
+/// settings.add("base_prefix = 'x'")?;
+/// assert!(settings.build_syntax()?.read(b"0x1.8p3").is_ok());
+/// let notes: Vec<_> = settings.notes().map(|note| (note.to_string(), note.indexes().to_vec())).collect();
+/// assert_eq!(notes, [
+///     ("base_prefix is overridden".into(), vec![2, 5]),
+///     ("no flag allows the digit separator '_'".into(), vec![4]),
+/// ]);
+/// # Ok::<(), Box<dyn core::error::Error>>(())
+/// ```
+#[derive(Debug, Clone, PartialEq, Eq, Hash)]
+pub struct Settings {
+    builder: NumberFormatBuilder,
+    /// The exponent character and the decimal point. A character that is `none` is 0.
+    options: [u8; 2],
+    /// The number of texts.
+    count: usize,
+    /// The settings of which a field is not overridden, sorted by their indexes.
+    live: [Option<Setting>; LIVE],
+    /// Settings that are completely overridden, each with the index of the last setting that does this.
+    overridden: [Option<(Setting, usize)>; OVERRIDDEN],
+}
+
+/// The index of a text, the name that it sets, and the bits that it writes and that no later setting writes.
+#[derive(Debug, Clone, Copy, PartialEq, Eq, Hash)]
+struct Setting {
+    index: usize,
+    name: &'static str,
+    mask: u128,
+}
+
+impl Default for Settings {
+    fn default() -> Self {
+        Settings::new()
+    }
+}
+
+impl Settings {
+    /// Returns settings without any text.
+    #[must_use]
+    pub const fn new() -> Self {
+        Settings {
+            builder: NumberFormatBuilder::new(),
+            options: DEFAULTS,
+            count: 0,
+            live: [None; LIVE],
+            overridden: [None; OVERRIDDEN],
+        }
+    }
+
+    /// Adds the texts to new settings. To go on after a text that is refused, call [`add`][Self::add] for each text.
+    ///
+    /// # Errors
+    ///
+    /// Returns the error of the first text that is refused.
+    pub fn read<T: AsRef<[u8]>>(texts: impl IntoIterator<Item = T>) -> Result<Self, SettingsError> {
+        let mut settings = Settings::new();
+        let mut texts = texts.into_iter();
+        texts.try_for_each(|text| settings.add(text))?;
+        Ok(settings)
+    }
+
+    /// Adds a text. A text that is refused is counted, and sets nothing. What the other texts build is then not what the
+    /// file means, so call this after an error only to find others.
+    ///
+    /// ```
+    /// let error = peltzivar::Settings::new().add("base_suffx = 'h'").unwrap_err();
+    /// assert_eq!(error.to_string(), "unknown setting `base_suffx`; did you mean `base_suffix`?");
+    /// ```
+    ///
+    /// # Errors
+    ///
+    /// Returns an error if the text has no `=`, if its name is unknown, or if the name does not take the value.
+    pub fn add(&mut self, text: impl AsRef<[u8]>) -> Result<(), SettingsError> {
+        let (index, text) = (self.count, text.as_ref());
+        self.count += 1;
+        let text = match text.strip_prefix(b"\xEF\xBB\xBF") {
+            Some(rest) if index == 0 => rest.trim_ascii(),
+            _ => text.trim_ascii(),
+        };
+        if matches!(text, [] | [b'#', ..]) {
+            return Ok(());
+        }
+        let (option, edit) = parse(index, text)?;
+        let (name, mask) = match option {
+            Some(option) => (OPTIONS[option], [EXPONENT, POINT][option]),
+            None => (edit.name(), edit.mask()),
+        };
+        match option {
+            Some(option) => self.options[option] = edit.argument_byte(),
+            None => self.builder = apply(self.builder, edit),
+        }
+        self.push(Setting { index, name, mask });
+        Ok(())
+    }
+
+    /// Adds a setting, and moves the settings that it overrides completely.
+    fn push(&mut self, new: Setting) {
+        let old = self.live.into_iter().flatten().map(|old| Setting {
+            mask: old.mask & !new.mask,
+            ..old
+        });
+        let gone = old.clone().filter(|old| old.mask == 0);
+        let gone = gone.map(|old| (old, new.index));
+        self.overridden = filled(self.overridden.into_iter().flatten().chain(gone));
+        self.live = filled(old.filter(|old| old.mask != 0).chain([new]));
+    }
+
+    /// Returns the format. The exponent character and the decimal point do not matter.
+    ///
+    /// # Errors
+    ///
+    /// If the format is not lawful, returns an error, whose reasons [`reasons`][Self::reasons] returns with indexes.
+    pub const fn build_format(&self) -> Result<Format, FormatError> {
+        self.builder.build_format()
+    }
+
+    /// Returns the format with the exponent character and the decimal point.
+    ///
+    /// # Errors
+    ///
+    /// If the format is not lawful, if the options do not fit it, or if only one of them is `none`, returns an error,
+    /// whose reasons [`reasons`][Self::reasons] returns with indexes.
+    pub fn build_syntax(&self) -> Result<Syntax, FormatError> {
+        let format = self.build_format()?;
+        match self.options {
+            [0, 0] => Ok(Syntax::integers(format)),
+            [exponent, point] => Syntax::new(format, exponent, point).map_err(|error| {
+                // The reasons of the fields as they are set, and not as the normal form has them.
+                let cause = format_error::Cause::Options(format.word(), exponent, point);
+                FormatError::new(error.code(), cause)
+            }),
+        }
+    }
+
+    /// Returns the reasons why the settings do not build a syntax: why the format is not lawful or, if it is, why the
+    /// exponent character and the decimal point do not fit it.
+    pub fn reasons(&self) -> impl Iterator<Item = Finding> + Clone + '_ {
+        let error = self.build_syntax().err().into_iter();
+        error.flat_map(|error| error.reasons()).map(|reason| {
+            let mask = reason.mask() | options_of(reason.cause());
+            self.finding(FindingKind::Reason(reason), mask)
+        })
+    }
+
+    /// Returns notes on the first 32 settings that later ones override completely, and then on fields that are set but
+    /// have no effect on any number, as [`NumberFormatBuilder::notes`] does. The format lacks a digit separator that no
+    /// flag allows, so [`Format::notes`] lacks the note on it.
+    pub fn notes(&self) -> impl Iterator<Item = Finding> + Clone + '_ {
+        let overridden = self.overridden.iter().flatten().map(|(old, by)| {
+            let kind = FindingKind::Overridden(old.name);
+            Finding::new(kind, [old.index, *by].into_iter())
+        });
+        let notes = self.builder.notes();
+        overridden.chain(notes.map(|note| self.finding(FindingKind::Note(note), note.mask())))
+    }
+
+    /// Returns a finding with the indexes of the settings that write bits of `mask`.
+    fn finding(&self, kind: FindingKind, mask: u128) -> Finding {
+        let live = self.live.iter().flatten();
+        let blamed = live.filter(|it| it.mask & mask != 0);
+        Finding::new(kind, blamed.map(|it| it.index))
+    }
+}
+
+/// Returns an array that begins with the items.
+fn filled<T: Copy, const N: usize>(items: impl Iterator<Item = T>) -> [Option<T>; N] {
+    let mut slots = [None; N];
+    let pairs = slots.iter_mut().zip(items);
+    pairs.for_each(|(slot, item)| *slot = Some(item));
+    slots
+}
+
+/// Returns the edit of a text. If it sets an option, returns the number of the option, and the edit sets a separator.
+fn parse(index: usize, text: &[u8]) -> Result<(Option<usize>, Edit), SettingsError> {
+    let refuse = |fault, option, refused: &[u8]| {
+        let (error, length, mut piece) = (SettingError(fault), refused.len(), [0; SHOWN]);
+        let pairs = piece.iter_mut().zip(refused);
+        pairs.for_each(|(to, byte)| *to = *byte);
+        SettingsError {
+            index,
+            error,
+            option,
+            piece,
+            length,
+        }
+    };
+    let equals = text.iter().position(|byte| *byte == b'=');
+    let equals = equals.ok_or_else(|| refuse(Fault::NoEquals, None, text))?;
+    let name = text[..equals].trim_ascii_end();
+    let option = OPTIONS.iter().position(|it| it.as_bytes() == name);
+    let setter = match option {
+        Some(_) => Some(Setter::DigitSeparator),
+        None => from_utf8(name).ok().and_then(Setter::from_name),
+    };
+    let setter = setter.ok_or_else(|| refuse(Fault::UnknownName, None, name))?;
+    let value = text[equals + 1..].trim_ascii_start();
+    let edit = match (setter, value) {
+        (Setter::MantissaRadix | Setter::Radix, [b'\'', ..]) => None,
+        (Setter::ExponentBase | Setter::ExponentRadix, [b'\'', ..]) => None,
+        _ => from_utf8(value).ok().and_then(|it| setter.parse(it).ok()),
+    };
+    let edit = edit.ok_or_else(|| refuse(Fault::BadValue(setter), option, value))?;
+    Ok((option, edit))
+}
+
+/// Returns whether an option is `none`. This is a cause if the other is not.
+const fn is_one_option(cause: Cause) -> bool {
+    matches!(cause, Cause::NotText(byte) if byte.value == 0)
+}
+
+/// Returns the masks of the options that a cause names, or of both if one is `none`.
+fn options_of(cause: Cause) -> u128 {
+    let mask = |byte: NamedByte| match byte.name {
+        Byte::ExponentCharacter => EXPONENT,
+        Byte::DecimalPoint => POINT,
+        _ => 0,
+    };
+    match cause {
+        _ if is_one_option(cause) => EXPONENT | POINT,
+        Cause::NotText(byte) | Cause::IsSign(byte) | Cause::IsDigit(byte, _) => mask(byte),
+        Cause::Same(first, second) | Cause::DifferInCase { first, second, .. } => {
+            mask(first) | mask(second)
+        }
+        _ => 0,
+    }
+}
+
+/// A reason or a note, and the indexes of the settings that cause it.
+///
+/// `Display` prints a sentence without the indexes, such as `no flag allows the digit separator '_'`.
+#[derive(Debug, Clone, Copy, PartialEq, Eq, Hash)]
+pub struct Finding {
+    kind: FindingKind,
+    indexes: [usize; BLAMED],
+    count: usize,
+}
+
+/// The kind of a [`Finding`].
+#[derive(Debug, Clone, Copy, PartialEq, Eq, Hash)]
+#[non_exhaustive]
+pub enum FindingKind {
+    /// A reason why settings do not build a syntax.
+    Reason(Reason),
+    /// A note that later settings override the setting with this name completely. The second index is the last of them.
+    Overridden(&'static str),
+    /// A note that a field is set but has no effect on any number.
+    Note(Note),
+}
+
+impl Finding {
+    fn new(kind: FindingKind, blamed: impl Iterator<Item = usize>) -> Self {
+        let (mut indexes, mut count) = ([0; BLAMED], 0);
+        for (slot, index) in indexes.iter_mut().zip(blamed) {
+            *slot = index;
+            count += 1;
+        }
+        Finding {
+            kind,
+            indexes,
+            count,
+        }
+    }
+
+    /// Returns the kind.
+    #[must_use]
+    pub const fn kind(&self) -> FindingKind {
+        self.kind
+    }
+
+    /// Returns the indexes of the settings that cause it, in ascending order. A reason or note is caused by the last
+    /// settings of the fields in its [mask][Reason::mask] and of the options that it names. A default has no index.
+    #[must_use]
+    pub fn indexes(&self) -> &[usize] {
+        &self.indexes[..self.count]
+    }
+}
+
+impl fmt::Display for Finding {
+    fn fmt(&self, f: &mut fmt::Formatter<'_>) -> fmt::Result {
+        match &self.kind {
+            FindingKind::Reason(it) if is_one_option(it.cause()) => f.write_str(ONE_OPTION),
+            FindingKind::Reason(reason) => reason.fmt(f),
+            FindingKind::Overridden(name) => write!(f, "{name} is overridden"),
+            FindingKind::Note(note) => note.fmt(f),
+        }
+    }
+}
+
+/// Why a text is refused.
+///
+/// `Display` prints a sentence without the index. It names the text, or the name or value in it that is refused, by at
+/// most 40 bytes. A byte that is not printable ASCII is escaped, as in `\x1b`.
+#[derive(Debug, Clone, Copy, PartialEq, Eq, Hash)]
+pub struct SettingsError {
+    index: usize,
+    error: SettingError,
+    option: Option<usize>,
+    /// The first bytes of what is refused, and its length.
+    piece: [u8; SHOWN],
+    length: usize,
+}
+
+impl SettingsError {
+    /// Returns the index of the text.
+    #[must_use]
+    pub const fn index(&self) -> usize {
+        self.index
+    }
+
+    /// Returns what is wrong with the text.
+    #[must_use]
+    pub const fn kind(&self) -> SettingErrorKind {
+        self.error.kind()
+    }
+}
+
+impl core::error::Error for SettingsError {}
+
+impl fmt::Display for SettingsError {
+    fn fmt(&self, f: &mut fmt::Formatter<'_>) -> fmt::Result {
+        match (self.kind(), self.option) {
+            (SettingErrorKind::UnknownName, _) => f.write_str("unknown setting `")?,
+            (_, None) => write!(f, "{}, not `", self.error)?,
+            (_, Some(option)) => {
+                let (name, default) = (OPTIONS[option], char::from(DEFAULTS[option]));
+                write!(f, "{name} takes a character such as '{default}', ")?;
+                f.write_str("a number from 0 to 255, or `none`, not `")?;
+            }
+        }
+        let shown = self.piece.get(..self.length).unwrap_or(&self.piece);
+        for byte in shown {
+            match byte {
+                b' '..=b'~' => f.write_char(char::from(*byte))?,
+                _ => write!(f, "\\x{byte:02x}")?,
+            }
+        }
+        f.write_str(if self.length > SHOWN { "..`" } else { "`" })?;
+        match (self.kind(), nearest(shown)) {
+            (SettingErrorKind::UnknownName, Some(name)) => write!(f, "; did you mean `{name}`?"),
+            _ => Ok(()),
+        }
+    }
+}
+
+/// Returns the name that has most pairs of adjacent letters in common with this one, if these are half of the pairs.
+fn nearest(name: &[u8]) -> Option<&'static str> {
+    let rated = Edit::NAMES.iter().chain(&OPTIONS).map(|other| {
+        let pairs = other.as_bytes().windows(2);
+        let shared = pairs.filter(|pair| name.windows(2).any(|it| it == *pair));
+        let size = name.len() + other.len() - 2;
+        (200 * shared.count() / size, *other)
+    });
+    let nearest = rated.max_by_key(|it| it.0).filter(|it| it.0 >= 50);
+    nearest.map(|it| it.1)
+}
