@@ -98,7 +98,6 @@ word_of-flags_only r = omega arith
 -- The word of the flags of a record allows a digit separator if and only if the record does.
 pub separator_allowed-flags : (r : Record) → separator_allowed (raw (sum_by (flag_bits r) flags)) ≡ separator_allowed r
 separator_allowed-flags r =
-    let none : HasBytes (flags_only r) = HasBytes-by_name (flags_only r) (omega arith) (omega arith) (omega arith)
-    (omega arith) (omega arith) (omega arith) in
+    let none : HasBytes (flags_only r) = record { each = λ b. omega arith } in
     ap (λ word. separator_allowed (raw word)) (word_of-flags_only r)
     ∙ ap separator_allowed (raw-word_of (flags_only r) none)
