@@ -9,7 +9,7 @@ use Rattle.lexical_flags.specs.declared.format_flags.rule.Rule.{Rule}
 use Rattle.lexical_flags.specs.declared.format_flags.rule.Rule.TheVariants as rules
 use Rattle.lexical_flags.specs.Rules.{IsRadix, IsAbsentOrPunctuation, IsPunctuation, shape_of, Holds}
 use Rattle.lexical_flags.proofs.NormalRules.{Demands-bare, Demands-trim}
-use Rattle.lexical_flags.proofs.Packing.{raw-pack, pack-clean, trim-same, HasBytes-by_name}
+use Rattle.lexical_flags.proofs.Packing.{raw-pack, pack-clean, trim-same}
 use Rattle.lexical_flags.proofs.RecordLemmas.{record_same}
 use Rattle.lexical_flags.proofs.RuleFieldLemmas.{FieldsMeet}
 use Rattle.lexical_builder.specs.Writes.{write_byte, after}

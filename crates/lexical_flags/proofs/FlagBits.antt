@@ -13,7 +13,7 @@ use Rattle.lexical_flags.specs.Record.{Record, raw, word_of, flag_bits}
 use Rattle.lexical_flags.specs.Record.{separator_allowed, HasBytes}
 use Rattle.lexical_flags.specs.Additions.Masks.{mask_of}
 use Rattle.lexical_flags.specs.declared.format_flags.TheConstants.{DIGIT_SEPARATOR_FLAG_MASK}
-use Rattle.lexical_flags.proofs.Packing.{high, bit_value, bit_value-lt, flag_bits-value, raw-word_of, HasBytes-by_name}
+use Rattle.lexical_flags.proofs.Packing.{high, bit_value, bit_value-lt, flag_bits-value, raw-word_of}
 use Rattle.lexical_flags.proofs.Masks.{ascends, and_all, or_all, sum-below}
 
 -- A bit times a power of two is 0 if and only if the bit is 0.

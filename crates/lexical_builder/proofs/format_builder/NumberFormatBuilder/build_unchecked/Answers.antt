@@ -4,7 +4,7 @@ use Rattle.std.proofs.lemmas.Nat.{or_lt, shl_whole}
 use Rattle.lexical_flags.specs.Layout.{Byte, IsClean, flags}
 use Rattle.lexical_flags.specs.Layout as layout
 use Rattle.lexical_flags.specs.Record.{Record, pack, trim, flag_bits, separator_allowed, raw, HasBytes}
-use Rattle.lexical_flags.proofs.Packing.{HasBytes-by_name, HasBytes-trim, raw-pack, pack-clean, pack-injective}
+use Rattle.lexical_flags.proofs.Packing.{HasBytes-trim, raw-pack, pack-clean, pack-injective}
 use Rattle.lexical_flags.proofs.FlagBits.{separator_allowed-flags}
 use Rattle.lexical_builder.proofs.UpperHalf.{upper_of, upper-lt, halves_joined}
 use Rattle.lexical_builder.specs.BuilderBits.{byte_index, builder_record}
