@@ -1,24 +1,31 @@
-"""Builds a format from settings and prints it, or each reason why it is not lawful.
+"""Reads texts as numbers. The arguments are settings of the form NAME=VALUE, and then texts.
 
-python3 example.py mantissa_radix=16 digit_separator=95 internal_digit_separator=true
+python3 example.py radix=16 base_prefix=120 exponent=112 exponent_radix=10 0x1F 0x1.8p3 0x1_F
 """
 import sys
 
-from peltzivar import Format, FormatError, notes_of
+from peltzivar import LiteralError, Part, SettingsError, Syntax
 
 
-def main(settings: list[str]) -> int:
+def main(arguments: list[str]) -> int:
+    settings = [it for it in arguments if "=" in it]
     try:
-        format = Format.of(*settings)
-    except FormatError as error:
-        print(*error.reasons, sep="\n")
+        syntax = Syntax.of(*settings)
+    except SettingsError as error:
+        for reason in error.reasons:
+            print(*(settings[index] for index in reason.indexes), reason, sep=": ")
         return 1
-    except ValueError as error:
-        print(error)
-        return 2
-    print(format, repr(format), *notes_of(*settings), sep="\n")
-    print("digits:", "".join(byte for byte in map(chr, range(128)) if format.mantissa_digit(byte) is not None))
-    print("without NaN:", format.edit(no_special=True, case_sensitive_special=False, special_digit_separator=False))
+    print(syntax.format, *Syntax.notes_of(*settings), sep="\n")
+    for text in arguments[len(settings) :]:
+        try:
+            literal = syntax.read(text)
+        except LiteralError as error:
+            print(f"{text}: {error}")
+        else:
+            if literal.is_float:
+                print(text, "is a float with the digits", *map(literal.digits, Part))
+            else:
+                print(text, "is", int(literal.sign + literal.digits(Part.INTEGER), syntax.format.mantissa_radix))
     return 0
 
 

@@ -1,6 +1,6 @@
 #!/usr/bin/env python3
-"""Writes parts of peltzivar/__init__.py: the constants, enumerations, structures and calls of peltzivar.h, the attributes
-of a view, with the documentation of the setters in rust/src, and the parameters of the calls that take fields.
+"""Writes parts of peltzivar/__init__.py: the constants, enumerations, structures and calls of peltzivar.h, and the
+attributes of a view, the parameters of calls that take fields, and the languages, with their documentation in rust/src.
 
     c/make_python.py            writes each part between the lines `# Made by make_python.py: PART` and `# End`
     c/make_python.py --check    ends with status 1 if a part is not up to date
@@ -8,10 +8,12 @@ of a view, with the documentation of the setters in rust/src, and the parameters
 import pathlib
 import re
 import sys
+import textwrap
 
 HERE = pathlib.Path(__file__).resolve().parent
 HEADER = HERE.joinpath("peltzivar.h").read_text()
 SETTERS = HERE.parent.joinpath("rust/src/format_builder/setters.rs").read_text()
+LANGUAGES = HERE.parent.joinpath("rust/src/literal/language.rs").read_text()
 CODE = " ".join(re.sub(r"/\*.*?\*/|^#.*?$", "", HEADER, flags=re.S | re.M).split())
 STRUCTS = {name: f"_{name[10:].title().replace('_', '')}" for name in re.findall(r"} (peltzivar_\w+);", CODE)}
 SET = [(name.lower(), int(bit)) for name, bit in re.findall(r"\bPELTZIVAR_SET_(\w+) = (\d+)", HEADER)]
@@ -19,49 +21,36 @@ TYPES = {"bool": "c_bool", "size_t": "c_size_t", **STRUCTS}
 TYPES |= {f"uint{bits}_t": f"c_uint{bits}" for bits in (8, 32, 64)}
 TYPES |= {name: TYPES[kind] for kind, name in re.findall(r"typedef (\w+) (\w+);", CODE)}
 
-NAMED = """
-    def __str__(self) -> str:
-        return self.name
-"""
-METHODS = {
-    "Error": '''
-    def __bool__(self) -> bool:
-        return self is not Error.SUCCESS
-
-    @property
-    def description(self) -> str:
-        """The description of the error in single quotes."""
-        return str(_library.description(self.value).decode())
-''',
-    "Rule": '''
-    @property
-    def condition(self) -> str:
-        """What the rule requires of a word."""
-        return str(_library.rule_condition(self.value).decode())
-''',
-}
-
 
 def defined(name):
     return re.search(rf"^#define PELTZIVAR_{name} (.+)$", HEADER, re.M)[1]
 
 
-def enumeration(name, pattern, meaning):
+def enumeration(name, pattern, meaning, *lines):
     members = sorted(re.findall(rf"\bPELTZIVAR_{pattern} = (\d+)", HEADER), key=lambda it: int(it[1]))
     yield from ("", "", f"class {name}(Enum):", f'    """{meaning}"""', "")
     yield from (f"    {member} = {number}" for member, number in members)
-    yield from (NAMED + METHODS.get(name, "")).splitlines()
+    yield from ("", "    def __str__(self) -> str:", "        return self.name", *lines)
+
+
+def text(name, call, meaning):
+    """Returns the lines of a property that has the text of a call."""
+    head = ("", "    @property", f"    def {name}(self) -> str:", f'        """{meaning}"""')
+    return *head, f"        return str(_library.{call}(self.value).decode())"
 
 
 def argument(text):
-    kind, pointer, array = re.fullmatch(r"(?:const )?(\w+) (\*?)\w+(\[\w+\])?", text).groups()
-    if kind == "char":
-        return "c_char_p"
-    return f"POINTER({TYPES[kind]})" if pointer or array else TYPES[kind]
+    kind, pointer = re.fullmatch(r"(?:const )?(\w+) (\*?)\w+", text).groups()
+    return "c_char_p" if kind == "char" else f"POINTER({TYPES[kind]})" if pointer else TYPES[kind]
 
 
-def constants(used):
-    """Returns the lines. Only the calls in `used` are bound."""
+DESCRIPTION = text("description", "description", "The description of the error in single quotes.")
+DESCRIPTION += ("", "    def __bool__(self) -> bool:", "        return self is not Error.SUCCESS")
+CONDITION = text("condition", "rule_condition", "What the rule requires of a word.")
+
+
+def constants():
+    """Returns the lines."""
     yield f'__version__ = {defined("VERSION")}'
     low, high = re.findall(r"0x(\w+)", defined("STANDARD_INIT"))
     yield f"_VERSION = {defined('VERSION_NUMBER')}"
@@ -69,29 +58,31 @@ def constants(used):
     flags, others = re.fullmatch(r"\{UINT64_C\((\w+)\), (.*)\}", defined("NEW_FIELDS_INIT")).groups()
     yield f"_NEW_FIELDS = ({flags}, {others})"
     yield from (f"_{name} = {defined(name)}" for name in ("FIELD_COUNT", "SOURCE_SIZE", "TEXT_SIZE", "NO_PART"))
+    yield f"_NO_DIGIT = {2**32 - 1}"
     for row in (
         ("Setter", r"SET_(\w+)", "The setters. A member has the name of the setter in uppercase."),
-        ("Rule", r"RULE_(\w+)", "The rules, in the order in which they are checked."),
-        ("Error", r"((?!SET_|RULE_|PART_|ROLE_|CAUSE_)\w+)", "The errors, and success, which is 0 and false."),
+        ("Rule", r"RULE_(\w+)", "The rules, in the order in which they are checked.", *CONDITION),
+        ("Error", r"((?!SET_|RULE_|PART_|ROLE_|CAUSE_|SPELLING_)\w+)", "The errors, and success, which is 0 and false.", *DESCRIPTION),
         ("Part", r"PART_(\w+)", "The parts of a number that can have digit separators."),
         ("Role", r"ROLE_((?!NONE)\w+)", "The roles of a byte in a number."),
         ("Cause", r"CAUSE_(\w+)", "The kinds of causes why a text is not a literal."),
+        ("Spelling", r"SPELLING_(\w+)", "The spellings of special values."),
     ):
         yield from enumeration(*row)
     for body, struct in re.findall(r"typedef struct { (.*?) } (\w+);", CODE):
-        members = [(it, kind) for kind, names in re.findall(r"(\w+) ([\w, ]+);", body) for it in names.split(", ")]
+        declared = re.findall(r"(?:const )?(\w+) ([\w, *]+);", body)
+        members = [(it, kind) for kind, names in declared for it in names.split(", ")]
         yield from ("", "", f"class {STRUCTS[struct]}(Structure):", "    _fields_ = [")
-        yield from (f'        ("{member}", {TYPES[kind]}),' for member, kind in members)
+        yield from (f'        ("{member.strip("*")}", {argument(f"{kind} {member}")}),' for member, kind in members)
         yield "    ]"
     yield from ("", "", "_CALLS: Dict[str, Tuple[Any, List[Any]]] = {")
     for result, call, arguments in re.findall(r"(\w+ \*?)peltzivar_(\w+)\( ?([^()]*)\);", CODE):
         kinds = [argument(it) for it in arguments.split(", ") if it != "void"]
-        if call in used:
-            yield f'    "{call}": ({argument(result + "result")}, [{", ".join(kinds)}]),'
+        yield f'    "{call}": ({argument(result + "result")}, [{", ".join(kinds)}]),'
     yield "}"
 
 
-def attributes(used):
+def attributes():
     """Returns the lines. Each attribute has the first paragraph of its setter's documentation."""
     documented = re.findall(r"((?:^ +///.*\n)+)(?: +#.*\n)* +pub const fn (\w+)\(", SETTERS, re.M)
     meanings = {name: " ".join(text.split("///\n")[0].replace("///", " ").split()) for text, name in documented}
@@ -102,20 +93,31 @@ def attributes(used):
         yield f'{name}: {kind} = _field("{meaning}")'
 
 
-def parameters(used):
+def parameters():
     """Returns the lines. `radix` is another name."""
     for name, bit in [*SET, ("radix", 104)]:
-        kind = "bool" if not 64 <= bit < 128 else "Optional[Byte]" if bit < 104 else "int" if bit == 104 else "Optional[int]"
+        number = "int" if bit == 104 else "Optional[int]"
+        kind = "bool" if not 64 <= bit < 128 else "Optional[Byte]" if bit < 104 else number
         yield f"{name}: {kind} = _KEPT,"
+
+
+def languages():
+    """Returns the lines."""
+    documented = re.findall(r"((?:^ +///.*\n)+) +(\w+) = \w+\(", LANGUAGES, re.M)
+    yield '"""How a language, or a file, writes numbers: a syntax, and the spellings of NaN and infinity.'
+    for text, name in documented:
+        about = " ".join(text.replace("///", " ").replace("×", "*").split())
+        yield from ("", *textwrap.wrap(f"{name}: {about}", 115, subsequent_indent="    "))
+    yield from ('"""', "", *(f'{name} = "{name}"' for _, name in documented))
+    yield from ("", "def __str__(self) -> str:", "    return self.name")
 
 
 def made(text):
     pattern = re.compile(r"^( *)(# Made by make_python.py: (\w+)\n).*?^( *# End\n)", re.M | re.S)
-    used = set(re.findall(r"_library\.(\w+)", pattern.sub("", text) + str(METHODS)))
 
     def part(found):
         indent, head, name, end = found.groups()
-        lines = {"constants": constants, "attributes": attributes, "parameters": parameters}[name](used)
+        lines = globals()[name]()
         return indent + head + "".join(f"{indent if line else ''}{line}\n" for line in lines) + end
 
     return pattern.sub(part, text)

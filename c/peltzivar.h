@@ -31,10 +31,10 @@
  * No function allocates memory, retains a pointer or sets errno. Several threads may call these functions at the same
  * time, provided that no call writes memory that another call reads or writes.
  *
- * From 0.6 on, a setter, rule, role or error has the same number in every version. The SONAME of the shared library
- * contains the major version and, before 1.0, the minor version. It changes if a function, a structure or a documented
- * result changes, so a program never loads a library that does not fit it. It does not change if a function is added.
- * The wording of sentences is not part of this promise. */
+ * From 0.9 on, setters, rules, roles, parts, causes, spellings and errors keep their numbers. The SONAME of the shared
+ * library contains the major version and, before 1.0, the minor version. It changes if a function, a structure or a
+ * documented result changes, so a program never loads a library that does not fit it. It does not change if a function
+ * is added. The wording of sentences is not part of this promise. */
 #ifndef PELTZIVAR_H
 #define PELTZIVAR_H
 #include <stdbool.h>
@@ -42,8 +42,8 @@
 #include <stdint.h>
 
 /* The version of this header. PELTZIVAR_VERSION_NUMBER is (major << 16) | (minor << 8) | patch. */
-#define PELTZIVAR_VERSION "0.6.0"
-#define PELTZIVAR_VERSION_NUMBER 0x000600
+#define PELTZIVAR_VERSION "0.9.0"
+#define PELTZIVAR_VERSION_NUMBER 0x000900
 
 /* PELTZIVAR_MUST_USE marks functions whose result states whether they wrote their output. */
 #ifndef PELTZIVAR_MUST_USE
@@ -256,8 +256,8 @@ peltzivar_word peltzivar_note_mask(const peltzivar_fields *fields, size_t index)
  * may match a byte that the other option, the digit separator, the base prefix or the base suffix matches. The decimal
  * point matches only itself. If the exponent character is a letter, it matches both cases of the letter unless
  * case_sensitive_exponent is set. PELTZIVAR_RULE_PUNCTUATION_DIFFERS states which bytes the others match. Of a lawful
- * word, literal::Syntax::new of the Rust crate accepts more: it checks the normal form, in which a digit separator that
- * no flag allows is absent.
+ * word, peltzivar_syntax_check accepts more: it checks the normal form, in which a digit separator that no flag allows
+ * is absent.
  * Returns PELTZIVAR_SUCCESS, or the first of these errors that applies: PELTZIVAR_INVALID_EXPONENT_SYMBOL or
  * PELTZIVAR_INVALID_DECIMAL_POINT if this option is not punctuation, or PELTZIVAR_INVALID_PUNCTUATION. */
 peltzivar_error peltzivar_check_options(peltzivar_word format, uint8_t exponent, uint8_t decimal_point);
@@ -323,18 +323,18 @@ const char *peltzivar_role_name(peltzivar_role role);
 
 /* LITERALS
  *
- * A literal is a text that is a number of a syntax. A syntax is a lawful word in normal form, with an exponent character
- * and a decimal point, or with 0 for both. Then literals are integers. Each call that takes a syntax checks it. If
- * peltzivar_syntax_check would refuse it, the call returns this error, and writes nothing. In the repository,
+ * A literal is a text that is a number of a syntax. A syntax is a lawful word with an exponent character and a decimal
+ * point, or with 0 for both. Then literals are integers. Each call that takes a syntax checks it: if
+ * peltzivar_syntax_check refuses it, the call returns the same error, and writes nothing. In the repository,
  * docs/FORMAT.md defines literals, and why a text is not one. */
 typedef struct {
     peltzivar_word format;
     uint8_t exponent, decimal_point;
 } peltzivar_syntax;
 
-/* Writes the syntax of a word to *out and returns PELTZIVAR_SUCCESS if the word is lawful, and if the options fit its
- * normal form or are both 0. Otherwise, leaves *out unchanged and returns the error of the first rule that the word
- * breaks, or the error that peltzivar_check_options returns for the normal form. */
+/* Writes the syntax of a word, with its normal form, to *out and returns PELTZIVAR_SUCCESS if the word is lawful, and if
+ * the options fit its normal form or are both 0. Otherwise, leaves *out unchanged and returns the error of the first
+ * rule that the word breaks, or the error that peltzivar_check_options returns for the normal form. */
 PELTZIVAR_MUST_USE peltzivar_error peltzivar_syntax_check(
     peltzivar_word format, uint8_t exponent, uint8_t decimal_point, peltzivar_syntax *out);
 
@@ -345,10 +345,11 @@ typedef struct {
 
 /* The parts of a literal, in the order of the text, and its length. An absent part is empty. The prefix includes the
  * zero before it. The three parts with digits include digit separators, for which peltzivar_mantissa_digit and
- * peltzivar_exponent_digit return PELTZIVAR_NO_DIGIT. */
+ * peltzivar_exponent_digit return PELTZIVAR_NO_DIGIT. A float has a point or an exponent character, or both. */
 typedef struct {
     peltzivar_span sign, prefix, integer, point, fraction, exponent_character, exponent_sign, exponent, suffix;
     size_t size;
+    bool is_float;
 } peltzivar_literal;
 
 /* The kinds of causes why a text is not a literal. */
@@ -393,6 +394,58 @@ PELTZIVAR_MUST_USE peltzivar_error peltzivar_read_prefix(
  * peltzivar_read accepts the text, writes an empty string. */
 size_t peltzivar_read_error_text(
     const peltzivar_syntax *syntax, const char *text, size_t len, char *to, size_t to_len);
+
+/* SPECIAL VALUES AND LANGUAGES
+ *
+ * Spellings are null-terminated strings. A spelling that is null or empty matches no text. */
+typedef struct {
+    const char *nan, *inf, *infinity;
+} peltzivar_specials;
+
+/* A special value. `sign` is '+' or '-', or 0 if the text has no sign. */
+typedef struct {
+    uint8_t spelling, sign;
+} peltzivar_special;
+enum { PELTZIVAR_SPELLING_NAN = 1, PELTZIVAR_SPELLING_INF = 2, PELTZIVAR_SPELLING_INFINITY = 3 };
+
+/* Reads a text of len bytes as a special value: an optional sign, and the first of the spellings that matches. The flags
+ * of the syntax decide which signs, cases of letters and digit separators match. If the text is a special value, writes
+ * it to *out and returns PELTZIVAR_SUCCESS. Otherwise, leaves *out unchanged and returns PELTZIVAR_INVALID_DIGIT, or an
+ * error as peltzivar_read. A text can also be a literal, such as `inf` in radix 36. So call peltzivar_read first. */
+PELTZIVAR_MUST_USE peltzivar_error peltzivar_read_special(const peltzivar_syntax *syntax,
+    const peltzivar_specials *specials, const char *text, size_t len, peltzivar_special *out);
+
+/* If a language or file format has a name of len bytes, such as "JSON" or "C_HEX_FLOAT", writes its syntax and its
+ * spellings, which last as long as the program, and returns true. Otherwise, writes nothing and returns false. In the
+ * repository, rust/src/literal/language.rs describes each language. */
+PELTZIVAR_MUST_USE bool peltzivar_language(
+    const char *name, size_t len, peltzivar_syntax *syntax, peltzivar_specials *specials);
+
+/* Returns the name of a language. The languages have the indices from 0 on, in alphabetical order. */
+const char *peltzivar_language_name(size_t index);
+
+/* SETTINGS OF A TEXT
+ *
+ * A text, such as a file, has one setting a line, in the form that peltzivar_parse_edit describes, or `exponent=VALUE`
+ * or `point=VALUE` for the options, with a VALUE as for digit_separator. White space around the name and the value is
+ * skipped, and so are a line that is blank or begins with `#`, and a byte order mark. A character in quotes is not a
+ * radix or an exponent base. A setting overrides those before it. Fields without a setting have the values of
+ * PELTZIVAR_NEW_FIELDS, the exponent character is `e`, and the decimal point is `.`. If both are `none`, literals are
+ * integers. */
+
+/* Reads the settings of a text of len bytes, and writes the syntax that they build to *out. Returns the number of
+ * problems: first the lines that are refused, and then the reasons why the word is not lawful or the options do not fit
+ * it. If it is not 0, leaves *out unchanged. */
+PELTZIVAR_MUST_USE size_t peltzivar_read_settings(const char *text, size_t len, peltzivar_syntax *out);
+
+/* Writes a problem as a sentence, such as "unknown setting `base_suffx`; did you mean `base_suffix`?". The problems have
+ * the indices from 0 on. The notes have the indices behind them. They are on settings that are overridden, and on fields
+ * that have no effect. The buffer `to` has to_len bytes. */
+size_t peltzivar_settings_text(const char *text, size_t len, size_t index, char *to, size_t to_len);
+
+/* Returns the number of lines that cause the problem or note with an index. Writes their indices, in ascending order, to
+ * the array `to` of to_len elements, as far as they fit. The first line has the index 0, and a default has no line. */
+size_t peltzivar_settings_lines(const char *text, size_t len, size_t index, size_t *to, size_t to_len);
 
 #ifdef __cplusplus
 }

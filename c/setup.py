@@ -1,4 +1,4 @@
-"""Adds to the package the shared library, which cargo builds, and to its source distribution the workspace of cargo."""
+"""Builds the package: its library with cargo, for each Python 3, and a source distribution with cargo's workspace."""
 import ast
 import json
 import os
@@ -19,45 +19,38 @@ except ImportError:
 HERE = Path(__file__).resolve().parent
 # A source distribution has a copy of the workspace. In the repository, it is the folder above.
 WORKSPACE = next(it for it in (HERE / "workspace", HERE.parent) if (it / "Cargo.lock").exists())
-LIBRARY = {"darwin": "libpeltzivar_c.dylib", "win32": "peltzivar_c.dll"}.get(sys.platform, "libpeltzivar_c.so")
+LIBRARY = "libpeltzivar_c.so"
 # The files of a wheel have this time, the first that a ZIP file can have, so that the same sources give the same wheel.
 os.environ.setdefault("SOURCE_DATE_EPOCH", "315532800")
 
 
 class BuildLibrary(build_ext):
-    """Builds the library instead of an extension."""
-
     def get_ext_filename(self, fullname):
         return os.path.join(*fullname.split(".")[:-1], LIBRARY)
 
     def build_extension(self, ext):
         if not shutil.which("cargo"):
-            sys.exit("cargo is not found: install Rust 1.85 or later to build peltzivar")
+            sys.exit("cargo is not found: install Rust 1.85 or later")
         remap = f"target.'cfg(all())'.rustflags = ['--remap-path-prefix={WORKSPACE}=peltzivar']"
         command = ["cargo", "build", "--release", "--locked", "--package=peltzivar-capi", "--message-format=json"]
         ran = subprocess.run([*command, "--config", remap], cwd=WORKSPACE, check=True, stdout=subprocess.PIPE)
         built = [it for line in ran.stdout.splitlines() for it in json.loads(line).get("filenames", ())]
         path = Path(self.get_ext_fullpath(ext.name))
         path.parent.mkdir(parents=True, exist_ok=True)
-        shutil.copy(next(it for it in built if Path(it).name == LIBRARY), path)
+        shutil.copy(next(it for it in built if it.endswith(LIBRARY)), path)
 
 
 class Wheel(bdist_wheel):
-    """Builds a wheel for each Python 3 of this platform."""
-
     def get_tag(self):
         return "py3", "none", super().get_tag()[2]
 
 
 class SourceDistribution(sdist):
-    """Adds the workspace."""
-
     def make_release_tree(self, base_dir, files):
         super().make_release_tree(base_dir, files)
-        copy = Path(base_dir, "workspace")
-        shutil.copytree(WORKSPACE / "rust", copy / "rust", ignore=shutil.ignore_patterns("target"))
+        shutil.copytree(WORKSPACE / "rust", Path(base_dir, "workspace/rust"), ignore=shutil.ignore_patterns("target"))
         for name in ("Cargo.toml", "Cargo.lock"):
-            shutil.copy(WORKSPACE / name, copy)
+            shutil.copy(WORKSPACE / name, Path(base_dir, "workspace"))
 
 
 setup(

@@ -17,7 +17,7 @@ HERE = pathlib.Path(__file__).resolve().parent
 TOP = HERE.parent
 PAGE = HERE / "index.html"
 FORMAT = (TOP / "docs/FORMAT.md").read_text()
-SCRIPTS = ("library", "element", "number", "bits", "controls", "code", "report", "literal", "page")
+SCRIPTS = ("library", "element", "bits", "controls", "code", "report", "literal", "page")
 MOST_BYTES = 250_000
 TARGET = "wasm32-unknown-unknown"
 OPTIONS = [f"--target={TARGET}", "-Ctarget-feature=+bulk-memory", "-Copt-level=s", "-Cpanic=abort", "--cap-lints=allow"]
@@ -40,6 +40,27 @@ BYTE_PARTS = {"digit_separator": "separator", "base_prefix": "base", "base_suffi
 def rows(pattern):
     """Returns the rows of FORMAT's tables with this pattern."""
     return re.findall(pattern, FORMAT, re.M) or sys.exit(f"docs/FORMAT.md: no row {pattern}")
+
+
+def section(title):
+    """Returns the text of a section of FORMAT."""
+    return FORMAT.partition(f"\n## {title}\n\n")[2].partition("\n## ")[0] or sys.exit(f"docs/FORMAT.md: no section {title}")
+
+
+def html(text):
+    """Returns paragraphs, lists and blocks of code in Markdown as HTML. Links become their texts."""
+    text = re.sub(r"\[([^\]]*)\]\([^)]*\)", r"\1", text).replace("&", "&amp;").replace("<", "&lt;")
+    text = re.sub(r"`([^`]*)`", r"<code>\1</code>", text)
+    text = re.sub(r"\*([^*]+)\*", r"<em>\1</em>", text)
+    made = ""
+    for block in text.strip("\n").split("\n\n"):
+        if block.startswith("    "):
+            made += f"<pre>{block.strip()}</pre>\n"
+        elif block.startswith("- "):
+            made += "<ul>" + "".join(f"<li>{item}</li>" for item in re.split(r"(?:^|\n)- ", block)[1:]) + "</ul>\n"
+        else:
+            made += f"<p>{block}</p>\n"
+    return made
 
 
 def fields():
@@ -73,28 +94,36 @@ def setting(call):
     return f"{name}={value}"
 
 
-def recipes():
-    """Returns the languages: name, comment, settings with their comments, and exponent character.
+def numbers(name, has_specials):
+    """Returns the numbers of a language, one a line: those that it rejects behind a `!`. Spellings of NaN are no field."""
+    rows = re.findall(rf"^{name} +([+-]) +(\S+)", (TOP / "rust/tests/literals.txt").read_text(), re.M)
+    rows = [row for row in rows if not (has_specials and re.search("nan|inf", row[1], re.I))]
+    return "\n".join(text if mark == "+" else f"!{text}" for mark, text in rows)
 
-    Integers alone have an exponent character that fits their format.
-    """
+
+def languages():
+    """Returns the languages: name, comment, settings, options and numbers. Integers alone have the options 0."""
     text = (TOP / "rust/src/literal/language.rs").read_text()
-    language = r"((?:^    ///.*\n)+)^    (\w+) = \w+\((?:b'(.)', )?NumberFormatBuilder::new\(\)((?:\n        \..*)*)"
-    for comment, name, exponent, body in re.findall(language, text, re.M):
-        calls = re.findall(r"^ +(\.\w+\(.*?\))(?: // (.*))?$", body, re.M)
-        settings = [[setting(call), meaning] for call, meaning in calls]
-        about = " ".join(comment.replace("///", "").split())
-        yield {"name": name, "about": about, "settings": settings, "exponent": exponent or "p"}
+    language = r"((?:^    ///.*\n)+)^    (\w+) = \w+\((?:b'(.)', )?NumberFormatBuilder::new\(\)((?:\n        \..*)*)\s*\),\s+(\w+)"
+    for comment, name, exponent, body, specials in re.findall(language, text, re.M):
+        yield {
+            "name": name,
+            "about": " ".join(comment.replace("///", "").split()),
+            "settings": [setting(call) for call in re.findall(r"^ +(\.\w+\(.*?\))(?: //.*)?$", body, re.M)],
+            "exponent": ord(exponent or "\0"),
+            "point": ord("." if exponent else "\0"),
+            "numbers": numbers(name, specials != "NONE"),
+        }
 
 
 def data():
     """Returns the data that the page shows."""
-    limits = FORMAT.partition("## What a format cannot express\n")[2].partition("\n## ")[0]
+    limits = section("What a format cannot express")
     header = (TOP / "c/peltzivar.h").read_text()
     return {
         **fields(),
         "rules": [demand for _, demand in rows(r"^\| (\d+) \| (.*?) \| `Invalid")],
-        "recipes": [*recipes()],
+        "languages": [*languages()],
         "limits": re.findall(r"^\| (.*) \| (.*) \|$", limits, re.M)[1:],
         "version": re.search(r'^#define PELTZIVAR_VERSION "(.*)"$', header, re.M)[1],
     }
@@ -103,7 +132,7 @@ def data():
 def hash_of(wasm):
     """Returns a hash of the WebAssembly and its sources. Comments and blank lines of the sources do not count."""
     whole = hashlib.sha256(json.dumps([wasm, OPTIONS]).encode())
-    for path in [HERE / "builtins.rs", HERE / "library.rs", *sorted((TOP / "rust/src").rglob("*.rs"))]:
+    for path in [*sorted(HERE.glob("*.rs")), *sorted((TOP / "rust/src").rglob("*.rs"))]:
         lines = [line.strip() for line in path.read_text().splitlines()]
         code = [line for line in lines if line and not line.startswith("//")]
         if code:
@@ -158,7 +187,12 @@ def page(wasm):
     script = "\n" + "\n".join((HERE / f"{name}.js").read_text() for name in SCRIPTS)
     embedded = json.dumps(data(), ensure_ascii=False, separators=(",", ":")).replace("<", "\\u003c")
     policy = f"default-src 'none'; script-src {digest(script)} 'wasm-unsafe-eval'; style-src {digest(style)}"
+    _, literals = section("How a reader applies the flags").split("A *literal* is", 1)
     parts = {
+        "literals": html("A *literal* is" + literals.partition("This answers the questions")[0]),
+        "rules": html("\n".join(f"- Rule {number}: {demand}." for number, demand in rows(r"^\| (\d+) \| (.*?) \| `Invalid"))),
+        "punctuation": html(section("The rules").partition("\n\n")[0].rpartition("\n[`Outcomes`")[0]),
+        "equivalent": html(section("Equivalent words")),
         "policy": f"{policy}; img-src data:; base-uri 'none'; form-action 'none'",
         "style": style,
         "data": embedded,

@@ -14,8 +14,8 @@ class Code {
 
     /* Returns the lines of the comment on a state. */
     comment({ word, exponent, point }) {
-        const character = (byte) => quoted(byte, "");
-        return [wordText(word), `A parser's exponent character is ${character(exponent)}, and its decimal point ${character(point)}.`];
+        const options = `A parser's exponent character is ${quoted(exponent, "")}, and its decimal point ${quoted(point, "")}.`;
+        return [wordText(word), exponent || point ? options : "A parser reads integers alone."];
     }
 
     rust(state, { isBuilt, error }) {
@@ -54,8 +54,12 @@ class Code {
         return `from peltzivar import ${view}\n\n${comment}format = ${call}\n`;
     }
 
-    settings(state) {
-        const comment = this.comment(state).map((line) => `# ${line}\n`).join("");
-        return comment + this.edits(state.word).map((edit) => `${this.library.setting(edit, edit.value)}\n`).join("");
+    /* The settings of the word, and then those of the options that are not the usual ones. */
+    settings(state, { isBuilt }) {
+        const settings = this.edits(state.word).map((edit) => this.library.setting(edit, edit.value));
+        const { word } = this.library.build(settings);
+        const nearest = isBuilt ? [] : [`# No builder makes this word. These settings build the nearest one, ${wordText(word)}.`];
+        const options = this.library.differences(state, { ...STANDARD_OPTIONS, word: state.word }).map(({ text }) => text);
+        return [`# ${wordText(state.word)}`, ...nearest, ...settings, ...options, ""].join("\n");
     }
 }

@@ -1,8 +1,13 @@
 /* The controls: bytes, options and flags. Each calls `edit` with the name of a field and its new value. */
 
-const OPTIONS = [
-    { name: "exponent", title: "exponent character", meaning: "an option of the parser, such as the `e` in `1e5`" },
-    { name: "point", title: "decimal point", meaning: "an option of the parser, such as the `.` in `1.5`" },
+/* Words by which fields are found beside those of their rows. */
+const WORDS = [
+    [/separator/, "underscore comma apostrophe thousands group"],
+    [/_sign/, "plus minus + -"],
+    [/radix|base/, "hex hexadecimal octal binary 0x"],
+    [/special/, "nan infinity"],
+    [/point|fraction/, "float decimal comma dot"],
+    [/exponent/, "float scientific"],
 ];
 
 /* Returns the first piece of code in a meaning. */
@@ -81,10 +86,13 @@ class Controls {
         return element("tr", {}, this.groupHead(row, row.name.replace("_digit_separator_flags", ""), "row"), cells);
     }
 
-    /* Hides the rows in which neither a name nor a meaning has the text of the filter. */
+    /* Hides the rows in which neither a name, a meaning nor another word has the text of the filter. */
     filter() {
-        const wanted = find("filter").value.trim().toLowerCase().replaceAll(" ", "_");
-        const has = (node) => `${node.dataset.field ?? ""} ${node.textContent}`.toLowerCase().replaceAll(" ", "_").includes(wanted);
+        const plain = (text) => text.trim().toLowerCase().replaceAll(" ", "_");
+        const wanted = plain(find("filter").value);
+        const others = (name) => WORDS.filter(([pattern]) => pattern.test(name)).map(([, words]) => words).join(" ");
+        const textOf = ({ dataset: { field = "" }, textContent }) => plain(`${field} ${textContent} ${others(field)}`);
+        const has = (node) => textOf(node).includes(wanted);
         const hide = (node, rows) => (node.hidden = !rows.some((row) => !row.hidden));
         for (const row of document.querySelectorAll("#controls .byte-row, #controls .flag-row")) row.hidden = !has(row);
         const rows = [...document.querySelectorAll("#separators tbody tr")];
@@ -106,7 +114,7 @@ class Controls {
         /* While a text is refused, the byte is the one before the text was typed. */
         const input = (event) => {
             const { value, error } = this.parsed(name, title, isNumber, event.target.value);
-            setText(problem, error ?? "");
+            problem.replaceChildren(...withCode(error ?? ""));
             event.target.setAttribute("aria-invalid", String(Boolean(error)));
             this.edit(name, value ?? before, name);
         };

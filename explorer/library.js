@@ -6,6 +6,12 @@ const HALF = (1n << 64n) - 1n;
 const MOST_WORD = (1n << 128n) - 1n;
 /* How many bytes a text may have. */
 const MOST_TEXT = 60000;
+/* The options of a parser, which are not in the word. If both are 0, numbers are integers alone. */
+const OPTIONS = [
+    { name: "exponent", title: "exponent character", meaning: "an option of the parser, such as the `e` in `1e5`" },
+    { name: "point", title: "decimal point", meaning: "an option of the parser, such as the `.` in `1.5`" },
+];
+const STANDARD_OPTIONS = { exponent: 101, point: 46 };
 
 class Library {
     constructor(calls, { flags, groups, bytes }) {
@@ -36,28 +42,28 @@ class Library {
         return JSON.parse(new TextDecoder().decode(new Uint8Array(memory.buffer, output(), length)));
     }
 
-    /* Returns {word} that a new builder makes of settings, or {error, index} for the first that is none. */
+    /* Returns {word, notes} of a new builder with settings, or {error, index} for the first setting that is none. */
     build(settings) {
-        const { word, ...fault } = this.call("build", settings.join("\n"));
-        return word ? { word: BigInt(word) } : fault;
+        const answer = this.call("build", settings.join("\n"));
+        return answer.error ? answer : { ...answer, word: BigInt(answer.word) };
     }
 
-    /* Returns all about a state: whether the word is built, its error, normal form, reasons and notes, and why the
-     * options do not fit. Reasons and notes have their text, the fields that they blame, and the broken rules. */
+    /* Returns all about a state: whether the word is built, its error, normal form, reasons and notes, and why the options
+     * do not fit. Reasons and notes have their text, the fields that they blame, the broken rules, and repaired states. */
     explain({ word, exponent, point }) {
         const answer = this.call("explain", "", word & HALF, word >> 64n, exponent, point);
-        const named = ({ mask, options: own = [], ...it }) => {
-            return { ...it, mask: BigInt(mask), fields: [...own, ...this.namesOf(BigInt(mask))] };
+        const named = ({ mask, options: own = [], repairs = [], ...it }) => {
+            const fields = [...own, ...this.namesOf(BigInt(mask))];
+            return { ...it, mask: BigInt(mask), fields, repairs: repairs.map(withWord) };
         };
         const [reasons, options, notes] = ["reasons", "options", "notes"].map((name) => answer[name].map(named));
         return { ...answer, normal: BigInt(answer.normal), reasons, options, notes };
     }
 
-    /* Returns {parts} of a number, each with its kind and size. If a text is refused, these are the parts of its longest
-     * front that is a number, and {error, mask, start, end, validUpTo} has the flags to blame, the bytes to mark, and how
-     * many bytes are right. If the word is not lawful or an option does not fit, there is only an error. */
-    literal({ word, exponent, point }, text) {
-        return this.call("literal", text, word & HALF, word >> 64n, exponent, point);
+    /* Returns an object for each line of a text, as `numbers` of library.rs describes: none if the word is not lawful. */
+    numbers({ word, exponent, point }, text) {
+        const answers = this.call("numbers", text, word & HALF, word >> 64n, exponent, point);
+        return answers.map((answer) => ({ ...answer, offers: answer.offers.map(withWord) }));
     }
 
     /* Returns {value}, or {error} if the setter does not take the text. A separator needs a flag that allows it. */
@@ -84,9 +90,27 @@ class Library {
         return this.get(word, name) || (name.startsWith("exponent") ? this.get(word, "mantissa_radix") : 0);
     }
 
+    /* Returns a typed byte: a number or a character. Returns undefined if it is neither. */
+    byte(text) {
+        return [text, `'${text}'`].map((it) => this.parse("digit_separator", it).value).find((it) => it !== undefined);
+    }
+
     /* Returns the fields in which two words differ. */
     changes(word, other) {
         return this.fields.filter(({ mask }) => (word & mask) !== (other & mask));
+    }
+
+    /* Returns the fields and options in which two states differ, each with its settings in both. */
+    differences(state, other) {
+        const fields = this.changes(state.word, other.word).map((field) => {
+            const [text, before] = [state, other].map(({ word }) => this.setting(field, this.get(word, field.name)));
+            return { ...field, text, before, value: this.get(other.word, field.name) };
+        });
+        const options = OPTIONS.filter(({ name }) => state[name] !== other[name]).map(({ name }) => {
+            const [text, before] = [state, other].map((it) => `${name}=${it[name] ? quoted(it[name], "") : "none"}`);
+            return { name, isByte: true, text, before, value: other[name] };
+        });
+        return [...fields, ...options];
     }
 
     /* Returns the names of the fields with bits in a mask. All separator flags together have one name. */
@@ -106,19 +130,31 @@ class Library {
         return `${name}=${isNumber ? value : quoted(value, "")}`;
     }
 
-    /* Returns {word} of a text, or {error}: hexadecimal, decimal, or settings, in which # begins a comment. */
+    /* Returns {word, notes} and the options of a text, or {error}. The text is hexadecimal, decimal, or settings, in which
+     * # begins a comment. */
     read(text) {
-        const digits = text.trim().replace(/(?<=\w)_(?=\w)/g, "");
-        if (/^0x[0-9a-f]{1,32}$|^[0-9]{1,39}$/i.test(digits) && BigInt(digits) <= MOST_WORD) return { word: BigInt(digits) };
-        const settings = [];
-        const rest = text.replace(/(\w+)\s*=\s*('.'|[^\s,;#]*)|#.*|[\s,;]/g, (_, name, value) => {
+        const [options, settings] = [{}, []];
+        const word = text.replace(/\b(exponent|point)\s*=\s*('.'|[^\s,;#]*)[\s,;]*/g, (_, name, value) => {
+            options[name] = this.byte(/^'.'$/.test(value) ? value[1] : value);
+            return "";
+        });
+        if (Object.values(options).includes(undefined)) return { error: "An option is not a byte." };
+        const digits = word.trim().replace(/(?<=\w)_(?=\w)/g, "").replace(/,$/, "");
+        const isNumber = /^0x[0-9a-f]{1,32}$|^[0-9]{1,39}$/i.test(digits);
+        if (isNumber && BigInt(digits) <= MOST_WORD) return { word: BigInt(digits), options };
+        const rest = word.replace(/(\w+)\s*=\s*('.'|[^\s,;#]*)|#.*|[\s,;]/g, (_, name, value) => {
             if (name) settings.push(`${name}=${value}`);
             return "";
         });
         if (rest || !settings.length) return { error: "This is neither a word nor a list of settings." };
-        const { word, error, index } = this.build(settings);
-        return error ? { error: `${settings[index]}: ${error}.` } : { word };
+        const { error, index, ...built } = this.build(settings);
+        return error ? { error: `${settings[index]}: ${error}.` } : { ...built, options };
     }
+}
+
+/* Returns an answer with its word as a number. */
+function withWord(answer) {
+    return { ...answer, word: BigInt(answer.word) };
 }
 
 /* Returns a word as text. */

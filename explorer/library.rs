@@ -6,11 +6,13 @@ use core::fmt::{self, Display, Write};
 use core::ops::Range;
 
 use peltzivar::edits::{apply, is_built, normal_form};
-use peltzivar::literal::{Specials, Syntax};
-use peltzivar::reasons::Byte;
-use peltzivar::{Cause, Edit, Error, FormatView, NumberFormatBuilder, Rule};
+use peltzivar::literal::Syntax;
+use peltzivar::{Edit, Error, FormatView, NumberFormatBuilder, Reason, Rule};
+use suggest::{Found, Line, SPECIALS, State, blamed_options, lines_of, offers, read, repairs};
 
-const SIZE: usize = 1 << 16;
+mod suggest;
+
+const SIZE: usize = 1 << 18;
 
 /// The texts of the page and the library. The page reads and writes them only between calls.
 static mut INPUT: [u8; SIZE] = [0; SIZE];
@@ -34,7 +36,8 @@ fn text_of(length: usize) -> &'static [u8] {
     unsafe { &(&*(&raw const INPUT))[..length.min(SIZE)] }
 }
 
-/// Returns the word that settings, one a line, build: `{"word"}`, or `{"error", "index"}` for the first that is none.
+/// Returns the word that settings, one a line, build, with the notes on fields without effect: `{"word", "notes"}`, or
+/// `{"error", "index"}` for the first that is none.
 #[unsafe(no_mangle)]
 pub extern "C" fn build(length: usize) -> usize {
     let text = core::str::from_utf8(text_of(length)).unwrap_or("");
@@ -45,7 +48,11 @@ pub extern "C" fn build(length: usize) -> usize {
             Err(error) => return answer(|out| write!(out, r#"{{"error":{},"index":{index}}}"#, Quoted(error))),
         }
     }
-    answer(|out| write!(out, r#"{{"word":{}}}"#, Word(builder.build_unchecked())))
+    answer(|out| {
+        write!(out, r#"{{"word":{},"notes":"#, Word(builder.build_unchecked()))?;
+        list(out, builder.notes(), |out, note| write!(out, "{}", Quoted(note)))?;
+        out.write_str("}")
+    })
 }
 
 /// Returns all that the page shows of a word and of an exponent character and a decimal point beside it.
@@ -56,19 +63,10 @@ pub extern "C" fn explain(low: u64, high: u64, exponent: u8, point: u8) -> usize
     answer(|out| {
         write!(out, r#"{{"normal":{},"isBuilt":{}"#, Word(normal_form(word)), is_built(word))?;
         write!(out, r#","error":{},"reasons":"#, Quoted(Failure(view.error())))?;
-        list(out, view.reasons(), |out, reason| {
-            write!(out, r#"{{"text":{},"mask":{},"rules":"#, Quoted(reason), Word(reason.mask()))?;
-            let rules = Rule::ALL.iter().enumerate().filter(|(_, rule)| reason.breaks(**rule));
-            list(out, rules, |out, (index, rule)| {
-                write!(out, r#"{{"index":{index},"error":{}}}"#, Quoted(rule.error()))
-            })?;
-            out.write_str("}")
-        })?;
+        let state = State { word, exponent, point };
+        list(out, view.reasons(), |out, reason| put_reason(out, state, reason))?;
         out.write_str(r#","options":"#)?;
-        list(out, view.options_reasons(exponent, point), |out, reason| {
-            let options = blamed_options(reason.cause());
-            write!(out, r#"{{"text":{},"mask":{},"options":{options}}}"#, Quoted(reason), Word(reason.mask()))
-        })?;
+        list(out, view.options_reasons(exponent, point), |out, reason| put_reason(out, state, reason))?;
         out.write_str(r#","notes":"#)?;
         list(out, view.notes(), |out, note| {
             write!(out, r#"{{"text":{},"mask":{}}}"#, Quoted(note), Word(note.mask()))
@@ -77,57 +75,73 @@ pub extern "C" fn explain(low: u64, high: u64, exponent: u8, point: u8) -> usize
     })
 }
 
-/// The spellings of special values that are read.
-const SPECIALS: Specials = Specials { nan: Some(b"NaN"), inf: Some(b"inf"), infinity: Some(b"infinity") };
-
-/// Returns the parts of a number, or of the longest front of a refused text that is a number. For a refused text, also
-/// returns why and where it is refused: the error, the flags to blame, the bytes to mark, and how many bytes are right.
-/// If the word is not lawful, or if an option does not fit, only returns an error.
-#[unsafe(no_mangle)]
-pub extern "C" fn literal(low: u64, high: u64, exponent: u8, point: u8, length: usize) -> usize {
-    let (word, text) = (u128::from(high) << 64 | u128::from(low), text_of(length));
-    answer(|out| {
-        let Ok(syntax) = Syntax::of_word(word, exponent, point) else {
-            return out.write_str(r#"{"parts":[],"error":"not read"}"#);
-        };
-        let refusal = syntax.read(text).err();
-        let special = refusal.and_then(|_| SPECIALS.read(&syntax, text));
-        match (special, syntax.read_prefix(text)) {
-            (Some(special), _) => {
-                let (sign, rest) = text.split_at(special.sign.map_or(0, |_| 1));
-                let parts = [("sign", sign), ("special", rest)];
-                put_parts(out, parts.into_iter().filter(|(_, bytes)| !bytes.is_empty()))?;
-            }
-            (None, Ok((literal, _))) => put_parts(out, literal.parts())?,
-            (None, Err(_)) => put_parts(out, core::iter::empty())?,
-        }
-        if let (None, Some(error)) = (special, refusal) {
-            let (mask, Range { start, end }, right) = (Word(error.mask()), error.span(), error.valid_up_to());
-            write!(out, r#","error":{},"mask":{mask},"start":{start},"end":{end},"validUpTo":{right}"#, Quoted(error))?;
-        }
+/// Writes a reason with the rules that it breaks, the options that it blames, and the states in which it has ended.
+fn put_reason(out: &mut Answer, state: State, reason: Reason) -> fmt::Result {
+    let [exponent, point] = blamed_options(reason);
+    write!(out, r#"{{"text":{},"mask":{},"rules":"#, Quoted(reason), Word(reason.mask()))?;
+    let rules = Rule::ALL.iter().enumerate().filter(|(_, rule)| reason.breaks(**rule));
+    list(out, rules, |out, (index, rule)| write!(out, r#"{{"index":{index},"error":{}}}"#, Quoted(rule.error())))?;
+    let options = [("exponent", exponent), ("point", point)].into_iter().filter(|it| it.1);
+    out.write_str(r#","options":"#)?;
+    list(out, options, |out, (name, _)| write!(out, r#""{name}""#))?;
+    out.write_str(r#","repairs":"#)?;
+    list(out, repairs(state, reason), |out, state| {
+        put_state(out, state)?;
         out.write_str("}")
+    })?;
+    out.write_str("}")
+}
+
+/// Writes an object with a state, without its last brace.
+fn put_state(out: &mut Answer, State { word, exponent, point }: State) -> fmt::Result {
+    write!(out, r#"{{"word":{},"exponent":{exponent},"point":{point}"#, Word(word))
+}
+
+/// Returns an object for each of the lines: the parts of its number, or of the longest front of a refused text that is a
+/// number; why and where it is refused, with the flags to blame and the bytes to mark; and, if it is not as expected, the
+/// states that are offered, each with the parts of the number in it and how many lines are as expected then. If the word
+/// is not lawful, returns an empty array.
+#[unsafe(no_mangle)]
+pub extern "C" fn numbers(low: u64, high: u64, exponent: u8, point: u8, length: usize) -> usize {
+    let (state, lines) = (State { word: u128::from(high) << 64 | u128::from(low), exponent, point }, text_of(length));
+    answer(|out| match state.syntax() {
+        Some(syntax) => list(out, lines_of(lines), |out, line| put_line(out, state, &syntax, lines, line)),
+        None => out.write_str("[]"),
     })
 }
 
-/// Writes the parts of a text, each with its name.
-fn put_parts<'a>(out: &mut Answer, parts: impl Iterator<Item = (&'static str, &'a [u8])>) -> fmt::Result {
+fn put_line(out: &mut Answer, state: State, syntax: &Syntax, lines: &[u8], line: Line<'_>) -> fmt::Result {
     out.write_str(r#"{"parts":"#)?;
-    list(out, parts, |out, (kind, bytes)| write!(out, r#"{{"kind":"{kind}","size":{}}}"#, bytes.len()))
+    put_parts(out, syntax, line.text)?;
+    let result = read(syntax, line.text);
+    if let Err(error) = result {
+        let (mask, Range { start, end }) = (Word(error.mask()), error.span());
+        write!(out, r#","error":{},"mask":{mask},"start":{start},"end":{end}"#, Quoted(error))?;
+    }
+    out.write_str(r#","offers":"#)?;
+    let found = if result.is_err() == line.is_refused { Found::new(lines) } else { offers(state, lines, line) };
+    list(out, found.best(), |out, (state, expected)| {
+        put_state(out, state)?;
+        write!(out, r#","expected":{expected},"parts":"#)?;
+        state.syntax().map_or(Ok(()), |it| put_parts(out, &it, line.text))?;
+        out.write_str("}")
+    })?;
+    out.write_str("}")
 }
 
-/// Returns the names of the options that a reason blames, as an array in JSON.
-fn blamed_options(cause: Cause) -> &'static str {
-    let (first, second) = match cause {
-        Cause::NotText(byte) | Cause::IsSign(byte) | Cause::IsDigit(byte, _) => (byte, byte),
-        Cause::Same(first, second) | Cause::DifferInCase { first, second, .. } => (first, second),
-        _ => return "[]",
+/// Writes the parts of a text, or of its longest front that is a number.
+fn put_parts(out: &mut Answer, syntax: &Syntax, text: &[u8]) -> fmt::Result {
+    let put = |out: &mut Answer, (kind, bytes): (&str, &[u8])| {
+        let size = bytes.len();
+        write!(out, r#"{{"kind":"{kind}","size":{size}}}"#)
     };
-    let has = |name| first.name == name || second.name == name;
-    match (has(Byte::ExponentCharacter), has(Byte::DecimalPoint)) {
-        (true, true) => r#"["exponent","point"]"#,
-        (true, false) => r#"["exponent"]"#,
-        (false, true) => r#"["point"]"#,
-        (false, false) => "[]",
+    if let (Err(_), Some(special)) = (syntax.read(text), SPECIALS.read(syntax, text)) {
+        let (sign, rest) = text.split_at(special.sign.map_or(0, |_| 1));
+        return list(out, [("sign", sign), ("special", rest)].into_iter().filter(|(_, bytes)| !bytes.is_empty()), put);
+    }
+    match syntax.read_prefix(text) {
+        Ok((literal, _)) => list(out, literal.parts(), put),
+        Err(_) => out.write_str("[]"),
     }
 }
 

@@ -1,62 +1,129 @@
-/* The field in which numbers are tried, one a line: their parts are coloured, and bytes to blame are marked. */
+/* The numbers to try, one a line: their parts are coloured, wrong bytes are marked, and for a number that is not as
+ * expected, states are offered in which it is. A number behind a `!` must be refused. */
 
-/* The parts of a literal, with the names of their colours. */
-const COLOURS = {
-    sign: "sign",
-    special: "special",
-    prefix: "base",
-    integer: "digits",
-    point: "option",
-    fraction: "digits",
-    exponent_character: "exponent",
-    exponent_sign: "sign",
-    exponent: "exponent",
-    suffix: "base",
+/* The parts of a number, with the names of their colours and their fields. */
+const PARTS = {
+    sign: ["sign", "no_positive_mantissa_sign required_mantissa_sign"],
+    special: ["special", "no_special case_sensitive_special"],
+    prefix: ["base", "base_prefix"],
+    integer: ["digits", "mantissa_radix"],
+    point: ["option", "point"],
+    fraction: ["digits", "mantissa_radix"],
+    exponent_character: ["exponent", "exponent"],
+    exponent_sign: ["sign", "no_positive_exponent_sign required_exponent_sign"],
+    exponent: ["exponent", "exponent_radix"],
+    suffix: ["base", "base_suffix"],
 };
-/* How many lines the field shows, and how many of them are read. */
-const [MOST_ROWS, MOST_LITERALS] = [10, 50];
+/* How many lines the field shows, how many of them are read, and how long a number is that has a value. */
+const [MOST_ROWS, MOST_LINES, MOST_VALUE] = [8, 100, 500];
 
 class Trial {
-    constructor(library, { links, change }) {
+    constructor(library, { change }) {
         this.library = library;
-        this.links = links;
         this.change = change;
-        find("literal").addEventListener("input", () => this.show(this.state, this.problem));
+        this.keys = [];
+        find("literal").addEventListener("input", ({ target }) => change({ numbers: target.value }, "literal"));
     }
 
-    /* Reads the typed numbers in a state, and shows what was read. With a problem, no number is read. */
-    show(state, problem) {
-        this.state = state;
-        this.problem = problem;
-        const lines = find("literal").value.split("\n");
-        find("literal").rows = Math.min(lines.length, MOST_ROWS);
-        const answers = lines.filter(Boolean).slice(0, MOST_LITERALS).map((text) => {
-            return { text, bytes: new TextEncoder().encode(text), ...this.library.literal(state, text) };
+    /* Reads the numbers of a state, and shows what was read. Returns how many of them are as expected, in words, and the
+     * first number that is not. */
+    show(state) {
+        const box = find("literal");
+        if (box.value !== state.numbers) box.value = state.numbers;
+        const all = state.numbers.split("\n").map((text, index) => ({ text, index })).filter(({ text }) => text);
+        box.rows = Math.min(Math.max(state.numbers.split("\n").length, 2), MOST_ROWS);
+        let bytes = 0;
+        const lines = all.slice(0, MOST_LINES).filter(({ text }) => (bytes += 4 * text.length + 1) < MOST_TEXT);
+        const answers = this.library.numbers(state, lines.map(({ text }) => text).join("\n")).map((answer, index) => {
+            const { text, index: place } = lines[index];
+            const isRefused = text.startsWith("!");
+            const isExpected = isRefused === Boolean(answer.error);
+            return { ...answer, text: text.slice(Number(isRefused)), place, isRefused, isExpected };
         });
-        find("literal").setAttribute("aria-invalid", String(answers.some(({ error }) => error)));
-        find("read").replaceChildren(...answers.map((answer) => this.row(answer)));
+        this.state = state;
+        this.answers = answers;
+        for (const { text, isRefused, offers } of answers) {
+            for (const offer of offers) {
+                offer.changes = this.library.differences(offer, state).sort((a, b) => Number(!a.isByte) - Number(!b.isByte));
+                offer.label = `set ${offer.changes.map((it) => it.text).join(", ")}`;
+                const count = answers.length > 1 ? `, then ${offer.expected} of ${answers.length} as expected` : "";
+                offer.then = ` ${text}: ${isRefused ? "refused" : this.reading(offer, text, offer.parts)}${count}`;
+            }
+        }
+        this.expected = answers.filter(({ isExpected }) => isExpected).length;
+        this.total = answers.length;
+        box.setAttribute("aria-invalid", String(this.expected < this.total));
+        const left = all.length - lines.length;
+        const rest = [
+            ...(lines.length && !answers.length ? ["not read, since the word is not lawful"] : []),
+            ...(left ? [left === 1 ? "1 more line is not read" : `${left} more lines are not read`] : []),
+        ];
+        const texts = rest.map((text) => ({ key: text, make: () => element("li", { class: "bad" }, text) }));
+        this.fill([...answers.map((answer) => ({ key: this.keyOf(answer), make: () => this.row(answer) })), ...texts]);
+        const first = answers.find(({ isExpected }) => !isExpected);
+        const count = this.total ? `${this.expected} of ${this.total} as expected` : "";
+        return { count, isGood: !first, first: first && `${first.text} ${this.told(first)}` };
+    }
+
+    /* Returns a text of all that a row shows. */
+    keyOf({ text, place, parts, start, end, offers, ...answer }) {
+        const told = this.told({ text, parts, start, ...answer });
+        const texts = offers.flatMap(({ label, then }) => [label, then]);
+        return [text, place, start, end, told, ...parts.flatMap(Object.values), ...texts].join("\n");
+    }
+
+    /* Shows the rows. Those that show the same as before stay. */
+    fill(rows) {
+        const list = find("read");
+        rows.forEach(({ key, make }, index) => {
+            if (key === this.keys[index]) return;
+            if (list.children[index]) list.children[index].replaceWith(make());
+            else list.append(make());
+        });
+        while (list.children.length > rows.length) list.lastElementChild.remove();
+        this.keys = rows.map(({ key }) => key);
     }
 
     row(answer) {
-        const told = answer.error ? element("span", { class: "bad" }, this.told(answer)) : this.accepted(answer);
-        return element("li", {}, element("span", { class: "written" }, this.pieces(answer)), " ", told);
+        const { text, place, isRefused, isExpected, mask = 0 } = answer;
+        const change = () => this.turn(place);
+        const nothing = isRefused ? "No flag alone refuses it." : "No format that differs in a few fields accepts it.";
+        const offers = answer.offers.map((offer, index) => this.offer(place, offer, index));
+        const label = `${text} must be refused`;
+        const box = element("input", { type: "checkbox", change, id: `refuse-${place}`, "aria-label": label });
+        box.checked = isRefused;
+        return element(
+            "li",
+            { class: isExpected ? "" : "unexpected", "data-field": this.library.namesOf(BigInt(mask)).join(" ") },
+            element(
+                "div",
+                {},
+                element("span", { class: "written" }, this.pieces(answer)),
+                element("p", { class: isExpected ? "good" : "bad" }, this.told(answer)),
+            ),
+            element("label", { class: "refuse" }, box, "refuse"),
+            element("ul", {}, isExpected || offers.length ? offers : element("li", {}, nothing)),
+        );
     }
 
-    /* Returns that a number is accepted, and behind it the flags that reject it if they change. */
-    accepted({ text }) {
-        const words = this.library.flags.map(({ mask }) => this.state.word ^ mask);
-        const links = words.filter((word) => this.reach(word, text) < Infinity).flatMap((word) => this.changes(word));
-        const settings = element("p", {}, "Rejected with ", links.length ? links : "no flag");
-        return element("details", {}, element("summary", { class: "good" }, "accepted"), settings);
+    /* Returns what is told of a number. */
+    told({ text, error, start, parts, isRefused }) {
+        const where = start < text.length ? `at index ${start}` : "at the end";
+        const what = error ? `${where}: ${error}` : this.reading(this.state, text, parts);
+        if (isRefused) return error ? `refused: ${what}` : `accepted as ${what}, but it must be refused`;
+        return error ? what : `accepted: ${what}`;
     }
 
-    /* Returns the text with its parts, in which the bytes to blame are marked, or a place if there are none. */
-    pieces({ bytes, parts, start, end }) {
+    /* Returns the text with its parts, in which the wrong bytes are marked, or a place if there are none. */
+    pieces({ text, parts, start, end }) {
+        const bytes = new TextEncoder().encode(text);
         let next = 0;
         const all = [...parts, { size: bytes.length }].map(({ kind, size }) => ({ kind, start: next, end: next += size }));
         const cut = (from, to) => all.filter((part) => part.start < to && from < part.end).map(({ kind, start, end }) => {
             const piece = new TextDecoder().decode(bytes.subarray(Math.max(start, from), Math.min(end, to)));
-            return kind ? element("span", { class: COLOURS[kind], title: kind.replace("_", " ") }, piece) : piece;
+            const [colour, fields] = PARTS[kind] ?? [];
+            const title = kind?.replace("_", " ");
+            return kind ? element("span", { class: colour, title, "data-field": fields }, piece) : piece;
         });
         if (start === undefined) return cut(0, bytes.length);
         while ((bytes[end] & 0xc0) === 0x80) end += 1;
@@ -64,50 +131,43 @@ class Trial {
         return [...cut(0, start), marked, ...cut(end, bytes.length)];
     }
 
-    /* Returns what is told of a rejected text, with links to the controls that decide, and a button that sets them. */
-    told(answer) {
-        const { bytes, error, start } = answer;
-        if (start === undefined) return [`not read, since ${this.problem}`];
-        const what = `${start < bytes.length ? `at byte ${start + 1}` : "at the end"}: ${error}`;
-        const word = this.mended(answer);
-        if (word === undefined) return [what];
-        const set = () => {
-            this.change(word);
+    /* Returns a state that is offered, as a button with its settings, with what the number is then. */
+    offer(place, { label, then, changes }, index) {
+        const use = () => {
+            const { word, exponent, point } = this.answers.find((it) => it.place === place).offers[index];
+            this.change({ word, exponent, point });
             (find("read").querySelector(".use") ?? find("literal")).focus();
         };
-        const changes = this.changes(word);
-        const label = changes.map((node) => node.textContent ?? node).join("");
-        return [`${what}. More is accepted with `, ...changes, button("use", "set it", set, { "aria-label": `set it: ${label}` })];
+        const fields = changes.map(({ name }) => name).join(" ");
+        return element("li", {}, button("use", label, use, { "data-field": fields }), then);
     }
 
-    /* Returns the fields with other values in a word, with links to their controls. */
-    changes(word) {
-        return this.library.changes(word, this.state.word).flatMap((field, index) => {
-            const setting = this.library.setting(field, this.library.get(word, field.name));
-            return [index ? "and " : "", ...this.links([field.name]), `${setting.replace(`${field.name}=`, " = ")} `];
-        });
+    /* Returns what a number is in a state, by its parts: its kind, and its value if that is not too large. */
+    reading({ word }, text, parts) {
+        let at = 0;
+        const piece = Object.fromEntries(parts.map(({ kind, size }) => [kind, text.slice(at, (at += size))]));
+        if (piece.special) return "special value";
+        const kind = piece.point || piece.exponent_character ? "float" : "integer";
+        if (text.length > MOST_VALUE) return kind;
+        const byte = (name) => this.library.effective(word, name);
+        const separator = String.fromCharCode(byte("digit_separator"));
+        const digits = (run = "") => [...run].filter((it) => it !== separator).map((it) => BigInt(parseInt(it, 36)));
+        const number = (all, radix) => all.reduce((sum, digit) => sum * BigInt(radix) + digit, 0n);
+        const [radix, base, fraction] = [byte("mantissa_radix"), byte("exponent_base"), digits(piece.fraction)];
+        const mantissa = number([...digits(piece.integer), ...fraction], radix);
+        const sign = piece.sign === "-" ? "-" : "";
+        if (kind === "integer") return `integer = ${sign}${mantissa}`;
+        const exponent = Number(`${piece.exponent_sign ?? ""}${number(digits(piece.exponent), byte("exponent_radix"))}`);
+        const scaled = () => Number(mantissa) * base ** exponent / radix ** fraction.length;
+        const value = radix === 10 && base === 10 ? Number(`${mantissa}e${exponent - fraction.length}`) : scaled();
+        return Number.isFinite(value) ? `float = ${sign}${value}` : "float";
     }
 
-    /* Returns how many bytes of a text are right with a word: infinitely many if it is accepted, undefined if it is not read. */
-    reach(word, text) {
-        const { error, validUpTo } = this.library.literal({ ...this.state, word }, text);
-        return error ? validUpTo : Infinity;
-    }
-
-    /* Returns the word with which most of a rejected text is right, if this is more than now: in it, a separator flag to
-     * blame is set, or all other flags to blame are cleared. If no flag is to blame, the wrong byte is the suffix or prefix
-     * if it is a letter, and otherwise a separator with a flag, unless it is a digit. */
-    mended({ text, bytes, mask, validUpTo }) {
-        const { library, state } = this;
-        const [blamed, separators] = [BigInt(mask), library.named.get("digit_separator_flags").mask];
-        const wrong = String.fromCharCode(...bytes.subarray(validUpTo, validUpTo + 1));
-        if (!blamed && /^\d?$/.test(wrong)) return undefined;
-        const isLetter = /[a-z]/i.test(wrong);
-        const name = !isLetter ? "digit_separator" : validUpTo + 1 < bytes.length ? "base_prefix" : "base_suffix";
-        const word = blamed ? state.word & ~(blamed & ~separators) : library.put(state.word, name, bytes[validUpTo]);
-        const flags = blamed || isLetter ? blamed & separators : separators;
-        const words = [word, ...library.flags.filter(({ mask }) => mask & flags).map(({ mask }) => word | mask)];
-        const reached = words.map((other) => this.reach(other, text));
-        return words[reached.indexOf(Math.max(...reached.filter((reach) => reach > validUpTo)))];
+    /* Makes an accepted number of a line one that must be refused, or the other way round. */
+    turn(place) {
+        const lines = this.state.numbers.split("\n");
+        lines[place] = lines[place].startsWith("!") ? lines[place].slice(1) : `!${lines[place]}`;
+        this.change({ numbers: lines.join("\n") });
+        find(`refuse-${place}`)?.focus();
     }
 }

@@ -1,8 +1,11 @@
-/* The state of the page: a word, an exponent character and a decimal point, which the fragment of the URL has too. Each
- * change is an entry of the browser's history, so the way back takes it back. */
+/* The state of the page: a word, an exponent character, a decimal point and the numbers, which the fragment of the URL has
+ * too. */
 
 const LANGUAGES = ["rust", "c", "python", "settings"];
-const STANDARD_OPTIONS = { exponent: 101, point: 46 };
+/* After how many milliseconds without an edit the fragment is written. */
+const PAUSE = 200;
+const TOLD = "Copied is the part from # on, since others cannot open a file of this machine. It belongs behind the address "
+    + "of their page, or into the field of its format word.";
 
 /* Returns the place and the meaning of each field by its name. */
 function meaningsOf({ flags, groups, bytes }) {
@@ -19,21 +22,20 @@ class Page {
     constructor(library, data) {
         this.library = library;
         this.data = data;
-        for (const recipe of data.recipes) recipe.word = library.build(recipe.settings.map(([text]) => text)).word;
-        this.last = -1;
+        for (const language of data.languages) language.word = library.build(language.settings).word;
+        [this.past, this.future] = [[], []];
         const edit = (name, value, key) => this.edit(name, value, key);
-        const use = (word) => {
-            this.jump({ word });
-            find("verdict").focus();
+        const use = (state) => {
+            this.jump(state);
+            (find("reasons").querySelector(".use") ?? find("verdict")).focus();
         };
         this.controls = new Controls(library, edit);
         this.report = new Report(library, data, { use, edit, go: (name) => this.go(name) });
-        this.trial = new Trial(library, { links: (fields) => this.report.links(fields), change: (word) => this.change({ word }) });
+        this.trial = new Trial(library, { change: (part, key) => this.change(part, key) });
         this.cells = makeBits(library, (name) => this.controls.boxes.get(name).click());
         this.code = new Code(library);
         this.meanings = meaningsOf(library);
         setText(find("version"), data.version);
-        find("bits-panel").open = matchMedia("(min-width: 1001px)").matches;
         this.listen();
         this.listenToWord();
         this.listenToTabs();
@@ -43,24 +45,30 @@ class Page {
 
     listen() {
         const click = (id, action) => find(id).addEventListener("click", action);
-        addEventListener("popstate", () => this.read());
-        click("undo", () => history.back());
-        click("redo", () => history.forward());
+        addEventListener("hashchange", () => location.hash === this.fragment() || this.read());
+        addEventListener("pagehide", () => this.save());
+        click("undo", () => this.travel(this.past, this.future));
+        click("redo", () => this.travel(this.future, this.past));
         document.addEventListener("keydown", (event) => this.undo(event));
-        click("standard", () => {
-            this.recipe = undefined;
-            this.jump({ word: this.library.standard, ...STANDARD_OPTIONS });
-        });
-        find("recipe").addEventListener("change", ({ target }) => {
-            this.start(this.data.recipes.find(({ name }) => name === target.value));
+        click("standard", () => this.jump({ word: this.library.standard, ...STANDARD_OPTIONS }));
+        find("language").addEventListener("change", ({ target }) => {
+            const { word, exponent, point, numbers } = this.data.languages.find(({ name }) => name === target.value);
+            this.jump({ word, exponent, point, numbers });
         });
         find("as-numbers").addEventListener("change", (event) => {
             this.controls.asNumbers = event.target.checked;
             this.show();
         });
         click("copy-code", (event) => copy(event.target, find("code").textContent));
-        click("copy-link", (event) => copy(event.target, location.href));
+        click("copy-link", (event) => {
+            this.save();
+            const isFile = location.protocol === "file:";
+            setText(find("copied"), isFile ? TOLD : "");
+            copy(event.target, isFile ? location.hash : location.href);
+        });
         click("verdict", () => find("report-title").focus());
+        click("count", () => find("literal").focus());
+        for (const { id, dataset } of document.querySelectorAll("[data-go]")) click(id, () => find(dataset.go).focus());
         const marked = (node) => node.closest("[data-field]");
         document.addEventListener("focusin", ({ target }) => {
             if (target.id !== this.key) this.key = "";
@@ -71,14 +79,22 @@ class Page {
         });
     }
 
-    /* Takes Ctrl+Z, Ctrl+Y and Ctrl+Shift+Z, except in the field for a number. */
+    /* Takes Ctrl+Z, Ctrl+Y and Ctrl+Shift+Z, except in the fields for texts. */
     undo(event) {
         const key = event.key?.toLowerCase();
         const isUndo = (event.ctrlKey || event.metaKey) && ["z", "y"].includes(key);
-        if (!isUndo || ["literal", "filter"].includes(event.target.id)) return;
+        if (!isUndo || ["literal", "filter", "other"].includes(event.target.id)) return;
         event.preventDefault();
-        const isRedo = key === "y" || event.shiftKey;
-        if (isRedo ? this.index < this.last : this.index > 0) history.go(isRedo ? 1 : -1);
+        find(key === "y" || event.shiftKey ? "redo" : "undo").click();
+    }
+
+    /* Goes to the last state of one list, and puts the present one at the end of the other. */
+    travel(from, to) {
+        if (!from.length) return;
+        to.push(this.state);
+        this.state = from.pop();
+        this.key = "";
+        this.showAnew();
     }
 
     listenToWord() {
@@ -124,40 +140,31 @@ class Page {
             return element("tr", {}, element("td", {}, withCode(limit)), element("td", {}, withCode(instead)));
         });
         find("limits").append(...rows);
-        const { recipes } = this.data;
-        find("recipe").append(...recipes.map(({ name, about }) => element("option", { value: name }, shortTitle(about))));
+        find("language").append(...choices(this.data.languages));
     }
 
-    /* Shows a recipe with its comments. */
-    start(recipe) {
-        if (!recipe) return;
-        this.recipe = recipe;
-        this.jump({ word: recipe.word, ...STANDARD_OPTIONS, exponent: recipe.exponent.charCodeAt(0) });
-        const rows = recipe.settings.map(([text, meaning]) => {
-            const comment = element("span", { class: "meaning" }, withCode(meaning));
-            return element("li", {}, element("code", {}, text), " ", comment);
-        });
-        find("about").replaceChildren(...withCode(recipe.about));
-        find("recipe-settings").replaceChildren(...rows);
+    /* Shows the language as chosen while the state is its state. */
+    showLanguage() {
+        const isSame = (it) => ["word", "exponent", "point"].every((name) => it[name] === this.state[name]);
+        const language = this.data.languages.find((it) => it.name === find("language").value && isSame(it));
+        find("language").value = language?.name ?? "";
+        find("about").replaceChildren(...withCode(language?.about ?? ""));
     }
 
-    /* Shows the recipe as chosen while the word is its word, and otherwise that the word was changed. */
-    showRecipe() {
-        const isSame = this.recipe?.word === this.state.word;
-        find("recipe").value = isSame ? this.recipe.name : "";
-        find("recipe-panel").hidden = !this.recipe;
-        setText(find("recipe-changed"), isSame ? "" : `The word was changed from the recipe ${this.recipe?.name}.`);
-    }
-
-    /* Takes a text as the word, if it is whole, or shows why it is not one. */
+    /* Takes a text as the word, or a link as the state, if it is whole, or shows why it is not one. */
     take(text, isWhole) {
-        const { word, error } = this.library.read(text);
+        const link = /#(word|exponent|point|numbers)=\S*/.exec(text);
+        if (link && isWhole) {
+            history.replaceState(null, "", link[0]);
+            return this.read();
+        }
+        const { word, options, notes = [], error } = this.library.read(text);
         if (error) {
             const forms = "A word is `0x` and up to 32 hexadecimal digits, a decimal number, or settings such as `radix=16`.";
             this.tell(`${error} ${forms}`, true);
         } else if (isWhole || word === this.state.word) {
-            this.tell("", false);
-            this.change({ word });
+            this.change({ word, ...options });
+            this.tell(notes.join(". "), false);
         } else {
             this.tell("Press Enter to take this word.", false);
         }
@@ -171,21 +178,22 @@ class Page {
         this.told = this.state.word;
     }
 
+    /* Changes a field or an option. Numbers are integers alone without both options, or floats with both. */
     edit(name, value, key) {
-        const isOption = OPTIONS.some((option) => option.name === name);
-        this.change(isOption ? { [name]: value } : { word: this.library.put(this.state.word, name, value) }, key);
+        if (!(name in STANDARD_OPTIONS)) return this.change({ word: this.library.put(this.state.word, name, value) }, key);
+        const other = name === "point" ? "exponent" : "point";
+        const isAlone = (value === 0) !== (this.state[other] === 0);
+        this.change({ [name]: value, ...(isAlone ? { [other]: value && STANDARD_OPTIONS[other] } : {}) }, key);
     }
 
-    /* Changes the state. What is typed into one control is one entry of the history. */
+    /* Changes the state. What is typed into one control is undone at once. */
     change(part, key = "") {
-        const before = this.fragment();
-        this.state = { ...this.state, ...part };
-        if (this.fragment() !== before) {
-            const isSame = key && key === this.key;
-            this.index += isSame ? 0 : 1;
-            this.last = this.index;
+        const state = { ...this.state, ...part };
+        if (Object.keys(state).some((name) => state[name] !== this.state[name])) {
+            if (!key || key !== this.key) this.past.push(this.state);
+            this.future = [];
             this.key = key;
-            history[isSame ? "replaceState" : "pushState"]({ index: this.index }, "", this.fragment());
+            this.state = state;
         }
         this.show();
     }
@@ -193,34 +201,42 @@ class Page {
     /* Changes the state, and shows it in place of refused texts. */
     jump(part) {
         this.change(part);
+        this.showAnew();
+    }
+
+    showAnew() {
+        this.show();
         this.showWord();
         this.controls.fillAll();
     }
 
     fragment() {
-        const { word, exponent, point } = this.state;
-        return `#word=${wordText(word)}&exponent=${exponent}&point=${point}`;
+        const { word, exponent, point, numbers } = this.state;
+        const rest = numbers && `&numbers=${encodeURIComponent(numbers)}`;
+        return `#word=${wordText(word)}&exponent=${exponent}&point=${point}${rest}`;
+    }
+
+    /* Writes the state to the fragment. */
+    save() {
+        clearTimeout(this.timer);
+        if (location.hash !== this.fragment()) history.replaceState(null, "", this.fragment());
     }
 
     /* Reads the state from the fragment. A part that is missing has its default. If one is invalid, the page says so. */
     read() {
-        const index = history.state?.index;
-        this.index = index ?? this.last + 1;
-        this.last = index === undefined ? this.index : Math.max(this.index, this.last);
-        if (index === undefined) history.replaceState({ index: this.index }, "", location.href);
-        const parts = new URLSearchParams(location.hash.slice(1));
-        const texts = { word: parts.get("word") ?? location.hash.slice(1), exponent: parts.get("exponent"), point: parts.get("point") };
-        const word = texts.word ? this.library.read(texts.word).word : this.library.standard;
-        const byte = (name) => (texts[name] === null ? STANDARD_OPTIONS[name] : this.library.parse("digit_separator", texts[name]).value);
+        const hash = location.hash.slice(1);
+        const isNamed = /^(word|exponent|point|numbers)=/.test(hash);
+        const parts = new URLSearchParams(isNamed ? hash.replaceAll("+", "%2B") : { word: hash });
+        const byte = (name) => (parts.has(name) ? this.library.byte(parts.get(name)) : STANDARD_OPTIONS[name]);
+        const word = parts.get("word") ? this.library.read(parts.get("word")).word : this.library.standard;
         const found = { word, exponent: byte("exponent"), point: byte("point") };
         const lost = Object.keys(found).filter((name) => found[name] === undefined);
         const usual = { word: this.library.standard, ...STANDARD_OPTIONS };
         for (const name of lost) found[name] = usual[name];
-        this.state = found;
+        if (this.state) this.past.push(this.state);
+        this.state = { ...found, numbers: (parts.get("numbers") ?? "").replace(/\r\n?/g, "\n") };
         this.key = "";
-        this.show();
-        this.showWord();
-        this.controls.fillAll();
+        this.showAnew();
         const titles = { word: "format word", exponent: "exponent character", point: "decimal point" };
         const all = lost.map((name) => titles[name]).join(" and no ");
         if (lost.length) this.tell(`This link has no ${all}. The page shows the standard one instead.`, true);
@@ -242,20 +258,27 @@ class Page {
     }
 
     showAll() {
-        const { word } = this.state;
+        const { word, exponent, point } = this.state;
         this.shown = this.library.explain(this.state);
+        if (!exponent && !point) this.shown.options = [];
         const isKept = isRefused(find("word")) && this.told === word;
         if (document.activeElement !== find("word") && !isKept) this.showWord();
-        find("undo").disabled = this.index === 0;
-        find("redo").disabled = this.index === this.last;
-        this.showRecipe();
-        const blamed = this.report.show(word, this.shown);
+        find("undo").disabled = !this.past.length;
+        find("redo").disabled = !this.future.length;
+        this.showLanguage();
+        const reasons = this.report.show(this.state, this.shown);
         this.controls.show(this.state);
         showBits(this.cells, word);
-        showNumber(this.library, this.state);
-        this.trial.show(this.state, this.shown.error ? "the word is not lawful" : "an option does not fit");
-        this.blame(blamed, new Set(this.library.changes(word, this.library.standard).map(({ name }) => name)));
+        const { count, isGood, first } = this.trial.show(this.state);
+        setText(find("count"), count);
+        find("count").className = isGood ? "good" : "bad";
+        const nothing = count ? "" : "The word satisfies all rules. Type numbers to try it.";
+        setText(find("first-error"), reasons[0]?.text ?? first ?? nothing);
+        const fields = new Set(reasons.flatMap((reason) => reason.fields));
+        this.blame(fields, new Set(this.library.changes(word, this.library.standard).map(({ name }) => name)));
         this.showCode();
+        clearTimeout(this.timer);
+        this.timer = setTimeout(() => this.save(), PAUSE);
     }
 
     /* Marks the fields that reasons blame, and those that differ from the standard format. */
@@ -296,19 +319,20 @@ class Page {
 async function copy(button, text) {
     const label = button.dataset.label ?? button.textContent;
     button.dataset.label = label;
-    try {
-        await navigator.clipboard.writeText(text);
-    } catch {
-        const area = element("textarea", { readonly: true });
-        area.value = text;
-        document.body.append(area);
-        area.select();
-        document.execCommand("copy");
-        area.remove();
-        button.focus();
-    }
-    setText(button, "copied");
-    setTimeout(() => setText(button, label), 1200);
+    const isCopied = await navigator.clipboard?.writeText(text).then(() => true, () => false) || copySelection(text);
+    button.focus();
+    setText(button, isCopied ? "copied" : "not copied: no clipboard");
+    setTimeout(() => setText(button, label), isCopied ? 1200 : 5000);
+}
+
+function copySelection(text) {
+    const area = element("textarea", { readonly: true });
+    area.value = text;
+    document.body.append(area);
+    area.select();
+    const isCopied = document.execCommand("copy");
+    area.remove();
+    return isCopied;
 }
 
 async function main() {

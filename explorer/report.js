@@ -1,4 +1,4 @@
-/* The report on a word: its reasons, notes, normal form, and differences from another format. */
+/* The report on a state: its reasons, with what ends them, its notes, its normal form, and the comparison with another. */
 
 class Report {
     constructor(library, data, { use, edit, go }) {
@@ -7,9 +7,11 @@ class Report {
         this.use = use;
         this.edit = edit;
         this.go = go;
-        const formats = [{ name: "", about: "the standard format" }, ...data.recipes];
-        find("compare").append(...formats.map(({ name, about }) => element("option", { value: name }, shortTitle(about))));
-        find("compare").addEventListener("change", () => this.showChanges(this.word));
+        const others = [{ name: "", about: "the standard format" }, { name: "another", about: "another word" }];
+        find("compare").append(...choices([...others, ...data.languages]));
+        find("compare").addEventListener("change", () => this.compare());
+        find("other").addEventListener("input", () => this.compare());
+        find("keep").addEventListener("click", () => this.keep());
     }
 
     /* Returns buttons that lead to the controls of fields. Reserved bits have none. */
@@ -22,19 +24,23 @@ class Report {
     }
 
     /* Shows a reason why the word is not lawful, or why an option does not fit. */
-    reason(word, { text, fields, mask, rules = [] }) {
+    reason({ text, fields, rules, repairs }) {
         const broken = rules.map(({ index, error }) => {
             return element("li", {}, `breaks rule ${index + 1}, \u201c${this.data.rules[index]}\u201d: ${error}`);
         });
-        const isReserved = fields.includes("reserved");
-        const clear = () => this.use(word & ~mask);
+        const buttons = repairs.map((state) => {
+            const changes = this.library.differences(state, this.state);
+            const label = changes.map((it) => it.text).join(", ") || "clear the reserved bits";
+            const names = changes.map(({ name }) => name).join(" ");
+            return button("use", label, () => this.use(state), { "data-field": names });
+        });
         return element(
             "li",
             { class: "reason", "data-field": fields.join(" ") },
             element("strong", {}, text),
             element("ul", { class: "rules" }, broken),
             element("p", {}, element("span", { class: "key" }, "To blame"), this.links(fields)),
-            isReserved ? element("p", {}, "Any edit clears them.", button("use", "clear the reserved bits", clear)) : "",
+            buttons.length ? element("p", {}, element("span", { class: "key" }, "Ends it"), buttons) : "",
         );
     }
 
@@ -42,19 +48,41 @@ class Report {
         return element("li", { class: "note", "data-field": fields.join(" ") }, text, element("p", {}, this.links(fields)));
     }
 
-    /* Shows each field that differs from the chosen format, with a button that takes it back. */
-    showChanges(word) {
-        this.word = word;
-        const recipe = this.data.recipes.find(({ name }) => name === find("compare").value);
-        const other = recipe ? recipe.word : this.library.standard;
+    /* Keeps the state, to compare later ones with it. */
+    keep() {
+        const { word, exponent, point } = this.state;
+        find("compare").value = "another";
+        find("other").value = `${wordText(word)} exponent=${exponent} point=${point}`;
+        this.compare();
+    }
+
+    /* Returns the state to compare with, or {error}. */
+    other() {
+        const name = find("compare").value;
+        const standard = { ...STANDARD_OPTIONS, word: this.library.standard };
+        if (name !== "another") return this.data.languages.find((it) => it.name === name) ?? standard;
+        const { word, options, error } = this.library.read(find("other").value);
+        return error ? { error } : { ...STANDARD_OPTIONS, word, ...options };
+    }
+
+    /* Shows each field and option that differs from the other format, with a button that takes it back. */
+    compare() {
+        const { library, state } = this;
+        const other = this.other();
+        find("other-line").hidden = find("compare").value !== "another";
         const hadFocus = [...find("changes").querySelectorAll("button")].indexOf(document.activeElement);
-        const chips = this.library.changes(word, other).map((field) => {
-            const [value, before] = [word, other].map((it) => this.library.get(it, field.name));
-            const title = `back to ${this.library.setting(field, before)}`;
-            const back = button("back", "\u00d7", () => this.edit(field.name, before), { title, "aria-label": title });
-            const setting = element("code", {}, this.library.setting(field, value));
-            const rest = field.isByte && before ? `instead of ${this.library.setting(field, before).split("=")[1]}` : "";
-            return element("li", { class: "chip", "data-field": field.name }, setting, rest, back);
+        const changes = other.error ? [] : library.differences(state, other);
+        const isSame = () => {
+            const isOption = ({ name }) => name in STANDARD_OPTIONS;
+            return !changes.some(isOption) && library.explain(other).normal === library.explain(state).normal;
+        };
+        const same = changes.length ? "Same format: the other word only stores it differently." : "Same format.";
+        setText(find("same"), other.error ?? (isSame() ? same : "Not the same format. What differs:"));
+        const chips = changes.map(({ name, text, before, value, isByte }) => {
+            const title = `back to ${before}`;
+            const back = button("back", "\u00d7", () => this.edit(name, value), { title, "aria-label": title });
+            const rest = isByte ? `instead of ${before.slice(name.length + 1)}` : "";
+            return element("li", { class: "chip", "data-field": name }, element("code", {}, text), rest, back);
         });
         find("changes").replaceChildren(...chips);
         if (hadFocus < 0) return;
@@ -62,28 +90,29 @@ class Report {
     }
 
     showNormal(word, normal) {
-        const use = button("use", "use it", () => this.use(normal));
+        const use = button("use", "use it", () => this.use({ word: normal }));
         const text = element("code", {}, wordText(normal));
         find("normal").replaceChildren(...(normal === word ? ["The word is its own normal form."] : [text, " ", use]));
     }
 
-    /* Shows all of this for a word and what explains it, and returns the names of the fields to blame. */
-    show(word, { error, reasons, options, notes, normal }) {
+    /* Shows all of this for a state and what explains it, and returns the reasons. */
+    show(state, { error, reasons, options, notes, normal }) {
+        this.state = state;
         const count = (number) => (number === 1 ? "1 reason" : `${number} reasons`);
-        const verdict = error ? `Not lawful: ${count(reasons.length)}` : options.length ? "Lawful, but an option does not fit" : "Lawful";
-        setText(find("verdict"), verdict);
+        const lawful = options.length ? "Lawful, but an option does not fit" : "Lawful";
+        setText(find("verdict"), error ? `Not lawful: ${count(reasons.length)}` : lawful);
         find("verdict").className = error || options.length ? "bad" : "good";
         const all = [...reasons, ...options];
-        setText(find("first-error"), all[0]?.text ?? "The word satisfies all rules.");
-        find("reasons").replaceChildren(...all.map((reason) => this.reason(word, reason)));
+        find("reasons").replaceChildren(...all.map((reason) => this.reason(reason)));
         find("notes").replaceChildren(...notes.map((note) => this.note(note)));
-        this.showChanges(word);
-        this.showNormal(word, normal);
-        return new Set(all.flatMap(({ fields }) => fields));
+        this.compare();
+        this.showNormal(state.word, normal);
+        return all;
     }
 }
 
-/* Returns the first words of the comment of a recipe. */
-function shortTitle(about) {
-    return about.replace(/[:.]? \(.*|, as .*| with .*|\.$/, "");
+/* Returns the choices of a select for formats, each with the first words of its comment. */
+function choices(formats) {
+    const title = (about) => about.replace(/[:.]? \(.*|, as .*| with .*|\.$/, "");
+    return formats.map(({ name, about }) => element("option", { value: name }, title(about)));
 }

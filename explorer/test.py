@@ -33,8 +33,6 @@ except ImportError:
 STANDARD = "0x00000A0000000000000000000000000C"
 # A word with bits in each of its bytes, and among both kinds of flags.
 MIXED = "0x0A0210687800005F00000FC70001441F"
-# How long the first paint after a load and an edit may take, in milliseconds, in one of some tries.
-MOST_PAINT, MOST_EDIT, TRIES = 100, 10, 30
 
 
 def has(*programs):
@@ -165,13 +163,6 @@ class Walk(unittest.TestCase):
         self.run_script("arguments[0].scrollIntoView({block: 'center'})", chosen)
         chosen.click()
 
-    def parts(self):
-        """Returns the parts of the picture of a number, each with its title, its text and whether it must be there."""
-        return ", ".join(" ".join(row) for row in self.run_script(
-            """return [...document.querySelectorAll(".part")].map((part) => {
-                return [".title", ".written", ".presence"].map((it) => part.querySelector(it).textContent); })"""
-        ))
-
     def test_flags_are_set_by_box_label_key_and_bit(self):
         self.assertEqual((self.value(), self.text("#verdict")), (STANDARD, "Lawful"))
         self.click("#no_special")
@@ -179,6 +170,7 @@ class Walk(unittest.TestCase):
         self.click("label[for=no_integer_leading_zeros]")
         self.find("#no_float_leading_zeros").send_keys(Keys.SPACE)
         self.assertEqual(self.value(), "0x00000A0000000000000000000000340C")
+        self.click("#bits-panel summary")
         self.click(".bit[data-field=no_positive_mantissa_sign]")
         self.assertTrue(self.find("#no_positive_mantissa_sign").is_selected())
         self.assertEqual(self.value(), "0x00000A0000000000000000000000341C")
@@ -214,55 +206,67 @@ class Walk(unittest.TestCase):
 
     def test_changes_are_undone_and_done_again(self):
         def state():
-            return (self.value(), self.value("#mantissa_radix"))
+            return (self.value(), self.value("#mantissa_radix"), self.value("#literal"))
 
+        entries = self.run_script("return history.length")
         self.type("#mantissa_radix", "16")
         self.click("#no_special")
-        both = ("0x0000100000000000000000000000040C", "16")
+        both = ("0x0000100000000000000000000000040C", "16", "")
         self.assertEqual(state(), both)
         self.click("#undo")
-        self.wait(lambda: state() == ("0x0000100000000000000000000000000C", "16"))
+        self.assertEqual(state(), ("0x0000100000000000000000000000000C", "16", ""))
         self.find("#no_special").send_keys(Keys.CONTROL, "z")
-        self.wait(lambda: state() == (STANDARD, "10"))
+        self.assertEqual(state(), (STANDARD, "10", ""))
         self.assertFalse(self.find("#undo").is_enabled())
         self.click("#redo")
-        self.wait(lambda: self.value("#mantissa_radix") == "16")
         self.find("#no_special").send_keys(Keys.CONTROL, "y")
-        self.wait(lambda: state() == both)
+        self.assertEqual(state(), both)
         self.assertFalse(self.find("#redo").is_enabled())
-        self.driver.back()
-        self.wait(lambda: state()[0] == "0x0000100000000000000000000000000C")
+        Select(self.find("#language")).select_by_value("HASKELL")
+        self.click("#undo")
+        self.assertEqual(state(), both)
+        self.wait(lambda: both[0] in self.run_script("return location.hash"))
+        self.assertEqual(self.run_script("return history.length"), entries)
 
-    def test_fields_are_found_and_formats_compared(self):
-        self.type("#filter", "leading zeros")
+    def test_fields_are_found(self):
         shown = """return [...document.querySelectorAll('#controls .field label')].filter((it) => it.checkVisibility())
             .map((it) => it.textContent)"""
-        self.assertEqual(self.run_script(shown), ["no_integer_leading_zeros", "no_float_leading_zeros"])
-        self.type("#filter", "")
+        rows = {"leading zeros": "no_float_leading_zeros", "plus": "required_exponent_sign", "hex": "mantissa_radix"}
+        for text, wanted in {**rows, "underscore": "digit_separator"}.items():
+            self.type("#filter", text)
+            self.assertIn(wanted, self.run_script(shown))
+            self.assertNotIn("no_special", self.run_script(shown))
+
+    def test_two_words_are_compared(self):
+        def shown():
+            return self.text("#same"), self.texts("#changes code")
+
+        differ = "Not the same format. What differs:"
+        self.assertEqual(shown(), ("Same format.", []))
+        self.click("#keep")
+        self.type("#exponent", "p")
+        self.assertEqual(shown(), (differ, ["exponent='p'"]))
+        self.click("#changes button")
+        self.assertEqual((shown(), self.value("#exponent")), (("Same format.", []), "e"))
+        self.type("#other", "0x0A0A0A0000000000000000000000000C")
+        self.assertEqual(shown(), ("Same format: the other word only stores it differently.", ["exponent_base=none", "exponent_radix=none"]))
+        self.type("#other", "radix=16 exponent='^'")
+        self.assertEqual(shown(), (differ, ["mantissa_radix=10", "exponent='e'"]))
+        self.type("#other", "nonsense")
+        self.assertEqual(shown(), ("This is neither a word nor a list of settings.", []))
         Select(self.find("#compare")).select_by_value("TOML")
         self.assertEqual(self.texts("#changes code")[0], "required_integer_digits=false")
-        Select(self.find("#recipe")).select_by_value("TOML")
-        self.assertEqual(self.texts("#changes code"), [])
+        Select(self.find("#language")).select_by_value("TOML")
+        self.assertEqual(shown(), ("Same format.", []))
 
     def test_groups_of_separator_flags_and_a_note(self):
         self.type("#digit_separator", "_")
         self.assertIn("no flag allows the digit separator '_'", self.text("#notes"))
         self.click("#internal_digit_separator")
         self.assertEqual((self.value(), self.text("#notes")), ("0x00000A000000005F000000070000000C", ""))
-        self.assertIn("integer 1_9_0", self.parts())
         self.click("#fraction_internal_digit_separator")
         self.assertTrue(self.find("#internal_digit_separator").get_property("indeterminate"))
         self.assertEqual(self.value(), "0x00000A000000005F000000050000000C")
-
-    def test_a_format_with_any_two_flags_allows_the_number_in_its_picture(self):
-        self.assertEqual(self.run_script("""const { library } = page;
-            const names = library.flags.map(({ name }) => `${name}=true`);
-            return names.flatMap((first) => names.map((second) => [first, second])).filter((flags) => {
-                const { word } = library.build(["digit_separator='_'", "base_prefix='x'", "base_suffix='h'", ...flags]);
-                const state = { word, exponent: 101, point: 46 };
-                const parts = new NumberPicture(library, state).parts().filter(({ isNever }) => !isNever);
-                const number = parts.flatMap(({ pieces }) => pieces.map(({ text }) => text)).join("");
-                return library.explain(state).error === "" && library.literal(state, number).error; })"""), [])
 
     def test_reasons_lead_to_the_controls_that_they_blame(self):
         self.load("#word=0x000010006200000000000000000000CC&exponent=112")
@@ -273,10 +277,25 @@ class Walk(unittest.TestCase):
         self.assertEqual(self.texts(".reason strong"), ["the base prefix 'b' is a digit in radix 16"])
         self.click(".reason .link", "base_prefix")
         self.assertEqual(self.focused(), "base_prefix")
-        self.load("#word=0x000010006200000000000000800000CC&exponent=112")
-        self.assertEqual(self.text("#verdict"), "Not lawful: 2 reasons")
-        self.click("button", "clear the reserved bits")
-        self.assertEqual(self.text("#verdict"), "Not lawful: 1 reason")
+        self.assertEqual(self.texts(".reason .use"), ["base_prefix=none", "mantissa_radix=10"])
+        self.click(".reason .use", "base_prefix=none")
+        self.assertEqual((self.focused(), self.text("#verdict")), ("verdict", "Lawful"))
+
+    def test_a_word_is_repaired_reason_by_reason(self):
+        self.load("#word=0xFFFF02FFFF0000FF00001E0080034DB0&exponent=e&point=e")
+        steps = 0
+        while self.text("#verdict") != "Lawful":
+            self.find(".reason .use").send_keys(Keys.ENTER)
+            steps += 1
+        self.assertLessEqual(steps, 16)
+
+    def test_numbers_are_read_if_only_an_option_does_not_fit(self):
+        self.load("#word=0x0000100000000000000000000000000C")
+        self.type("#literal", "1F.8\n1p3")
+        self.assertEqual((self.text("#verdict"), self.text("#count")), ("Lawful, but an option does not fit", "1 of 2 as expected"))
+        self.assertEqual(self.texts(".reason .use"), ["exponent='p'", "mantissa_radix=10"])
+        self.click(".reason .use", "exponent='p'")
+        self.assertEqual(self.text("#count"), "2 of 2 as expected")
 
     def test_words_are_typed_and_refused(self):
         self.type("#word", "0xC" + Keys.ENTER)
@@ -305,14 +324,34 @@ class Walk(unittest.TestCase):
         self.assertIn("digit_separator=32\nbase_prefix='''", self.text("#code"))
         self.click("#copy-code")
         self.wait(lambda: self.text("#copy-code") == "copied")
+        text = self.text("#code")
         self.click("#standard")
         self.type("#word", Keys.CONTROL + "v")
         self.assertEqual(self.value("#digit_separator"), "SPACE")
         self.find("#word").send_keys(Keys.TAB)
         self.assertEqual(self.value(), word)
+        self.click("#standard")
+        self.run_script("""const clipboardData = new DataTransfer();
+            clipboardData.setData("text", arguments[0]);
+            const event = new ClipboardEvent("paste", { clipboardData, cancelable: true });
+            document.querySelector("#word").dispatchEvent(event)""", text.replace("\n", "\r\n"))
+        self.assertEqual(self.value(), word)
+
+    def test_what_is_lost_is_told(self):
+        self.type("#word", "digit_separator=95 base_prefix=120" + Keys.ENTER)
+        self.assertEqual(self.value("#base_prefix"), "x")
+        self.assertIn("no flag allows the digit separator '_'", self.text("#word-problem"))
+        self.load("#word=0x00000A000000005F000000000000000C")
+        self.click("#tab-settings")
+        self.assertIn(f"No builder makes this word. These settings build the nearest one, {STANDARD}.", self.text("#code"))
+        self.run_script("page.change({ numbers: '1\\n'.repeat(130) })")
+        self.assertEqual((self.text("#count"), self.texts("#read li")[-1]), ("100 of 100 as expected", "30 more lines are not read"))
+        self.run_script("navigator.clipboard.writeText = () => Promise.reject(); document.execCommand = () => false")
+        self.click("#copy-code")
+        self.wait(lambda: self.text("#copy-code") == "not copied: no clipboard")
 
     def test_a_message_moves_nothing(self):
-        place = """return ["#bits-panel", "#base_suffix", "#no_special"].map(
+        place = """return ["#filter", "#base_suffix", "#no_special"].map(
             (it) => document.querySelector(it).getBoundingClientRect().top + scrollY)"""
         before = self.run_script(place)
         self.type("#word", "nonsense")
@@ -325,94 +364,123 @@ class Walk(unittest.TestCase):
         self.click("#normal .use")
         self.assertEqual(self.value(), "0x0A0A0A0000000000000000000000000C")
 
-    def test_recipes_bring_word_and_exponent_character(self):
-        Select(self.find("#recipe")).select_by_value("JSON")
-        self.assertEqual(self.value(), "0x00000A0000000000000000000000341F")
-        self.assertIn("RFC 8259", self.text("#about"))
-        Select(self.find("#recipe")).select_by_value("C_HEX_FLOAT")
+    def test_languages_bring_options_and_numbers_as_expected(self):
+        for name in self.run_script("return page.data.languages.map(({ name }) => name)"):
+            Select(self.find("#language")).select_by_value(name)
+            self.assertEqual((self.text("#verdict"), self.texts("#read .unexpected")), ("Lawful", []), name)
+            self.assertIn("!", self.value("#literal"), name)
+        Select(self.find("#language")).select_by_value("C_HEX_FLOAT")
+        self.assertIn("C23", self.text("#about"))
         self.assertEqual((self.value("#exponent"), self.value("#digit_separator")), ("p", "'"))
         self.assertEqual(self.value(), "0x0A02100078000027000000070000441C")
         self.click("#no_special")
-        self.assertEqual(self.value("#recipe"), "")
+        self.assertEqual(self.value("#language"), "")
+
+    def test_integers_alone_have_no_options(self):
+        Select(self.find("#language")).select_by_value("RUST_HEX_INTEGER")
+        self.assertEqual((self.value("#exponent"), self.value("#point")), ("", ""))
+        self.type("#exponent", "p")
+        self.assertEqual((self.value("#point"), self.text("#verdict")), (".", "Lawful"))
 
     def test_links_have_the_whole_state(self):
-        self.load("#word=0x0A0A10006200005F000000070001400C&exponent=112&point=44")
+        self.load("#word=0x0A0A10006200005F000000070001400C&exponent=p&point=44&numbers=+1%0A!2%203")
         self.assertEqual(self.value(), "0x0A0A10006200005F000000070001400C")
-        self.assertEqual((self.value("#exponent"), self.value("#point")), ("p", ","))
+        self.assertEqual((self.value("#exponent"), self.value("#point"), self.value("#literal")), ("p", ",", "+1\n!2 3"))
         self.click("#no_special")
-        wanted = "#word=0x0A0A10006200005F000000070001440C&exponent=112&point=44"
+        self.type("#literal", "1_0 %&")
+        wanted = "#word=0x0A0A10006200005F000000070001440C&exponent=112&point=44&numbers=1_0%20%25%26"
         self.wait(lambda: self.run_script("return location.hash") == wanted)
+        self.driver.refresh()
+        self.wait(lambda: self.run_script("return document.documentElement.dataset.ready"))
+        self.assertEqual((self.value("#point"), self.value("#literal")), (",", "1_0 %&"))
+        self.load("#exponent=112")
+        self.assertEqual((self.value(), self.value("#exponent"), self.text("#word-problem")), (STANDARD, "p", ""))
+        self.run_script("navigator.clipboard.writeText = async (text) => { window.copied = text; }")
+        self.click("#copy-link")
+        self.wait(lambda: self.run_script("return window.copied") == f"#word={STANDARD}&exponent=112&point=46")
+        self.assertIn("Copied is the part from # on", self.text("#copied"))
+        self.type("#word", "index.html#word=0xC&numbers=7" + Keys.ENTER)
+        self.assertEqual((self.value("#literal"), self.text("#verdict")), ("7", "Not lawful: 1 reason"))
         self.load("#word=nonsense&exponent=300&point=")
         self.assertEqual((self.value(), self.value("#exponent"), self.value("#point")), (STANDARD, "e", "."))
         self.assertIn("This link has no format word", self.text("#word-problem"))
 
-    def test_bits_and_number_are_those_of_the_word(self):
-        self.load(f"#word={MIXED}&exponent=112&point=46")
+    def test_bits_are_those_of_the_word(self):
+        self.load(f"#word={MIXED}")
         bits = self.run_script("return [...document.querySelectorAll('.bit')].map((it) => it.textContent).join('')")
         self.assertEqual(int(bits, 2), int(MIXED, 16))
-        self.assertEqual(self.parts(),
-            "sign - optional, prefix 0x optional, integer 1__F__0__ required, point . optional, "
-            "fraction 0__F__ required, exponent p required, its sign + optional, its digits 1__0__ required, "
-            "suffix h optional, special NaN never")
-        self.load("#word=0x00000A0000000020000011110000012C&exponent=101&point=44")
-        self.assertEqual(self.parts(),
-            "sign + required, integer 1\u24239\u24230 or fraction, point , optional, fraction \u242309 or integer, "
-            "exponent e optional, its sign + required, its digits 10\u2423 required, special N\u2423a\u2423N optional")
 
     def test_numbers_are_tried(self):
         self.load("#word=0x00000A000000005F000000020000000C")
-        self.type("#literal", "-0.1_2e5\n-1_000\n1\u00e9")
-        self.assertEqual(self.texts("#read li:first-child .written span"), ["-", "0", ".", "1_2", "e", "5"])
-        self.assertEqual(self.texts("#read li:nth-child(2) .written"), ["-1_000"])
-        self.assertEqual(self.texts("#read li:nth-child(2) .written span"), ["-", "1"])
-        self.assertEqual(self.texts("#read mark"), ["_", "\u00e9"])
-        self.click("#read .link", "integer_internal_digit_separator")
-        self.assertEqual(self.focused(), "integer_internal_digit_separator")
-        self.click("#integer_internal_digit_separator")
-        self.assertEqual(self.texts("#read li > :last-child"), ["accepted", "accepted", "at byte 2: no literal has the byte 195 here"])
-        self.click("#read summary")
+        self.type("#literal", "-0.1_2e5\n-1_000\n1\u00e9\n!1\n!.x")
+        self.assertEqual(self.texts("#read > li:first-child .written span"), ["-", "0", ".", "1_2", "e", "5"])
+        self.assertEqual(self.texts("#read > li:nth-child(2) .written"), ["-1_000"])
+        self.assertEqual(self.texts("#read > li:nth-child(2) .written span"), ["-", "1"])
+        self.assertEqual(self.texts("#read mark"), ["_", "\u00e9", "x"])
+        self.assertEqual(self.texts("#read p"), [
+            "accepted: float = -12000",
+            "at index 2: a digit separator after a digit, which requires integer_internal_digit_separator or "
+            "integer_trailing_digit_separator",
+            "at index 1: no literal has the byte 195 here",
+            "accepted as integer = 1, but it must be refused",
+            "refused: at index 1: no literal has the byte 'x' here"])
+        self.assertEqual((self.text("#count"), self.text("#first-error").split(" ")[0]), ("2 of 5 as expected", "-1_000"))
+        self.find("#refuse-3").send_keys(Keys.SPACE)
+        self.assertEqual((self.value("#literal").split("\n")[3], self.focused()), ("1", "refuse-3"))
+        self.assertEqual(self.text("#count"), "3 of 5 as expected")
         self.click("#no_special")
         self.click("#case_sensitive_special")
-        self.assertEqual(set(self.texts("#read li > :last-child")), {"not read, since the word is not lawful"})
+        self.assertEqual(self.texts("#read li"), ["not read, since the word is not lawful"])
         self.load("#word=0x00000A0000000000000000000000101E")
-        self.type("#literal", "001\n.e5\n+Infinity\n1.")
-        self.assertEqual(self.texts("#read mark"), ["001", " ", "+", " "])
-        self.assertEqual(self.texts("#read li:first-child mark span"), ["0"])
-        self.assertEqual(self.texts("#read .bad")[:2], [
-            "at byte 1: a leading zero, which no_integer_leading_zeros forbids. More is accepted with "
-            "no_integer_leading_zeros = false set it",
-            "at byte 2: expected a digit after the decimal point, which required_fraction_digits requires. More is accepted "
-            "with required_fraction_digits = false and required_mantissa_digits = false set it"])
-        self.click("#no_positive_mantissa_sign")
-        self.assertEqual(self.texts("#read li:nth-child(3) .written span"), ["+", "Infinity"])
+        self.type("#literal", "001\n+Infinity\n1.")
+        self.assertEqual(self.texts("#read mark"), ["001", "+", " "])
+        self.assertEqual(self.texts("#read mark span"), ["0"])
+        self.assertEqual(self.texts("#read .use"), [
+            "set no_integer_leading_zeros=false", "set no_positive_mantissa_sign=false", "set required_fraction_digits=false"])
+        self.click("#read .use", "set no_positive_mantissa_sign=false")
+        self.assertEqual(self.texts("#read > li:nth-child(2) .written span"), ["+", "Infinity"])
 
-    def test_a_format_is_found_by_trying_numbers(self):
-        self.type("#literal", "1_0.\n0x1_0\n1__0\n10m")
-        self.find("#read .use").send_keys(Keys.ENTER)
-        for _ in range(3):
-            self.driver.switch_to.active_element.send_keys(Keys.ENTER)
-        self.assertEqual((self.focused(), self.texts("#read .bad")), ("literal", []))
-        self.assertEqual(self.value(), "0x00000A6D7800005F000002010000000C")
-        self.click("#read summary")
-        self.click("#read .link", "required_mantissa_sign")
-        self.assertEqual(self.focused(), "required_mantissa_sign")
+    def test_a_format_is_found_by_its_numbers(self):
+        self.type("#literal", "0x1F\n0x1_0.8p3\n!0x.8\n0x1h")
+        self.assertEqual(self.texts("#read ul li")[0],
+            "set base_prefix='x', mantissa_radix=16, exponent_base=2, exponent_radix=10, exponent='p'\n"
+            "0x1F: integer = 31, then 1 of 4 as expected")
+        for _ in range(4):
+            self.find("#read .use").send_keys(Keys.ENTER)
+        self.assertEqual((self.focused(), self.text("#count")), ("literal", "4 of 4 as expected"))
+        self.assertEqual([it.split(":")[-1] for it in self.texts("#read .good")], [
+            " integer = 31", " float = 132", " expected a digit of the integer, which required_integer_digits requires", " integer = 1"])
+        self.assertEqual(self.value(), "0x0A0210687800005F000000010000000D")
+
+    def emulate(self, width, height, is_mobile):
+        """Shows the page from now on as on a screen of this size."""
+        metrics = {"width": width, "height": height, "deviceScaleFactor": 1, "mobile": is_mobile}
+        self.driver.execute_cdp_cmd("Emulation.setDeviceMetricsOverride", metrics)
+        self.addCleanup(self.driver.execute_cdp_cmd, "Emulation.clearDeviceMetricsOverride", {})
 
     def test_controls_have_names_and_texts_fit_a_phone(self):
+        self.emulate(320, 700, True)
+        self.load(f"#word={MIXED}&numbers={60 * '1'},%0A!1")
         self.assertEqual(self.run_script(
             """return [...document.querySelectorAll("input, button, select")].filter((it) => !(it.labels?.length
                 || it.getAttribute("aria-label") || it.textContent.trim())).map((it) => it.outerHTML)"""
         ), [])
-        metrics = {"width": 390, "height": 1500, "deviceScaleFactor": 1, "mobile": False}
-        self.driver.execute_cdp_cmd("Emulation.setDeviceMetricsOverride", metrics)
-        self.addCleanup(self.driver.execute_cdp_cmd, "Emulation.clearDeviceMetricsOverride", {})
-        self.load(f"#word={MIXED}")
-        self.type("#literal", 60 * "1" + ",")
-        self.assertEqual(self.run_script("return document.documentElement.scrollWidth"), 390)
-        place = "return Math.round(document.querySelector('#base_prefix').getBoundingClientRect().top)"
+        self.assertEqual(self.run_script("return [document.documentElement.scrollWidth, innerWidth]"), [320, 320])
+        place = "return document.querySelector('#base_prefix').getBoundingClientRect().top"
         self.find("#base_prefix").send_keys(Keys.CONTROL, "a")
         before = self.run_script(place)
         self.find("#base_prefix").send_keys("5")
-        self.assertEqual((self.text("#verdict"), self.run_script(place)), ("Not lawful: 1 reason", before))
+        self.assertEqual(self.text("#verdict"), "Not lawful: 1 reason")
+        self.assertAlmostEqual(self.run_script(place), before, delta=2)
+        self.assertEqual(self.run_script("return document.querySelector('.bar').getBoundingClientRect().top"), 0)
+
+    def test_numbers_stay_in_view(self):
+        self.emulate(1100, 700, False)
+        self.type("#literal", "NaN")
+        self.click("#no_special")
+        box = self.run_script("return document.querySelector('#read').getBoundingClientRect().toJSON()")
+        self.assertTrue(0 < box["top"] < box["bottom"] < 700, box)
+        self.assertEqual(self.text("#count"), "0 of 1 as expected")
 
     def test_nothing_is_requested_and_the_policy_allows_the_page_alone(self):
         requests = "return performance.getEntriesByType('resource').map((it) => it.name)"
@@ -420,18 +488,6 @@ class Walk(unittest.TestCase):
         policy = self.find("meta[http-equiv=Content-Security-Policy]").get_attribute("content")
         self.assertTrue(policy.startswith("default-src 'none'; script-src 'sha256-"), policy)
         self.assertLess(PAGE.stat().st_size, 250_000)
-
-    @unittest.skipIf("CI" in os.environ or os.getloadavg()[0] > (os.cpu_count() or 1), "the machine is busy")
-    def test_loading_and_editing_are_fast(self):
-        def paint():
-            self.load()
-            self.wait(lambda: self.run_script("return performance.getEntriesByName('first-contentful-paint').length"))
-            return self.run_script("return performance.getEntriesByName('first-contentful-paint')[0].startTime")
-
-        edit = """const start = performance.now(); document.getElementById("no_special").click();
-            document.body.offsetHeight; return performance.now() - start"""
-        self.assertTrue(any(paint() < MOST_PAINT for _ in range(TRIES)))
-        self.assertTrue(any(self.run_script(edit) < MOST_EDIT for _ in range(TRIES)))
 
 
 if __name__ == "__main__":

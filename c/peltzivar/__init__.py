@@ -1,19 +1,18 @@
-"""Builds, reads, checks and edits number formats, which are 128-bit words.
+"""Builds, reads, checks and edits number formats, which are 128-bit words, and reads the numbers of a format.
 
-    >>> from peltzivar import Format
+    >>> from peltzivar import Format, Syntax
     >>> format = Format.of(mantissa_radix=16, base_prefix="x")
-    >>> format.base_prefix
-    'x'
     >>> print(format)
     0x0000100078000000000000000000000C
+    >>> Syntax.integers(format).read("-0x1F").integer
+    '1F'
 
-This module needs the shared library of peltzivar.h, but no other package. `make install` and pip install both. Otherwise,
-set PELTZIVAR_LIBRARY to the path of the library, or put it beside this file. If the library is not found, importing this
-module raises an ImportError.
+A word is lawful if it satisfies all rules. A `FormatView` holds any word, and a `Format` a lawful one. A `Syntax` reads
+literals, which are the numbers of a format, and `languages` has those of languages. In the repository, docs/FORMAT.md
+describes fields, rules and literals. A value of a wrong type raises a TypeError, and another wrong value a ValueError.
 
-A word is lawful if it satisfies all rules. A `FormatView` holds any word, and a `Format` holds a lawful word. In the
-repository, docs/FORMAT.md describes the fields and the rules. A value of a wrong type raises a TypeError, and any other
-wrong value a ValueError. Both name the argument.
+This module needs the shared library of peltzivar.h, but no other package. `make install` and pip install both. To use
+another library, set PELTZIVAR_LIBRARY to its path. If none is found, importing this module raises an ImportError.
 """
 
 from __future__ import annotations
@@ -26,23 +25,25 @@ from ctypes import CDLL, POINTER, Structure, c_bool, c_char_p, c_size_t, c_uint8
 from ctypes import create_string_buffer
 from dataclasses import dataclass, field
 from enum import Enum
-from itertools import count, takewhile
+from itertools import count, islice, repeat, takewhile
 from pathlib import Path
 from types import SimpleNamespace
 from typing import Any, AnyStr, Callable, Dict, Generic, Iterable, List, Optional, Tuple, Type, TypeVar, Union, cast
 
-__all__ = ["STANDARD", "Byte", "Cause", "Edit", "Error", "Format", "FormatError", "FormatView", "Literal", "LiteralError"]
-__all__ += ["Note", "OptionsError", "Part", "Reason", "Role", "Rule", "Separators", "Setter", "Syntax", "Value", "notes_of"]
+__all__ = ["STANDARD", "Byte", "Cause", "Edit", "Error", "Format", "FormatError", "FormatView", "Language", "Literal"]
+__all__ += ["LiteralError", "Note", "OptionsError", "Part", "Reason", "ReasonsError", "Role", "Rule", "Separators"]
+__all__ += ["Setter", "SettingsError", "Special", "Specials", "Spelling", "Syntax", "Value", "languages", "notes_of"]
 
 # Made by make_python.py: constants
-__version__ = "0.6.0"
-_VERSION = 0x000600
+__version__ = "0.9.0"
+_VERSION = 0x000900
 STANDARD = 0x00000A0000000000000000000000000C
 _NEW_FIELDS = (0xC, 0, 0, 0, 10, 0, 0)
 _FIELD_COUNT = 37
 _SOURCE_SIZE = 2048
 _TEXT_SIZE = 256
 _NO_PART = 255
+_NO_DIGIT = 4294967295
 
 
 class Setter(Enum):
@@ -184,13 +185,13 @@ class Error(Enum):
     def __str__(self) -> str:
         return self.name
 
-    def __bool__(self) -> bool:
-        return self is not Error.SUCCESS
-
     @property
     def description(self) -> str:
         """The description of the error in single quotes."""
         return str(_library.description(self.value).decode())
+
+    def __bool__(self) -> bool:
+        return self is not Error.SUCCESS
 
 
 class Part(Enum):
@@ -227,6 +228,17 @@ class Cause(Enum):
     CASE = 3
     BYTE = 4
     MISSING = 5
+
+    def __str__(self) -> str:
+        return self.name
+
+
+class Spelling(Enum):
+    """The spellings of special values."""
+
+    NAN = 1
+    INF = 2
+    INFINITY = 3
 
     def __str__(self) -> str:
         return self.name
@@ -294,6 +306,7 @@ class _Literal(Structure):
         ("exponent", _Span),
         ("suffix", _Span),
         ("size", c_size_t),
+        ("is_float", c_bool),
     ]
 
 
@@ -309,9 +322,29 @@ class _ReadError(Structure):
     ]
 
 
+class _Specials(Structure):
+    _fields_ = [
+        ("nan", c_char_p),
+        ("inf", c_char_p),
+        ("infinity", c_char_p),
+    ]
+
+
+class _Special(Structure):
+    _fields_ = [
+        ("spelling", c_uint8),
+        ("sign", c_uint8),
+    ]
+
+
 _CALLS: Dict[str, Tuple[Any, List[Any]]] = {
+    "version": (c_uint32, []),
+    "build": (c_bool, [POINTER(_Edit), c_size_t, POINTER(_Word)]),
+    "edit_word": (c_bool, [_Word, POINTER(_Edit), c_size_t, POINTER(_Word)]),
     "check": (c_uint32, [_Word]),
     "normal_form": (_Word, [_Word]),
+    "same_format": (c_bool, [_Word, _Word]),
+    "migrate": (c_uint32, [_Word, POINTER(_Word)]),
     "is_built": (c_bool, [_Word]),
     "edits_of": (c_size_t, [_Word, POINTER(_Edit), c_size_t]),
     "flag": (c_bool, [_Word, c_uint8]),
@@ -319,12 +352,16 @@ _CALLS: Dict[str, Tuple[Any, List[Any]]] = {
     "word_text": (c_size_t, [_Word, c_char_p, c_size_t]),
     "source": (c_size_t, [_Word, c_char_p, c_size_t]),
     "description": (c_char_p, [c_uint32]),
+    "error_text": (c_size_t, [c_uint32, c_size_t, c_char_p, c_size_t]),
     "fields_of": (_Fields, [_Word]),
     "edit_fields": (c_bool, [POINTER(_Fields), POINTER(_Edit), c_size_t]),
     "pack": (_Word, [POINTER(_Fields)]),
     "parse_edit": (c_bool, [c_char_p, c_size_t, POINTER(_Edit)]),
+    "parse_byte": (c_bool, [c_char_p, c_size_t, POINTER(c_uint8)]),
     "setting_error_text": (c_size_t, [c_char_p, c_size_t, c_char_p, c_size_t]),
     "edit_text": (c_size_t, [_Edit, c_char_p, c_size_t]),
+    "setter_name": (c_char_p, [c_uint8]),
+    "setter_of_name": (c_uint8, [c_char_p, c_size_t]),
     "setter_mask": (_Word, [c_uint8]),
     "reason_text": (c_size_t, [_Word, c_size_t, c_char_p, c_size_t]),
     "reason_mask": (_Word, [_Word, c_size_t]),
@@ -332,19 +369,29 @@ _CALLS: Dict[str, Tuple[Any, List[Any]]] = {
     "rule_condition": (c_char_p, [c_uint32]),
     "note_text": (c_size_t, [POINTER(_Fields), c_size_t, c_char_p, c_size_t]),
     "note_mask": (_Word, [POINTER(_Fields), c_size_t]),
+    "check_options": (c_uint32, [_Word, c_uint8, c_uint8]),
     "options_reason_text": (c_size_t, [_Word, c_uint8, c_uint8, c_size_t, c_char_p, c_size_t]),
     "options_reason_mask": (_Word, [_Word, c_uint8, c_uint8, c_size_t]),
     "options_reason_roles": (c_uint32, [_Word, c_uint8, c_uint8, c_size_t]),
     "mantissa_digit": (c_uint32, [_Word, c_uint8]),
     "exponent_digit": (c_uint32, [_Word, c_uint8]),
+    "part_name": (c_char_p, [c_uint8]),
     "separators_of": (_Separators, [_Word, c_uint8]),
     "is_separator": (c_bool, [_Word, c_uint8]),
     "is_base_prefix": (c_bool, [_Word, c_uint8]),
     "is_base_suffix": (c_bool, [_Word, c_uint8]),
     "role_of": (c_uint8, [_Word, c_uint8, c_uint8, c_uint8]),
+    "role_name": (c_char_p, [c_uint8]),
+    "syntax_check": (c_uint32, [_Word, c_uint8, c_uint8, POINTER(_Syntax)]),
     "read": (c_uint32, [POINTER(_Syntax), c_char_p, c_size_t, POINTER(_Literal), POINTER(_ReadError)]),
     "read_prefix": (c_uint32, [POINTER(_Syntax), c_char_p, c_size_t, POINTER(_Literal), POINTER(_ReadError)]),
     "read_error_text": (c_size_t, [POINTER(_Syntax), c_char_p, c_size_t, c_char_p, c_size_t]),
+    "read_special": (c_uint32, [POINTER(_Syntax), POINTER(_Specials), c_char_p, c_size_t, POINTER(_Special)]),
+    "language": (c_bool, [c_char_p, c_size_t, POINTER(_Syntax), POINTER(_Specials)]),
+    "language_name": (c_char_p, [c_size_t]),
+    "read_settings": (c_size_t, [c_char_p, c_size_t, POINTER(_Syntax)]),
+    "settings_text": (c_size_t, [c_char_p, c_size_t, c_size_t, c_char_p, c_size_t]),
+    "settings_lines": (c_size_t, [c_char_p, c_size_t, c_size_t, POINTER(c_size_t), c_size_t]),
 }
 # End
 
@@ -354,8 +401,8 @@ def _candidates() -> Iterable[str]:
     folders above it, and then the names that the system's loader looks for."""
     if given := os.environ.get("PELTZIVAR_LIBRARY"):
         return [os.path.abspath(given)]
-    major, minor = _VERSION >> 16, _VERSION >> 8 & 255
-    names = (f"libpeltzivar_c.so.{major}.{minor}", "libpeltzivar_c.so", "libpeltzivar_c.dylib", "peltzivar_c.dll")
+    major, minor, _ = __version__.split(".")
+    names = (f"libpeltzivar_c.so.{major if int(major) else f'0.{minor}'}", "libpeltzivar_c.so")
     folders = list(Path(__file__).resolve().parents)[:4]
     return [*(str(it) for folder in folders for name in names if (it := folder / name).exists()), *names]
 
@@ -375,9 +422,10 @@ def _load() -> Any:
             f"put it beside {__file__}, or install it where the system's loader finds it"
         )
     version = getattr(library, "peltzivar_version", lambda: 0)()
-    if version >> 8 != _VERSION >> 8:
-        ours, theirs = (f"{it >> 16}.{it >> 8 & 255}" for it in (_VERSION, version))
-        raise ImportError(f"{path} has version {theirs}, and this file {ours}")
+    unchanged = 16 if _VERSION >> 16 else 8
+    if version >> unchanged != _VERSION >> unchanged or version < _VERSION:
+        found = ".".join(map(str, (version & 0xFFFFFF).to_bytes(3, "big")))
+        raise ImportError(f"{path} has version {found}, and this file {__version__}")
     calls = SimpleNamespace(path=path)
     for name, (result, arguments) in _CALLS.items():
         call = getattr(library, f"peltzivar_{name}")
@@ -390,14 +438,12 @@ _library = _load()
 
 # A byte: a number from 0 to 255, or one ASCII character.
 Byte = Union[int, str, bytes]
-# The value of a setting. A flag or a group takes a bool, a radix or base a number, and another field a Byte. None is an
-# absent byte.
+# The value of a setting: a bool for a flag or a group, and otherwise a number or a Byte, or None if it is absent.
 Value = Union[bool, Byte, None]
+Typed = TypeVar("Typed")
 View = TypeVar("View", bound="FormatView")
 Call = TypeVar("Call", bound=Callable[..., Any])
 
-# The result of a call for a byte that is not a digit.
-_NO_DIGIT = (1 << 32) - 1
 _RADIXES = (Setter.MANTISSA_RADIX, Setter.EXPONENT_BASE, Setter.EXPONENT_RADIX)
 _BYTES = (Setter.DIGIT_SEPARATOR, Setter.BASE_PREFIX, Setter.BASE_SUFFIX)
 _SETTERS = {**{it.name.lower(): it for it in Setter}, "radix": Setter.MANTISSA_RADIX}
@@ -406,8 +452,8 @@ _SETTERS = {**{it.name.lower(): it for it in Setter}, "radix": Setter.MANTISSA_R
 def _text(call: Any, *arguments: Any, size: int = _TEXT_SIZE) -> str:
     """Returns the text that a call writes."""
     buffer = create_string_buffer(size)
-    length = call(*arguments, buffer, size)
-    return buffer.raw[:length].decode("ascii")
+    call(*arguments, buffer, size)
+    return buffer.value.decode("ascii")
 
 
 def _texts(call: Any, *of: Any) -> Iterable[str]:
@@ -415,26 +461,34 @@ def _texts(call: Any, *of: Any) -> Iterable[str]:
     return takewhile(bool, (_text(call, *of, index) for index in count()))
 
 
+def _members(kind: Type[Any], bits: int) -> Tuple[Any, ...]:
+    """Returns the members whose numbers are those of bits that are set."""
+    return tuple(it for it in kind if bits >> it.value & 1)
+
+
 def _joined(halves: _Word) -> int:
     """Returns the word of two halves."""
     return int(halves.high << 64 | halves.low)
 
 
-def _wrong_type(name: str, wanted: str, value: object) -> TypeError:
-    return TypeError(f"{name} is {wanted}, not {type(value).__name__}")
+def _typed(name: str, value: object, kind: Type[Typed]) -> Typed:
+    """Returns a value of this type. Raises an error that names the argument if the value has another one."""
+    if not isinstance(value, kind):
+        raise TypeError(f"{name} is a {kind.__name__}, not {type(value).__name__}")
+    return value
 
 
-def _number(name: str, value: object, limit: int = 256, wanted: str = "a number from 0 to 255") -> int:
+def _number(name: str, value: Any, limit: int = 256, wanted: str = "a number from 0 to 255") -> int:
     """Returns a number below the limit. Raises an error that names the argument if the value is not one."""
     if isinstance(value, bool) or not hasattr(type(value), "__index__"):
-        raise _wrong_type(name, wanted, value)
-    number = operator.index(cast(int, value))
+        raise TypeError(f"{name} is {wanted}, not {type(value).__name__}")
+    number = operator.index(value)
     if not 0 <= number < limit:
         raise ValueError(f"{name} is {wanted}: {number:#x}")
     return number
 
 
-def _byte(name: str, value: object) -> int:
+def _byte(name: str, value: Any) -> int:
     """Returns a byte as a number. Raises an error that names the argument if the value is not a byte."""
     wanted = "one ASCII character or a number from 0 to 255"
     if not isinstance(value, (str, bytes)):
@@ -444,11 +498,9 @@ def _byte(name: str, value: object) -> int:
     return ord(value)
 
 
-def _ascii(name: str, text: object) -> bytes:
+def _encoded(name: str, text: object) -> bytes:
     """Returns a text as bytes. Raises an error that names the argument if it is not a text."""
-    if not isinstance(text, str):
-        raise _wrong_type(name, "a str", text)
-    return text.encode("utf-8", "surrogatepass")
+    return text if isinstance(text, bytes) else _typed(name, text, str).encode("utf-8", "surrogatepass")
 
 
 def _takes_fields(call: Call) -> Call:
@@ -464,42 +516,35 @@ def _takes_fields(call: Call) -> Call:
     return cast(Call, calling)
 
 
+@dataclass(frozen=True, init=False, repr=False)
 class Edit:
     """An edit: a setter and its value, parsed from a text NAME=VALUE such as `Edit("digit_separator='_'")`.
 
     A flag or a group takes `true` or `false`. A byte takes one ASCII character in single quotes, one to three decimal
     digits, or `0x` followed by one or two hexadecimal digits. Every byte except `mantissa_radix` also takes `none`.
     Spaces are not skipped. `radix` is another name of `mantissa_radix`. Raises ValueError if the text is not a setting.
+    `value` is a bool, an ASCII character, a number, or None. A byte of 128 or more is a number.
     """
 
-    __slots__ = ("_edit",)
+    setter: Setter
+    value: Union[bool, int, str, None]
 
     def __init__(self, text: str) -> None:
-        self._edit, setting = _Edit(), _ascii("a setting", text)
-        if not _library.parse_edit(setting, len(setting), self._edit):
+        edit, setting = _Edit(), _encoded("a setting", _typed("a setting", text, str))
+        if not _library.parse_edit(setting, len(setting), edit):
             raise ValueError(f"{text}: {_text(_library.setting_error_text, setting, len(setting))}")
+        vars(self).update(setter=Setter(edit.setter), value=_value(Setter(edit.setter), edit.value))
 
     @classmethod
     def of(cls, setter: Union[Setter, str], value: Value) -> Edit:
         """Returns the edit with this setter, or the setter with this name, and this value, such as
         `Edit.of("digit_separator", "_")`. Raises TypeError or ValueError if the setter does not take the value."""
-        if not isinstance(setter, (Setter, str)):
-            raise _wrong_type("a setter", "a Setter or its name", setter)
-        named = setter if isinstance(setter, Setter) else _SETTERS.get(setter)
+        named = _SETTERS.get(setter) if isinstance(setter, str) else _typed("setter", setter, Setter)
         if named is None:
             raise ValueError(f"unknown setting name: {reprlib.repr(setter)}")
-        return cls._of_numbers(_Edit(named.value, _number_of(named, value)))
-
-    @classmethod
-    def _of_numbers(cls, numbers: _Edit) -> Edit:
         edit = cls.__new__(cls)
-        edit._edit = _Edit(numbers.setter, numbers.value)
+        vars(edit).update(setter=named, value=_value(named, _number_of(named, value)))
         return edit
-
-    @property
-    def setter(self) -> Setter:
-        """The setter."""
-        return Setter(self._edit.setter)
 
     @property
     def name(self) -> str:
@@ -507,31 +552,19 @@ class Edit:
         return self.setter.name.lower()
 
     @property
-    def value(self) -> Union[bool, int, str, None]:
-        """The value: a bool, an ASCII character, a number, or None. A byte of 128 or more is a number."""
-        if self.setter in _RADIXES or self.setter in _BYTES:
-            return _field_of(self.setter, self._edit.value)
-        return bool(self._edit.value)
-
-    @property
     def mask(self) -> int:
         """A mask of the bits of a word that the edit writes."""
-        return _joined(_library.setter_mask(self._edit.setter))
+        return _joined(_library.setter_mask(self.setter.value))
+
+    def _numbers(self) -> _Edit:
+        return _Edit(self.setter.value, _number_of(self.setter, self.value))
 
     def __str__(self) -> str:
         """Returns NAME=VALUE."""
-        return _text(_library.edit_text, self._edit)
+        return _text(_library.edit_text, self._numbers())
 
     def __repr__(self) -> str:
         return f"Edit({str(self)!r})"
-
-    def __eq__(self, other: object) -> bool:
-        if not isinstance(other, Edit):
-            return NotImplemented
-        return str(self) == str(other)
-
-    def __hash__(self) -> int:
-        return hash(str(self))
 
 
 def _number_of(setter: Setter, value: Value) -> int:
@@ -539,48 +572,42 @@ def _number_of(setter: Setter, value: Value) -> int:
     name = setter.name.lower()
     if value is None and (setter in _BYTES or setter in _RADIXES[1:]):
         return 0
+    if setter in _BYTES or setter in _RADIXES:
+        return _byte(name, value) if setter in _BYTES else _number(name, value)
+    return _typed(name, value, bool)
+
+
+def _value(setter: Setter, number: int) -> Union[bool, int, str, None]:
+    """Returns the value that a setter has as this number."""
     if setter in _BYTES:
-        return _byte(name, value)
+        return chr(number) if 0 < number < 128 else number or None
     if setter in _RADIXES:
-        return _number(name, value)
-    if not isinstance(value, bool):
-        raise _wrong_type(name, "a bool", value)
-    return value
-
-
-def _field_of(setter: Setter, byte: int) -> Union[int, str, None]:
-    """Returns the value of a byte of a format."""
-    if setter in _BYTES:
-        return chr(byte) if 0 < byte < 128 else byte or None
-    return None if byte == 0 and setter != Setter.MANTISSA_RADIX else byte
-
-
-@dataclass(frozen=True)
-class Reason:
-    """A reason why a word breaks rules, or why options do not fit it: its text, a mask of the bits that it blames, the
-    rules, and the options that it blames, which are `Role.EXPONENT` and `Role.POINT`.
-
-    An edit is to blame if its mask has a bit in common with this mask that no later edit writes.
-    """
-
-    text: str
-    mask: int
-    rules: Tuple[Rule, ...] = ()
-    options: Tuple[Role, ...] = ()
-
-    def __str__(self) -> str:
-        return self.text
+        return None if number == 0 and setter != Setter.MANTISSA_RADIX else number
+    return bool(number)
 
 
 @dataclass(frozen=True)
 class Note:
-    """A note on fields that have no effect: its text, and a mask of the bits of these fields."""
+    """A note on fields that have no effect, with a mask of their bits, or on settings, with their indexes."""
 
     text: str
-    mask: int
+    mask: int = 0
+    indexes: Tuple[int, ...] = ()
 
     def __str__(self) -> str:
         return self.text
+
+
+@dataclass(frozen=True)
+class Reason(Note):
+    """A reason why a word is not lawful, or why options do not fit it: its text, a mask of the bits that it blames, the
+    rules that it breaks, and the options that it blames, which are `Role.EXPONENT` and `Role.POINT`. An edit is to
+    blame if its mask has a bit in common with this mask that no later edit writes. If settings cause the reason, it has
+    the indexes of those to blame instead.
+    """
+
+    rules: Tuple[Rule, ...] = ()
+    options: Tuple[Role, ...] = ()
 
 
 @dataclass(frozen=True)
@@ -593,39 +620,41 @@ class Separators:
     consecutive: bool
 
 
-class FormatError(ValueError):
-    """Raised if a word is not lawful. `view` is the view of the word, `error` its error, and `reasons` each reason."""
+@dataclass(eq=False)
+class ReasonsError(ValueError):
+    """Raised with each reason why there is no such format or syntax."""
 
-    def __init__(self, view: FormatView) -> None:
-        super().__init__(view)
-        self.view = view
-        self.error = view.error()
-        self.reasons = view.reasons()
-
-    def __str__(self) -> str:
-        return "; ".join(reason.text for reason in self.reasons)
-
-
-class OptionsError(ValueError):
-    """Raised if an exponent character and a decimal point do not fit a format. `reasons` has each reason."""
-
-    def __init__(self, *reasons: Reason) -> None:
-        super().__init__(*reasons)
-        self.reasons = reasons
+    reasons: Tuple[Reason, ...]
 
     def __str__(self) -> str:
         return "; ".join(reason.text for reason in self.reasons)
 
 
 @dataclass(eq=False)
+class FormatError(ReasonsError):
+    """Raised if a word is not lawful. `view` is the view of the word, and `error` its error."""
+
+    view: FormatView
+    error: Error
+
+
+class OptionsError(ReasonsError):
+    """Raised if an exponent character and a decimal point do not fit a format."""
+
+
+class SettingsError(ReasonsError):
+    """Raised if settings make no syntax."""
+
+
+@dataclass(eq=False)
 class LiteralError(ValueError):
-    """Raised if a text is not a literal. `str` returns the reason as a sentence. Another one may follow if it is mended.
+    """Raised if a text is not a literal. `str` returns the cause as a sentence. If it is mended, another may follow.
 
     `valid_up_to` is the length of the longest beginning of the text that some literal begins with. If it is the length
     of the text, characters are missing. `span` is the first index and the end of the characters to show, maybe none, as
-    in `text[slice(*span)]`. `cause` is the kind of the cause. `part` is the part of a separator or of missing digits.
-    `mask` has the flags to blame as bits of a word, and `edits` the edits that end the cause: each alone for a separator,
-    and otherwise all together. A wrong byte and missing digits blame no flag. `error` is the error of `lexical-util`.
+    in `text[slice(*span)]`. `cause` is the kind of the cause, and `part` the part of a separator or of missing digits.
+    `mask` has the flags to blame as bits of a word. A wrong byte and missing digits blame none. `error` is the error of
+    `lexical-util`.
     """
 
     sentence: str
@@ -639,9 +668,8 @@ class LiteralError(ValueError):
 
     @property
     def edits(self) -> Tuple[Edit, ...]:
-        """The edits that end the cause."""
-        is_separator = self.cause is Cause.SEPARATOR
-        return tuple(Edit.of(it, is_separator) for it in Setter if it.value < 64 and self.mask >> it.value & 1)
+        """The edits of the format that end the cause: each alone for a separator, and otherwise all together."""
+        return tuple(Edit.of(it, self.cause is Cause.SEPARATOR) for it in _members(Setter, self.mask))
 
     def __str__(self) -> str:
         return self.sentence
@@ -659,11 +687,10 @@ class _Field:
     def __get__(self, view: Optional[FormatView], owner: type) -> Any:
         if view is None:
             return self
-        if self._setter in _BYTES:
-            return _field_of(self._setter, getattr(view._unpacked(), self._name))
-        if self._setter in _RADIXES:
-            return getattr(view._unpacked(), self._name)
-        return bool(_library.flag(view._halves, self._setter.value))
+        if self._setter not in _BYTES + _RADIXES:
+            return bool(_library.flag(view._halves, self._setter.value))
+        byte = getattr(view._unpacked(), self._name)
+        return _value(self._setter, byte) if self._setter in _BYTES else byte
 
     def __set__(self, view: FormatView, value: Value) -> None:
         raise AttributeError(f"a view does not change: edit({self._name}={value!r}) returns another one")
@@ -672,10 +699,7 @@ class _Field:
         return f"<field {self._name}>"
 
 
-def _field(meaning: str) -> Any:
-    return _Field(meaning)
-
-
+_field: Any = _Field
 # The default of an argument whose field keeps its value.
 _KEPT: Any = ...
 
@@ -683,10 +707,8 @@ _KEPT: Any = ...
 class FormatView:
     """A view of a format word, lawful or not. `int(view)` is the word, and `str(view)` is its text.
 
-    An absent digit separator, base prefix or base suffix is None. In place of an absent exponent base or exponent radix,
-    the attribute has the mantissa radix.
-
-    Raises ValueError if the word is negative or has more than 128 bits.
+    An absent digit separator, base prefix or base suffix is None. An absent exponent base or exponent radix has the
+    value of the mantissa radix. Raises ValueError if the word is negative or has more than 128 bits.
     """
 
     __slots__ = ("_word", "_halves")
@@ -812,7 +834,7 @@ class FormatView:
     @classmethod
     def parse(cls: Type[View], text: str) -> View:
         """Parses `0x` followed by 1 to 32 hexadecimal digits. Raises ValueError if the text has another form."""
-        word, digits = _Word(), _ascii("the text of a format word", text)
+        word, digits = _Word(), _encoded("a format word", _typed("a format word", text, str))
         if error := _library.parse_word(digits, len(digits), word, None):
             raise ValueError(f"{reprlib.repr(text)} is not a format word: {Error(error).description}")
         return cls(_joined(word))
@@ -829,7 +851,7 @@ class FormatView:
 
     def separators(self, part: Part) -> Separators:
         """Returns where a part of a number may have digit separators, such as `separators(Part.FRACTION).internal`."""
-        allowed = _library.separators_of(self._halves, _part(part).value)
+        allowed = _library.separators_of(self._halves, _typed("part", part, Part).value)
         return Separators(allowed.internal, allowed.leading, allowed.trailing, allowed.consecutive)
 
     def is_separator(self, byte: Byte) -> bool:
@@ -908,9 +930,9 @@ class FormatView:
     ) -> View:
         """Applies the settings and then the fields to the word, in order, and returns a view of the new word.
 
-        Before that, the mantissa radix replaces an absent exponent base or exponent radix. After that, a digit separator
-        that no flag allows is dropped. So set a digit separator and its flags in one call. A `Format` raises a
-        ValueError if it would drop a separator that was passed, and a FormatError if the new word is not lawful.
+        Before that, the mantissa radix replaces an absent exponent base or exponent radix. After that, a separator that
+        no flag allows is dropped. So set a digit separator and its flags in one call. A `Format` raises a ValueError if
+        it would drop a separator that was passed, and a FormatError if the new word is not lawful.
         """
         return self._packed(self._unpacked(), settings)
 
@@ -918,7 +940,7 @@ class FormatView:
         """Returns an edit for each field of the word that differs from its default, in the order of the bits."""
         edits = (_Edit * _FIELD_COUNT)()
         changed = _library.edits_of(self._halves, edits, len(edits))
-        return tuple(Edit._of_numbers(edit) for edit in edits[:changed])
+        return tuple(Edit.of(Setter(it.setter), _value(Setter(it.setter), it.value)) for it in edits[:changed])
 
     def normal_form(self: View) -> View:
         """Returns the normal form of the word. Equivalent words have the same normal form."""
@@ -934,17 +956,17 @@ class FormatView:
 
     def reasons(self) -> Tuple[Reason, ...]:
         """Returns each reason why the word is not lawful."""
-        return tuple(self._reason(*it) for it in enumerate(_texts(_library.reason_text, self._halves)))
+        word = self._halves
+        masks = (_joined(_library.reason_mask(word, index)) for index in count())
+        rules = (_members(Rule, _library.reason_rules(word, index)) for index in count())
+        return tuple(map(Reason, _texts(_library.reason_text, word), masks, repeat(()), rules))
 
     def options_reasons(self, exponent: Byte, point: Byte) -> Tuple[Reason, ...]:
         """Returns each reason why an exponent character and a decimal point do not fit the word."""
         options = self._halves, _byte("exponent", exponent), _byte("point", point)
-        reasons = []
-        for index, text in enumerate(_texts(_library.options_reason_text, *options)):
-            roles = _library.options_reason_roles(*options, index)
-            mask = _joined(_library.options_reason_mask(*options, index))
-            reasons.append(Reason(text, mask, options=tuple(it for it in Role if roles >> it.value & 1)))
-        return tuple(reasons)
+        masks = (_joined(_library.options_reason_mask(*options, index)) for index in count())
+        roles = (_members(Role, _library.options_reason_roles(*options, index)) for index in count())
+        return tuple(map(Reason, _texts(_library.options_reason_text, *options), masks, repeat(()), repeat(()), roles))
 
     def notes(self) -> Tuple[Note, ...]:
         """Returns the notes on fields of the word that have no effect."""
@@ -961,16 +983,11 @@ class FormatView:
         view = cls(_joined(_library.pack(fields)))
         is_dropped = fields.digit_separator and view.digit_separator is None
         if is_dropped and issubclass(cls, Format) and Setter.DIGIT_SEPARATOR in [edit.setter for edit in edits]:
-            raise ValueError(f"no flag allows the digit separator {_field_of(Setter.DIGIT_SEPARATOR, fields.digit_separator)!r}")
+            raise ValueError("; ".join(note.text for note in _notes(fields) if note.mask >> 64 & 255))
         return view
 
     def _unpacked(self) -> _Fields:
         return cast(_Fields, _library.fields_of(self._halves))
-
-    def _reason(self, index: int, text: str) -> Reason:
-        rules = _library.reason_rules(self._halves, index)
-        mask = _joined(_library.reason_mask(self._halves, index))
-        return Reason(text, mask, tuple(it for it in Rule if rules >> it.value & 1))
 
     def __int__(self) -> int:
         return self._word
@@ -1006,13 +1023,13 @@ class Format(FormatView):
 
     def __init__(self, word: int = STANDARD) -> None:
         super().__init__(word)
-        if self.error():
-            raise FormatError(FormatView(word))
+        if error := self.error():
+            raise FormatError(self.reasons(), FormatView(word), error)
 
     def check_options(self, exponent: Byte, point: Byte) -> None:
         """Raises OptionsError with every reason if an exponent character and a decimal point do not fit the format."""
         if reasons := self.options_reasons(exponent, point):
-            raise OptionsError(*reasons)
+            raise OptionsError(reasons)
 
 
 @dataclass(frozen=True)
@@ -1020,8 +1037,8 @@ class Literal(Generic[AnyStr]):
     """A text that is a literal of a syntax, and its parts in the order of the text. An absent part is empty. The prefix
     includes the zero before it, and a part with digits includes digit separators.
 
-    The number of an integer is `int(literal.sign + literal.digits(Part.INTEGER), literal.radix(Part.INTEGER))`. If the
-    radix is 10, that of a float is:
+    The number of an integer is `int(literal.sign + literal.digits(Part.INTEGER), syntax.format.mantissa_radix)`. If all
+    radixes are 10, that of a float is:
 
         integer, fraction, exponent = map(literal.digits, Part)
         float(f"{literal.sign}{integer}.{fraction}e{literal.exponent_sign}{exponent or 0}")
@@ -1046,20 +1063,17 @@ class Literal(Generic[AnyStr]):
 
     def digits(self, part: Part) -> AnyStr:
         """Returns the digits of a part without digit separators."""
-        written: AnyStr = getattr(self, str(_part(part)).lower())
+        written: AnyStr = getattr(self, _typed("part", part, Part).name.lower())
         separator = str(self.syntax.format.digit_separator or "")
         if isinstance(written, bytes):
             return written.replace(separator.encode(), b"")
         return written.replace(separator, "")
 
-    def radix(self, part: Part) -> int:
-        """Returns the radix of the digits of a part."""
-        format = self.syntax.format
-        return format.exponent_radix if _part(part) is Part.EXPONENT else format.mantissa_radix
 
-
+@dataclass(frozen=True)
 class Syntax:
-    """What literals are read by: a format, with an exponent character and a decimal point that fit it.
+    """What literals are read by: a format, and an exponent character and a decimal point that fit it. If both are None,
+    literals are integers.
 
         >>> syntax = Syntax(Format.of(mantissa_radix=16, base_prefix="x", exponent_radix=10), exponent="p")
         >>> literal = syntax.read("-0x1.8p3")
@@ -1070,44 +1084,54 @@ class Syntax:
     character or the decimal point does not fit the normal form.
     """
 
-    __slots__ = ("_syntax", "_format")
+    format: Format
+    exponent: Optional[Byte] = "e"
+    point: Optional[Byte] = "."
+    _numbers: _Syntax = field(init=False, repr=False, compare=False)
 
-    def __init__(self, format: Format, exponent: Byte = "e", point: Byte = ".") -> None:
-        self._make(format)
-        self._format.check_options(exponent, point)
-        self._syntax = _Syntax(self._format._halves, _byte("exponent", exponent), _byte("point", point))
+    def __post_init__(self) -> None:
+        format, options = _typed("format", self.format, Format).normal_form(), (0, 0)
+        if self.exponent is not None or self.point is not None:
+            options = _byte("exponent", self.exponent), _byte("point", self.point)
+            format.check_options(*options)
+        exponent, point = (chr(it) if it else None for it in options)
+        vars(self).update(format=format, exponent=exponent, point=point, _numbers=_Syntax(format._halves, *options))
 
     @classmethod
     def integers(cls, format: Format) -> Syntax:
         """Returns the syntax of the integers of a format."""
-        syntax = cls.__new__(cls)
-        syntax._make(format)
-        return syntax
+        return cls(format, None, None)
 
-    def _make(self, format: Format) -> None:
-        if not isinstance(format, Format):
-            raise _wrong_type("format", "a Format", format)
-        self._format = format.normal_form()
-        self._syntax = _Syntax(self._format._halves, 0, 0)
+    @classmethod
+    def of(cls, *settings: Union[Edit, str]) -> Syntax:
+        """Returns the syntax that settings make, such as the lines of a file. Raises SettingsError if there is none.
 
-    @property
-    def format(self) -> Format:
-        """The format, in normal form."""
-        return self._format
+            Syntax.of("mantissa_radix = 16", "base_prefix = 'x'", "exponent = 'p'")
 
-    @property
-    def exponent(self) -> Optional[str]:
-        """The exponent character, or None if literals are integers."""
-        return chr(self._syntax.exponent) if self._syntax.exponent else None
+        A setting has the form that `Edit` takes, and a setting of `exponent` or `point` that of `base_prefix`. If both
+        are `none`, literals are integers. White space around a name or a value is skipped, and so is a setting that is
+        blank or begins with `#`. A number is not in quotes. A setting overrides those before it.
+        """
+        text, made = _lines(settings), _Syntax()
+        if problems := _library.read_settings(text, len(text), made):
+            raise SettingsError(tuple(Reason(*it) for it in islice(_findings(text), problems)))
+        return cls._of_numbers(made)
 
-    @property
-    def point(self) -> Optional[str]:
-        """The decimal point, or None if literals are integers."""
-        return chr(self._syntax.decimal_point) if self._syntax.decimal_point else None
+    @classmethod
+    def notes_of(cls, *settings: Union[Edit, str]) -> Tuple[Note, ...]:
+        """Returns the notes on settings that later ones override, and on those that have no effect, such as a digit
+        separator that no flag allows, which the syntax lacks."""
+        text = _lines(settings)
+        problems = _library.read_settings(text, len(text), _Syntax())
+        return tuple(Note(*it) for it in islice(_findings(text), problems, None))
+
+    @classmethod
+    def _of_numbers(cls, numbers: _Syntax) -> Syntax:
+        return cls(Format(_joined(numbers.format)), numbers.exponent or None, numbers.decimal_point or None)
 
     def role_of(self, byte: Byte) -> Optional[Role]:
         """Returns the only role that a byte has in literals, or None."""
-        return self._format.role_of(byte, exponent=self._syntax.exponent, point=self._syntax.decimal_point)
+        return self.format.role_of(byte, exponent=self.exponent or 0, point=self.point or 0)
 
     def read(self, text: AnyStr) -> Literal[AnyStr]:
         """Returns a text as a literal. Raises LiteralError if it is not one.
@@ -1117,8 +1141,7 @@ class Syntax:
         return self._read(_library.read, text)
 
     def read_prefix(self, text: AnyStr) -> Tuple[Literal[AnyStr], AnyStr]:
-        """Returns the longest literal that a text begins with, and the rest of the text. Raises LiteralError if there is
-        none.
+        """Returns the longest literal that a text begins with, and the rest. Raises LiteralError if there is none.
 
             >>> literal, rest = Syntax(Format()).read_prefix("1.25.3")
             >>> literal.text, rest
@@ -1129,52 +1152,195 @@ class Syntax:
 
     def _read(self, call: Any, text: AnyStr) -> Literal[AnyStr]:
         """Calls peltzivar_read or peltzivar_read_prefix."""
-        literal, refused, data = _Literal(), _ReadError(), _readable(text)
-        if error := call(self._syntax, data, len(data), literal, refused):
-            raise self._refusal(text, data, refused, Error(error))
-        parts = (getattr(literal, name) for name, _ in _Literal._fields_[:-1])
+        literal, refused, data, numbers = _Literal(), _ReadError(), _readable(text), self._numbers
+        if error := call(numbers, data, len(data), literal, refused):
+            sentence, index = _text(_library.read_error_text, numbers, data, len(data)), refused.valid_up_to
+            if isinstance(text, str) and data[index : index + 1] == b"\xff":
+                sentence = f"no literal has the character {text[index]!r} here"
+            part = Part(refused.part) if refused.part != _NO_PART else None
+            span, cause, mask = (refused.span.start, refused.span.end), Cause(refused.cause), _joined(refused.mask)
+            raise LiteralError(sentence, text, index, span, cause, part, mask, Error(error))
+        parts = (getattr(literal, name) for name, kind in _Literal._fields_ if kind is _Span)
         return Literal(self, text[: literal.size], *(text[part.start : part.end] for part in parts))
-
-    def _refusal(self, text: Union[str, bytes], data: bytes, refused: _ReadError, error: Error) -> LiteralError:
-        """Returns the error that peltzivar_read or peltzivar_read_prefix writes."""
-        index, span = refused.valid_up_to, (refused.span.start, refused.span.end)
-        sentence = _text(_library.read_error_text, self._syntax, data, len(data))
-        if isinstance(text, str) and data[index : index + 1] == b"\xff":
-            sentence = f"no literal has the character {text[index]!r} here"
-        part = Part(refused.part) if refused.part != _NO_PART else None
-        return LiteralError(sentence, text, index, span, Cause(refused.cause), part, _joined(refused.mask), error)
-
-    def __repr__(self) -> str:
-        if self.exponent is None:
-            return f"Syntax.integers({self._format!r})"
-        return f"Syntax({self._format!r}, {self.exponent!r}, {self.point!r})"
-
-    def __eq__(self, other: object) -> bool:
-        if not isinstance(other, Syntax):
-            return NotImplemented
-        return bytes(self._syntax) == bytes(other._syntax)
-
-    def __hash__(self) -> int:
-        return hash(bytes(self._syntax))
-
-
-def _part(part: object) -> Part:
-    """Returns a part. Raises an error if it is not one."""
-    if not isinstance(part, Part):
-        raise _wrong_type("part", "a Part", part)
-    return part
 
 
 def _readable(text: object) -> bytes:
-    """Returns a text as bytes, up to its first character that is not ASCII, and in its place a byte that is not ASCII."""
-    if isinstance(text, bytes):
-        return text
-    if not isinstance(text, str):
-        raise _wrong_type("a text", "a str or bytes", text)
+    """Returns a text as bytes, up to the first character that is not ASCII, for which it has a byte that is not."""
     try:
-        return text.encode("ascii")
+        return text if isinstance(text, bytes) else _typed("a text", text, str).encode("ascii")
     except UnicodeEncodeError as error:
-        return text[: error.start].encode("ascii") + b"\xff"
+        return error.object[: error.start].encode("ascii") + b"\xff"
+
+
+def _lines(settings: Iterable[Union[Edit, str]]) -> bytes:
+    """Returns settings as the lines of a text."""
+    lines = [_encoded("a setting", str(it) if isinstance(it, Edit) else it).rstrip(b"\r\n") for it in settings]
+    if more := [line for line in lines if b"\n" in line]:
+        raise ValueError(f"a setting is one line: {reprlib.repr(more[0])}")
+    return b"\n".join(lines)
+
+
+def _findings(text: bytes) -> Iterable[Tuple[str, int, Tuple[int, ...]]]:
+    """Returns the text, no mask and the indexes of each problem of settings, and then of each note on them."""
+    for index, sentence in enumerate(_texts(_library.settings_text, text, len(text))):
+        lines = (c_size_t * _FIELD_COUNT)()
+        blamed = _library.settings_lines(text, len(text), index, lines, len(lines))
+        yield sentence, 0, tuple(lines[:blamed])
+
+
+@dataclass(frozen=True)
+class Special:
+    """A special value: its sign, which is `+`, `-` or empty, and its spelling. `float(str(special))` is its number."""
+
+    sign: str
+    spelling: Spelling
+
+    def __str__(self) -> str:
+        return f"{self.sign}{self.spelling}"
+
+
+@dataclass(frozen=True)
+class Specials:
+    """The spellings of NaN and infinity. A spelling that is None or empty matches no text."""
+
+    nan: Optional[str] = None
+    inf: Optional[str] = None
+    infinity: Optional[str] = None
+
+    def read(self, syntax: Syntax, text: Union[str, bytes]) -> Optional[Special]:
+        """Returns the special value that a text is, or None. The flags of the syntax decide which signs, cases of
+        letters and digit separators it may have. A text can also be a literal, such as `inf` in radix 36."""
+        data, special, numbers = _encoded("a text", text), _Special(), _typed("syntax", syntax, Syntax)._numbers
+        spellings = [_encoded("a spelling", "" if it is None else it) for it in (self.nan, self.inf, self.infinity)]
+        if any(b"\0" in it for it in spellings):
+            raise ValueError(f"a spelling has a null character: {self}")
+        if _library.read_special(numbers, _Specials(*spellings), data, len(data), special):
+            return None
+        return Special(chr(special.sign) if special.sign else "", Spelling(special.spelling))
+
+
+class Language(Enum):
+    # Made by make_python.py: languages
+    """How a language, or a file, writes numbers: a syntax, and the spellings of NaN and infinity.
+
+    ADA: Ada's decimal literals (Reference Manual 2012, 2.4.1). A format cannot accept `1.0E-3` but reject `1E-3`.
+
+    C_FLOAT: C's decimal floating constants (C23, Floating constants). A format cannot accept both `1.0f` and `1.0L`.
+
+    C_HEX_FLOAT: C's hexadecimal floating constants (C23, Floating constants): `0x1.8p3` is 1.5 * 2^3. A format cannot
+        accept both `0x1p3f` and `0x1p3L`.
+
+    C_SHARP: C#'s real literals and decimal integers (C# standard, 6.4.5.3 and 6.4.5.4). A format cannot accept `1L`,
+        `1f` and `1m`.
+
+    FORTRAN: Fortran's signed integers and reals (ISO/IEC 1539-1:2018, 7.4.3). A format cannot accept both `1E3` and
+        `1D3`, or a kind as in `1.0_8`.
+
+    GO_HEX_FLOAT: Go's hexadecimal floats (Language Specification, Floating-point literals).
+
+    HASKELL: Haskell's floats and decimal integers (Haskell 2010 Report, 2.5).
+
+    JAVA: Java's floats and decimal integers (Language Specification 21, 3.10.1 and 3.10.2). A format cannot accept
+        `1L`, `1f` and `1d`.
+
+    JAVASCRIPT: JavaScript's decimal literals in strict code (ECMA-262, Numeric Literals). A format cannot accept `1n`
+        but reject `1.5n`.
+
+    JSON: JSON's numbers (RFC 8259, 6. Numbers).
+
+    JULIA: Julia's floats and decimal integers (Manual 1.11, Integers and Floating-Point Numbers). A format cannot
+        accept both `1e3` and `1f3`.
+
+    KOTLIN: Kotlin's real literals and decimal integers (Kotlin language specification 1.9, Literals). A format cannot
+        accept `1L`, `1f` and `1u`.
+
+    NASM_HEX_INTEGER: NASM's hexadecimal integers with a suffix (NASM manual, Numeric Constants). A format cannot
+        accept `0FFh` but reject `FFh`, which is a name.
+
+    OCAML: OCaml's floats and decimal integers (Manual 5.2, 11.1 Lexical conventions). A format cannot accept `1._`,
+        whose fraction has a separator alone, or `1l`, `1L` and `1n`.
+
+    PYTHON: Python's floats and decimal integers (Language Reference 3.12, 2.4.5 and 2.4.6). A format cannot accept
+        `00` and reject `01`.
+
+    PYTHON_HEX_INTEGER: Python's hexadecimal integers (Language Reference 3.12, 2.4.5).
+
+    RUBY: Ruby's floats and decimal integers (ISO/IEC 30170:2012, 8.7.6.2). A format cannot accept `1r` and `1i`.
+
+    RUST_HEX_INTEGER: Rust's hexadecimal integers (Reference, Integer literals). A format cannot accept the suffix in
+        `0x1F_u8`.
+
+    SPREADSHEET_CSV: Numbers in CSV, as spreadsheets write cells of the format `#,##0.00`, in quotes (RFC 4180):
+        `"1,234.50"`. A format cannot require groups of three digits. For `1.234,50` use the separator `.` and the
+        decimal point `,`.
+
+    SQL: SQL's signed numeric literals (ISO/IEC 9075-2:2016, 5.3 `<literal>`).
+
+    SWIFT_HEX_FLOAT: Swift's hexadecimal floats (The Swift Programming Language, Lexical Structure, Floating-Point
+        Literals).
+
+    TOML: TOML's floats and decimal integers (TOML 1.0.0, Integer and Float).
+
+    YAML: YAML's floats and decimal integers (YAML 1.2.2, 10.3.2 Tag Resolution): those of the standard format. A
+        format cannot accept `.inf` and `.INF` but reject `.iNF`, or accept `-.inf` but reject `-.nan`.
+    """
+
+    ADA = "ADA"
+    C_FLOAT = "C_FLOAT"
+    C_HEX_FLOAT = "C_HEX_FLOAT"
+    C_SHARP = "C_SHARP"
+    FORTRAN = "FORTRAN"
+    GO_HEX_FLOAT = "GO_HEX_FLOAT"
+    HASKELL = "HASKELL"
+    JAVA = "JAVA"
+    JAVASCRIPT = "JAVASCRIPT"
+    JSON = "JSON"
+    JULIA = "JULIA"
+    KOTLIN = "KOTLIN"
+    NASM_HEX_INTEGER = "NASM_HEX_INTEGER"
+    OCAML = "OCAML"
+    PYTHON = "PYTHON"
+    PYTHON_HEX_INTEGER = "PYTHON_HEX_INTEGER"
+    RUBY = "RUBY"
+    RUST_HEX_INTEGER = "RUST_HEX_INTEGER"
+    SPREADSHEET_CSV = "SPREADSHEET_CSV"
+    SQL = "SQL"
+    SWIFT_HEX_FLOAT = "SWIFT_HEX_FLOAT"
+    TOML = "TOML"
+    YAML = "YAML"
+
+    def __str__(self) -> str:
+        return self.name
+    # End
+
+    @functools.cached_property
+    def _definition(self) -> Tuple[Syntax, Specials]:
+        syntax, specials = _Syntax(), _Specials()
+        _library.language(self.name.encode(), len(self.name), syntax, specials)
+        spellings = (getattr(specials, it) for it, _ in _Specials._fields_)
+        return Syntax._of_numbers(syntax), Specials(*(it and it.decode() for it in spellings))
+
+    @property
+    def syntax(self) -> Syntax:
+        """The syntax of literals."""
+        return self._definition[0]
+
+    @property
+    def specials(self) -> Specials:
+        """The spellings of NaN and infinity. A language in which they are names, or do not exist, has none."""
+        return self._definition[1]
+
+    def read(self, text: AnyStr) -> Union[Literal[AnyStr], Special]:
+        """Returns the number that a text is: a literal or a special value. Raises LiteralError if it is neither."""
+        try:
+            return self.syntax.read(text)
+        except LiteralError:
+            if special := self.specials.read(self.syntax, text):
+                return special
+            raise
+
+
+languages = Language
 
 
 @_takes_fields
@@ -1245,5 +1411,5 @@ def _notes(fields: _Fields) -> Tuple[Note, ...]:
 def _apply(settings: Iterable[Union[Edit, str]], fields: _Fields) -> List[Edit]:
     """Applies settings to fields, and returns their edits."""
     edits = [it if isinstance(it, Edit) else Edit(it) for it in settings]
-    _library.edit_fields(fields, (_Edit * len(edits))(*(edit._edit for edit in edits)), len(edits))
+    _library.edit_fields(fields, (_Edit * len(edits))(*(edit._numbers() for edit in edits)), len(edits))
     return edits

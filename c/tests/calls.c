@@ -109,48 +109,21 @@ static void test_words(void) {
     CHECK(edits[1].setter == 104 && edits[1].value == 16 && edits[2].setter == '#');
 }
 
-/* The word has two reasons, and three with the options. The new fields have no note. */
-static void test_indices_behind_the_last(void) {
-    static const size_t indices[] = {3, 15, 23, 255, SIZE_MAX};
-    const peltzivar_word word = {0xC00, 0x0000100061000000};
-    CHECK(peltzivar_reason_rules(word, 1) == 1 << PELTZIVAR_RULE_SPECIAL_CASE_FLAGS_AGREE && !peltzivar_reason_rules(word, 2));
-    CHECK(peltzivar_options_reason_text(word, 'E', 'A', 2, text, sizeof text) == strlen(text) && strstr(text, "'a'"));
-    for (int at = 0; at < 5; at++) {
-        CHECK(WRITES("", peltzivar_reason_text(word, indices[at], text, sizeof text)));
-        CHECK(is_word(peltzivar_reason_mask(word, indices[at]), 0, 0) && !peltzivar_reason_rules(word, indices[at]));
-        CHECK(WRITES("", peltzivar_options_reason_text(word, 'E', 'A', indices[at], text, sizeof text)));
-        CHECK(is_word(peltzivar_options_reason_mask(word, 'E', 'A', indices[at]), 0, 0));
-        CHECK(WRITES("", peltzivar_note_text(&PELTZIVAR_NEW_FIELDS, indices[at], text, sizeof text)));
-        CHECK(is_word(peltzivar_note_mask(&PELTZIVAR_NEW_FIELDS, indices[at]), 0, 0));
-    }
-}
-
 static void test_options(void) {
     const peltzivar_word hexadecimal = {0xC, 0x0000100000000000};
     uint8_t byte = 7;
     CHECK(peltzivar_parse_byte("'p'", 3, &byte) && byte == 'p' && peltzivar_parse_byte("0x2e", 4, &byte) && byte == '.');
     CHECK(peltzivar_parse_byte("none", 4, &byte) && byte == 0 && !peltzivar_parse_byte("256", 3, &byte) && byte == 0);
-    CHECK(peltzivar_options_reason_roles(hexadecimal, 'e', '.', 0) == 1 << PELTZIVAR_ROLE_EXPONENT);
-    CHECK(peltzivar_options_reason_roles(hexadecimal, 'p', '+', 0) == 1 << PELTZIVAR_ROLE_POINT);
-    CHECK(peltzivar_options_reason_roles(hexadecimal, 'p', 'p', 0) == (1 << PELTZIVAR_ROLE_EXPONENT | 1 << PELTZIVAR_ROLE_POINT));
-    CHECK(peltzivar_options_reason_roles(hexadecimal, 'p', 'p', 1) == 0);
-}
-
-/* Numbers from 3 on have no part. */
-static void test_parts(void) {
-    const peltzivar_word all = {0x1FFFull << 32, 0};
-    for (int part = 0; part < 256; part++) {
-        const peltzivar_separators allowed = peltzivar_separators_of(all, (peltzivar_part)part);
-        CHECK(allowed.internal == (part < 3) && allowed.leading == (part < 3));
-        CHECK(allowed.trailing == (part < 3) && allowed.consecutive == (part < 3));
-    }
+    const uint32_t exponent = 1 << PELTZIVAR_ROLE_EXPONENT, point = 1 << PELTZIVAR_ROLE_POINT;
+    CHECK(peltzivar_options_reason_roles(hexadecimal, 'e', '+', 0) == exponent);
+    CHECK(peltzivar_options_reason_roles(hexadecimal, 'e', '+', 1) == point);
+    CHECK(peltzivar_options_reason_roles(hexadecimal, 'p', 'p', 0) == (exponent | point));
 }
 
 static void test_texts(void) {
     const peltzivar_word word = {0x12ab, 0x0A0A10000000005F};
     const peltzivar_word longest = {all_flags() ^ PELTZIVAR_STANDARD.low, 0xFFFFFF2121000021};
-    const char *const whole = "lexical number format error: 'invalid flags enabled without the format feature'";
-    char source[PELTZIVAR_SOURCE_SIZE], wanted[100];
+    char source[PELTZIVAR_SOURCE_SIZE];
     peltzivar_word read = {1, 2};
     size_t index = 7;
     CHECK(!strcmp(peltzivar_description(PELTZIVAR_SUCCESS), "'not actually an error'"));
@@ -159,13 +132,6 @@ static void test_texts(void) {
     CHECK(WRITES("", peltzivar_error_text(UINT32_MAX, 0, text, sizeof text)));
     CHECK(WRITES("lexical parse error: 'numeric overflow occurred' at index 7",
                  peltzivar_error_text(PELTZIVAR_OVERFLOW, 7, text, sizeof text)));
-    for (size_t room = 0; room <= sizeof wanted; room++) {
-        snprintf(wanted, room, "%s", whole);
-        memset(text, '#', sizeof text);
-        CHECK(peltzivar_error_text(PELTZIVAR_INVALID_FLAGS, 0, text, room) == 79);
-        CHECK(room == 0 || strcmp(text, wanted) == 0);
-        CHECK(text[room < 80 ? room : 80] == '#');
-    }
     CHECK(WRITES("0x0A0A10000000005F00000000000012AB", peltzivar_word_text(word, text, sizeof text)));
     CHECK(!peltzivar_parse_word(text, 34, &read, NULL) && is_word(read, word.high, word.low));
     CHECK(!peltzivar_parse_word("0xaBc]", 5, &read, &index) && index == 7 && is_word(read, 0, 0xABC));
@@ -182,44 +148,32 @@ static void test_texts(void) {
     CHECK(WRITES("NumberFormatBuilder::new().build_or_panic()", peltzivar_source(words[0], text, sizeof text)));
 }
 
-/* Returns a syntax with a prefix, a suffix and separators between digits. */
-static peltzivar_syntax new_syntax(void) {
-    const peltzivar_edit edits[] = {{PELTZIVAR_SET_BASE_PREFIX, 'x'}, {PELTZIVAR_SET_BASE_SUFFIX, 'h'},
-        {PELTZIVAR_SET_CASE_SENSITIVE_BASE_PREFIX, 1}, {PELTZIVAR_SET_DIGIT_SEPARATOR, '_'},
-        {PELTZIVAR_SET_INTERNAL_DIGIT_SEPARATOR, 1}};
-    peltzivar_syntax syntax = {{1, 2}, 3, 4};
-    peltzivar_word word;
-    CHECK(peltzivar_build(edits, 5, &word) && !peltzivar_syntax_check(word, 'e', '.', &syntax));
-    CHECK(peltzivar_same_format(word, syntax.format) && peltzivar_is_built(syntax.format));
-    CHECK(syntax.exponent == 'e' && syntax.decimal_point == '.');
-    return syntax;
-}
-
 static void test_syntaxes(void) {
-    static const peltzivar_syntax refused[] = {{{0, 0}, 0, 0}, {PELTZIVAR_STANDARD_INIT, 'e', 0}, {PELTZIVAR_STANDARD_INIT, 'e', 'E'}};
-    static const peltzivar_error errors[] = {
-        PELTZIVAR_INVALID_MANTISSA_RADIX, PELTZIVAR_INVALID_DECIMAL_POINT, PELTZIVAR_INVALID_PUNCTUATION};
-    static const char *const sentences[] = {"the mantissa radix 0 is not between 2 and 36",
-        "the decimal point 0 is not an allowed ASCII character",
-        "the exponent character 'e' and the decimal point 'E' differ only in case, which requires case_sensitive_exponent"};
-    static const peltzivar_syntax integers = {PELTZIVAR_STANDARD_INIT, 0, 0};
-    peltzivar_literal literal = {{7, 7}, {7, 7}, {7, 7}, {7, 7}, {7, 7}, {7, 7}, {7, 7}, {7, 7}, {7, 7}, 7};
-    peltzivar_read_error error = {7, {7, 7}, 7, {7, 7}, 7, 7, 7};
+    static const struct {
+        peltzivar_syntax it;
+        peltzivar_error error;
+        const char *sentence;
+    } rows[] = {{{{0, 0}, 0, 0}, PELTZIVAR_INVALID_MANTISSA_RADIX, "the mantissa radix 0 is not between 2 and 36"},
+        {{PELTZIVAR_STANDARD_INIT, 'e', 0}, PELTZIVAR_INVALID_DECIMAL_POINT,
+            "only one of the exponent character and the decimal point is absent"},
+        {{PELTZIVAR_STANDARD_INIT, '5', '.'}, PELTZIVAR_INVALID_EXPONENT_SYMBOL,
+            "the exponent character '5' is a digit in the mantissa radix 10 and the exponent radix 10"}};
     peltzivar_syntax out = {{1, 2}, 3, 4};
     for (int i = 0; i < 3; i++) {
-        const peltzivar_syntax *const it = &refused[i];
-        CHECK(peltzivar_syntax_check(it->format, it->exponent, it->decimal_point, &out) == errors[i]);
-        CHECK(is_word(out.format, 2, 1) && out.exponent == 3 && out.decimal_point == 4);
-        CHECK(peltzivar_read(it, "1", 1, &literal, &error) == errors[i]);
-        CHECK(peltzivar_read_prefix(it, "1", 1, &literal, &error) == errors[i]);
-        CHECK(WRITES(sentences[i], peltzivar_read_error_text(it, "1", 1, text, sizeof text)));
+        const peltzivar_syntax *const it = &rows[i].it;
+        CHECK(peltzivar_syntax_check(it->format, it->exponent, it->decimal_point, &out) == rows[i].error);
+        CHECK(peltzivar_read(it, "1", 1, NULL, NULL) == rows[i].error);
+        CHECK(peltzivar_read_prefix(it, "1", 1, NULL, NULL) == rows[i].error);
+        CHECK(WRITES(rows[i].sentence, peltzivar_read_error_text(it, "1", 1, text, sizeof text)));
     }
-    CHECK(peltzivar_read(&integers, "1", SIZE_MAX, &literal, &error) == PELTZIVAR_OVERFLOW);
-    CHECK(literal.sign.start == 7 && literal.size == 7 && error.valid_up_to == 7 && error.part == 7);
-    CHECK(!peltzivar_read_prefix(&integers, "12.5", 4, &literal, &error) && literal.size == 2 && error.part == 7);
+    CHECK(is_word(out.format, 2, 1) && out.exponent == 3 && out.decimal_point == 4);
+    CHECK(!peltzivar_syntax_check(PELTZIVAR_STANDARD, 0, 0, &out) && is_word(out.format, 0x0A0A0A0000000000, 0xC));
+    CHECK(!out.exponent && !out.decimal_point && peltzivar_read(&out, "1", SIZE_MAX, NULL, NULL) == PELTZIVAR_OVERFLOW);
 }
 
 static void test_literals(void) {
+    static const char lines[] = "base_prefix='x'\nbase_suffix='h'\ncase_sensitive_base_prefix=true\ndigit_separator='_'\n"
+        "internal_digit_separator=true";
     static const size_t ends[] = {0, 1, 3, 6, 7, 8, 9, 10, 12, 13};
     static const struct {
         const char *text;
@@ -232,9 +186,10 @@ static void test_literals(void) {
         {"01x", PELTZIVAR_INVALID_DIGIT, {2, {2, 3}, 2, {0, 0}, PELTZIVAR_CAUSE_BYTE, PELTZIVAR_NO_SETTER, PELTZIVAR_NO_PART}},
         {"1e1_", PELTZIVAR_INVALID_DIGIT, {4, {4, 4}, 4, {0, 0}, PELTZIVAR_CAUSE_MISSING, PELTZIVAR_NO_SETTER, 2}},
     };
-    const peltzivar_syntax syntax = new_syntax();
+    peltzivar_syntax syntax;
     peltzivar_literal it;
-    CHECK(!peltzivar_read_prefix(&syntax, "-0x1_0.5e+12h,", 14, &it, NULL) && it.size == 13);
+    CHECK(!peltzivar_read_settings(lines, sizeof lines - 1, &syntax));
+    CHECK(!peltzivar_read_prefix(&syntax, "-0x1_0.5e+12h,", 14, &it, NULL) && it.size == 13 && it.is_float);
     const peltzivar_span parts[] = {it.sign, it.prefix, it.integer, it.point, it.fraction, it.exponent_character,
         it.exponent_sign, it.exponent, it.suffix};
     for (int i = 0; i < 9; i++) CHECK(parts[i].start == ends[i] && parts[i].end == ends[i + 1]);
@@ -248,6 +203,69 @@ static void test_literals(void) {
     }
     CHECK(WRITES("no literal has the byte '.' here", peltzivar_read_error_text(&syntax, "1..", 3, text, sizeof text)));
     CHECK(WRITES("", peltzivar_read_error_text(&syntax, "1.", 2, text, sizeof text)));
+}
+
+static void test_special_values(void) {
+    static const peltzivar_syntax syntax = {PELTZIVAR_STANDARD_INIT, 'e', '.'}, refused = {{0, 0}, 'e', '.'};
+    static const peltzivar_specials all = {"NaN", "inf", "infinity"}, few = {NULL, "", "infinity"};
+    static const char *const texts[] = {"nan", "-inf", "+Infinity"};
+    static const peltzivar_special wanted[] = {
+        {PELTZIVAR_SPELLING_NAN, 0}, {PELTZIVAR_SPELLING_INF, '-'}, {PELTZIVAR_SPELLING_INFINITY, '+'}};
+    peltzivar_special special = {7, 7};
+    for (int i = 0; i < 3; i++) {
+        CHECK(!peltzivar_read_special(&syntax, &all, texts[i], strlen(texts[i]), &special));
+        CHECK(special.spelling == wanted[i].spelling && special.sign == wanted[i].sign);
+        CHECK(!peltzivar_read_special(&syntax, &few, texts[i], strlen(texts[i]), NULL) == (i == 2));
+    }
+    CHECK(peltzivar_read_special(&syntax, &few, NULL, 0, &special) == PELTZIVAR_INVALID_DIGIT);
+    CHECK(peltzivar_read_special(&refused, &all, "inf", 3, &special) == PELTZIVAR_INVALID_MANTISSA_RADIX);
+    CHECK(peltzivar_read_special(&syntax, &all, "inf", SIZE_MAX, &special) == PELTZIVAR_OVERFLOW && special.sign == '+');
+}
+
+/* Each language has a syntax that passes the check, and a name by which it is found. */
+static void test_languages(void) {
+    peltzivar_syntax syntax = {{1, 2}, 3, 4}, checked;
+    peltzivar_specials specials = {text, text, text};
+    const char *name;
+    CHECK(!peltzivar_language("json", 4, &syntax, &specials) && is_word(syntax.format, 2, 1) && specials.inf == text);
+    CHECK(!peltzivar_language("JSON", SIZE_MAX, &syntax, &specials) && !*peltzivar_language_name(SIZE_MAX));
+    CHECK(!peltzivar_language("", 0, &syntax, &specials) && !peltzivar_language("JSO", 3, &syntax, &specials));
+    for (size_t i = 0; *(name = peltzivar_language_name(i)); i++) {
+        CHECK(peltzivar_language(name, strlen(name), &syntax, &specials));
+        CHECK(!peltzivar_syntax_check(syntax.format, syntax.exponent, syntax.decimal_point, &checked));
+        CHECK(is_word(checked.format, syntax.format.high, syntax.format.low) && i < 99);
+    }
+    CHECK(peltzivar_language("JSON", 4, &syntax, &specials) && !*specials.nan && !*specials.inf && !*specials.infinity);
+    CHECK(peltzivar_read(&syntax, "01", 2, NULL, NULL) == PELTZIVAR_INVALID_LEADING_ZEROS);
+    CHECK(peltzivar_language("TOML", 4, NULL, &specials) && !strcmp(specials.nan, "nan") && !strcmp(specials.inf, "inf"));
+}
+
+static void test_settings(void) {
+    static const char good[] = "\xEF\xBB\xBF# hexadecimal\r\nradix = 16\n\n exponent= 'p'\nradix=0x10";
+    static const char bad[] = "radix=16\nbase_suffx='h'\nbase_prefix = 'b'\ndigit_separator='_'\nno_special";
+    static const char *const sentences[] = {"unknown setting `base_suffx`; did you mean `base_suffix`?",
+        "expected NAME=VALUE, not `no_special`", "the base prefix 'b' is a digit in radix 16",
+        "no flag allows the digit separator '_'", ""};
+    static const size_t lines[][3] = {{1, 1, 7}, {1, 4, 7}, {2, 0, 2}, {1, 3, 7}, {0, 7, 7}};
+    peltzivar_syntax syntax = {{1, 2}, 3, 4};
+    char longest[64] = "digit_separator=";
+    memset(longest + 16, 0xFF, 48);
+    CHECK(peltzivar_settings_text(longest, sizeof longest, 0, NULL, 0) < PELTZIVAR_TEXT_SIZE);
+    CHECK(peltzivar_read_settings(bad, sizeof bad - 1, &syntax) == 3 && is_word(syntax.format, 2, 1) && syntax.exponent == 3);
+    for (size_t i = 0; i < 5; i++) {
+        size_t to[] = {7, 7, 7};
+        CHECK(WRITES(sentences[i], peltzivar_settings_text(bad, sizeof bad - 1, i, text, sizeof text)));
+        CHECK(peltzivar_settings_lines(bad, sizeof bad - 1, i, to, 2) == lines[i][0]);
+        CHECK(to[0] == lines[i][1] && to[1] == lines[i][2] && to[2] == 7);
+    }
+    CHECK(!peltzivar_read_settings(good, sizeof good - 1, &syntax) && is_word(syntax.format, 0x1010100000000000, 0xC));
+    CHECK(syntax.exponent == 'p' && syntax.decimal_point == '.');
+    CHECK(WRITES("unknown setting name", peltzivar_setting_error_text("no_special=\xFF", 12, text, sizeof text)));
+    CHECK(WRITES("radix is overridden", peltzivar_settings_text(good, sizeof good - 1, 0, text, sizeof text)));
+    CHECK(peltzivar_settings_lines(good, sizeof good - 1, 0, NULL, 0) == 2);
+    CHECK(!peltzivar_read_settings("exponent=none\npoint=none", 24, &syntax) && !syntax.exponent && !syntax.decimal_point);
+    CHECK(peltzivar_read_settings(good, SIZE_MAX, &syntax) == 1 && !peltzivar_read_settings(NULL, 0, &syntax));
+    CHECK(syntax.exponent == 'e' && !peltzivar_read_settings(NULL, 0, NULL));
 }
 
 /* A null pointer with a length of 0 is accepted as an empty array, and a null pointer to output is not written to. Input
@@ -276,16 +294,7 @@ static void test_null(void) {
 }
 
 int main(void) {
-    test_constants();
-    test_setters();
-    test_fields();
-    test_words();
-    test_indices_behind_the_last();
-    test_options();
-    test_parts();
-    test_texts();
-    test_syntaxes();
-    test_literals();
-    test_null();
+    test_constants(), test_setters(), test_fields(), test_words(), test_options(), test_texts(), test_syntaxes();
+    test_literals(), test_special_values(), test_languages(), test_settings(), test_null();
     return failed;
 }

@@ -15,12 +15,15 @@
 #define WRITE(function, ...) \
     do { \
         const size_t room = (size_t)(draw() % 64), whole = function(__VA_ARGS__, text, sizeof text); \
-        char *const part = malloc(room ? room : 1); \
-        CHECK(part && function(__VA_ARGS__, part, room) == whole && whole == strlen(text)); \
+        char *const part = malloc(room + 1); \
+        CHECK(part); \
+        part[room] = '#'; \
+        CHECK(function(__VA_ARGS__, part, room) == whole && whole == strlen(text) && part[room] == '#'); \
         CHECK(!room || (strlen(part) == (whole < room ? whole : room - 1) && !strncmp(part, text, strlen(part)))); \
         free(part); \
     } while (0)
 
+static const peltzivar_word NONE = {0, 0};
 static unsigned long number;
 static uint64_t state = 0x9E3779B97F4A7C15;
 static char text[PELTZIVAR_SOURCE_SIZE];
@@ -96,12 +99,15 @@ static void test_reasons(peltzivar_word word) {
         count++;
         WRITE(peltzivar_reason_text, word, count);
     }
-    CHECK((count == 0) == !peltzivar_check(word) && !peltzivar_reason_rules(word, count));
+    const size_t behind = count + (size_t)draw() % (draw() % 2 ? 4 : SIZE_MAX - count);
+    WRITE(peltzivar_reason_text, word, behind);
+    CHECK((count == 0) == !peltzivar_check(word) && !*text && !peltzivar_reason_rules(word, behind));
+    CHECK(is_same(peltzivar_reason_mask(word, behind), NONE));
     const peltzivar_fields fields = peltzivar_fields_of(word);
     for (count = 0; count < 4; count++) {
-        WRITE(peltzivar_note_text, &fields, count);
-        const peltzivar_word mask = peltzivar_note_mask(&fields, count);
-        CHECK(!*text == !(mask.low || mask.high));
+        const size_t index = count < 3 ? count : behind;
+        WRITE(peltzivar_note_text, &fields, index);
+        CHECK(!*text == is_same(peltzivar_note_mask(&fields, index), NONE));
     }
 }
 
@@ -113,6 +119,10 @@ static void test_options(peltzivar_word word) {
     CHECK(!*text == !peltzivar_check_options(word, exponent, point));
     CHECK(!*text || peltzivar_check_options(mixed(word, mask), exponent, point));
     CHECK(!*text == !peltzivar_options_reason_roles(word, exponent, point, 0));
+    const size_t behind = 9 + (size_t)draw() % (SIZE_MAX - 9);
+    WRITE(peltzivar_options_reason_text, word, exponent, point, behind);
+    CHECK(!*text && !peltzivar_options_reason_roles(word, exponent, point, behind));
+    CHECK(is_same(peltzivar_options_reason_mask(word, exponent, point, behind), NONE));
 }
 
 /* The role of a byte agrees with the other calls. */
@@ -121,6 +131,8 @@ static void test_roles(peltzivar_word word) {
     const peltzivar_role role = peltzivar_role_of(word, exponent, point, byte);
     const bool is_digit = peltzivar_mantissa_digit(word, byte) < 36 || peltzivar_exponent_digit(word, byte) < 36;
     CHECK(role <= PELTZIVAR_ROLE_POINT && is_digit == (role == PELTZIVAR_ROLE_DIGIT));
+    const peltzivar_separators allowed = peltzivar_separators_of(word, byte);
+    CHECK(byte < 3 || !(allowed.internal || allowed.leading || allowed.trailing || allowed.consecutive));
     if (peltzivar_check(word) || peltzivar_check_options(word, exponent, point)) return;
     CHECK(peltzivar_is_separator(word, byte) == (role == PELTZIVAR_ROLE_SEPARATOR));
     CHECK(peltzivar_is_base_prefix(word, byte) == (role == PELTZIVAR_ROLE_PREFIX));
@@ -128,32 +140,38 @@ static void test_roles(peltzivar_word word) {
     CHECK((byte == point) == (role == PELTZIVAR_ROLE_POINT) && (byte != exponent || role == PELTZIVAR_ROLE_EXPONENT));
 }
 
-/* Returns a syntax that is often refused, for a word that is mostly lawful. */
-static peltzivar_syntax draw_syntax(peltzivar_word word) {
+/* Returns the first `len` bytes of `text` in memory of this size. */
+static char *copy(size_t len) {
+    char *const bytes = malloc(len + !len);
+    CHECK(bytes);
+    return memcpy(bytes, text, len);
+}
+
+/* Returns a syntax for a word that is mostly lawful. It is often refused. */
+static peltzivar_syntax draw_syntax(peltzivar_word word, peltzivar_error *refused) {
     static const uint8_t options[][2] = {{'e', '.'}, {'e', '.'}, {'p', '.'}, {'^', ','}, {0, 0}, {0, 0}, {'e', 0}, {'_', 'E'}};
     for (int tries = 0; peltzivar_check(word) && tries < 9; tries++) word = draw_word();
     const uint8_t *const drawn = options[draw() % 8];
     peltzivar_syntax syntax = {word, drawn[0], drawn[1]}, checked = syntax;
     if (draw() % 16 == 0) for (size_t i = 0; i < sizeof syntax; i++) ((unsigned char *)&syntax)[i] = (unsigned char)draw();
-    if (!peltzivar_syntax_check(syntax.format, syntax.exponent, syntax.decimal_point, &checked)) syntax = checked;
+    *refused = peltzivar_syntax_check(syntax.format, syntax.exponent, syntax.decimal_point, &checked);
+    CHECK(*refused || peltzivar_same_format(syntax.format, checked.format));
     return syntax;
 }
 
 /* What is read is written, and nothing else. A text is refused if and only if there is a sentence. The parts of a literal
  * are its bytes. */
 static void test_literals(peltzivar_word word) {
-    const peltzivar_syntax syntax = draw_syntax(word);
+    peltzivar_error refused;
+    const peltzivar_syntax syntax = draw_syntax(word, &refused);
     const peltzivar_fields own = peltzivar_fields_of(syntax.format);
     const uint8_t sign = draw() % 2 ? '+' : '-', separator = own.digit_separator;
     const uint8_t bytes[] = {sign, '0', own.base_prefix, separator, '0', '1', separator, '1', syntax.decimal_point, '0', separator,
         separator, '1', syntax.exponent, sign, separator, '0', own.base_suffix};
-    peltzivar_syntax other = syntax;
-    const peltzivar_error refused = peltzivar_syntax_check(syntax.format, syntax.exponent, syntax.decimal_point, &other);
     size_t len = 0;
     for (size_t i = 0; i < sizeof bytes; i++) if (bytes[i] && draw() % 2) text[len++] = (char)bytes[i];
     if (len && draw() % 4 == 0) text[draw() % len] ^= (char)(draw() % 2 ? 32 : draw());
-    char *const from = malloc(len + !len);
-    memcpy(from, text, len);
+    char *const from = copy(len);
     peltzivar_literal literal, literal_before;
     peltzivar_read_error error, error_before;
     memset(&literal, (int)draw(), sizeof literal), memcpy(&literal_before, &literal, sizeof literal);
@@ -161,10 +179,11 @@ static void test_literals(peltzivar_word word) {
     const peltzivar_error code = peltzivar_read(&syntax, from, len, &literal, &error);
     CHECK(!code || !memcmp(&literal, &literal_before, sizeof literal));
     CHECK((code && !refused) || !memcmp(&error, &error_before, sizeof error));
-    CHECK(refused ? code == refused : code <= PELTZIVAR_MISSING_SIGN + 2);
+    CHECK(refused ? code == refused : code <= PELTZIVAR_INVALID_NEGATIVE_SIGN);
     if (code && !refused) {
         CHECK(error.valid_up_to <= len && error.span.start <= error.span.end && error.span.end <= len && error.index <= len);
-        CHECK(error.number == PELTZIVAR_NO_SETTER ? !error.mask.low : error.mask.low % (UINT64_C(2) << error.number) == UINT64_C(1) << error.number);
+        const uint64_t lowest = error.mask.low & (~error.mask.low + 1);
+        CHECK(lowest == (error.number == PELTZIVAR_NO_SETTER ? 0 : peltzivar_setter_mask(error.number).low));
         const bool has_part = error.cause == PELTZIVAR_CAUSE_MISSING || error.cause == PELTZIVAR_CAUSE_SEPARATOR;
         CHECK(1 <= error.cause && error.cause <= 5 && has_part == (error.part != PELTZIVAR_NO_PART));
     }
@@ -175,9 +194,56 @@ static void test_literals(peltzivar_word word) {
         for (int i = 0; i < 9; i++) CHECK(parts[i].start == (i ? parts[i - 1].end : 0) && parts[i].start <= parts[i].end);
         CHECK(literal.size == literal.suffix.end && literal.size <= len && (code || literal.size == len));
         CHECK(!peltzivar_read(&syntax, from, literal.size, &literal_before, NULL));
-        CHECK(!memcmp(&literal, &literal_before, sizeof literal));
-    } else {
-        CHECK(code);
+        CHECK(!memcmp(&literal, &literal_before, offsetof(peltzivar_literal, size)));
+        CHECK(literal.is_float == (literal.integer.end < literal.exponent_character.end));
+    } else CHECK(code);
+    free(from);
+}
+
+/* A text is a special value only if it is a spelling with other signs, cases and separators. */
+static void test_special_values(peltzivar_word word) {
+    static const char *const spellings[] = {NULL, "", "NaN", "inf", "i_n'f", "+e.\377"};
+    peltzivar_error refused;
+    const peltzivar_syntax syntax = draw_syntax(word, &refused);
+    const peltzivar_specials specials = {spellings[draw() % 6], spellings[draw() % 6], spellings[draw() % 6]};
+    const char *const wanted[] = {"", specials.nan, specials.inf, specials.infinity};
+    size_t len = 0;
+    if (draw() % 2) text[len++] = "+-"[draw() % 2];
+    for (const char *from = wanted[draw() % 4]; from && *from; from++) {
+        text[len++] = draw() % 8 ? *from : (char)(*from ^ 32);
+        if (draw() % 8 == 0) text[len++] = (char)peltzivar_fields_of(word).digit_separator;
+    }
+    char *const from = copy(len);
+    peltzivar_special special = {7, 7};
+    const peltzivar_error code = peltzivar_read_special(&syntax, &specials, from, len, &special);
+    if (code) CHECK(code == (refused ? refused : PELTZIVAR_INVALID_DIGIT) && special.spelling == 7 && special.sign == 7);
+    else CHECK(special.spelling - 1u < 3 && wanted[special.spelling] && (!special.sign || special.sign == *from));
+    free(from);
+}
+
+/* Lines build a syntax if and only if there is no problem. Each problem and note has a sentence, and lines of the text. */
+static void test_lines(void) {
+    static const char *const lines[] = {"", "# \200", "exponent = 'p'", "point=','", "exponent=none", "point = none\r", "radix= 16",
+        "digit_separator='_'", "base_prefix='x'", "internal_digit_separator=true", "base_suffx='h'", "radix='1'", "\357\273\277"};
+    size_t len = 0, count = 0;
+    for (uint64_t left = draw() % 6; left > 0; left--) {
+        if (draw() % 2) len += strlen(strcpy(text + len, lines[draw() % 13]));
+        else len += peltzivar_edit_text(draw_edit(), text + len, 64);
+        text[len++] = '\n';
+    }
+    if (len && draw() % 4 == 0) text[draw() % len] = (char)draw();
+    for (size_t i = 0; i < len; i++) count += text[i] == '\n';
+    char *const from = copy(len);
+    peltzivar_syntax syntax = {{1, 2}, 3, 4}, other;
+    const size_t problems = peltzivar_read_settings(from, len, &syntax);
+    CHECK(problems ? syntax.format.low == 1 && syntax.exponent == 3 && syntax.decimal_point == 4
+                   : !peltzivar_syntax_check(syntax.format, syntax.exponent, syntax.decimal_point, &other));
+    for (size_t index = 0; index == 0 || *text; index++) {
+        size_t blamed[16] = {0};
+        WRITE(peltzivar_settings_text, from, len, index);
+        const size_t found = peltzivar_settings_lines(from, len, index, blamed, 16);
+        CHECK(strlen(text) < PELTZIVAR_TEXT_SIZE && (*text || index >= problems) && (*text || found == 0) && found <= 14);
+        for (size_t i = 0; i < found; i++) CHECK(blamed[i] <= count && (!i || blamed[i - 1] < blamed[i]));
     }
     free(from);
 }
@@ -191,13 +257,15 @@ static void test_settings(void) {
     WRITE(peltzivar_edit_text, edit);
     const size_t len = strlen(text);
     for (uint64_t count = draw() % 3; count > 0 && len; count--) text[draw() % len] = (char)draw();
-    char *const setting = malloc(len + 1);
-    memcpy(setting, text, len);
+    char *const setting = copy(len);
     const bool is_read = peltzivar_parse_edit(setting, len, &read);
     WRITE(peltzivar_setting_error_text, setting, len);
     CHECK(is_read == !*text && (is_read || (read.setter == 7 && read.value == 9)));
-    const char *const value = memchr(setting, '=', len);
-    if (value) CHECK(peltzivar_parse_byte(value + 1, len - (size_t)(value + 1 - setting), &read.value) || !is_read || read.value < 2);
+    uint8_t byte = 0;
+    if (is_read && read.setter - 64u < 64) {
+        const char *const value = (const char *)memchr(setting, '=', len) + 1;
+        CHECK(peltzivar_parse_byte(value, len - (size_t)(value - setting), &byte) && byte == read.value);
+    }
     free(setting);
 }
 
@@ -205,12 +273,8 @@ int main(int argc, char **argv) {
     const unsigned long cases = argc > 1 ? strtoul(argv[1], NULL, 10) : 1000;
     for (number = 0; number < cases; number++) {
         const peltzivar_word word = draw_word();
-        test_word(word);
-        test_reasons(word);
-        test_options(word);
-        test_roles(word);
-        test_literals(word);
-        test_settings();
+        test_word(word), test_reasons(word), test_options(word), test_roles(word);
+        test_literals(word), test_special_values(word), test_lines(), test_settings();
     }
     return 0;
 }

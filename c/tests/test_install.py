@@ -49,7 +49,7 @@ class Install(InFolder):
         self.assertTrue(lines)
         for line in lines:
             self.run_in("bash", "-c", line)
-            self.assertEqual(self.run_in("./example", "radix=16").split()[0], WORD)
+            self.assertEqual(self.run_in("./example", "radix=8", "17"), "17 is 15\n")
 
     def test_python_finds_the_library_below_the_prefix(self):
         self.make("install", f"PREFIX={self.prefix}")
@@ -64,7 +64,7 @@ class Install(InFolder):
         self.environment.pop("CARGO_TARGET_DIR", None)
         for command in (build, f"{compile_it} -o '{self.folder}/example'"):
             self.run_in("bash", "-c", command, cwd=C.parent)
-        self.assertEqual(self.run_in("./example", "radix=16").split()[0], WORD)
+        self.assertEqual(self.run_in("./example", "radix=8", "17"), "17 is 15\n")
 
     def test_uninstall_removes_what_install_wrote_without_cargo_and_for_all_users(self):
         paths = ["PREFIX=/usr/my own", "LIBDIR=/usr/my own/lib here", f"DESTDIR={self.folder}/a root"]
@@ -99,50 +99,27 @@ class Install(InFolder):
 
 @unittest.skipUnless(PACKAGER, "pip, setuptools 66 and wheel")
 class Package(InFolder):
-    """The package for Python, from a copy of the checkout, without a network."""
-
-    def setUp(self):
-        super().setUp()
-        self.copy = self.folder / "a copy"
-        for name in ("c", "rust"):
-            shutil.copytree(C.parent / name, self.copy / name, ignore=shutil.ignore_patterns("target", "build", "*.egg-info", "*.so"))
-        for name in ("Cargo.toml", "Cargo.lock", "LICENSE"):
-            shutil.copy(C.parent / name, self.copy)
-        self.environment.pop("CARGO_TARGET_DIR", None)
-
     def build(self, what, source):
         """Builds a wheel or a source distribution, and returns its path."""
         code = f"import setuptools.build_meta as it; print(it.build_{what}('..'))"
         return source.parent / self.run_in(PACKAGER, "-c", code, cwd=source).splitlines()[-1]
 
-    def pip(self, *arguments):
-        """Installs the package in an environment of its own, and returns what a program prints there."""
-        python = self.folder / "environment/bin/python"
-        if not python.exists():
-            self.run_in(PACKAGER, "-m", "venv", "--system-site-packages", "--without-pip", python.parent.parent)
-        options = ["--no-build-isolation", "--no-index", "--no-deps", "--quiet", "--disable-pip-version-check"]
-        self.run_in(python, "-m", "pip", "install", *options, *arguments)
-        return self.run_in(python, *IMPORT[1:])
-
-    def test_wheels_of_the_checkout_and_of_its_source_distribution_are_the_same(self):
-        wheel = self.build("wheel", self.copy / "c")
-        shutil.unpack_archive(self.build("sdist", self.copy / "c"), self.folder / "sources")
+    def test_packages_of_a_copy_of_the_checkout(self):
+        checkout = self.folder / "a copy/c"
+        shutil.copytree(C.parent, checkout.parent, ignore=shutil.ignore_patterns(".git", "crates", "target", "build", "*.so"))
+        wheel = self.build("wheel", checkout)
+        shutil.unpack_archive(self.build("sdist", checkout), self.folder / "sources")
         (source,) = self.folder.glob("sources/*")
         self.assertEqual(self.build("wheel", source).read_bytes(), wheel.read_bytes())
-        self.assertRegex(wheel.name, r"^peltzivar-[\d.]+-py3-none-\w+\.whl$")
-        names = {re.sub(r".*dist-info/", "", it): it for it in zipfile.ZipFile(wheel).namelist()}
-        self.assertEqual(zipfile.ZipFile(wheel).read(names["LICENSE"]), (C.parent / "LICENSE").read_bytes())
-        metadata = zipfile.ZipFile(wheel).read(names["METADATA"]).decode()
-        for line in ("License: MIT", "Requires-Python: >=3.9", "", ">>> from peltzivar import Format"):
-            self.assertRegex(metadata, rf"(?m)^ *{re.escape(line)}$")
-        self.assertIn("peltzivar/py.typed", names)
-        self.assertRegex(self.pip(wheel), f"^{WORD} .*/site-packages/peltzivar/__init__.py$")
-        self.assertEqual(self.pip("--editable", self.copy / "c"), f"{WORD} {self.copy}/c/peltzivar/__init__.py\n")
-
-    def test_cargo_is_needed(self):
-        self.environment["PATH"] = "/nowhere"
-        with self.assertRaisesRegex(AssertionError, "cargo is not found: install Rust 1.85 or later"):
-            self.build("wheel", self.copy / "c")
+        with zipfile.ZipFile(wheel) as opened:
+            files = {name.rpartition("/")[2]: opened.read(name) for name in opened.namelist()}
+        self.assertEqual((files["py.typed"], files["LICENSE"]), (b"", (C.parent / "LICENSE").read_bytes()))
+        self.assertRegex(files["METADATA"].decode(), r"(?ms)^License: MIT$.*^Requires-Python: >=3.9$.*^\n.* >>> from peltzivar import Format, Syntax$")
+        self.run_in(PACKAGER, "-m", "venv", "--system-site-packages", "--without-pip", "environment")
+        install = ["environment/bin/python", "-m", "pip", "install", "--no-build-isolation", "--no-index", "--no-deps", "--quiet"]
+        for package, folder in (([wheel], ".*/site-packages"), (["--editable", checkout], checkout)):
+            self.run_in(*install, *package)
+            self.assertRegex(self.run_in("environment/bin/python", *IMPORT[1:]), f"^{WORD} {folder}/peltzivar/__init__.py$")
 
 
 if __name__ == "__main__":

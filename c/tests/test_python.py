@@ -2,7 +2,6 @@
 docs/FORMAT.md, and known words and sentences."""
 import copy
 import ctypes
-import dataclasses
 import doctest
 import inspect
 import os
@@ -22,8 +21,8 @@ TESTS = pathlib.Path(__file__).resolve().parent
 TOP = TESTS.parent.parent
 sys.path.insert(0, str(TESTS.parent))
 import peltzivar
-from peltzivar import Cause, Edit, Error, Format, FormatError, FormatView, LiteralError, OptionsError, Part, Role, Rule, Setter
-from peltzivar import Syntax, notes_of
+from peltzivar import Cause, Edit, Error, Format, FormatError, FormatView, Language, LiteralError, OptionsError, Part, Role
+from peltzivar import Rule, Setter, SettingsError, Special, Specials, Spelling, Syntax, notes_of
 
 LINES = (TOP / "crates/recorded/data/results.txt").read_text().splitlines()
 PAGE = (TOP / "docs/FORMAT.md").read_text()
@@ -32,7 +31,6 @@ GROUPS = re.findall(r"^\| `(\w+)` \| (\d[\d ]*) \|", PAGE, re.M)
 BYTES = re.findall(r"^\| (\d+) to \d+ \| `(\w+)` \|", PAGE, re.M)
 RULES = re.findall(r"^\| (\d+) \| (.*) \| `(Invalid\w+)` \| `+('.*')`+ \| `(\w+)` \| (.*) \|$", PAGE, re.M)
 CAUSES = re.findall(r"^\| (?:`(.*)` )?\| `(.*)` \| (\w+) ?(.*?) \| (\d+) \| (\d+)\.\.(\d+) \|$", PAGE, re.M)
-QUESTIONS = re.findall(r"^\| .*\? \| .* \| .* \| `(.*)` \| (`.*`) \| (`.*`) \|$", PAGE, re.M)
 CALLS = peltzivar._library
 ERROR_TEXT = ctypes.CDLL(CALLS.path).peltzivar_error_text
 ERROR_TEXT.argtypes = [ctypes.c_uint32, ctypes.c_size_t, ctypes.c_char_p, ctypes.c_size_t]
@@ -79,13 +77,6 @@ class Recorded(unittest.TestCase):
             got, wanted = returned(kind, rest.split(" ", 2 if kind == "printed" else -1))
             self.assertEqual(got, wanted, line)
 
-    def test_recorded_digits(self):
-        for _, byte, radix, wanted in (line.split() for line in LINES if line.startswith("digit ")):
-            if 0 < int(radix) < 256:
-                view = FormatView(int(radix) << 104)
-                digit = None if wanted == "none" else int(wanted)
-                self.assertEqual((view.mantissa_digit(int(byte)), view.exponent_digit(int(byte))), (digit, digit))
-
     def test_recorded_words_are_read_back(self):
         for line in LINES:
             if line.startswith(("check ", "build ")):
@@ -117,51 +108,18 @@ class Words(unittest.TestCase):
         self.assertNotEqual(self.HEXADECIMAL, formats[0])
         self.assertEqual(int(Format()), 0x00000A0000000000000000000000000C)
 
-    def test_what_is_not_a_word_is_refused(self):
-        for make in (FormatView, Format):
-            for word in (-1, 1 << 128):
-                self.assertRaisesRegex(ValueError, "a format word is a number of at most 128 bits: ", make, word)
-            for word in (None, 12.0, "12", True):
-                self.assertRaisesRegex(TypeError, f"a format word .* not {type(word).__name__}", make, word)
-            self.assertRaisesRegex(TypeError, "the text of a format word is a str, not bytes", make.parse, b"0x1")
-            for text in ("", "0x", "C", " 0x0", "0x" + 33 * "0", "0x\u0660", "0x\udc80"):
-                self.assertRaisesRegex(ValueError, "is not a format word", make.parse, text)
-        for byte in {*map(chr, range(256))} - {*string.hexdigits}:
-            self.assertRaisesRegex(ValueError, "is not a format word", FormatView.parse, f"0x1{byte}0")
-
-    def test_what_is_not_a_setting_is_refused(self):
-        byte = "one ASCII character or a number from 0 to 255"
-        rows = [
-            ({"no_special": 1}, TypeError, "no_special is a bool, not int"),
-            ({"mantissa_radix": "8"}, TypeError, "mantissa_radix is a number from 0 to 255, not str"),
-            ({"mantissa_radix": None}, TypeError, "mantissa_radix is a number from 0 to 255, not NoneType"),
-            ({"exponent_base": 256}, ValueError, "exponent_base is a number from 0 to 255: 0x100"),
-            ({"base_prefix": 1.5}, TypeError, f"base_prefix is {byte}, not float"),
-            ({"base_prefix": True}, TypeError, f"base_prefix is {byte}, not bool"),
-            ({"base_prefix": -1}, ValueError, f"base_prefix is {byte}: -0x1"),
-            ({"base_prefix": "\u00e9"}, ValueError, f"base_prefix is {byte}: '\u00e9'"),
-            ({"base_prefix": b"0x"}, ValueError, f"base_prefix is {byte}: b'0x'"),
-        ]
-        for call in (Format.of, FormatView.of, Format().edit, notes_of):
-            for fields, error, sentence in rows:
-                self.assertRaisesRegex(error, f"^{re.escape(sentence)}$", call, **fields)
-            self.assertRaisesRegex(TypeError, f"{call.__name__}.. got an unexpected keyword argument 'colour'", call, colour=7)
-            self.assertRaisesRegex(TypeError, "a setting is a str, not int", call, 5)
-            for text in ("radix", "radix =16", "radix=2\0", "r\udc80=1"):
-                self.assertRaisesRegex(ValueError, f"^{text}: ", call, text)
-        self.assertRaisesRegex(ValueError, "unknown setting name: 'colour'", Edit.of, "colour", 7)
-        self.assertRaisesRegex(TypeError, "a setter is a Setter or its name, not int", Edit.of, 7, 7)
+    def test_a_text_that_is_not_a_word_is_refused(self):
+        texts = ["", "0x", "C", " 0x0", "0x" + 33 * "0", "0x\u0660", "0x\udc80"]
+        for text in texts + [f"0x1{byte}0" for byte in {*map(chr, range(256))} - {*string.hexdigits}]:
+            self.assertRaisesRegex(ValueError, "is not a format word", FormatView.parse, text)
 
     def test_a_format_refuses_to_drop_a_separator(self):
         separated = Format.of(digit_separator="_", internal_digit_separator=True)
         for call in (Format.of, Format().edit, separated.edit):
-            for settings in ({"digit_separator": ","}, {"digit_separator": ",", "internal_digit_separator": False}):
-                if call != separated.edit or len(settings) == 2:
-                    self.assertRaisesRegex(ValueError, "^no flag allows the digit separator ','$", call, **settings)
+            fields = {"digit_separator": ",", "internal_digit_separator": False}
+            self.assertRaisesRegex(ValueError, "^no flag allows the digit separator ','$", call, **fields)
         self.assertIsNone(separated.edit(internal_digit_separator=False).digit_separator)
-        self.assertIsNone(separated.edit(digit_separator=None, internal_digit_separator=False).digit_separator)
         self.assertEqual(FormatView.of(digit_separator="_"), FormatView())
-        self.assertEqual(FormatView(int(separated)).edit("digit_separator=44", internal_digit_separator=False), FormatView(int(separated)).edit(internal_digit_separator=False))
 
     def test_an_unlawful_format_is_refused_with_all_reasons(self):
         fields = {"mantissa_radix": 16, "base_prefix": "b", "no_special": True, "special_digit_separator": True}
@@ -199,7 +157,6 @@ class Words(unittest.TestCase):
         self.assertEqual([it.value for it in edited.edits()], [True, True, True, "_", 16, 10, 10])
         self.assertEqual(Edit.of("base_prefix", "x"), Edit("base_prefix=0x78"))
         self.assertEqual((Edit("radix=8"), Edit.of("radix", 8)), 2 * (Edit.of(Setter.MANTISSA_RADIX, 8),))
-        self.assertEqual(Edit("radix=8").setter, Setter.MANTISSA_RADIX)
         self.assertEqual(len({Edit("no_special=true"), Edit.of("no_special", True), Edit("no_special=false")}), 2)
         self.assertEqual((Edit("required_digits=true").mask, Edit("exponent_radix=none").mask), (0xF, 0xFF << 120))
         self.assertEqual([Edit(f"{name}=none").value for name in ("exponent_base", "base_suffix")], [None, None])
@@ -213,6 +170,7 @@ class Words(unittest.TestCase):
         self.assertEqual((f"{Format():>36}", f"{Format():#034x}"), (f"  {Format()}", "0x00000a0000000000000000000000000c"))
         self.assertEqual((repr(Format.no_special), f"{Rule(7)}"), ("<field no_special>", "PUNCTUATION_DIFFERS"))
         self.assertEqual(doctest.testmod(peltzivar).failed, 0)
+        self.assertEqual(doctest.testfile(str(TOP / "docs/C-AND-PYTHON.md"), module_relative=False).failed, 0)
 
     def test_options(self):
         self.assertIsNone(Format().check_options("e", "."))
@@ -222,10 +180,7 @@ class Words(unittest.TestCase):
         self.assertEqual((str(reason), reason.mask, reason.rules), (sentence, 0xFF << 104, ()))
         with self.assertRaisesRegex(OptionsError, f"^{sentence}; the decimal point '1' is") as caught:
             Format.of(radix=16).check_options("e", "1")
-        self.assertEqual(len(pickle.loads(pickle.dumps(caught.exception)).reasons), 2)
-        for option in ("\u00e9", 256, -1, "ee", b""):
-            self.assertRaisesRegex(ValueError, "^exponent is one", Format().check_options, option, ".")
-            self.assertRaisesRegex(ValueError, "^point is one", Format().role_of, "0", point=option)
+        self.assertEqual([it.options for it in pickle.loads(pickle.dumps(caught.exception)).reasons], [(Role.EXPONENT,), (Role.POINT,)])
 
     def test_bytes_are_numbers_or_characters(self):
         view = FormatView.of(radix=16, exponent_radix=10, base_prefix="x", base_suffix="H", case_sensitive_base_prefix=True,
@@ -233,10 +188,6 @@ class Words(unittest.TestCase):
         for call, characters in ((view.is_base_prefix, "x"), (view.is_base_suffix, "Hh"), (view.is_separator, "_")):
             self.assertEqual("".join(filter(call, map(chr, range(128)))), characters)
             self.assertEqual([it for it in range(256) if call(it) and call(bytes([it]))], [ord(it) for it in characters])
-        for call in (view.is_base_prefix, view.is_base_suffix, view.is_separator, view.mantissa_digit, view.exponent_digit, view.role_of):
-            for byte in ("0x", b"", "\u00e9", 256, -1):
-                self.assertRaisesRegex(ValueError, "^a byte is one ASCII character or a number", call, byte)
-            self.assertRaisesRegex(TypeError, "^a byte is one ASCII .* not NoneType", call, None)
         self.assertEqual([view.mantissa_digit(it) for it in ("0", "9", b"a", "f", "A", b"F", "g", "G", 66)], [0, 9, 10, 15, 10, 15, None, None, 11])
         self.assertEqual([view.exponent_digit(it) for it in "09a"], [0, 9, None])
         for byte in range(256):
@@ -252,7 +203,6 @@ class Words(unittest.TestCase):
             if found := re.fullmatch(r"(\w+?)_(\w+)_digit_separator", name):
                 allowed = FormatView(1 << int(number)).separators(Part[found[1].upper()])
                 self.assertEqual((sum(vars(allowed).values()), getattr(allowed, found[2])), (1, True))
-        self.assertRaisesRegex(TypeError, "part is a Part, not int", view.separators, 0)
 
     def test_setters_have_the_bits_and_defaults_of_the_tables(self):
         masks = {name: 1 << int(bit) for bit, name in FLAGS} | {name: sum(1 << int(bit) for bit in bits.split()) for name, bits in GROUPS}
@@ -278,104 +228,133 @@ class Words(unittest.TestCase):
         self.assertEqual([getattr(FormatView(0), name) for _, name in BYTES], [None, None, None, 0, 0, 0])
 
 
-def syntax_of(settings):
-    return Syntax(FormatView.of(*settings.split()).check())
-
-
 class Literals(unittest.TestCase):
     def test_parts(self):
         fields = {"digit_separator": "_", "internal_digit_separator": True, "base_prefix": "x", "base_suffix": "H"}
         syntax = Syntax(Format.of(mantissa_radix=16, exponent_base=2, exponent_radix=10, **fields), exponent="p")
         text = "-0x1_F.8_0p+1_2h"
         parts = ["-", "0x", "1_F", ".", "8_0", "p", "+", "1_2", "h"]
-        for literal, digits in ((syntax.read(text), ["1F", "80", "12"]), (syntax.read(text.encode()), [b"1F", b"80", b"12"])):
-            wanted = parts if isinstance(literal.text, str) else [it.encode() for it in parts]
-            self.assertEqual([getattr(literal, it.name) for it in dataclasses.fields(literal)][2:], wanted)
-            self.assertEqual(([literal.digits(part) for part in Part], literal.is_float), (digits, True))
-            self.assertEqual([literal.radix(part) for part in Part], [16, 16, 10])
-        integer = Syntax.integers(syntax.format).read("-F_F")
-        self.assertEqual((int(integer.sign + integer.digits(Part.INTEGER), integer.radix(Part.INTEGER)), integer.is_float), (-255, False))
-        self.assertEqual(Syntax(Format()).read(".5").digits(Part.INTEGER), "")
+        for literal, in_type in ((syntax.read(text), str), (syntax.read(text.encode()), str.encode)):
+            self.assertEqual([*vars(literal).values()][2:], [*map(in_type, parts)])
+            self.assertEqual([*map(literal.digits, Part)], [*map(in_type, ["1F", "80", "12"])])
+        self.assertEqual([syntax.read(it).is_float for it in ("-F_F", "1.", "1p0")], [False, True, True])
         literal, rest = syntax.read_prefix("1.8p+\u00e9")
         self.assertEqual((literal.text, literal.fraction, rest), ("1.8", "8", "p+\u00e9"))
-        self.assertEqual(syntax.read_prefix(b"1\xff")[1], b"\xff")
 
     def test_causes_of_format(self):
-        self.assertGreater(len(CAUSES), 20)
-        for text, settings, cause, blamed, valid_up_to, start, end in CAUSES:
+        self.assertGreater(len(CAUSES), 10)
+        for text, settings, cause, blamed, *numbers in CAUSES:
             for given in (text, text.encode()):
                 with self.assertRaises(LiteralError) as caught:
-                    syntax_of(settings).read(given)
+                    Syntax(FormatView.of(*settings.split()).check()).read(given)
                 error = pickle.loads(pickle.dumps(caught.exception))
-                self.assertEqual((error.cause, error.valid_up_to), (Cause[cause.upper()], int(valid_up_to)), (text, settings))
-                self.assertEqual((error.text, error.span), (given, (int(start), int(end))), (text, settings))
+                got = error.text, error.cause, [error.valid_up_to, *error.span]
+                self.assertEqual(got, (given, Cause[cause.upper()], [*map(int, numbers)]), settings)
                 if cause == "missing":
                     self.assertEqual((error.part, error.edits), (Part[blamed.upper()], ()))
                 else:
                     edits = tuple(Edit.of(Setter(int(flag)), cause == "separator") for flag in blamed.split())
                     self.assertEqual((error.edits, error.part is None), (edits, cause != "separator"), (text, settings))
 
-    def test_questions_of_format(self):
-        self.assertGreater(len(QUESTIONS), 10)
-        for settings, accepted, rejected in QUESTIONS:
-            syntax = syntax_of(settings)
-            for text in re.findall("`(.*?)`", accepted):
-                self.assertEqual("".join(vars(syntax.read(text))[it.name] for it in dataclasses.fields(syntax.read(text))[2:]), text)
-            for text, code in re.findall(r"`(\S*)` `(\w+)\(\d+\)`", rejected):
-                with self.assertRaises(LiteralError) as caught:
-                    syntax.read(text)
-                self.assertEqual(caught.exception.error, error_of(code), text)
-
     def test_indexes_are_those_of_characters(self):
-        for text, index in (("12\u00e9", 2), ("\u20ac", 0), ("1.5\U0001F600e", 3), ("1e\ud800", 2)):
+        for text, index in (("12\u00e9", 2), ("\u20ac", 0), ("1.5\U0001F600e", 3), ("1e\ud800", 2), ("1x\u00e9", 1)):
             with self.assertRaises(LiteralError) as caught:
                 Syntax(Format()).read(text)
-            error = caught.exception
-            self.assertEqual((error.valid_up_to, error.span, error.cause), (index, (index, index + 1), Cause.BYTE))
-            self.assertEqual(str(error), f"no literal has the character {text[index]!r} here")
-        with self.assertRaisesRegex(LiteralError, "^no literal has the byte 'x' here$"):
-            Syntax(Format()).read("1x\u00e9")
+            error, sentence = caught.exception, f"no literal has the {'byte' if index == 1 else 'character'} {text[index]!r} here"
+            self.assertEqual((error.valid_up_to, error.error, str(error)), (index, Error.INVALID_DIGIT, sentence))
 
     def test_syntaxes(self):
-        syntaxes = [Syntax(Format()), Syntax(Format(), b"e", 46), Syntax(Format().normal_form()), Syntax.integers(Format()), Syntax(Format(), "p")]
-        self.assertEqual(len(set(syntaxes)), 3)
+        syntaxes = [Syntax(Format()), Syntax(Format(), b"e", 46), Syntax(Format().normal_form()), Syntax.integers(Format())]
+        got = [(it.exponent, it.point, it.role_of("e")) for it in syntaxes]
+        self.assertEqual(got, 3 * [("e", ".", Role.EXPONENT)] + [(None, None, None)])
         for syntax in syntaxes:
-            self.assertEqual((eval(repr(syntax)), pickle.loads(pickle.dumps(syntax)), copy.deepcopy(syntax)), (syntax,) * 3)
-        self.assertEqual([(it.exponent, it.point, it.role_of("e")) for it in syntaxes[2:4]], [("e", ".", Role.EXPONENT), (None, None, None)])
-        with self.assertRaisesRegex(OptionsError, "^the exponent character 'e' is a digit") as caught:
-            Syntax(Format.of(mantissa_radix=16))
-        self.assertEqual([it.options for it in caught.exception.reasons], [(Role.EXPONENT,)])
-        self.assertRaises(OptionsError, Syntax, Format(), 0, 0)
-        self.assertEqual(Syntax(FormatView.of(digit_separator=",").check(), point=",").read("1,5").fraction, "5")
+            copies = eval(repr(syntax)), pickle.loads(pickle.dumps(syntax)), copy.deepcopy(syntax)
+            self.assertEqual({syntax, *copies}, {syntaxes[3] if syntax is syntaxes[3] else syntaxes[0]})
+
+    def test_languages_read_the_texts_of_their_grammars(self):
+        rows = [row.split()[:3] for row in (TOP / "rust/tests/literals.txt").read_text().splitlines() if row and row[0] != "#"]
+        self.assertEqual({name for name, *_ in rows}, {it.name for it in Language})
+        for name, mark, text in rows:
+            try:
+                is_read = bool(getattr(peltzivar.languages, name).read(text))
+            except LiteralError:
+                is_read = False
+            self.assertEqual(is_read, mark in ("+", "-!"), (name, text))
+
+    def test_special_values(self):
+        for text, wanted in (("+inf", "+INF"), (b"-nan", "-NAN"), ("inf", "INF")):
+            special = Language.TOML.read(text)
+            self.assertEqual((str(special), repr(float(str(special)))), (wanted, repr(float(text))))
+        specials = Specials(nan="n\u00e4n", infinity="\u221e")
+        self.assertEqual(specials.read(Syntax(Format()), "-\u221e"), Special("-", Spelling.INFINITY))
+        self.assertIsNone(specials.read(Syntax(Format()), ""))
+
+    def test_settings_make_a_syntax(self):
+        lines = ["# hexadecimal\r\n", "radix = 16\n", "base_prefix='x'", "", "exponent = 'p'"]
+        self.assertEqual(Syntax.of(*lines), Syntax(Format.of(radix=16, base_prefix="x"), "p"))
+        self.assertEqual(Syntax.of(Edit("radix=16"), "exponent=none", "point=none"), Syntax.integers(Format.of(radix=16)))
+        notes = [(str(it), it.indexes) for it in Syntax.notes_of(*lines, "digit_separator = '_'", "radix = 16")]
+        self.assertEqual(notes, [("radix is overridden", (1, 6)), ("no flag allows the digit separator '_'", (5,))])
+        with self.assertRaises(SettingsError) as caught:
+            Syntax.of("base_suffx='h'", "radix=16", "base_prefix='b'", "exponent_radix='9'")
+        error = pickle.loads(pickle.dumps(caught.exception))
+        sentences = [
+            ("unknown setting `base_suffx`; did you mean `base_suffix`?", (0,)),
+            ("exponent_radix takes a number, 2 to 36 in a lawful format, or `none`, not `'9'`", (3,)),
+            ("the base prefix 'b' is a digit in radix 16", (1, 2)),
+        ]
+        self.assertEqual([(str(it), it.indexes) for it in error.reasons], sentences)
+
+
+BYTE = "one ASCII character or a number from 0 to 255"
+WRONG = [
+    ("Format(-1)", ValueError, "a format word is a number of at most 128 bits: -0x1"),
+    ("Format.of(no_special=1)", TypeError, "no_special is a bool, not int"),
+    ("FormatView.of(mantissa_radix='8')", TypeError, "mantissa_radix is a number from 0 to 255, not str"),
+    ("Format().edit(mantissa_radix=None)", TypeError, "mantissa_radix is a number from 0 to 255, not NoneType"),
+    ("Format.of(base_prefix='\u00e9')", ValueError, f"base_prefix is {BYTE}: '\u00e9'"),
+    ("Format().edit(colour=7)", TypeError, "edit() got an unexpected keyword argument 'colour'"),
+    ("Edit.of('colour', 7)", ValueError, "unknown setting name: 'colour'"),
+    ("Format().check_options('e', b'')", ValueError, f"point is {BYTE}: b''"),
+    ("Syntax.of('radix=16\\nradix=2')", ValueError, "a setting is one line: b'radix=16\\nradix=2'"),
+    ("Specials('a\\0').read(Syntax(Format()), '')", ValueError, "a spelling has a null character: Specials(nan='a\\x00', inf=None, infinity=None)"),
+]
 
 
 class Wrong(unittest.TestCase):
+    def test_wrong_arguments_are_named(self):
+        for code, error, sentence in WRONG:
+            with self.subTest(code), self.assertRaisesRegex(error, f"^{re.escape(sentence)}$"):
+                eval(code)
+
     def test_random_objects_are_refused_by_name(self):
         objects = [None, True, 1.5, float("nan"), -1, 0, 65, 256, 1 << 128, 10**5000, "", "x", "0x1", "\u00e9", "\ud800", "a\0b", b"", b"\xff"]
         objects += [[], {}, object(), print, Edit, Format(), Edit("radix=8"), Part.INTEGER, Setter.NO_SPECIAL, Error.EMPTY, "radix=8"]
         fields = [name for name in inspect.signature(Format.of).parameters if name != "settings"]
-        view = FormatView((1 << 128) - 1)
-        calls = [(getattr(view, name), "a byte") for name in ("is_separator", "mantissa_digit", "exponent_digit", "role_of")]
-        calls += [(FormatView, "a format word"), (Format, "a format word"), (view.separators, "Part"), (Edit, "a setting|=|unknown")]
-        calls += [(Format.parse, "a format word"), (Format().check_options, "exponent|point"), (Edit.of, "a setter|unknown|_")]
-        calls += [(Format().edit, "a setting|=|unknown"), (notes_of, "a setting|=|unknown"), (Syntax, "format is|exponent|point")]
-        calls += [(it, "a text|here$|expected") for it in (Syntax(Format()).read, Syntax(Format()).read_prefix)]
-        calls += [(Syntax.integers, "format is a Format"), (Syntax(Format()).read("1").digits, "part"), (Syntax(Format()).role_of, "a byte")]
-        random = Random(1)
+        one, view, syntax, random = Format(), FormatView((1 << 128) - 1), Syntax(Format()), Random(1)
+        calls = {
+            "a byte": [view.is_separator, view.mantissa_digit, view.exponent_digit, view.role_of, syntax.role_of],
+            "a format word": [FormatView, Format, Format.parse],
+            "a setting|=|unknown|takes": [Edit, one.edit, Syntax.of, Syntax.notes_of],
+            "a text|here$|expected": [syntax.read, syntax.read_prefix, Language.JSON.read],
+            "part is": [view.separators, syntax.read("1").digits],
+            "format is|exponent|point": [Syntax.integers, Syntax],
+            "_": [lambda value: notes_of(**{random.choice(fields): value})],
+            "setter|unknown|_": [Edit.of],
+            "exponent|point": [one.check_options],
+            "spelling|syntax|a text": [Specials(5, []).read, Specials().read],
+        }
         refused = 0
         for _ in range(20000):
-            call, names = random.choice(calls)
-            arguments = random.choices(objects, k=2 if call in (Edit.of, Format().check_options, Syntax) else 1)
-            keywords = {}
-            if call == notes_of:
-                keywords, names = {random.choice(fields): arguments.pop()}, "_"
+            names, possible = random.choice(list(calls.items()))
+            call, arguments = random.choice(possible), random.choices(objects, k=2 if names in list(calls)[-3:] else 1)
             try:
-                call(*arguments, **keywords)
+                call(*arguments)
             except FormatError:
                 pass
             except (TypeError, ValueError) as error:
                 refused += 1
-                self.assertRegex(str(error), names, (call, arguments, keywords))
+                self.assertRegex(str(error), names, call)
         self.assertGreater(refused, 10000)
 
     @unittest.skipUnless(shutil.which("mypy"), "mypy")
@@ -414,25 +393,16 @@ class Loading(unittest.TestCase):
         self.assertEqual(self.run_copy(PELTZIVAR_LIBRARY=library).stdout, f"{library}\n")
         beside = shutil.copy(library, self.folder.resolve() / "libpeltzivar_c.so")
         self.assertEqual(self.run_copy().stdout, f"{beside}\n")
-        versioned = ".".join(["libpeltzivar_c.so", *peltzivar.__version__.split(".")[:2]])
+        versioned = "libpeltzivar_c.so." + re.match(r"0\.\d+|\d+", peltzivar.__version__)[0]
         (self.folder / "lib").mkdir()
         os.rename(beside, self.folder / "lib" / versioned)
         self.assertEqual(self.run_copy(LD_LIBRARY_PATH=str(self.folder / "lib")).stdout, f"{versioned}\n")
         self.assertRegex(self.run_copy(PELTZIVAR_LIBRARY="no.so").stderr, r"ImportError: .*no\.so.*: name its path in PELTZIVAR_LIBRARY")
 
     def test_another_library_is_refused(self):
-        for code, version in [("", "0.0"), ("unsigned peltzivar_version(void) { return 0x7F0203; }", "127.2")]:
+        for code, version in [("", "0.0.0"), ("unsigned peltzivar_version(void) { return 0x7F0203; }", "127.2.3")]:
             subprocess.run(["cc", "-shared", "-x", "c", "-", "-o", "other.so"], cwd=self.folder, input=code, text=True, check=True)
             self.assertRegex(self.run_copy(PELTZIVAR_LIBRARY="other.so").stderr, f"other.so has version {version}, and this file 0")
-
-    def test_the_example(self):
-        for settings, status, printed in [
-            (["digit_separator=95", "internal_digit_separator=true"], 0, "digits: 0123456789"),
-            (["no_special=true", "radix=none"], 2, "radix=none: radix takes a number, 2 to 36 in a lawful format"),
-            (["radix=16", "base_suffix='b'"], 1, "the base suffix 'b' is a digit in radix 16"),
-        ]:
-            ran = subprocess.run([sys.executable, "-B", TESTS.parent / "example.py", *settings], capture_output=True, text=True)
-            self.assertEqual((ran.returncode, printed in ran.stdout.splitlines(), ran.stderr), (status, True, ""))
 
 
 if __name__ == "__main__":

@@ -21,6 +21,7 @@
 //! | read numbers of a format | [`Syntax`][literal::Syntax], or a [`Reader`][literal::Reader] for many texts; [`Specials`][literal::Specials] for NaN and infinity |
 //! | compute values | [`Literal::digits`][literal::Literal::digits] and [`radix`][literal::Literal::radix] |
 //! | report why a text is not a number | [`ReadError`][literal::ReadError] |
+//! | write numbers | the example of [`literal`], and [`digit_to_char`][digit::digit_to_char] |
 //! | write a reader of your own | [`FormatView::is_separator`], [`separators`][FormatView::separators], [`role_of`][FormatView::role_of] |
 //! | read the fields of any word, lawful or not | [`FormatView`]; [`NumberFormat`] for a word that is known at compile time |
 //! | read a configuration | [`Settings`], which knows the lines to blame; [`Edit`] for a single setting, and [`collect`][Iterator::collect] to turn edits into a builder |

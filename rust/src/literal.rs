@@ -21,6 +21,37 @@
 //! let (literal, rest) = READER.read_prefix(b"1.25.3").unwrap();
 //! assert_eq!((literal.as_bytes(), rest), (&b"1.25"[..], &b".3"[..]));
 //! ```
+//!
+//! [`Literal`] has examples that compute values, and [`Syntax::read_prefix`] one that splits a text into numbers.
+//!
+//! # Writing numbers
+//!
+//! A format also determines how a number may be written. This writes an integer with a prefix and groups of three digits,
+//! where the format has them:
+//!
+//! ```
+//! use peltzivar::{digit::digit_to_char, literal::Language, Format, Part};
+//!
+//! fn write(mut value: u64, format: Format) -> Vec<u8> {
+//!     let (mut text, radix) = (Vec::new(), u64::from(format.radix()));
+//!     let separator = format.digit_separator().filter(|_| format.separators(Part::Integer).internal);
+//!     for count in 1.. {
+//!         text.push(digit_to_char((value % radix) as u32));
+//!         value /= radix;
+//!         match separator {
+//!             _ if value == 0 => break,
+//!             Some(separator) if count % 3 == 0 => text.push(separator.get()),
+//!             _ => (),
+//!         }
+//!     }
+//!     text.extend(format.base_prefix().into_iter().flat_map(|prefix| [prefix.get(), b'0']));
+//!     text.reverse();
+//!     text
+//! }
+//! let syntax = Language::RUST_HEX_INTEGER.syntax();
+//! let text = write(0xC0FFEE, syntax.format());
+//! assert_eq!((text.as_slice(), syntax.read(&text).is_ok()), (&b"0xC0F_FEE"[..], true));
+//! ```
 
 #[allow(clippy::redundant_pattern_matching, reason = "as it is proved")]
 mod cause;

@@ -226,11 +226,17 @@ fn filled<T: Copy, const N: usize>(items: impl Iterator<Item = T>) -> [Option<T>
 
 /// Returns the edit of a text. If it sets an option, returns the number of the option, and the edit sets a separator.
 fn parse(index: usize, text: &[u8]) -> Result<(Option<usize>, Edit), SettingsError> {
-    let refuse = |fault, option, piece| SettingsError {
-        index,
-        error: SettingError(fault),
-        option,
-        piece: Excerpt::of(piece),
+    let refuse = |fault, option, refused: &[u8]| {
+        let (error, length, mut piece) = (SettingError(fault), refused.len(), [0; SHOWN]);
+        let pairs = piece.iter_mut().zip(refused);
+        pairs.for_each(|(to, byte)| *to = *byte);
+        SettingsError {
+            index,
+            error,
+            option,
+            piece,
+            length,
+        }
     };
     let equals = text.iter().position(|byte| *byte == b'=');
     let equals = equals.ok_or_else(|| refuse(Fault::NoEquals, None, text))?;
@@ -343,7 +349,9 @@ pub struct SettingsError {
     index: usize,
     error: SettingError,
     option: Option<usize>,
-    piece: Excerpt,
+    /// The first bytes of what is refused, and its length.
+    piece: [u8; SHOWN],
+    length: usize,
 }
 
 impl SettingsError {
@@ -364,19 +372,26 @@ impl core::error::Error for SettingsError {}
 
 impl fmt::Display for SettingsError {
     fn fmt(&self, f: &mut fmt::Formatter<'_>) -> fmt::Result {
-        let SettingsError { error, piece, .. } = self;
         match (self.kind(), self.option) {
-            (SettingErrorKind::UnknownName, _) => {
-                write!(f, "unknown setting {piece}")?;
-                let nearest = nearest(piece.bytes());
-                nearest.map_or(Ok(()), |name| write!(f, "; did you mean `{name}`?"))
-            }
-            (_, None) => write!(f, "{error}, not {piece}"),
+            (SettingErrorKind::UnknownName, _) => f.write_str("unknown setting `")?,
+            (_, None) => write!(f, "{}, not `", self.error)?,
             (_, Some(option)) => {
                 let (name, default) = (OPTIONS[option], char::from(DEFAULTS[option]));
                 write!(f, "{name} takes a character such as '{default}', ")?;
-                write!(f, "a number from 0 to 255, or `none`, not {piece}")
+                f.write_str("a number from 0 to 255, or `none`, not `")?;
             }
+        }
+        let shown = self.piece.get(..self.length).unwrap_or(&self.piece);
+        for byte in shown {
+            match byte {
+                b' '..=b'~' => f.write_char(char::from(*byte))?,
+                _ => write!(f, "\\x{byte:02x}")?,
+            }
+        }
+        f.write_str(if self.length > SHOWN { "..`" } else { "`" })?;
+        match (self.kind(), nearest(shown)) {
+            (SettingErrorKind::UnknownName, Some(name)) => write!(f, "; did you mean `{name}`?"),
+            _ => Ok(()),
         }
     }
 }
@@ -391,39 +406,4 @@ fn nearest(name: &[u8]) -> Option<&'static str> {
     });
     let nearest = rated.max_by_key(|it| it.0).filter(|it| it.0 >= 50);
     nearest.map(|it| it.1)
-}
-
-/// The first bytes of a text, and the length of the text.
-#[derive(Debug, Clone, Copy, PartialEq, Eq, Hash)]
-struct Excerpt {
-    bytes: [u8; SHOWN],
-    length: usize,
-}
-
-impl Excerpt {
-    fn of(text: &[u8]) -> Self {
-        let mut bytes = [0; SHOWN];
-        for (to, byte) in bytes.iter_mut().zip(text) {
-            *to = *byte;
-        }
-        let length = text.len();
-        Excerpt { bytes, length }
-    }
-
-    fn bytes(&self) -> &[u8] {
-        self.bytes.get(..self.length).unwrap_or(&self.bytes)
-    }
-}
-
-impl fmt::Display for Excerpt {
-    fn fmt(&self, f: &mut fmt::Formatter<'_>) -> fmt::Result {
-        f.write_char('`')?;
-        for byte in self.bytes() {
-            match byte {
-                b' '..=b'~' => f.write_char(char::from(*byte))?,
-                _ => write!(f, "\\x{byte:02x}")?,
-            }
-        }
-        f.write_str(if self.length > SHOWN { "..`" } else { "`" })
-    }
 }

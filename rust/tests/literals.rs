@@ -48,7 +48,9 @@ fn has_parts(literal: Literal<'_>) {
     for (part, bytes) in parts.into_iter().chain([(Part::Exponent, literal.exponent())]) {
         let values = bytes.iter().filter_map(|&byte| char::from(byte).to_digit(literal.radix(part)));
         let (wanted, digits) = (Vec::from_iter(values), literal.digits(part));
+        let (least, most) = digits.size_hint();
         assert_eq!(digits.clone().count(), wanted.len());
+        assert!(least <= wanted.len() && Some(wanted.len()) <= most);
         assert!(digits.clone().map(u32::from).eq(wanted.iter().copied()), "{literal:?}");
         assert!(digits.rev().map(u32::from).eq(wanted.into_iter().rev()), "{literal:?}");
     }
@@ -190,7 +192,7 @@ fn rows() -> impl Iterator<Item = (Language, &'static str, bool)> {
     rows.map(|row| {
         let [name, mark, text] = [0, 1, 2].map(|column| row.split_whitespace().nth(column).expect(row));
         assert!(["+", "-", "+!", "-!"].contains(&mark), "{row}");
-        (Language::find(name).expect(row), text, ["+", "-!"].contains(&mark))
+        (*Language::ALL.iter().find(|it| it.name() == name).expect(row), text, ["+", "-!"].contains(&mark))
     })
 }
 

@@ -75,14 +75,15 @@ const HEXADECIMAL: &str = "0x000A10007800005F000000010000000C";
 
 #[test]
 fn the_example_prints_the_parts_of_literals() {
+    const MALFORMED: &str = "literal: the arguments are not WORD E P TEXT\n";
     #[rustfmt::skip]
-    let rows: [(&[&str], i32, &str); 18] = [
+    let rows: [(&[&str], i32, &str); 21] = [
         (&[HEXADECIMAL, "112", "46", "0x1_F"], 0, "prefix 0x\ninteger 1_F\n"),
-        (&[HEXADECIMAL, "'p'", "0x2E", "-F.8P+3"], 0,
+        (&[HEXADECIMAL, "112", "046", "-F.8P+3"], 0,
             "sign -\ninteger F\npoint .\nfraction 8\nexponent_character P\nexponent_sign +\nexponent 3\n"),
         (&["0xA6800000000000000000000000C", "101", "46", "1H"], 0, "integer 1\nsuffix H\n"),
-        (&[HEXADECIMAL, "0x1_F"], 0, "prefix 0x\ninteger 1_F\n"),
-        (&[HEXADECIMAL, "0x1.8"], 1, "3: no literal has the byte '.' here\n"),
+        (&[HEXADECIMAL, "none", "none", "0x1_F"], 0, "prefix 0x\ninteger 1_F\n"),
+        (&[HEXADECIMAL, "none", "none", "0x1.8"], 1, "3: no literal has the byte '.' here\n"),
         (&[DECIMAL, "101", "46", ""], 1, "0: expected a digit of the integer\n"),
         (&[DECIMAL, "101", "46", "1 2"], 1, "1: no literal has the byte 32 here\n"),
         (&[DECIMAL, "101", "46", "1e"], 1,
@@ -94,12 +95,16 @@ fn the_example_prints_the_parts_of_literals() {
             which requires integer_internal_digit_separator or integer_trailing_digit_separator\n"),
         (&[LEADING, "101", "46", "1.__2"], 1,
             "3: a digit separator after another, which requires fraction_consecutive_digit_separator\n"),
-        (&[HEXADECIMAL, "101", "46", "1"], 1, "the exponent character 'e' is a digit in the mantissa radix 16 and the exponent radix 16\n"),
-        (&["0x0", "1"], 1, "the mantissa radix 0 is not between 2 and 36\n"),
-        (&[DECIMAL, "101", "1"], 1, "options are two bytes, such as 'e' or 101\n"),
-        (&[DECIMAL, "e", "46", "1"], 1, "options are two bytes, such as 'e' or 101\n"),
-        (&["12", "101", "46", "1"], 1, "a format word begins with `0x`\n"),
-        (&[], 1, "no arguments\n"),
+        (&[HEXADECIMAL, "101", "46", "1"], 1,
+            "lexical number format error: 'invalid exponent symbol: must be ASCII and not a digit or a `+/-` sign'\n"),
+        (&["0x0", "none", "none", "1"], 1, "lexical number format error: 'invalid radix for mantissa digits'\n"),
+        (&[DECIMAL, "none", "46", "1"], 2, MALFORMED),
+        (&[DECIMAL, "101", "none", "1"], 2, MALFORMED),
+        (&[DECIMAL, "101", "256", "1"], 2, MALFORMED),
+        (&[DECIMAL, "e", "46", "1"], 2, MALFORMED),
+        (&["12", "101", "46", "1"], 2, MALFORMED),
+        (&[DECIMAL, "101", "46"], 2, MALFORMED),
+        (&[DECIMAL, "101", "46", "1", "2"], 2, MALFORMED),
     ];
     for (arguments, wanted, text) in rows {
         let (status, printed) = cargo_run(&[&["--example", "literal", "--"], arguments].concat());

@@ -26,7 +26,7 @@ fn files_give_a_syntax_and_what_is_found() {
         // Blanks are read over at both ends and around the first `=`, but not in quotes.
         (b"\t digit_separator =\t' ' \n internal_digit_separator= true", "0x0A0A0A0000000020000000070000000C 101 46", &[]),
         (b"base_suffix = '='", "0x0A0A0A3D00000000000000000000000C 101 46", &[]),
-        (b"no_special = tr ue", "", &["line 1: no_special takes `true` or `false`, not `tr ue`"]),
+        (b"no_special = true false", "", &["line 1: no_special takes `true` or `false`, not `true false`"]),
         (b"no_special=\xC2\xA0true", "", &[r"line 1: no_special takes `true` or `false`, not `\xc2\xa0true`"]),
         // A comment is a line of its own.
         (b"# caf\xC3\xA9 = 1\n  # no = yes\nno_special=true # no", "", &["line 3: no_special takes `true` or `false`, not `true # no`"]),

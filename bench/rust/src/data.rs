@@ -4,7 +4,6 @@
 //! the library differs from `lexical-util` on purpose. The rows over words of any bits do not test a rule that differs.
 
 use crate::random::Random;
-use peltzivar::literal::Syntax;
 use peltzivar::{Edit, FormatView};
 use upstream::format_flags::FLAG_MASK;
 
@@ -34,13 +33,7 @@ pub struct Data {
     /// Settings that both sides take, and words as text.
     pub settings: Vec<String>,
     pub texts: Vec<String>,
-    /// Numbers of [`JSON`], and the same with one byte more, which is refused.
-    pub literals: Vec<String>,
-    pub refused: Vec<String>,
 }
-
-/// The format of the numbers of JSON.
-pub const JSON: u128 = 0xA << 104 | 0x341F;
 
 const MIB: usize = 1 << 20;
 
@@ -54,10 +47,6 @@ impl Data {
         let visible =
             |random: &mut Random| if random.one_in(20) { random.pick(b"\t\r\n") } else { random.byte(b' ', b'~') };
         let broken = list(random, 4096, |random| (broken(random), options(random)));
-        let json: Syntax = format!("0x{JSON:X} 101 46").parse().expect("a syntax");
-        let literals = list(random, 4096, literal);
-        let longer = literals.iter().map(|text| with_a_byte(random, text));
-        let refused = longer.filter(|text| json.read(text.as_bytes()).is_err()).collect();
         let breaks_one = |case: &&Case| FormatView::new(case.0).broken_rules().count() == 1;
         Data {
             digits: [10, 16, 36].map(of_radix).map(|digits| list(random, MIB / 16, |it| digit_or_not(it, &digits))),
@@ -79,8 +68,6 @@ impl Data {
             }),
             settings: list(random, 1024, setting),
             texts: broken.iter().map(|case| format!("0x{:X}", case.0)).collect(),
-            literals,
-            refused,
             many: list(random, 65_536, |random| (random.bits(), random.next())),
             broken,
         }
@@ -99,30 +86,6 @@ fn setting(random: &mut Random) -> String {
         _ if name.contains("radix") || name == "exponent_base" => format!("{name}={}", random.byte(2, 36)),
         _ => format!("{name}={}", random.one_in(2)),
     }
-}
-
-/// A number of JSON. Half have a fraction, a third has an exponent, and a third is negative.
-fn literal(random: &mut Random) -> String {
-    let most = random.pick(&[10, 1_000_000]);
-    let mut text = format!("{}{}", random.pick(&["-", "", ""]), random.below(most));
-    if random.one_in(2) {
-        let count = random.byte(1, 8).into();
-        text.push('.');
-        text.extend(list(random, count, |it| it.byte(b'0', b'9') as char));
-    }
-    if random.one_in(3) {
-        text.push_str(random.pick(&["e", "E", "e-", "e+"]));
-        text.push_str(&random.below(100).to_string());
-    }
-    text
-}
-
-/// A text with one byte more.
-fn with_a_byte(random: &mut Random, text: &str) -> String {
-    let mut text = text.to_owned();
-    let index = random.below(text.len() as u64 + 1) as usize;
-    text.insert(index, random.pick(b".-+e_x0 ") as char);
-    text
 }
 
 /// The bits of an exponent character and a decimal point.

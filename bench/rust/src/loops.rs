@@ -269,18 +269,3 @@ pub fn same_formats(cases: &[Case]) -> u64 {
     let mut last = 0;
     over(cases, |fold, (word, _)| fold.with(same_format(std::mem::replace(&mut last, word), word) as u64))
 }
-
-// LITERALS
-
-/// Packs the lengths of the parts of a literal.
-fn packed(parts: [usize; 9]) -> u64 {
-    parts.into_iter().fold(0, |bits, length| bits << 7 | length as u64)
-}
-
-pub fn literals(texts: &[String]) -> u64 {
-    texts.iter().fold(Fold::new(), |fold, text| fold.with(literal(text.as_bytes()))).sum
-}
-
-pub fn literals_by_syntax(texts: &[String]) -> u64 {
-    texts.iter().fold(Fold::new(), |fold, text| fold.with(literal_by_syntax(text.as_bytes()))).sum
-}

@@ -5,14 +5,13 @@
 //!     driver [--rounds N] [--only TEXT]
 
 mod data;
+mod literals;
 mod measure;
 #[path = "../../../compare/rust/src/options.rs"]
 mod options;
 mod ours;
 #[path = "../../../compare/rust/src/random.rs"]
 mod random;
-#[allow(dead_code)]
-mod reader;
 #[allow(dead_code, unused_macros)]
 #[path = "../../../compare/rust/src/results.rs"]
 mod results;
@@ -21,6 +20,7 @@ mod rows;
 mod theirs;
 
 use data::Data;
+use literals::Literals;
 use measure::Row;
 use ours::{HEXADECIMAL, TIMES};
 use std::hint::black_box;
@@ -104,22 +104,12 @@ fn word_rows(data: &Data) -> Vec<Row<'_>> {
     }
 }
 
-/// The rows of literals.
-fn literal_rows(data: &Data) -> Vec<Row<'_>> {
-    rows! {
-        "Reader::read, literals", 1.0, literals(&data.literals);
-        "Reader::read, refused", 1.0, literals(&data.refused);
-        "Syntax::read, literals", 1.0, literals_by_syntax(&data.literals);
-        "Syntax::read, refused", 1.0, literals_by_syntax(&data.refused);
-    }
-}
-
 fn main() {
     let options = options::Options::new(&["--rounds", "--only"]);
     let rounds = options.get("--rounds").unwrap_or(25);
     let only = options.get::<String>("--only").unwrap_or_default();
-    let data = Data::new();
-    let rows = [byte_rows(&data), word_rows(&data), literal_rows(&data)].into_iter().flatten();
+    let (data, texts) = (Data::new(), Literals::new());
+    let rows = [byte_rows(&data), word_rows(&data), literals::rows(&texts)].into_iter().flatten();
     for row in rows.filter(|row| row.name.contains(&only)) {
         assert!((row.ours)() == (row.theirs)() || row.name.ends_with(OVER), "{}: the results differ", row.name);
         let [ours, theirs] = row.measure(rounds);

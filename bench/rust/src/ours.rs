@@ -1,6 +1,6 @@
 //! The loops over the library, the crate in `rust/`.
 
-use crate::data::{Case, JSON};
+use crate::data::Case;
 use crate::measure::{over, Fold};
 use crate::results::Number;
 use crate::rows::{flag_getters, with_getters, with_outcomes, with_setters};
@@ -11,10 +11,8 @@ use peltzivar::error::Error;
 use peltzivar::format::{NumberFormat, Part};
 use peltzivar::format_builder::NumberFormatBuilder;
 use peltzivar::format_flags::{self as flags, radix_error_impl as radix_error};
-use peltzivar::literal::{Literal, Reader, Syntax};
 use peltzivar::word::format_error;
 use peltzivar::{Format, FormatView};
-use std::sync::LazyLock;
 
 include!("loops.rs");
 
@@ -56,24 +54,4 @@ fn separators_of(view: FormatView) -> u64 {
         flags.into_iter().fold(bits, |bits, flag| bits << 1 | flag as u64)
     };
     [Part::Integer, Part::Fraction, Part::Exponent].into_iter().fold(0, of_part)
-}
-
-static SYNTAX: LazyLock<Syntax> = LazyLock::new(|| format!("0x{JSON:X} 101 46").parse().expect("a syntax"));
-static READER: LazyLock<Reader> = LazyLock::new(|| Reader::new(*SYNTAX));
-
-#[rustfmt::skip]
-fn lengths(it: Literal) -> u64 {
-    let parts = [
-        it.sign(), it.prefix(), it.integer(), it.point(), it.fraction(), it.exponent_character(), it.exponent_sign(),
-        it.exponent(), it.suffix(),
-    ];
-    packed(parts.map(<[u8]>::len))
-}
-
-fn literal(text: &[u8]) -> u64 {
-    READER.read(text).map_or(0, lengths)
-}
-
-fn literal_by_syntax(text: &[u8]) -> u64 {
-    SYNTAX.read(text).map_or(0, lengths)
 }

@@ -1,13 +1,11 @@
 //! The loops over `lexical-util`. What it lacks, such as edits, settings and views of words that are known only at run
-//! time, is written here as a Rust programmer would write it over its calls. The reader of literals is that of `reader.rs`.
+//! time, is written here as a Rust programmer would write it over its calls.
 
-use crate::data::{Case, JSON};
+use crate::data::Case;
 use crate::measure::{over, Fold};
-use crate::reader::{self, Options};
 use crate::results::Number;
 use crate::rows::{flag_getters, with_getters, with_outcomes, with_setters};
 use peltzivar::edits::{Edit, FlagSetter};
-use peltzivar::Format;
 use upstream::ascii::{is_valid_ascii, is_valid_ascii_slice, is_valid_letter_slice};
 use upstream::checks::{format_error, radix_error};
 use upstream::digit::{char_is_digit, char_to_digit, char_to_digit_const, digit_to_char};
@@ -149,16 +147,4 @@ fn separators_of(view: FormatView) -> u64 {
         view.exponent_consecutive_digit_separator(),
     ];
     flags.into_iter().fold(0, |bits, flag| bits << 1 | flag as u64)
-}
-
-/// Reads a literal by hand. No special value is a literal of JSON.
-fn literal(text: &[u8]) -> u64 {
-    const FORMAT: Format = Format::of::<JSON>();
-    const OPTIONS: Options = Options { exponent: b'e', point: b'.', specials: &[] };
-    let parts = reader::read(FORMAT, Some(&OPTIONS), text);
-    parts.map_or(0, |it| packed([0, 2, 3, 4, 5, 6, 7, 8, 9].map(|part| it[part].len())))
-}
-
-fn literal_by_syntax(text: &[u8]) -> u64 {
-    literal(text)
 }

@@ -1,22 +1,20 @@
 -- The flags of masks, and the bytes to show.
 use Rattle.std.proofs.Common.{ℕ, ◌≡◌, ◌≢◌, ◌<◌, ◌+◌, ◌*◌, ◌%◌, ◌^◌, ◌==◌, ◌&&◌, ◌||◌, not, nat_lt, Bool, true, false, if◌then◌else◌}
-use Rattle.std.proofs.Common.{bit_and, bit_or, Option, List, [], ◌∷◌, ◌++◌, length, refl, sym, ap, ◌∙◌, arith}
+use Rattle.std.proofs.Common.{bit_and, bit_or, inl, inr, List, [], ◌∷◌, ◌++◌, length, refl, sym, ap, ◌∙◌, arith}
 use Rattle.std.proofs.lemmas.Bool.Decides.{nat_tests}
 use Rattle.std.proofs.lemmas.List.Folds.{list_any-append}
-use Rattle.std.proofs.lemmas.Nat.Bits.{and_pow, bit_at_and, bit_at_or, bit_at_not, bit_at-zero, bit_at-pow_same, bit_at-pow_other}
-use Rattle.std.proofs.lemmas.Nat.{one_shl, pow_below}
-use Rattle.std.proofs.Math.Nat.{mod-lt}
-use Rattle.std.specs.Bool.{beq}
-use Rattle.std.specs.Int.{w128, bit_not}
+use Rattle.std.proofs.lemmas.Nat.Bits.{and_pow, bit_at_and, bit_at_or, bit_at_not, bit_at-zero, bit_at-pow_same, bit_at-pow_other, bit_at-trailing_zeros}
+use Rattle.std.proofs.Math.Nat.{eq-zero-or-pos, mod-lt}
+use Rattle.std.proofs.lemmas.Bool.{or_left, or_right}
+use Rattle.std.proofs.lemmas.Nat.{one_shl}
+use Rattle.std.specs.Int.Bits.{or_zero_l}
+use Rattle.std.specs.Int.{w128, bit_not, trailing_zeros}
 use Rattle.lexical_util.specs.Ascii.{ByteSet}
 use Rattle.lexical_util.specs.Layout as layout
 use Rattle.lexical_util.specs.Layout.{Flag, bit, part}
 use Rattle.lexical_util.specs.Record.{raw}
-use Rattle.lexical_literal.specs.Additions.Causes.{allows, with_bit, without_bit}
-use Rattle.lexical_literal.specs.Cause.{adding, behind, case_set, first_in, is_one_of, requirement_flags, separator_flags, with_flags}
+use Rattle.lexical_literal.specs.Cause.{behind, case_set, first_in, is_one_of, requirement_flags, separator_flags}
 use Rattle.lexical_literal.specs.Notation.{Notation}
-use Rattle.lexical_literal.specs.declared.steps.Class.{Class}
-use Rattle.lexical_literal.specs.declared.steps.Summary.{Summary}
 
 -- THE FLAGS OF MASKS
 
@@ -88,40 +86,41 @@ is_unset n k none = omega (arith, bit_small n k, bit_at-pow_same k, bit_at_and n
 pub is_set : (n k : ℕ) → bit_and n (2 ^ k) ≢ 0 → part n k 1 ≡ 1
 is_set n k some = let bits = and_pow n k in let small = bit_small n k in grind arith
 
+-- A mask whose bits are flags has one, if it is not 0.
+pub some_flag : (n : ℕ) → n ≢ 0 → n < 2 ^ 128 → ((k : ℕ) → part n k 1 ≡ 1 → (f : Flag) × (bit f ≡ k)) → (f : Flag) × ((raw n).flag f ≡ true)
+some_flag n some fits owner =
+    let low = bit_at-trailing_zeros w128 n (omega (arith, some)) fits in
+    let f = owner (trailing_zeros w128 n) low.1 in
+    (f.0, ap (λ k. part n k 1 == 1) f.1 ∙ ap (λ n. n == 1) low.1)
+
 pub shifted : (k : ℕ) → k < 44 → 1 * 2 ^ k % 2 ^ 128 ≡ 2 ^ k
 shifted k small = one_shl k 128 (omega arith)
 
--- One more flag in a mask, or one less.
-pub with_shifted : (m : Notation) (mask k : ℕ) → k < 44 → with_flags m (raw (bit_or mask (1 * 2 ^ k % 2 ^ 128))).flag
-    ≡ with_bit k (with_flags m (raw mask).flag)
-with_shifted m mask k small = λ j. with_flags m (λ g. both g j) where
-  both : (g : Flag) → (raw (bit_or mask (1 * 2 ^ k % 2 ^ 128))).flag g ≡ ((bit g == k) || (raw mask).flag g)
-  both g = rw (shifted k small, flag_or g mask (2 ^ k), flag_pow g k) (grind arith)
+-- The flags of one mask or another.
+pub either : (f : Flag) (a b : ℕ) (x y : Bool) → (raw a).flag f ≡ x → (raw b).flag f ≡ y → (raw (bit_or a b)).flag f ≡ (x || y)
+either f a b x y is_a is_b = flag_or f a b ∙ (λ j. is_a j || is_b j)
 
-pub without_shifted : (m : Notation) (mask k : ℕ) → k < 44 → with_flags m (raw (bit_and mask (bit_not w128 (1 * 2 ^ k % 2 ^ 128)))).flag
-    ≡ without_bit k (with_flags m (raw mask).flag)
-without_shifted m mask k small = λ j. with_flags m (λ g. both g j) where
-  both : (g : Flag) → (raw (bit_and mask (bit_not w128 (1 * 2 ^ k % 2 ^ 128)))).flag g ≡ ((raw mask).flag g && not (bit g == k))
-  both g = rw (shifted k small, flag_and g mask (bit_not w128 (2 ^ k)), flag_not g (2 ^ k) (pow_below k 128 (omega arith)), flag_pow g k) refl
+abbrev HasFlag : ℕ → Type 0
+HasFlag n = n ≢ 0 → (f : Flag) × ((raw n).flag f ≡ true)
 
-module _ (m : Notation) (s : Summary) (next : Option Class) (candidates mask : ℕ) (allow : Bool) (k : ℕ) (small : k < 44) (f : Flag) (same : bit f ≡ k) where
-  abbrev tested : Bool
-  tested = (raw candidates).flag f && beq (allows (adding f (with_flags m (raw mask).flag)) s next) allow
+pub has_either : (a b : ℕ) → HasFlag a → HasFlag b → HasFlag (bit_or a b)
+has_either a b of_a of_b some = elim (eq-zero-or-pos a) [
+  | inl none ↦
+      let found = of_b (λ zero. some (ap (λ n. bit_or n b) none ∙ or_zero_l b ∙ zero)) in
+      (found.0, flag_or found.0 a b ∙ or_right ((raw a).flag found.0) _ found.1)
+  | inr more ↦
+      let found = of_a (λ zero. absurd (omega (arith, more, zero))) in
+      (found.0, flag_or found.0 a b ∙ or_left _ _ found.1)
+]
 
-  -- A bit that was tested, or that is not a candidate.
-  pub as_tested : (result added : Bool) → bit_and candidates (1 * 2 ^ k % 2 ^ 128) ≢ 0
-      → result ≡ allows (with_flags m (raw (bit_or mask (1 * 2 ^ k % 2 ^ 128))).flag) s next → beq result allow ≡ added → tested ≡ added
-  as_tested result added some is test =
-      let set = is_set candidates k (λ none. some (ap (bit_and candidates) (shifted k small) ∙ none)) in
-      rw (same, set, ← with_shifted m mask k small, ← is) test
+-- The flags of a mask that is taken if `t` is true.
+pub flag_if : (t : Bool) (mask : ℕ) (f : Flag) → (raw (if t then mask else 0)).flag f ≡ (t && (raw mask).flag f)
+flag_if true mask f = refl
+flag_if false mask f = flag_zero f
 
-  pub as_unset : bit_and candidates (1 * 2 ^ k % 2 ^ 128) ≡ 0 → tested ≡ false
-  as_unset none = rw (same, is_unset candidates k (sym (ap (bit_and candidates) (shifted k small)) ∙ none)) refl
-
--- One more bit has been tried.
-pub tried_more : (b k : ℕ) (x added old new : Bool) → (b ≡ k → x ≡ added) → old ≡ (nat_lt b k && x) → new ≡ (old || ((b == k) && added))
-    → new ≡ (nat_lt b (k + 1) && x)
-tried_more b k x added old new same before now = grind (arith, nat_tests)
+pub is_taken : (t : Bool) (mask : ℕ) → (if t then mask else 0) ≢ 0 → t ≡ true
+is_taken true mask some = refl
+is_taken false mask some = absurd (some refl)
 
 -- THE BYTES TO SHOW
 

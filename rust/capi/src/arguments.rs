@@ -1,8 +1,10 @@
 //! The arguments that are pointers: input, output and text. A C caller may leave output uninitialised, so no reference
 //! to a value points to it.
 
+use crate::numbers::{error_number, ErrorNumber};
 use core::fmt::{self, Display, Write};
 use core::{ptr, slice};
+use peltzivar::Error;
 
 /// Returns the `len` values that begin at `start`. A null pointer with length 0 becomes an empty slice. Returns `None` if
 /// no object in C has so many bytes.
@@ -38,6 +40,22 @@ impl<T> Out<T> {
             unsafe { self.0.write(value) }
         }
     }
+
+    /// Writes the value, if there is one, and returns whether there is.
+    pub fn write_some(self, value: Option<impl Into<T>>) -> bool {
+        value.map(|value| self.write(value.into())).is_some()
+    }
+
+    /// Writes the value and returns the number of success, or returns the number of the error.
+    pub fn write_ok(self, value: Result<impl Into<T>, Error>) -> ErrorNumber {
+        match value {
+            Err(error) => error_number(error),
+            Ok(value) => {
+                self.write(value.into());
+                error_number(Error::Success)
+            }
+        }
+    }
 }
 
 /// Writes the first `len` of the values to the array that begins at `start`.
@@ -62,11 +80,7 @@ pub unsafe fn write_list<T>(start: *mut T, len: usize, values: impl Iterator<Ite
 /// `start` must point to `len` bytes that a C caller passes, initialised or not, or to as many as are written. Nothing
 /// else may read or write them during the call that passes them.
 pub unsafe fn write_text(start: *mut u8, len: usize, value: Option<impl Display>) -> usize {
-    let mut text = Text {
-        start,
-        room: len.saturating_sub(1),
-        len: 0,
-    };
+    let mut text = Text { start, room: len.saturating_sub(1), len: 0 };
     if let Some(value) = value {
         // `Text` never fails, and no `Display` here fails of its own.
         let _ = write!(text, "{value}");

@@ -12,10 +12,17 @@
 //!
 //! No other library has names that begin with `peltzivar_`, so `no_mangle` is sound.
 #![no_std]
-#![allow(
-    clippy::missing_safety_doc,
-    reason = "the header states what a caller ensures"
-)]
+#![allow(clippy::missing_safety_doc, reason = "the header states what a caller ensures")]
+
+/// Exports functions under their own names to C.
+macro_rules! calls {
+    ($(fn $name:ident($($argument:ident: $Type:ty),*) -> $Result:ty $body:block)*) => {
+        $(
+            #[unsafe(no_mangle)]
+            pub unsafe extern "C" fn $name($($argument: $Type),*) -> $Result $body
+        )*
+    };
+}
 
 mod arguments;
 mod bytes;

@@ -1,12 +1,10 @@
 //! Calls that check syntaxes, that read literals, and that print why a text is not one.
 
 use crate::arguments::{input, write_text, Out};
-use crate::numbers::{error_number, ErrorNumber, Setter, Word, NO_SETTER};
+use crate::numbers::{ErrorNumber, Setter, Word, NO_PART, NO_SETTER};
+use core::ops::Range;
 use peltzivar::literal::{self, Cause};
 use peltzivar::{Error, Format, FormatError};
-
-/// The part of a cause that has none.
-const NO_PART: u8 = 255;
 
 /// A word with an exponent character and a decimal point, which may not pass the check. If both are 0, literals are
 /// integers.
@@ -50,6 +48,7 @@ pub struct Span {
 pub struct Literal {
     parts: [Span; 9],
     size: usize,
+    is_float: bool,
 }
 
 impl From<literal::Literal<'_>> for Literal {
@@ -71,7 +70,7 @@ impl From<literal::Literal<'_>> for Literal {
             size += part.len();
             Span { start, end: size }
         });
-        Literal { parts, size }
+        Literal { parts, size, is_float: literal.is_float() }
     }
 }
 
@@ -90,44 +89,22 @@ pub struct ReadError {
 impl From<literal::ReadError> for ReadError {
     fn from(error: literal::ReadError) -> ReadError {
         let (cause, part) = match error.cause() {
-            Cause::Requirement => (1, NO_PART),
-            Cause::Separator(part, _) => (2, part as u8),
-            Cause::Case => (3, NO_PART),
-            Cause::Byte => (4, NO_PART),
-            Cause::Missing(part) => (5, part as u8),
-            _ => (0, NO_PART),
+            Cause::Requirement => (1, None),
+            Cause::Separator(part, _) => (2, Some(part)),
+            Cause::Case => (3, None),
+            Cause::Byte => (4, None),
+            Cause::Missing(part) => (5, Some(part)),
+            _ => (0, None),
         };
-        let (span, mask) = (error.span(), error.mask());
+        let Range { start, end } = error.span();
         ReadError {
             valid_up_to: error.valid_up_to(),
-            span: Span {
-                start: span.start,
-                end: span.end,
-            },
+            span: Span { start, end },
             index: error.code().index().copied().unwrap_or(0),
-            mask: mask.into(),
+            mask: error.mask().into(),
             cause,
-            number: match mask {
-                0 => NO_SETTER,
-                _ => mask.trailing_zeros() as Setter,
-            },
-            part,
-        }
-    }
-}
-
-/// Why a syntax or a text is refused before the text is read.
-pub enum Refusal {
-    Syntax(FormatError),
-    Text(Error),
-}
-
-impl Refusal {
-    /// Returns the error.
-    pub fn code(&self) -> Error {
-        match self {
-            Refusal::Syntax(error) => error.code(),
-            Refusal::Text(error) => *error,
+            number: if error.mask() == 0 { NO_SETTER } else { error.mask().trailing_zeros() as Setter },
+            part: part.map_or(NO_PART, |part| part as u8),
         }
     }
 }
@@ -137,96 +114,48 @@ impl Refusal {
 /// # Safety
 ///
 /// As that of [`input`].
-pub unsafe fn checked<'a>(
-    syntax: &Syntax,
-    text: *const u8,
-    len: usize,
-) -> Result<(literal::Syntax, &'a [u8]), Refusal> {
-    let syntax = syntax.checked().map_err(Refusal::Syntax)?;
-    let text = input(text, len).ok_or(Refusal::Text(Error::Overflow(0)))?;
-    Ok((syntax, text))
+pub unsafe fn checked<'a>(syntax: &Syntax, text: *const u8, len: usize) -> Result<(literal::Syntax, &'a [u8]), Error> {
+    Ok((syntax.checked()?, input(text, len).ok_or(Error::Overflow(0))?))
 }
 
 /// Writes what `read` returns for a text, unless the syntax or the text is refused.
 unsafe fn read_by<'a>(
-    syntax: &Syntax,
-    (text, len): (*const u8, usize),
+    (syntax, text, len): (&Syntax, *const u8, usize),
     (literal, error): (Out<Literal>, Out<ReadError>),
     read: impl Fn(literal::Syntax, &'a [u8]) -> Result<literal::Literal<'a>, literal::ReadError>,
 ) -> ErrorNumber {
-    error_number(match checked(syntax, text, len) {
-        Err(refused) => refused.code(),
-        Ok((syntax, text)) => match read(syntax, text) {
-            Ok(read) => {
-                literal.write(read.into());
-                Error::Success
-            }
-            Err(refused) => {
-                error.write(refused.into());
-                refused.code()
-            }
-        },
-    })
+    let read = checked(syntax, text, len).map(|(syntax, text)| read(syntax, text));
+    literal.write_ok(read.and_then(|read| {
+        read.map_err(|refused| {
+            error.write(refused.into());
+            refused.code()
+        })
+    }))
 }
 
-#[unsafe(no_mangle)]
-pub extern "C" fn peltzivar_syntax_check(
-    format: Word,
-    exponent: u8,
-    decimal_point: u8,
-    out: Out<Syntax>,
-) -> ErrorNumber {
-    let syntax = Syntax {
-        format,
-        exponent,
-        decimal_point,
-    };
-    match syntax.checked() {
-        Ok(syntax) => {
-            out.write(syntax.into());
-            0
-        }
-        Err(error) => error_number(error.code()),
+calls! {
+    fn peltzivar_syntax_check(format: Word, exponent: u8, decimal_point: u8, out: Out<Syntax>) -> ErrorNumber {
+        let syntax = Syntax { format, exponent, decimal_point };
+        out.write_ok(syntax.checked().map_err(Error::from))
     }
-}
 
-#[unsafe(no_mangle)]
-pub unsafe extern "C" fn peltzivar_read(
-    syntax: &Syntax,
-    text: *const u8,
-    len: usize,
-    literal: Out<Literal>,
-    error: Out<ReadError>,
-) -> ErrorNumber {
-    read_by(syntax, (text, len), (literal, error), |syntax, text| {
-        syntax.read(text)
-    })
-}
+    fn peltzivar_read(
+        syntax: &Syntax, text: *const u8, len: usize, literal: Out<Literal>, error: Out<ReadError>
+    ) -> ErrorNumber {
+        read_by((syntax, text, len), (literal, error), |syntax, text| syntax.read(text))
+    }
 
-#[unsafe(no_mangle)]
-pub unsafe extern "C" fn peltzivar_read_prefix(
-    syntax: &Syntax,
-    text: *const u8,
-    len: usize,
-    literal: Out<Literal>,
-    error: Out<ReadError>,
-) -> ErrorNumber {
-    read_by(syntax, (text, len), (literal, error), |syntax, text| {
-        Ok(syntax.read_prefix(text)?.0)
-    })
-}
+    fn peltzivar_read_prefix(
+        syntax: &Syntax, text: *const u8, len: usize, literal: Out<Literal>, error: Out<ReadError>
+    ) -> ErrorNumber {
+        read_by((syntax, text, len), (literal, error), |syntax, text| Ok(syntax.read_prefix(text)?.0))
+    }
 
-#[unsafe(no_mangle)]
-pub unsafe extern "C" fn peltzivar_read_error_text(
-    syntax: &Syntax,
-    text: *const u8,
-    len: usize,
-    to: *mut u8,
-    to_len: usize,
-) -> usize {
-    match checked(syntax, text, len) {
-        Err(Refusal::Syntax(refused)) => write_text(to, to_len, Some(refused)),
-        Err(Refusal::Text(refused)) => write_text(to, to_len, Some(refused)),
-        Ok((syntax, text)) => write_text(to, to_len, syntax.read(text).err()),
+    fn peltzivar_read_error_text(syntax: &Syntax, text: *const u8, len: usize, to: *mut u8, to_len: usize) -> usize {
+        match (syntax.checked(), input(text, len)) {
+            (Err(refused), _) => write_text(to, to_len, Some(refused)),
+            (_, None) => write_text(to, to_len, Some(Error::Overflow(0))),
+            (Ok(syntax), Some(text)) => write_text(to, to_len, syntax.read(text).err()),
+        }
     }
 }

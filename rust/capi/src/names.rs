@@ -1,8 +1,7 @@
 //! Calls that return strings. The strings are constants, and a string is empty if there is no such number.
 
-use crate::numbers::{error_of, setter_number, ErrorNumber, Setter};
-use peltzivar::edits::ALL_SETTERS;
-use peltzivar::{Part, Role, Rule};
+use crate::numbers::{error_of, setter_of, ErrorNumber, Setter, PARTS, ROLES};
+use peltzivar::Rule;
 
 /// Returns a text with a null byte or more behind it.
 pub const fn terminated<const SIZE: usize>(text: &[u8]) -> [u8; SIZE] {
@@ -15,87 +14,47 @@ pub const fn terminated<const SIZE: usize>(text: &[u8]) -> [u8; SIZE] {
     bytes
 }
 
-/// The names of setters by their numbers.
-static SETTERS: [[u8; 48]; 137] = {
-    let (mut names, mut index) = ([[0; 48]; 137], ALL_SETTERS.len());
-    // Backwards, since `mantissa_radix` is before its other name.
-    while index > 0 {
-        index -= 1;
-        let setter = ALL_SETTERS[index];
-        names[setter_number(setter) as usize] = terminated(setter.name().as_bytes());
-    }
-    names
-};
+/// Defines arrays of null-terminated texts, by their indices.
+macro_rules! texts {
+    ($($NAME:ident: [$SIZE:literal; $COUNT:expr] = |$index:ident| $text:expr;)*) => {
+        $(
+            static $NAME: [[u8; $SIZE]; $COUNT] = {
+                let (mut texts, mut $index) = ([[0; $SIZE]; $COUNT], 0);
+                while $index < $COUNT {
+                    texts[$index] = $crate::names::terminated($text);
+                    $index += 1;
+                }
+                texts
+            };
+        )*
+    };
+}
+pub(crate) use texts;
 
-/// The descriptions of errors by their numbers.
-static DESCRIPTIONS: [[u8; 96]; 49] = {
-    let (mut descriptions, mut number) = ([[0; 96]; 49], 0);
-    while let Some(error) = error_of(number, 0) {
-        descriptions[number as usize] = terminated(error.description().as_bytes());
-        number += 1;
-    }
-    descriptions
-};
-
-/// The conditions of rules by their numbers.
-static CONDITIONS: [[u8; 96]; 17] = {
-    let (mut conditions, mut index) = ([[0; 96]; 17], 0);
-    while index < Rule::ALL.len() {
-        conditions[index + 1] = terminated(Rule::ALL[index].condition().as_bytes());
-        index += 1;
-    }
-    conditions
-};
-
-/// The names of roles by their numbers.
-static ROLES: [[u8; 16]; 8] = [
-    [0; 16],
-    terminated(Role::Digit.name().as_bytes()),
-    terminated(Role::Sign.name().as_bytes()),
-    terminated(Role::Separator.name().as_bytes()),
-    terminated(Role::Prefix.name().as_bytes()),
-    terminated(Role::Suffix.name().as_bytes()),
-    terminated(Role::Exponent.name().as_bytes()),
-    terminated(Role::Point.name().as_bytes()),
-];
-
-/// The names of parts by their numbers.
-static PARTS: [[u8; 16]; 3] = [
-    terminated(Part::Integer.name().as_bytes()),
-    terminated(Part::Fraction.name().as_bytes()),
-    terminated(Part::Exponent.name().as_bytes()),
-];
+texts! {
+    SETTER_NAMES: [48; 137] = |number| match setter_of(number as Setter) {
+        Some(setter) => setter.name().as_bytes(),
+        None => b"",
+    };
+    DESCRIPTIONS: [96; 49] = |number| match error_of(number as ErrorNumber, 0) {
+        Some(error) => error.description().as_bytes(),
+        None => b"",
+    };
+    CONDITIONS: [96; 17] = |number| if number == 0 { b"" } else { Rule::ALL[number - 1].condition().as_bytes() };
+    ROLE_NAMES: [16; 8] = |number| if number == 0 { b"" } else { ROLES[number - 1].name().as_bytes() };
+    PART_NAMES: [16; 3] = |number| PARTS[number].name().as_bytes();
+}
 
 /// Returns the text with an index, or an empty one.
-pub fn at<const SIZE: usize>(
-    texts: &'static [[u8; SIZE]],
-    index: impl TryInto<usize>,
-) -> *const u8 {
+pub fn at<const SIZE: usize>(texts: &'static [[u8; SIZE]], index: impl TryInto<usize>) -> *const u8 {
     let index = index.try_into().unwrap_or(usize::MAX);
     texts.get(index).map_or(&[0][..], |it| it).as_ptr()
 }
 
-#[unsafe(no_mangle)]
-pub extern "C" fn peltzivar_setter_name(setter: Setter) -> *const u8 {
-    at(&SETTERS, setter)
-}
-
-#[unsafe(no_mangle)]
-pub extern "C" fn peltzivar_description(error: ErrorNumber) -> *const u8 {
-    at(&DESCRIPTIONS, error)
-}
-
-#[unsafe(no_mangle)]
-pub extern "C" fn peltzivar_rule_condition(rule: u32) -> *const u8 {
-    at(&CONDITIONS, rule)
-}
-
-#[unsafe(no_mangle)]
-pub extern "C" fn peltzivar_role_name(role: u8) -> *const u8 {
-    at(&ROLES, role)
-}
-
-#[unsafe(no_mangle)]
-pub extern "C" fn peltzivar_part_name(part: u8) -> *const u8 {
-    at(&PARTS, part)
+calls! {
+    fn peltzivar_setter_name(setter: Setter) -> *const u8 { at(&SETTER_NAMES, setter) }
+    fn peltzivar_description(error: ErrorNumber) -> *const u8 { at(&DESCRIPTIONS, error) }
+    fn peltzivar_rule_condition(rule: u32) -> *const u8 { at(&CONDITIONS, rule) }
+    fn peltzivar_role_name(role: u8) -> *const u8 { at(&ROLE_NAMES, role) }
+    fn peltzivar_part_name(part: u8) -> *const u8 { at(&PART_NAMES, part) }
 }

@@ -1,8 +1,8 @@
 //! The structs of C, and the numbers that C uses for setters, rules and errors.
 
 use core::num::NonZeroU8;
-use peltzivar::edits::{self, ALL_SETTERS, FLAG_COUNT};
-use peltzivar::{Byte, Cause, Edit, Error, FormatView, NumberFormatBuilder, Reason, Rule};
+use peltzivar::edits::{self, FLAG_COUNT};
+use peltzivar::{Byte, Cause, Edit, Error, FormatView, NumberFormatBuilder, Part, Reason, Role, Rule};
 
 /// A format word as two halves, since C has no 128-bit integer type that every compiler supports.
 #[repr(C)]
@@ -26,10 +26,7 @@ impl Word {
 
 impl From<u128> for Word {
     fn from(number: u128) -> Word {
-        Word {
-            low: number as u64,
-            high: (number >> 64) as u64,
-        }
+        Word { low: number as u64, high: (number >> 64) as u64 }
     }
 }
 
@@ -42,23 +39,13 @@ pub struct Fields {
     bytes: [u8; 6],
 }
 
-fn byte_or_zero(byte: Option<NonZeroU8>) -> u8 {
-    byte.map_or(0, NonZeroU8::get)
-}
-
 impl From<NumberFormatBuilder> for Fields {
     fn from(builder: NumberFormatBuilder) -> Fields {
-        Fields {
-            flags: builder.view().flags() as u64,
-            bytes: [
-                byte_or_zero(builder.get_digit_separator()),
-                byte_or_zero(builder.get_base_prefix()),
-                byte_or_zero(builder.get_base_suffix()),
-                builder.get_mantissa_radix(),
-                byte_or_zero(builder.get_exponent_base()),
-                byte_or_zero(builder.get_exponent_radix()),
-            ],
-        }
+        let word = Word::from(builder.build_unchecked());
+        let [_, _, _, prefix, suffix, radix, base, exponent_radix] = word.high.to_le_bytes();
+        // The word lacks a separator that no flag allows.
+        let separator = builder.get_digit_separator().map_or(0, NonZeroU8::get);
+        Fields { flags: word.low, bytes: [separator, prefix, suffix, radix, base, exponent_radix] }
     }
 }
 
@@ -66,13 +53,8 @@ impl Fields {
     /// Returns a builder with these fields.
     pub fn builder(self) -> NumberFormatBuilder {
         let [separator, prefix, suffix, radix, base, exponent_radix] = self.bytes;
-        NumberFormatBuilder::from_word(u128::from(self.flags))
-            .digit_separator(NonZeroU8::new(separator))
-            .base_prefix(NonZeroU8::new(prefix))
-            .base_suffix(NonZeroU8::new(suffix))
-            .mantissa_radix(radix)
-            .exponent_base(NonZeroU8::new(base))
-            .exponent_radix(NonZeroU8::new(exponent_radix))
+        let high = u64::from_le_bytes([separator, 0, 0, prefix, suffix, radix, base, exponent_radix]);
+        NumberFormatBuilder::from_word(Word { low: self.flags, high }.number())
     }
 }
 
@@ -85,17 +67,21 @@ pub const NO_SETTER: Setter = 255;
 /// Returns the number of a setter.
 pub const fn setter_number(setter: edits::Setter) -> Setter {
     match setter {
-        edits::Setter::Flag(flag) if flag as usize >= FLAG_COUNT => {
-            (flag as usize - FLAG_COUNT) as Setter + 128
-        }
+        edits::Setter::Flag(flag) if flag as usize >= FLAG_COUNT => (flag as usize - FLAG_COUNT) as Setter + 128,
         _ => setter.mask().trailing_zeros() as Setter,
     }
 }
 
 /// Returns the setter with a number. Of the two names of the mantissa radix, `mantissa_radix` comes first.
-pub fn setter_of(number: Setter) -> Option<edits::Setter> {
-    let mut all = ALL_SETTERS.into_iter();
-    all.find(|setter| setter_number(*setter) == number)
+pub const fn setter_of(number: Setter) -> Option<edits::Setter> {
+    let mut all = edits::Setter::ALL;
+    while let [setter, rest @ ..] = all {
+        if setter_number(*setter) == number {
+            return Some(*setter);
+        }
+        all = rest;
+    }
+    None
 }
 
 /// An edit as the number of its setter and a value.
@@ -115,12 +101,19 @@ impl NumberedEdit {
 
 impl From<Edit> for NumberedEdit {
     fn from(edit: Edit) -> NumberedEdit {
-        NumberedEdit {
-            setter: setter_number(edit.setter()),
-            value: edit.argument_byte(),
-        }
+        NumberedEdit { setter: setter_number(edit.setter()), value: edit.argument_byte() }
     }
 }
+
+/// The parts of a number, by their numbers.
+pub const PARTS: [Part; 3] = [Part::Integer, Part::Fraction, Part::Exponent];
+
+/// The number of no part.
+pub const NO_PART: u8 = 255;
+
+/// The roles, by their numbers less 1. Role 0 is none.
+pub const ROLES: [Role; 7] =
+    [Role::Digit, Role::Sign, Role::Separator, Role::Prefix, Role::Suffix, Role::Exponent, Role::Point];
 
 /// Returns the rules that a word breaks because of a reason. Bit n is the rule with the number n.
 pub fn broken_rules(reason: Reason) -> u32 {

@@ -16,71 +16,38 @@ fn note_at(fields: &Fields, index: usize) -> Option<Note> {
     fields.builder().notes().nth(index)
 }
 
-#[unsafe(no_mangle)]
-pub unsafe extern "C" fn peltzivar_reason_text(
-    format: Word,
-    index: usize,
-    text: *mut u8,
-    len: usize,
-) -> usize {
-    write_text(text, len, reason_at(format, index))
-}
+calls! {
+    fn peltzivar_reason_text(format: Word, index: usize, text: *mut u8, len: usize) -> usize {
+        write_text(text, len, reason_at(format, index))
+    }
 
-#[unsafe(no_mangle)]
-pub extern "C" fn peltzivar_reason_mask(format: Word, index: usize) -> Word {
-    reason_at(format, index).map_or(0, |it| it.mask()).into()
-}
+    fn peltzivar_reason_mask(format: Word, index: usize) -> Word {
+        reason_at(format, index).map_or(0, |it| it.mask()).into()
+    }
 
-#[unsafe(no_mangle)]
-pub extern "C" fn peltzivar_reason_rules(format: Word, index: usize) -> u32 {
-    reason_at(format, index).map_or(0, broken_rules)
-}
+    fn peltzivar_reason_rules(format: Word, index: usize) -> u32 { reason_at(format, index).map_or(0, broken_rules) }
 
-#[unsafe(no_mangle)]
-pub unsafe extern "C" fn peltzivar_options_reason_text(
-    format: Word,
-    exponent: u8,
-    decimal_point: u8,
-    index: usize,
-    text: *mut u8,
-    len: usize,
-) -> usize {
-    let reason = options_reason_at(format, exponent, decimal_point, index);
-    write_text(text, len, reason)
-}
+    fn peltzivar_options_reason_text(
+        format: Word, exponent: u8, decimal_point: u8, index: usize, text: *mut u8, len: usize
+    ) -> usize {
+        let reason = options_reason_at(format, exponent, decimal_point, index);
+        write_text(text, len, reason)
+    }
 
-#[unsafe(no_mangle)]
-pub extern "C" fn peltzivar_options_reason_mask(
-    format: Word,
-    exponent: u8,
-    decimal_point: u8,
-    index: usize,
-) -> Word {
-    let reason = options_reason_at(format, exponent, decimal_point, index);
-    reason.map_or(0, |it| it.mask()).into()
-}
+    fn peltzivar_options_reason_mask(format: Word, exponent: u8, decimal_point: u8, index: usize) -> Word {
+        let reason = options_reason_at(format, exponent, decimal_point, index);
+        reason.map_or(0, |it| it.mask()).into()
+    }
 
-#[unsafe(no_mangle)]
-pub extern "C" fn peltzivar_options_reason_roles(
-    format: Word,
-    exponent: u8,
-    decimal_point: u8,
-    index: usize,
-) -> u32 {
-    options_reason_at(format, exponent, decimal_point, index).map_or(0, blamed_options)
-}
+    fn peltzivar_options_reason_roles(format: Word, exponent: u8, decimal_point: u8, index: usize) -> u32 {
+        options_reason_at(format, exponent, decimal_point, index).map_or(0, blamed_options)
+    }
 
-#[unsafe(no_mangle)]
-pub unsafe extern "C" fn peltzivar_note_text(
-    fields: &Fields,
-    index: usize,
-    text: *mut u8,
-    len: usize,
-) -> usize {
-    write_text(text, len, note_at(fields, index))
-}
+    fn peltzivar_note_text(fields: &Fields, index: usize, text: *mut u8, len: usize) -> usize {
+        write_text(text, len, note_at(fields, index))
+    }
 
-#[unsafe(no_mangle)]
-pub extern "C" fn peltzivar_note_mask(fields: &Fields, index: usize) -> Word {
-    note_at(fields, index).map_or(0, |it| it.mask()).into()
+    fn peltzivar_note_mask(fields: &Fields, index: usize) -> Word {
+        note_at(fields, index).map_or(0, |it| it.mask()).into()
+    }
 }

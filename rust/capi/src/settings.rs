@@ -13,79 +13,10 @@ unsafe fn parsed(text: *const u8, len: usize) -> Result<Edit, SettingError> {
     text.unwrap_or("=").parse()
 }
 
-#[unsafe(no_mangle)]
-pub unsafe extern "C" fn peltzivar_parse_edit(
-    text: *const u8,
-    len: usize,
-    out: Out<NumberedEdit>,
-) -> bool {
-    let edit = parsed(text, len);
-    if let Ok(edit) = edit {
-        out.write(edit.into());
-    }
-    edit.is_ok()
-}
-
-#[unsafe(no_mangle)]
-pub unsafe extern "C" fn peltzivar_setting_error_text(
-    text: *const u8,
-    len: usize,
-    to: *mut u8,
-    to_len: usize,
-) -> usize {
-    write_text(to, to_len, parsed(text, len).err())
-}
-
-#[unsafe(no_mangle)]
-pub unsafe extern "C" fn peltzivar_edit_text(
-    edit: NumberedEdit,
-    text: *mut u8,
-    len: usize,
-) -> usize {
-    write_text(text, len, edit.edit())
-}
-
-#[unsafe(no_mangle)]
-pub unsafe extern "C" fn peltzivar_parse_byte(text: *const u8, len: usize, out: Out<u8>) -> bool {
-    let text = input(text, len).and_then(|it| from_utf8(it).ok());
-    let edit = text.and_then(|it| edits::Setter::DigitSeparator.parse(it).ok());
-    if let Some(edit) = edit {
-        out.write(edit.argument_byte());
-    }
-    edit.is_some()
-}
-
-#[unsafe(no_mangle)]
-pub unsafe extern "C" fn peltzivar_setter_of_name(name: *const u8, len: usize) -> Setter {
-    let name = input(name, len).and_then(|it| from_utf8(it).ok());
-    let setter = name.and_then(edits::Setter::from_name);
-    setter.map_or(NO_SETTER, setter_number)
-}
-
-#[unsafe(no_mangle)]
-pub extern "C" fn peltzivar_setter_mask(setter: Setter) -> Word {
-    setter_of(setter).map_or(0, |it| it.mask()).into()
-}
-
 /// Returns the lines of a text. A text that is too long is read as one with an unknown name.
 unsafe fn lines<'a>(text: *const u8, len: usize) -> impl Iterator<Item = &'a [u8]> {
     let text = input(text, len).unwrap_or(b"=");
     text.split(|byte| *byte == b'\n')
-}
-
-#[unsafe(no_mangle)]
-pub unsafe extern "C" fn peltzivar_read_settings(
-    text: *const u8,
-    len: usize,
-    out: Out<Syntax>,
-) -> usize {
-    let mut settings = Settings::new();
-    let refused = lines(text, len).filter(|line| settings.add(line).is_err());
-    let problems = refused.count() + settings.reasons().count();
-    if let (0, Ok(syntax)) = (problems, settings.build_syntax()) {
-        out.write(syntax.into());
-    }
-    problems
 }
 
 /// Passes the sentence and the lines of a problem or note to `report`, or nothing if there is none with this index.
@@ -109,29 +40,49 @@ fn report<'a>(
     }
 }
 
-#[unsafe(no_mangle)]
-pub unsafe extern "C" fn peltzivar_settings_text(
-    text: *const u8,
-    len: usize,
-    index: usize,
-    to: *mut u8,
-    to_len: usize,
-) -> usize {
-    report(lines(text, len), index, |sentence, _| {
-        write_text(to, to_len, sentence)
-    })
-}
+calls! {
+    fn peltzivar_parse_edit(text: *const u8, len: usize, out: Out<NumberedEdit>) -> bool {
+        out.write_some(parsed(text, len).ok())
+    }
 
-#[unsafe(no_mangle)]
-pub unsafe extern "C" fn peltzivar_settings_lines(
-    text: *const u8,
-    len: usize,
-    index: usize,
-    to: *mut usize,
-    to_len: usize,
-) -> usize {
-    report(lines(text, len), index, |_, blamed| {
-        write_list(to, to_len, blamed.iter().copied());
-        blamed.len()
-    })
+    fn peltzivar_setting_error_text(text: *const u8, len: usize, to: *mut u8, to_len: usize) -> usize {
+        write_text(to, to_len, parsed(text, len).err())
+    }
+
+    fn peltzivar_edit_text(edit: NumberedEdit, text: *mut u8, len: usize) -> usize {
+        write_text(text, len, edit.edit())
+    }
+
+    fn peltzivar_parse_byte(text: *const u8, len: usize, out: Out<u8>) -> bool {
+        let text = input(text, len).and_then(|it| from_utf8(it).ok());
+        let edit = text.and_then(|it| edits::Setter::DigitSeparator.parse(it).ok());
+        out.write_some(edit.map(Edit::argument_byte))
+    }
+
+    fn peltzivar_setter_of_name(name: *const u8, len: usize) -> Setter {
+        let name = input(name, len).and_then(|it| from_utf8(it).ok());
+        let setter = name.and_then(edits::Setter::from_name);
+        setter.map_or(NO_SETTER, setter_number)
+    }
+
+    fn peltzivar_setter_mask(setter: Setter) -> Word { setter_of(setter).map_or(0, |it| it.mask()).into() }
+
+    fn peltzivar_read_settings(text: *const u8, len: usize, out: Out<Syntax>) -> usize {
+        let mut settings = Settings::new();
+        let refused = lines(text, len).filter(|line| settings.add(line).is_err());
+        let problems = refused.count() + settings.reasons().count();
+        out.write_some(settings.build_syntax().ok().filter(|_| problems == 0));
+        problems
+    }
+
+    fn peltzivar_settings_text(text: *const u8, len: usize, index: usize, to: *mut u8, to_len: usize) -> usize {
+        report(lines(text, len), index, |sentence, _| write_text(to, to_len, sentence))
+    }
+
+    fn peltzivar_settings_lines(text: *const u8, len: usize, index: usize, to: *mut usize, to_len: usize) -> usize {
+        report(lines(text, len), index, |_, blamed| {
+            write_list(to, to_len, blamed.iter().copied());
+            blamed.len()
+        })
+    }
 }

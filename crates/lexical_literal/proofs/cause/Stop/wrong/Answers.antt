@@ -1,15 +1,17 @@
 -- A separator, the case of a letter, or a byte.
-use Rattle.std.proofs.Common.{ℕ, ◌≡◌, ◌↔◌, ◌&&◌, IsTrue, List, Some, sym, ap, subst, ◌∙◌}
+use Rattle.std.proofs.Common.{ℕ, ◌≡◌, ◌↔◌, ◌&&◌, ◌||◌, false, Bool, IsTrue, List, Option, Some, sym, ap, ◌∙◌}
 use Rattle.std.proofs.lemmas.Bool.{false≢true, and_parts, and_from}
 use Rattle.lexical_util.specs.Layout.{Flag}
 use Rattle.lexical_util.specs.Record.{raw}
 use Rattle.lexical_util.specs.Roles.{other_case}
-use Rattle.lexical_literal.specs.Additions.Causes.{Decides, IsReadOf, allows}
+use Rattle.lexical_util.specs.declared.feature_format.roles.Role.TheVariants as roles
+use Rattle.lexical_literal.specs.Additions.Causes.{IsReadOf, allows, is_own, is_role, place_of, role_of_next}
 use Rattle.lexical_literal.specs.Additions.Summary.{class_of}
-use Rattle.lexical_literal.specs.Cause.{IsCaseFlag, bare, case_set, is_at}
+use Rattle.lexical_literal.specs.Cause.{Allows, IsCaseFlag, adding, bare, case_set, is_at}
 use Rattle.lexical_literal.specs.Notation.{Notation, notation_of}
+use Rattle.lexical_literal.specs.declared.steps.Class.{Class}
 use Rattle.lexical_literal.specs.declared.steps.Summary.{Summary}
-use Rattle.lexical_literal.proofs.BlameLemmas.{bare_weaker}
+use Rattle.lexical_literal.proofs.BlameLemmas.{bare_weaker, each_permits, found_at}
 use Rattle.lexical_literal.proofs.CauseLemmas.{flag_zero}
 use Rattle.lexical_literal.proofs.cause.Stop.wrong.Goals as goal
 
@@ -23,17 +25,35 @@ case_flag_is m s front byte mask is_read f same =
       λ is. same ∙ and_from _ _ (decides.1 is.1) is.0,
     )
 
+-- `found m s next f` is true if the flag `f` is found.
+abbrev found : Notation → Summary → Option Class → Flag → Bool
+found m s next f = (s.gap || is_role roles.Separator (role_of_next s next)) && (is_own s.part f && allows (adding f (bare m)) s next)
+
+-- What is wrong is not a requirement.
+not_allowed : (m : Notation) (s : Summary) (front : List ℕ) (byte : ℕ) → IsReadOf m s front → allows (bare m) s (Some (class_of m byte)) ≡ false
+    → Allows (bare m) front (Some byte) → ⊥
+not_allowed m s front byte is_read refused allowed =
+    false≢true (sym refused ∙ (is_read.decides (Some byte) (bare m).flag (bare_weaker m)).1 allowed)
+
+pub case_flag-mask-requires : goal.case_flag-mask-requires
+case_flag-mask-requires c = sym (ap (allows (bare (notation_of c.args.self.grammar)) c.args.self.read) c.requires.next) ∙ c.requires.refused
+
 pub returns-then-separators-ne0 : goal.returns-then-separators-ne0
 returns-then-separators-ne0 c front is_read =
     let m = notation_of c.args.self.grammar in
     let s = c.args.self.read in
     let byte = c.args.byte in
-    let decides = subst (λ k. Decides m s k front (Some byte)) (sym c.requires.next) (is_read.decides (Some byte)) in
+    let refused = sym (ap (allows (bare m) s) c.requires.next) ∙ c.requires.refused in
+    let same = λ (f : Flag). c.separators-separators.ensures.each f
+    ∙ ap (λ next. found m s next f) c.requires.next in
     record {
-      refused = λ allowed. false≢true (sym c.requires.refused ∙ (decides (bare m).flag (bare_weaker m)).1 allowed);
+      refused = not_allowed m s front byte is_read refused;
       some = c.separators-separators.ensures.some c.if-separators-ne0.true;
-      each = c.separators-separators.ensures.each (class_of m byte) c.requires.next c.requires.refused front byte decides;
-      at = λ f is. ap (λ p. is_at p s.part f) c.place.ensures ∙ c.separators-separators.ensures.at f is;
+      each = λ f.
+          let permits = each_permits m s (class_of m byte) front byte (is_read.decides (Some byte)) refused f in
+          (λ is. permits.0 (sym (same f) ∙ is), λ is. same f ∙ permits.1 is);
+      at = λ f is. ap (λ p. is_at p s.part f) (c.place.ensures ∙ ap (λ next. place_of m s (role_of_next s next)) c.requires.next)
+          ∙ found_at m s (class_of m byte) front byte (is_read.decides (Some byte)) refused f (sym (same f) ∙ is);
     }
 
 pub returns-then-mask-eq0 : goal.returns-then-mask-eq0
@@ -41,17 +61,16 @@ returns-then-mask-eq0 c front is_read =
     let m = notation_of c.args.self.grammar in
     let s = c.args.self.read in
     let byte = c.args.byte in
-    let decides = subst (λ k. Decides m s k front (Some byte)) (sym c.requires.next) (is_read.decides (Some byte)) in
-    let class : c.class_of_next.result ≡ Some (class_of m (other_case byte)) =
-    c.class_of_next.ensures ∙ ap (λ o. Some (class_of m o)) c.other_case-other.ensures in
+    let refused = sym (ap (allows (bare m) s) c.requires.next) ∙ c.requires.refused in
+    let same = λ (f : Flag). c.separators-separators.ensures.each f
+    ∙ ap (λ next. found m s next f) c.requires.next in
+    let none = λ (f : Flag). ap (λ n. (raw n).flag f) c.if-mask-eq0.true ∙ flag_zero f in
     record {
-      refused = λ allowed. false≢true (sym c.requires.refused ∙ (decides (bare m).flag (bare_weaker m)).1 allowed);
-      no_separator = λ f permits. false≢true (sym (ap (λ n. (raw n).flag f) c.if-separators-ne0.false ∙ flag_zero f)
-          ∙ (c.separators-separators.ensures.each (class_of m byte) c.requires.next c.requires.refused front byte decides f).1 permits);
-      no_case = λ f is. false≢true (sym (ap (λ n. (raw n).flag f) c.if-mask-eq0.true ∙ flag_zero f)
-          ∙ (case_flag_is m s front byte c.case_flag-mask.result is_read f
-          (c.case_flag-mask.ensures.each f ∙ (λ j. allows (bare m) s (class j) && case_set f m (c.other_case-other.ensures j)))).1 is);
-      none = λ f. ap (λ n. (raw n).flag f) c.if-mask-eq0.true ∙ flag_zero f;
+      refused = not_allowed m s front byte is_read refused;
+      no_separator = λ f is. false≢true (sym (ap (λ n. (raw n).flag f) c.if-separators-ne0.false ∙ flag_zero f)
+          ∙ same f ∙ (each_permits m s (class_of m byte) front byte (is_read.decides (Some byte)) refused f).1 is);
+      no_case = λ f is. false≢true (sym (none f) ∙ (case_flag_is m s front byte c.case_flag-mask.result is_read f (c.case_flag-mask.ensures.each f)).1 is);
+      none = none;
     }
 
 pub returns-else-mask-eq0 : goal.returns-else-mask-eq0
@@ -59,14 +78,13 @@ returns-else-mask-eq0 c front is_read =
     let m = notation_of c.args.self.grammar in
     let s = c.args.self.read in
     let byte = c.args.byte in
-    let decides = subst (λ k. Decides m s k front (Some byte)) (sym c.requires.next) (is_read.decides (Some byte)) in
-    let class : c.class_of_next.result ≡ Some (class_of m (other_case byte)) =
-    c.class_of_next.ensures ∙ ap (λ o. Some (class_of m o)) c.other_case-other.ensures in
+    let refused = sym (ap (allows (bare m) s) c.requires.next) ∙ c.requires.refused in
+    let same = λ (f : Flag). c.separators-separators.ensures.each f
+    ∙ ap (λ next. found m s next f) c.requires.next in
     record {
-      refused = λ allowed. false≢true (sym c.requires.refused ∙ (decides (bare m).flag (bare_weaker m)).1 allowed);
-      no_separator = λ f permits. false≢true (sym (ap (λ n. (raw n).flag f) c.if-separators-ne0.false ∙ flag_zero f)
-          ∙ (c.separators-separators.ensures.each (class_of m byte) c.requires.next c.requires.refused front byte decides f).1 permits);
+      refused = not_allowed m s front byte is_read refused;
+      no_separator = λ f is. false≢true (sym (ap (λ n. (raw n).flag f) c.if-separators-ne0.false ∙ flag_zero f)
+          ∙ same f ∙ (each_permits m s (class_of m byte) front byte (is_read.decides (Some byte)) refused f).1 is);
       some = c.case_flag-mask.ensures.some c.if-mask-eq0.false;
-      each = λ f. case_flag_is m s front byte c.case_flag-mask.result is_read f
-          (c.case_flag-mask.ensures.each f ∙ (λ j. allows (bare m) s (class j) && case_set f m (c.other_case-other.ensures j)));
+      each = λ f. case_flag_is m s front byte c.case_flag-mask.result is_read f (c.case_flag-mask.ensures.each f);
     }

@@ -1,0 +1,193 @@
+//! The rows of literals: the reader of the library beside other calls over the same texts. A loop counts the texts that a
+//! call accepts, or in one loop those that it refuses.
+
+use crate::measure::Row;
+use crate::random::Random;
+use peltzivar::literal::Language;
+use std::hint::black_box;
+
+/// Texts of languages.
+type Texts = Vec<(Language, Vec<String>)>;
+
+pub struct Literals {
+    /// A million texts of mixed shapes, and those that `parse::<f64>` takes.
+    mixed: Texts,
+    floats: Texts,
+    /// Texts of literals.txt that `parse::<f64>` takes, each many times, in random order.
+    rows: Texts,
+    /// Texts of the shape `ddd.dddddd`.
+    shape: Texts,
+    /// As many texts that are refused as texts that are accepted, of the same shapes.
+    refused: Texts,
+    accepted: Texts,
+}
+
+const LANGUAGES: [Language; 3] = [Language::JSON, Language::TOML, Language::C_FLOAT];
+const ROWS: &str = include_str!("../../../rust/tests/literals.txt");
+
+impl Literals {
+    pub fn new() -> Literals {
+        let random = &mut Random::new(20_261_126);
+        let mixed = texts(random, 333_334, literal, |_, _| true);
+        let take = |texts: &Vec<String>| texts.iter().filter(|it| it.parse::<f64>().is_ok()).cloned().collect();
+        let floats = mixed.iter().map(|(language, texts)| (*language, take(texts))).collect();
+        let six_decimals =
+            |random: &mut Random, _| format!("{}.{:06}", 100 + random.below(900), random.below(1_000_000));
+        let own: Vec<_> = Language::ALL.iter().flat_map(|language| rows_of(*language)).collect();
+        let row = |(language, text): (Language, &str)| (language, vec![text.to_owned()]);
+        Literals {
+            floats,
+            rows: (0..100_000).map(|_| row(random.pick(&own))).collect(),
+            shape: texts(random, 100_000, six_decimals, |_, _| true),
+            refused: texts(random, 100_000, spoiled, |language, text| !accepts(language, text)),
+            accepted: texts(random, 100_000, literal, |_, _| true),
+            mixed,
+        }
+    }
+}
+
+fn accepts(language: Language, text: &str) -> bool {
+    language.reader().read(text.as_bytes()).is_ok()
+}
+
+/// Returns `count` texts of each of three languages.
+fn texts(
+    random: &mut Random,
+    count: usize,
+    text: impl Fn(&mut Random, Language) -> String,
+    is_kept: impl Fn(Language, &str) -> bool,
+) -> Texts {
+    let mut of = |language| {
+        let texts = std::iter::repeat_with(|| text(random, language)).filter(|text| is_kept(language, text));
+        (language, texts.take(count).collect())
+    };
+    LANGUAGES.into_iter().map(&mut of).collect()
+}
+
+/// Returns the rows of literals.txt that a language and `parse::<f64>` accept.
+fn rows_of(language: Language) -> Vec<(Language, &'static str)> {
+    let rows = ROWS.lines().map(|line| line.split_whitespace().collect::<Vec<_>>());
+    let own = rows.filter(|row| row.first() == Some(&language.name())).map(|row| row[2]);
+    let taken = own.filter(|it| accepts(language, it) && it.parse::<f64>().is_ok());
+    taken.map(|text| (language, text)).collect()
+}
+
+/// A number of digits from 1 to `most`, in groups if there is a separator.
+fn digits(random: &mut Random, most: u8, separator: Option<char>) -> String {
+    let count = random.byte(1, most);
+    let mut text = String::new();
+    for left in (0..count).rev() {
+        text.push(random.byte(b'0', b'9') as char);
+        text.extend(separator.filter(|_| left > 0 && left % 3 == 0));
+    }
+    text
+}
+
+/// A literal of JSON, TOML or C. Half have a fraction, a third has an exponent, and in TOML and C, a quarter has separators.
+fn literal(random: &mut Random, language: Language) -> String {
+    let signs: &[&str] = if language == Language::TOML { &["-", "", "+"] } else { &["-", "", ""] };
+    let own = if language == Language::JSON { None } else { Some(if language == Language::TOML { '_' } else { '\'' }) };
+    let separator = own.filter(|_| random.one_in(4));
+    let integer = digits(random, 9, separator);
+    let zeros = integer.bytes().take_while(|it| !(b'1'..=b'9').contains(it)).count();
+    let mut text = format!("{}{}", random.pick(signs), if zeros < integer.len() { &integer[zeros..] } else { "0" });
+    if random.one_in(2) {
+        text = text + "." + &digits(random, 8, separator);
+    }
+    if random.one_in(3) {
+        text = text + random.pick(&["e", "E", "e-", "e+"]) + &digits(random, 2, None);
+    }
+    text
+}
+
+/// A literal with one byte more.
+fn spoiled(random: &mut Random, language: Language) -> String {
+    let mut text = literal(random, language);
+    let index = random.below(text.len() as u64 + 1) as usize;
+    text.insert(index, random.pick(b".-+e_x0 ") as char);
+    text
+}
+
+/// Returns how many texts a call returns `true` for.
+fn count<F: Fn(&str) -> bool>(texts: &Texts, call_of: impl Fn(Language) -> F) -> u64 {
+    let counts = texts.iter().map(|(language, texts)| {
+        let call = call_of(*language);
+        texts.iter().filter(|text| call(text)).count()
+    });
+    counts.sum::<usize>() as u64
+}
+
+fn reader(language: Language) -> impl Fn(&str) -> bool {
+    let reader = language.reader();
+    move |text| black_box(reader.read(text.as_bytes())).is_ok()
+}
+
+fn syntax(language: Language) -> impl Fn(&str) -> bool {
+    let syntax = language.syntax();
+    move |text| black_box(syntax.read(text.as_bytes())).is_ok()
+}
+
+fn refuses(language: Language) -> impl Fn(&str) -> bool {
+    let reader = language.reader();
+    move |text| black_box(reader.read(text.as_bytes())).is_err()
+}
+
+fn parse(_: Language) -> impl Fn(&str) -> bool {
+    |text| black_box(text.parse::<f64>()).is_ok()
+}
+
+/// Patterns with a group for each part.
+#[cfg(regex)]
+mod patterns {
+    use super::*;
+    use regex::Regex;
+    use std::sync::LazyLock;
+
+    const PATTERNS: [&str; 3] = [
+        "^(-?)(0|[1-9][0-9]*)(?:(\\.)([0-9]+))?(?:([eE])([-+]?)([0-9]+))?$",
+        "^([-+]?)(0|[1-9](?:_?[0-9])*)(?:(\\.)([0-9](?:_?[0-9])*))?(?:([eE])([-+]?)([0-9](?:_?[0-9])*))?$",
+        "^(-?)(?:([0-9](?:'?[0-9])*)(?:(\\.)([0-9](?:'?[0-9])*)?)?|(\\.)([0-9](?:'?[0-9])*))(?:([eE])([-+]?)([0-9](?:'?[0-9])*))?$",
+    ];
+    static ALL: LazyLock<[Regex; 3]> = LazyLock::new(|| PATTERNS.map(|it| Regex::new(it).expect("a pattern")));
+
+    fn pattern(language: Language) -> &'static Regex {
+        &ALL[LANGUAGES.iter().position(|it| *it == language).expect("one of three languages")]
+    }
+
+    pub fn captures(language: Language) -> impl Fn(&str) -> bool {
+        let pattern = pattern(language);
+        move |text| black_box(pattern.captures(text)).is_some()
+    }
+
+    pub fn is_match(language: Language) -> impl Fn(&str) -> bool {
+        let pattern = pattern(language);
+        move |text| black_box(pattern.is_match(text))
+    }
+}
+
+pub fn rows(texts: &Literals) -> Vec<Row<'_>> {
+    macro_rules! rows {
+        ($($name:expr, $texts:ident.$call:expr, $others:ident.$other:expr;)*) => {
+            vec![$(Row {
+                name: $name,
+                calls: texts.$texts.iter().map(|(_, texts)| texts.len()).sum(),
+                ours: Box::new(|| count(black_box(&texts.$texts), $call)),
+                theirs: Box::new(|| count(black_box(&texts.$others), $other)),
+            }),*]
+        };
+    }
+    #[allow(unused_mut)]
+    let mut rows = rows! {
+        "Reader::read, mixed, over parse", floats.reader, floats.parse;
+        "Reader::read, literals.txt, over parse", rows.reader, rows.parse;
+        "Reader::read, one shape, over parse", shape.reader, shape.parse;
+        "Syntax::read, mixed, over Reader::read", mixed.syntax, mixed.reader;
+        "Reader::read, refused, over accepted", refused.refuses, accepted.reader;
+    };
+    #[cfg(regex)]
+    rows.extend(rows! {
+        "Reader::read, mixed, over captures", mixed.reader, mixed.patterns::captures;
+        "Reader::read, mixed, over is_match", mixed.reader, mixed.patterns::is_match;
+    });
+    rows
+}

@@ -1,0 +1,350 @@
+//! What the page offers for a number that is not as expected: states near the shown one in which it is.
+
+use core::cmp::Reverse;
+
+use peltzivar::format::{
+    BASE_PREFIX, BASE_SUFFIX, CONSECUTIVE_DIGIT_SEPARATOR, DIGIT_SEPARATOR, DIGIT_SEPARATOR_FLAG_MASK, EXPONENT_BASE,
+    EXPONENT_RADIX, FLAG_MASK, MANTISSA_RADIX, SPECIAL_DIGIT_SEPARATOR,
+};
+use peltzivar::literal::{Cause, ReadError, Specials, Syntax};
+use peltzivar::reasons::Byte;
+use peltzivar::{Cause as Problem, FormatView, Reason};
+
+/// The spellings of special values that are read.
+pub const SPECIALS: Specials = Specials { nan: Some(b"NaN"), inf: Some(b"inf"), infinity: Some(b"infinity") };
+
+/// How many states are offered for a number.
+const MOST: usize = 3;
+
+/// How many roles of bytes a state may change.
+const MOST_ROLES: usize = 3;
+
+/// The flags that allow separators between digits, before digits and behind them, and then consecutive ones.
+const SEPARATORS: u128 = DIGIT_SEPARATOR_FLAG_MASK & !SPECIAL_DIGIT_SEPARATOR;
+
+/// The bits of no field.
+const RESERVED: u128 =
+    !(FLAG_MASK | DIGIT_SEPARATOR | BASE_PREFIX | BASE_SUFFIX | MANTISSA_RADIX | EXPONENT_BASE | EXPONENT_RADIX);
+
+/// The bytes that stand for an exponent character and a decimal point that do not fit. No number has them.
+const NO_EXPONENT: u8 = 11;
+const NO_POINT: u8 = 12;
+
+/// The usual exponent characters.
+const EXPONENTS: [u8; 3] = [b'e', b'p', b'^'];
+
+/// A format word, and the options of a parser. If both options are 0, numbers are integers alone.
+#[derive(Clone, Copy, Debug, PartialEq, Eq)]
+pub struct State {
+    pub word: u128,
+    pub exponent: u8,
+    pub point: u8,
+}
+
+impl State {
+    fn is_integers(self) -> bool {
+        self.exponent == 0 && self.point == 0
+    }
+
+    /// Returns the syntax if the word is lawful and the options fit.
+    fn exact(self) -> Option<Syntax> {
+        match self.is_integers() {
+            true => Syntax::integers_of_word(self.word).ok(),
+            false => Syntax::of_word(self.word, self.exponent, self.point).ok(),
+        }
+    }
+
+    /// Returns the syntax if the word is lawful. No byte matches an option that does not fit.
+    pub fn syntax(self) -> Option<Syntax> {
+        let others = [(NO_EXPONENT, self.point), (self.exponent, NO_POINT), (NO_EXPONENT, NO_POINT)];
+        let others = others.into_iter().map(|(exponent, point)| Self { exponent, point, ..self });
+        self.exact().or_else(|| others.into_iter().find_map(Self::exact))
+    }
+
+    /// Returns the state with a fitting exponent character, if the word is lawful and the decimal point fits.
+    fn fitting(self) -> Option<Self> {
+        let characters = [self.exponent].into_iter().chain(EXPONENTS);
+        let mut states = characters.map(|exponent| Self { exponent, ..self });
+        states.find(|it| it.exact().is_some())
+    }
+
+    /// Returns the state with a byte in a field of the word.
+    fn with(self, field: u128, byte: u8) -> Self {
+        Self { word: self.word & !field | u128::from(byte) << field.trailing_zeros(), ..self }
+    }
+
+    /// Returns the state with another mantissa radix. If the exponent character is a digit in it, hexadecimal floats are
+    /// as in C: `p` and a power of two in decimal.
+    fn with_radix(self, radix: u8) -> Self {
+        let state = self.with(MANTISSA_RADIX, radix);
+        let digit = value(self.exponent).filter(|&digit| digit < radix);
+        digit.map_or(state, |_| state.with_exponent(b'p'))
+    }
+
+    fn with_exponent(self, exponent: u8) -> Self {
+        let fields = [(EXPONENT_BASE, 2), (EXPONENT_RADIX, 10)].into_iter().filter(|_| self.radix() == 16);
+        fields.fold(Self { exponent, ..self }, |state, (field, byte)| state.with(field, byte))
+    }
+
+    fn radix(self) -> u8 {
+        FormatView::new(self.word).mantissa_radix() as u8
+    }
+
+    /// Returns how many of the lines are as expected.
+    pub fn as_expected(self, lines: &[u8]) -> usize {
+        let is_accepted = |text| self.syntax().is_some_and(|it| read(&it, text).is_ok());
+        lines_of(lines).filter(|line| is_accepted(line.text) != line.is_refused).count()
+    }
+}
+
+/// A number, and whether it must be refused.
+#[derive(Clone, Copy)]
+pub struct Line<'a> {
+    pub text: &'a [u8],
+    pub is_refused: bool,
+}
+
+/// Returns the numbers of a text, one a line. A number behind a `!` must be refused.
+pub fn lines_of(text: &[u8]) -> impl Iterator<Item = Line<'_>> {
+    text.split(|&byte| byte == b'\n').filter(|line| !line.is_empty()).map(|line| match line.strip_prefix(b"!") {
+        Some(text) => Line { text, is_refused: true },
+        None => Line { text: line, is_refused: false },
+    })
+}
+
+/// Returns why a text is neither a number nor a special value.
+pub fn read(syntax: &Syntax, text: &[u8]) -> Result<(), ReadError> {
+    match syntax.read(text) {
+        Err(error) if SPECIALS.read(syntax, text).is_none() => Err(error),
+        _ => Ok(()),
+    }
+}
+
+/// Returns each flag of a mask of flags, from the lowest.
+fn bits_of(flags: u128) -> impl DoubleEndedIterator<Item = u128> {
+    (0..64).map(|bit| 1u64 << bit).filter(move |&bit| flags as u64 & bit != 0).map(u128::from)
+}
+
+/// Returns the value of a letter or digit.
+fn value(byte: u8) -> Option<u8> {
+    char::from(byte).to_digit(36).map(|digit| digit as u8)
+}
+
+/// Returns the least of the usual radixes, at least `least`, that has all letters and digits of a text.
+fn radix_of(text: &[u8], least: u8) -> Option<u8> {
+    let largest = text.iter().filter_map(|&byte| value(byte)).max().unwrap_or(0);
+    [2, 8, 10, 16].into_iter().find(|&radix| radix >= least && radix > largest)
+}
+
+/// Returns a text without its sign.
+fn unsigned(text: &[u8]) -> &[u8] {
+    text.strip_prefix(b"-").or(text.strip_prefix(b"+")).unwrap_or(text)
+}
+
+/// States that were found for some lines, each with how many of them are as expected and its index.
+pub struct Found<'a> {
+    lines: &'a [u8],
+    states: [Option<(Reverse<usize>, usize, State)>; 24],
+    size: usize,
+}
+
+impl<'a> Found<'a> {
+    pub fn new(lines: &'a [u8]) -> Self {
+        Self { lines, states: [None; 24], size: 0 }
+    }
+
+    fn push(&mut self, state: State) {
+        let is_new = self.states[..self.size].iter().flatten().all(|it| it.2 != state);
+        if let (true, Some(place)) = (is_new, self.states.get_mut(self.size)) {
+            *place = Some((Reverse(state.as_expected(self.lines)), self.size, state));
+            self.size += 1;
+        }
+    }
+
+    /// Puts the states first with which the most lines are as expected. Those with the same count stay in their order.
+    fn sorted(mut self) -> Self {
+        self.states[..self.size].sort_unstable_by_key(|it| it.map(|it| (it.0, it.1)));
+        self
+    }
+
+    /// Returns the states that are offered, each with how many lines are as expected.
+    pub fn best(&self) -> impl Iterator<Item = (State, usize)> + '_ {
+        self.states.iter().flatten().map(|it| (it.2, it.0 .0)).take(MOST)
+    }
+}
+
+/// Returns the states that are offered for one of the lines: those that need the fewest new roles to accept it, or those
+/// with one other flag that refuse it and with which the most lines are as expected.
+pub fn offers<'a>(state: State, lines: &'a [u8], line: Line<'_>) -> Found<'a> {
+    let mut found = Found::new(lines);
+    if line.is_refused {
+        refusing(state, line.text, &mut found);
+        let most = found.states.iter().flatten().map(|it| it.0 .0).max();
+        found.states.iter_mut().for_each(|it| *it = it.filter(|it| Some(it.0 .0) == most));
+        return found;
+    }
+    for roles in 0..=MOST_ROLES {
+        if found.size == 0 {
+            accepting(state, line.text, roles, &mut found);
+        }
+    }
+    found.sorted()
+}
+
+fn refusing(state: State, text: &[u8], found: &mut Found<'_>) {
+    for flag in bits_of(FLAG_MASK) {
+        let other = State { word: state.word ^ flag, ..state };
+        // Consecutive separators need another flag of their part.
+        let single = State { word: other.word & !CONSECUTIVE_DIGIT_SEPARATOR, ..other };
+        let other = other.exact().map_or(single, |_| other);
+        if other.exact().is_some_and(|it| read(&it, text).is_err()) {
+            found.push(other);
+        }
+    }
+}
+
+/// Finds states with up to this many new roles that accept the text.
+fn accepting(state: State, text: &[u8], roles: usize, found: &mut Found<'_>) {
+    let Some(state) = state.fitting() else { return };
+    match settled(state, text) {
+        Ok(state) => found.push(state),
+        Err(_) if roles == 0 => {}
+        Err(at) => {
+            candidates(state, text, at).into_iter().flatten().for_each(|it| accepting(it, text, roles - 1, found))
+        }
+    }
+}
+
+/// Returns the state with the flags that the text needs: without the requirements that it breaks, and with the fewest
+/// flags that allow its separators. Returns the index of the first wrong byte if no flags are to blame.
+fn settled(mut state: State, text: &[u8]) -> Result<State, usize> {
+    let allowed = state.word;
+    if FormatView::new(allowed).digit_separator().is_some_and(|it| text.contains(&it.get())) {
+        state.word |= SEPARATORS;
+    }
+    let read_in = |state: State| match state.exact() {
+        Some(syntax) => read(&syntax, text).map_err(Some),
+        None => Err(None),
+    };
+    while let Err(error) = read_in(state) {
+        match error {
+            Some(error) if matches!(error.cause(), Cause::Requirement | Cause::Case) => state.word &= !error.mask(),
+            error => return Err(error.map_or(text.len(), |it| it.valid_up_to())),
+        }
+    }
+    for flag in bits_of(state.word & SEPARATORS & !allowed).rev() {
+        let without = State { word: state.word & !flag, ..state };
+        if read_in(without).is_ok() {
+            state = without;
+        }
+    }
+    Ok(state)
+}
+
+/// Returns the states in which the byte at an index, or the last one, gets a role, the likeliest first.
+fn candidates(state: State, text: &[u8], at: usize) -> [Option<State>; 9] {
+    let Some((&byte, rest)) = text.get(at..).and_then(<[u8]>::split_first) else { return [None; 9] };
+    let before = &text[..at];
+    let [shown, same, needed] = suffixes(state, text, at);
+    let radix = radix_of(text, state.radix() + 1).filter(|_| byte.is_ascii_alphanumeric());
+    [
+        prefix(state, before, byte),
+        exponent(state, before, byte, rest),
+        point(state, before, byte, rest),
+        shown,
+        same,
+        needed,
+        is_mark(byte).then(|| state.with(DIGIT_SEPARATOR, byte)),
+        radix.map(|radix| state.with_radix(radix)),
+        state.is_integers().then_some(State { exponent: b'e', point: b'.', ..state }),
+    ]
+}
+
+/// Returns whether languages have the byte as a digit separator or a decimal point.
+fn is_mark(byte: u8) -> bool {
+    matches!(byte, b'_' | b'\'' | b',' | b'.' | b' ')
+}
+
+/// A letter behind the first zero is the base prefix, and shows the radix.
+fn prefix(state: State, before: &[u8], byte: u8) -> Option<State> {
+    let radix = match byte.to_ascii_lowercase() {
+        b'x' => 16,
+        b'o' => 8,
+        b'b' => 2,
+        _ => return None,
+    };
+    (unsigned(before) == b"0").then(|| state.with_radix(radix).with(BASE_PREFIX, byte))
+}
+
+/// A letter or `^` between digits is the exponent character.
+fn exponent(state: State, before: &[u8], byte: u8, rest: &[u8]) -> Option<State> {
+    let is_character = byte.is_ascii_alphabetic() || byte == b'^';
+    let follows =
+        before.last().is_some_and(|&it| it == state.point || it.is_ascii_alphanumeric()) && unsigned(before) != b"0";
+    let has_digits = unsigned(rest).first().is_some_and(u8::is_ascii_digit);
+    (is_character && follows && has_digits).then(|| state.with_exponent(byte))
+}
+
+/// The last comma or point of a number, if there is one of it, is the decimal point. The other one is a separator then.
+fn point(state: State, before: &[u8], byte: u8, rest: &[u8]) -> Option<State> {
+    let is_last = !before.contains(&byte) && !rest.iter().any(|it| matches!(it, b',' | b'.'));
+    let state = match before.contains(&state.point) {
+        true => state.with(DIGIT_SEPARATOR, state.point),
+        false => state,
+    };
+    (matches!(byte, b',' | b'.') && is_last).then_some(State { point: byte, ..state })
+}
+
+/// The last byte is the base suffix: with the radix that its letter shows, with the same radix, and with the one that the
+/// digits need.
+fn suffixes(state: State, text: &[u8], at: usize) -> [Option<State>; 3] {
+    let Some((&last, digits)) = text.split_last() else { return [None; 3] };
+    if last.is_ascii_digit() || is_mark(last) || matches!(last, b'+' | b'-' | b'x' | b'X') {
+        return [None; 3];
+    }
+    let shown = match last.to_ascii_lowercase() {
+        b'b' => Some(2),
+        b'o' | b'q' => Some(8),
+        b'h' => Some(16),
+        _ => None,
+    };
+    let shown = shown.filter(|&radix| radix_of(digits, 2).is_some_and(|least| least <= radix));
+    let needed = radix_of(digits, state.radix() + 1).filter(|_| at < digits.len());
+    let with = |radix| state.with_radix(radix).with(BASE_SUFFIX, last);
+    [shown.map(with), Some(state.with(BASE_SUFFIX, last)), needed.map(with)]
+}
+
+/// Returns why the word is not lawful, and why its options do not fit.
+pub fn problems(state: State) -> impl Iterator<Item = Reason> {
+    let view = FormatView::new(state.word);
+    let options = view.options_reasons(state.exponent, state.point).filter(move |_| !state.is_integers());
+    view.reasons().chain(options)
+}
+
+/// Returns whether a reason blames the exponent character, and whether it blames the decimal point.
+pub fn blamed_options(reason: Reason) -> [bool; 2] {
+    let (first, second) = match reason.cause() {
+        Problem::NotText(byte) | Problem::IsSign(byte) | Problem::IsDigit(byte, _) => (byte, byte),
+        Problem::Same(first, second) | Problem::DifferInCase { first, second, .. } => (first, second),
+        _ => return [false; 2],
+    };
+    [Byte::ExponentCharacter, Byte::DecimalPoint].map(|it| first.name == it || second.name == it)
+}
+
+/// Returns the states in which one field that a reason blames is absent or cleared, or one option is another character.
+/// In each, there are fewer problems, and this reason is not among them.
+pub fn repairs(state: State, reason: Reason) -> impl Iterator<Item = State> {
+    let [exponents, points] = blamed_options(reason);
+    let flags =
+        bits_of(reason.mask() & state.word & FLAG_MASK).map(move |flag| State { word: state.word & !flag, ..state });
+    let bytes = [DIGIT_SEPARATOR, BASE_PREFIX, BASE_SUFFIX, EXPONENT_BASE, EXPONENT_RADIX].map(|field| (field, 0));
+    let fields = bytes.into_iter().chain([(MANTISSA_RADIX, 10), (RESERVED, 0)]);
+    let fields = fields.filter(move |it| reason.mask() & it.0 != 0).map(move |(field, byte)| state.with(field, byte));
+    let is_better =
+        move |it: &State| problems(*it).count() < problems(state).count() && problems(*it).all(|it| it != reason);
+    let exponents = exponents.then_some(EXPONENTS).into_iter().flatten();
+    let exponent = exponents.map(move |exponent| State { exponent, ..state }).filter(is_better).take(1);
+    let points = points.then_some([b'.', b',']).into_iter().flatten();
+    let point = points.map(move |point| State { point, ..state }).filter(is_better).take(1);
+    exponent.chain(point).chain(fields.chain(flags).filter(is_better))
+}

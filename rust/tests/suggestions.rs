@@ -1,0 +1,99 @@
+//! What the page offers for numbers that are not as expected.
+
+#[path = "../../explorer/suggest.rs"]
+mod suggest;
+
+use peltzivar::format::{DIGIT_SEPARATOR_FLAG_MASK, STANDARD};
+use peltzivar::{Edit, NumberFormatBuilder};
+use suggest::{lines_of, offers, problems, read, repairs, State};
+
+const HEXADECIMAL: &str = "mantissa_radix=16 exponent_base=2 exponent_radix=10";
+
+/// Returns the state of settings that change the standard format. The exponent character is `p` in radix 16.
+fn state(settings: &str, exponent: u8, point: u8) -> State {
+    let edits = settings.replace("hexadecimal", HEXADECIMAL);
+    let builder: Result<NumberFormatBuilder, _> = edits.split_whitespace().map(str::parse::<Edit>).collect();
+    State { word: builder.expect(settings).build_unchecked(), exponent, point }
+}
+
+/// Returns what is offered for the first of the lines.
+fn offered(state: State, lines: &str) -> Vec<State> {
+    let first = lines_of(lines.as_bytes()).next().unwrap();
+    offers(state, lines.as_bytes(), first).best().map(|(state, _)| state).collect()
+}
+
+#[test]
+fn numbers_of_many_forms_lead_to_their_formats() {
+    #[rustfmt::skip]
+    let rows = [
+        ("0x1F", "hexadecimal base_prefix='x'", b'p', b'.'),
+        ("0xFF\n0xFFh", "hexadecimal base_prefix='x'", b'p', b'.'),
+        ("0x1.8p3", "hexadecimal base_prefix='x'", b'p', b'.'),
+        ("0xFFh", "hexadecimal base_prefix='x' base_suffix='h'", b'p', b'.'),
+        ("1FH", "hexadecimal base_suffix='H'", b'p', b'.'),
+        ("12h", "hexadecimal base_suffix='h'", b'p', b'.'),
+        ("0o17", "mantissa_radix=8 base_prefix='o'", b'e', b'.'),
+        ("0b101", "mantissa_radix=2 base_prefix='b'", b'e', b'.'),
+        ("101b", "mantissa_radix=2 base_suffix='b'", b'e', b'.'),
+        ("FF", "hexadecimal", b'p', b'.'),
+        ("1D3", "", b'D', b'.'),
+        ("1.5E3L", "base_suffix='L'", b'e', b'.'),
+        ("1,5", "", b'e', b','),
+        ("1.234,5", "digit_separator='.' integer_internal_digit_separator=true", b'e', b','),
+        ("1,234.5", "digit_separator=',' integer_internal_digit_separator=true", b'e', b'.'),
+        ("1,234\n0.5", "digit_separator=',' integer_internal_digit_separator=true", b'e', b'.'),
+        ("1_0__0", "digit_separator='_' integer_internal_digit_separator=true integer_consecutive_digit_separator=true", b'e', b'.'),
+        ("1e", "required_exponent_digits=false", b'e', b'.'),
+        ("!.5\n0.5\n1", "required_integer_digits=true", b'e', b'.'),
+        ("!1e5\n1.0e5", "no_exponent_without_fraction=true", b'e', b'.'),
+    ];
+    for (lines, settings, exponent, point) in rows {
+        let found = offered(state("", b'e', b'.'), lines);
+        assert_eq!(found.first(), Some(&state(settings, exponent, point)), "{lines}");
+        assert!(found.len() <= 3, "{lines}");
+    }
+    for text in ["16#FF#", "#FF", "0xFF_u8", "1.5.2", "0x"] {
+        assert_eq!(offered(state("", b'e', b'.'), text), [], "{text}");
+    }
+    assert_eq!(offered(state("hexadecimal base_prefix='x'", b'p', b'.'), "0x1.8p3f"), []);
+    let flags = "digit_separator='_' integer_internal_digit_separator=true integer_consecutive_digit_separator=true";
+    let separators = state(flags, b'e', b'.');
+    let none = State { word: separators.word & !DIGIT_SEPARATOR_FLAG_MASK, ..separators };
+    assert_eq!(offered(separators, "!1_0\n10").first(), Some(&none));
+}
+
+/// Returns the state to which the first offers lead from the standard format.
+fn walk(lines: &str) -> Option<State> {
+    let mut state = State { word: STANDARD, exponent: b'e', point: b'.' };
+    for line in lines_of(lines.as_bytes()) {
+        if state.syntax().is_none_or(|it| read(&it, line.text).is_err()) {
+            state = offers(state, lines.as_bytes(), line).best().next()?.0;
+        }
+    }
+    (state.as_expected(lines.as_bytes()) == lines.lines().count()).then_some(state)
+}
+
+#[test]
+fn the_first_offers_lead_to_a_format_of_each_language() {
+    let rows: Vec<Vec<&str>> =
+        include_str!("literals.txt").lines().map(|row| row.split_whitespace().collect()).collect();
+    let accepted: Vec<_> = rows.iter().filter(|row| row.get(1) == Some(&"+")).map(|row| (row[0], row[2])).collect();
+    let languages = accepted.chunk_by(|first, second| first.0 == second.0);
+    let numbers = |rows: &[(&str, &str)]| rows.iter().map(|row| row.1).collect::<Vec<_>>().join("\n");
+    let failed: Vec<_> = languages.filter(|rows| walk(&numbers(rows)).is_none()).map(|rows| rows[0].0).collect();
+    // The special values of YAML begin with a point, and the page has other spellings.
+    assert_eq!(failed, ["YAML"]);
+}
+
+#[test]
+fn repairs_end_each_reason() {
+    let words = [0, u128::MAX, 0x0001_0002_FF09_0009_0000_0000_0000_7DB8, 0x0000_1000_6200_0000_0000_0E00_8000_4DBC];
+    for word in words {
+        let (mut state, mut steps) = (State { word, exponent: b'e', point: b'e' }, 0);
+        while let Some(reason) = problems(state).next() {
+            state = repairs(state, reason).next().unwrap_or_else(|| panic!("{state:?}: {reason}"));
+            steps += 1;
+        }
+        assert!(steps <= 16, "{word:#034X}: {steps}");
+    }
+}
