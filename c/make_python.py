@@ -109,6 +109,7 @@ def languages():
         about = " ".join(text.replace("///", " ").replace("×", "*").split())
         yield from ("", *textwrap.wrap(f"{name}: {about}", 115, subsequent_indent="    "))
     yield from ('"""', "", *(f'{name} = "{name}"' for _, name in documented))
+    yield from ("", "def __str__(self) -> str:", "    return self.name")
 
 
 def made(text):

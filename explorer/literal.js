@@ -44,7 +44,7 @@ class Trial {
         this.answers = answers;
         for (const { text, isRefused, offers } of answers) {
             for (const offer of offers) {
-                offer.changes = this.library.differences(offer, state);
+                offer.changes = this.library.differences(offer, state).sort((a, b) => Number(!a.isByte) - Number(!b.isByte));
                 offer.label = `set ${offer.changes.map((it) => it.text).join(", ")}`;
                 const count = answers.length > 1 ? `, then ${offer.expected} of ${answers.length} as expected` : "";
                 offer.then = ` ${text}: ${isRefused ? "refused" : this.reading(offer, text, offer.parts)}${count}`;

@@ -234,7 +234,7 @@ class Page {
         const usual = { word: this.library.standard, ...STANDARD_OPTIONS };
         for (const name of lost) found[name] = usual[name];
         if (this.state) this.past.push(this.state);
-        this.state = { ...found, numbers: parts.get("numbers") ?? "" };
+        this.state = { ...found, numbers: (parts.get("numbers") ?? "").replace(/\r\n?/g, "\n") };
         this.key = "";
         this.showAnew();
         const titles = { word: "format word", exponent: "exponent character", point: "decimal point" };

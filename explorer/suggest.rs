@@ -3,8 +3,8 @@
 use core::cmp::Reverse;
 
 use peltzivar::format::{
-    BASE_PREFIX, BASE_SUFFIX, DIGIT_SEPARATOR, DIGIT_SEPARATOR_FLAG_MASK, EXPONENT_BASE, EXPONENT_RADIX, FLAG_MASK,
-    MANTISSA_RADIX, SPECIAL_DIGIT_SEPARATOR,
+    BASE_PREFIX, BASE_SUFFIX, CONSECUTIVE_DIGIT_SEPARATOR, DIGIT_SEPARATOR, DIGIT_SEPARATOR_FLAG_MASK, EXPONENT_BASE,
+    EXPONENT_RADIX, FLAG_MASK, MANTISSA_RADIX, SPECIAL_DIGIT_SEPARATOR,
 };
 use peltzivar::literal::{Cause, ReadError, Specials, Syntax};
 use peltzivar::reasons::Byte;
@@ -194,6 +194,9 @@ pub fn offers<'a>(state: State, lines: &'a [u8], line: Line<'_>) -> Found<'a> {
 fn refusing(state: State, text: &[u8], found: &mut Found<'_>) {
     for flag in bits_of(FLAG_MASK) {
         let other = State { word: state.word ^ flag, ..state };
+        // Consecutive separators need another flag of their part.
+        let single = State { word: other.word & !CONSECUTIVE_DIGIT_SEPARATOR, ..other };
+        let other = other.exact().map_or(single, |_| other);
         if other.exact().is_some_and(|it| read(&it, text).is_err()) {
             found.push(other);
         }

@@ -443,8 +443,8 @@ class Walk(unittest.TestCase):
     def test_a_format_is_found_by_its_numbers(self):
         self.type("#literal", "0x1F\n0x1_0.8p3\n!0x.8\n0x1h")
         self.assertEqual(self.texts("#read ul li")[0],
-            "set base_prefix='x', mantissa_radix=16, exponent_base=2, exponent_radix=10, exponent='p' 0x1F: integer = 31, "
-            "then 1 of 4 as expected")
+            "set base_prefix='x', mantissa_radix=16, exponent_base=2, exponent_radix=10, exponent='p'\n"
+            "0x1F: integer = 31, then 1 of 4 as expected")
         for _ in range(4):
             self.find("#read .use").send_keys(Keys.ENTER)
         self.assertEqual((self.focused(), self.text("#count")), ("literal", "4 of 4 as expected"))

@@ -438,8 +438,7 @@ _library = _load()
 
 # A byte: a number from 0 to 255, or one ASCII character.
 Byte = Union[int, str, bytes]
-# The value of a setting. A flag or a group takes a bool, a radix or base a number, and another field a Byte. None is an
-# absent byte.
+# The value of a setting: a bool for a flag or a group, and otherwise a number or a Byte, or None if it is absent.
 Value = Union[bool, Byte, None]
 Typed = TypeVar("Typed")
 View = TypeVar("View", bound="FormatView")
@@ -453,8 +452,8 @@ _SETTERS = {**{it.name.lower(): it for it in Setter}, "radix": Setter.MANTISSA_R
 def _text(call: Any, *arguments: Any, size: int = _TEXT_SIZE) -> str:
     """Returns the text that a call writes."""
     buffer = create_string_buffer(size)
-    length = call(*arguments, buffer, size)
-    return buffer.raw[:length].decode("ascii")
+    call(*arguments, buffer, size)
+    return buffer.value.decode("ascii")
 
 
 def _texts(call: Any, *of: Any) -> Iterable[str]:
@@ -573,10 +572,8 @@ def _number_of(setter: Setter, value: Value) -> int:
     name = setter.name.lower()
     if value is None and (setter in _BYTES or setter in _RADIXES[1:]):
         return 0
-    if setter in _BYTES:
-        return _byte(name, value)
-    if setter in _RADIXES:
-        return _number(name, value)
+    if setter in _BYTES or setter in _RADIXES:
+        return _byte(name, value) if setter in _BYTES else _number(name, value)
     return _typed(name, value, bool)
 
 
@@ -1132,6 +1129,10 @@ class Syntax:
     def _of_numbers(cls, numbers: _Syntax) -> Syntax:
         return cls(Format(_joined(numbers.format)), numbers.exponent or None, numbers.decimal_point or None)
 
+    def role_of(self, byte: Byte) -> Optional[Role]:
+        """Returns the only role that a byte has in literals, or None."""
+        return self.format.role_of(byte, exponent=self.exponent or 0, point=self.point or 0)
+
     def read(self, text: AnyStr) -> Literal[AnyStr]:
         """Returns a text as a literal. Raises LiteralError if it is not one.
 
@@ -1307,6 +1308,9 @@ class Language(Enum):
     SWIFT_HEX_FLOAT = "SWIFT_HEX_FLOAT"
     TOML = "TOML"
     YAML = "YAML"
+
+    def __str__(self) -> str:
+        return self.name
     # End
 
     @functools.cached_property

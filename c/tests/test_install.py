@@ -111,11 +111,10 @@ class Package(InFolder):
         shutil.unpack_archive(self.build("sdist", checkout), self.folder / "sources")
         (source,) = self.folder.glob("sources/*")
         self.assertEqual(self.build("wheel", source).read_bytes(), wheel.read_bytes())
-        files = {name.partition("dist-info/")[2] or name: name for name in zipfile.ZipFile(wheel).namelist()}
-        self.assertIn("peltzivar/py.typed", files)
-        self.assertEqual(zipfile.ZipFile(wheel).read(files["LICENSE"]), (C.parent / "LICENSE").read_bytes())
-        metadata = zipfile.ZipFile(wheel).read(files["METADATA"]).decode()
-        self.assertRegex(metadata, r"(?ms)^License: MIT$.*^Requires-Python: >=3.9$.*^\n.* >>> from peltzivar import Format, Syntax$")
+        with zipfile.ZipFile(wheel) as opened:
+            files = {name.rpartition("/")[2]: opened.read(name) for name in opened.namelist()}
+        self.assertEqual((files["py.typed"], files["LICENSE"]), (b"", (C.parent / "LICENSE").read_bytes()))
+        self.assertRegex(files["METADATA"].decode(), r"(?ms)^License: MIT$.*^Requires-Python: >=3.9$.*^\n.* >>> from peltzivar import Format, Syntax$")
         self.run_in(PACKAGER, "-m", "venv", "--system-site-packages", "--without-pip", "environment")
         install = ["environment/bin/python", "-m", "pip", "install", "--no-build-isolation", "--no-index", "--no-deps", "--quiet"]
         for package, folder in (([wheel], ".*/site-packages"), (["--editable", checkout], checkout)):

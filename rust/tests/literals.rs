@@ -192,7 +192,7 @@ fn rows() -> impl Iterator<Item = (Language, &'static str, bool)> {
     rows.map(|row| {
         let [name, mark, text] = [0, 1, 2].map(|column| row.split_whitespace().nth(column).expect(row));
         assert!(["+", "-", "+!", "-!"].contains(&mark), "{row}");
-        (Language::find(name).expect(row), text, ["+", "-!"].contains(&mark))
+        (*Language::ALL.iter().find(|it| it.name() == name).expect(row), text, ["+", "-!"].contains(&mark))
     })
 }
 

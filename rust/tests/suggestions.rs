@@ -3,7 +3,7 @@
 #[path = "../../explorer/suggest.rs"]
 mod suggest;
 
-use peltzivar::format::STANDARD;
+use peltzivar::format::{DIGIT_SEPARATOR_FLAG_MASK, STANDARD};
 use peltzivar::{Edit, NumberFormatBuilder};
 use suggest::{lines_of, offers, problems, read, repairs, State};
 
@@ -56,6 +56,10 @@ fn numbers_of_many_forms_lead_to_their_formats() {
         assert_eq!(offered(state("", b'e', b'.'), text), [], "{text}");
     }
     assert_eq!(offered(state("hexadecimal base_prefix='x'", b'p', b'.'), "0x1.8p3f"), []);
+    let flags = "digit_separator='_' integer_internal_digit_separator=true integer_consecutive_digit_separator=true";
+    let separators = state(flags, b'e', b'.');
+    let none = State { word: separators.word & !DIGIT_SEPARATOR_FLAG_MASK, ..separators };
+    assert_eq!(offered(separators, "!1_0\n10").first(), Some(&none));
 }
 
 /// Returns the state to which the first offers lead from the standard format.

@@ -1,46 +1,46 @@
 -- The flags that are found are to blame.
-use Rattle.std.proofs.Common.{ℕ, ◌≡◌, ◌<◌, ◌≤◌, ◌/◌, ◌%◌, ◌^◌, ◌↔◌, min, Bool, true, false, not, ◌==◌, ◌&&◌, ◌||◌, inl, inr, IsTrue, bit_and, List, []}
+use Rattle.std.proofs.Common.{ℕ, ◌≡◌, ◌<◌, ◌≤◌, ◌/◌, ◌%◌, ◌^◌, ◌↔◌, min, Bool, true, false, not, ◌==◌, ◌&&◌, ◌||◌, inl, inr, IsTrue, bit_and, if◌then◌else◌, nat_lt, List, []}
 use Rattle.std.proofs.Common.{◌∷◌, Option, Some, refl, sym, ap, subst, ◌∙◌, arith}
-use Rattle.std.proofs.lemmas.Bool.{false≢true, and_parts, and_from, or_cases, or_left, or_right, cases_Bool, cases_lt, eq-eqb, eqb-true, agree_below}
+use Rattle.std.proofs.lemmas.Bool.{false≢true, and_parts, and_from, or_cases, or_left, or_right, cases_Bool, cases_lt, eq-eqb, eqb-true, false_from_ne_true, lt-ltb, agree_below}
 use Rattle.std.proofs.lemmas.Bool.{agree_below_at}
 use Rattle.std.proofs.lemmas.Bool.Decides.{nat_tests}
 use Rattle.std.proofs.lemmas.Nat.Bits.{bit_at_and}
 use Rattle.std.proofs.Math.Nat.{div-eq_of_lt, pow-le-pow_right}
-use Rattle.std.specs.Bool.{beq}
 use Rattle.std.specs.List.{filter, list_any}
 use Rattle.lexical_util.specs.Layout as layout
 use Rattle.lexical_util.specs.Layout.{Flag, bit, flags, part}
 use Rattle.lexical_util.specs.Record.{raw}
+use Rattle.lexical_util.specs.declared.feature_format.roles.Role.TheVariants as roles
 use Rattle.lexical_literal.specs.Notation.{Notation}
 use Rattle.lexical_literal.specs.Cause.{Allows, IsLowest, IsRequirement, Permits, RefusesAlone, Releases, SomeFlag, adding, bare, binds, is_one_of}
-use Rattle.lexical_literal.specs.Cause.{requirement_flags, separator_flags, with_flags, without}
-use Rattle.lexical_literal.specs.Additions.Causes.{Decides, IsLowestBit, IsWeaker, allows, without_bit}
+use Rattle.lexical_literal.specs.Cause.{is_at, requirement_flags, separator_flags, with_flags, without}
+use Rattle.lexical_literal.specs.Additions.Causes.{Decides, IsWeaker, allows, is_own, is_role, place_of}
+use Rattle.lexical_util.specs.declared.format_flags.Part.{Part}
+use Rattle.lexical_util.specs.declared.format_flags.Part.TheVariants as parts
+use Rattle.lexical_literal.specs.Additions.Summary.{in_part}
+use Rattle.lexical_literal.specs.declared.cause.Place.{Place}
+use Rattle.lexical_literal.specs.declared.cause.Place.TheVariants as places
 use Rattle.lexical_literal.specs.declared.steps.Class.{Class}
 use Rattle.lexical_literal.specs.declared.steps.Summary.{Summary}
-use Rattle.lexical_literal.proofs.CauseLemmas.{bit_small, flag_and, flag_pow, requirement_mask}
-use Rattle.lexical_literal.proofs.JointLemmas.{Alone, joint}
-use Rattle.lexical_literal.proofs.RefusalLemmas.{same_flag, apart}
+use Rattle.lexical_literal.proofs.CauseLemmas.{bit_small, flag_pow}
+use Rattle.lexical_literal.proofs.JointLemmas.{Alone, at_next, going, is_lower, joint, lower, zeros_bind}
+use Rattle.lexical_literal.proofs.RefusalLemmas.{apart, at, same_flag}
 
 -- THE FLAGS OF A MASK
 
-find : (fs : List Flag) (k : ℕ) → list_any (λ g. bit g == k) fs ≡ true → (f : Flag) × (bit f ≡ k)
-find [] k is = absurd (false≢true is)
-find (g ∷ fs) k is = elim (or_cases (bit g == k) _ is) [ inl here ↦ (g, eqb-true (bit g) k here) | inr more ↦ find fs k more ]
-
-abbrev pub flags_in : ℕ → List Flag
-flags_in mask = filter (λ g. part mask (bit g) 1 == 1) flags
-
 -- Each bit of a mask of flags is one of them.
-pub mask_flag : (mask : ℕ) → mask < 2 ^ 44 → agree_below (λ k. part mask k 1 == 1) (λ k. list_any (λ g. bit g == k) (flags_in mask)) 44 ≡ true
+pub mask_flag : (mask : ℕ) → mask < 2 ^ 44 → agree_below (λ k. (part mask k 1 == 1) && not (bit (at flags k) == k)) (λ k. false) 44 ≡ true
     → (k : ℕ) → part mask k 1 ≡ 1 → (f : Flag) × (bit f ≡ k)
 mask_flag mask small agree k one = elim (cases_lt k 44) [
-  | inl below ↦ find (flags_in mask) k (sym (agree_below_at (λ k. part mask k 1 == 1) (λ k. list_any (λ g. bit g == k) (flags_in mask)) 44 k agree below)
-      ∙ ap (λ n. n == 1) one)
+  | inl below ↦ (at flags k, eqb-true (bit (at flags k)) k (owned _ _ (eq-eqb (part mask k 1) 1 one)
+      (agree_below_at (λ k. (part mask k 1 == 1) && not (bit (at flags k) == k)) (λ k. false) 44 k agree below)))
   | inr high ↦
       let wide : 2 ^ 44 ≤ 2 ^ k = pow-le-pow_right {n = 2} (omega arith) high in
       let none : mask / 2 ^ k ≡ 0 = div-eq_of_lt (omega (arith, wide)) in
       absurd (omega (arith, one, ap (λ n. n % 2) none))
-]
+] where
+  owned : (x y : Bool) → x ≡ true → (x && not y) ≡ false → y ≡ true
+  owned x y is none = grind arith
 
 both_bits : (a b : ℕ) → min a b ≡ 1 → b < 2 → b ≡ 1
 both_bits a b is small = omega arith
@@ -48,27 +48,20 @@ both_bits a b is small = omega arith
 pub of_mask : (word mask k : ℕ) → part (bit_and word mask) k 1 ≡ 1 → part mask k 1 ≡ 1
 of_mask word mask k one = both_bits _ _ (sym (bit_at_and word mask k) ∙ one) (bit_small mask k)
 
--- What requires something is among the lowest flags.
-pub below_15 : (f : Flag) → is_one_of requirement_flags f ≡ true → bit f < 15
-below_15 f is = grind (arith, nat_tests)
-
 -- FEWER REQUIREMENTS
 
 module _ (m : Notation) where
-  weak_bare : (x r : Bool) → ((x && not r) && r) ≡ true → x ≡ true
-  weak_bare x r is = grind arith
-
-  kept_bare : (x r : Bool) → x ≡ true → ((x && not r) || r) ≡ true
-  kept_bare x r is = grind arith
-
-  pub bare_weaker : IsWeaker m (bare m).flag
-  bare_weaker = record { no_more = λ f is. weak_bare (m.flag f) _ is; no_less = λ f is. kept_bare (m.flag f) _ is }
-
-  weak_adding : (e x r : Bool) → ((e || (x && not r)) && r) ≡ true → e ≡ true
-  weak_adding e x r is = grind arith
+  weak_without : (x e r : Bool) → ((x && not e) && r) ≡ true → x ≡ true
+  weak_without x e r is = grind arith
 
   kept_adding : (e x r : Bool) → x ≡ true → ((e || (x && not r)) || r) ≡ true
   kept_adding e x r is = grind arith
+
+  pub bare_weaker : IsWeaker m (bare m).flag
+  bare_weaker = record { no_more = λ f is. weak_without (m.flag f) _ _ is; no_less = λ f is. kept_adding false (m.flag f) _ is }
+
+  weak_adding : (e x r : Bool) → ((e || (x && not r)) && r) ≡ true → e ≡ true
+  weak_adding e x r is = grind arith
 
   -- One requirement that is set, or one that allows separators.
   pub adding_weaker : (f : Flag) → (IsTrue (is_one_of requirement_flags f) → m.flag f ≡ true) → IsWeaker m (adding f (bare m)).flag
@@ -78,9 +71,6 @@ module _ (m : Notation) where
         ap m.flag same ∙ set (ap (is_one_of requirement_flags) (sym same) ∙ (and_parts ((bit g == bit f) || (bare m).flag g) _ is).1);
     no_less = λ g is. kept_adding (bit g == bit f) (m.flag g) (is_one_of requirement_flags g) is;
   }
-
-  weak_without : (x e r : Bool) → ((x && not e) && r) ≡ true → x ≡ true
-  weak_without x e r is = grind arith
 
   pub without_weaker : (f : Flag) → is_one_of requirement_flags f ≡ true → IsWeaker m (without f m).flag
   without_weaker f requires = record {
@@ -98,25 +88,18 @@ module _ (m : Notation) where
 
   module _ (s : Summary) (class : Option Class) (front : List ℕ) (next : Option ℕ) (decides : Decides m s class front next) where
     abbrev pub alone : Flag → Bool
-    alone f = binds m f && beq (allows (adding f (bare m)) s class) false
+    alone f = binds m f && not (allows (adding f (bare m)) s class)
 
     binding : (f : Flag) → binds m f ≡ true → IsWeaker m (adding f (bare m)).flag
     binding f is = adding_weaker f (λ _. (and_parts (m.flag f) _ is).0)
-
-    as_false : (a : Bool) → beq a false ≡ true → a ≡ true → ⊥
-    as_false true is set = false≢true is
-    as_false false is set = false≢true set
-
-    is_false : (a : Bool) → (a ≡ true → ⊥) → beq a false ≡ true
-    is_false true not_true = absurd (not_true refl)
-    is_false false not_true = refl
 
     pub alone_refuses : (f : Flag) → (alone f ≡ true) ↔ RefusesAlone m front next f
     alone_refuses f = (
       λ is.
           let both = and_parts (binds m f) _ is in
-          (both.0, λ allowed. as_false (allows (adding f (bare m)) s class) both.1 ((decides _ (binding f both.0)).1 allowed)),
-      λ refuses. and_from _ _ refuses.0 (is_false (allows (adding f (bare m)) s class) (λ allowed. refuses.1 ((decides _ (binding f refuses.0)).0 allowed))),
+          (both.0, λ allowed. false≢true (sym (ap not ((decides _ (binding f both.0)).1 allowed)) ∙ both.1)),
+      λ refuses. and_from _ _ refuses.0 (ap not (false_from_ne_true (allows (adding f (bare m)) s class)
+          (λ allowed. refuses.1 ((decides _ (binding f refuses.0)).0 allowed)))),
     )
 
     -- Flags that refuse alone.
@@ -134,114 +117,115 @@ module _ (m : Notation) where
       );
     }
 
-    -- The lowest flag, where none refuses alone.
-    module _ (word : ℕ) (flag_is : (f : Flag) → (raw word).flag f ≡ m.flag f) (none : (f : Flag) → alone f ≡ false) where
-      abbrev candidates : ℕ
-      candidates = bit_and word 0x73FF
-
-      candidate_is : (f : Flag) → (raw candidates).flag f ≡ (m.flag f && is_one_of requirement_flags f)
-      candidate_is f = flag_and f word 0x73FF ∙ (λ j. flag_is f j && requirement_mask f j)
-
-      is_candidate : (f : Flag) → (m.flag f && is_one_of requirement_flags f) ≡ true → part candidates (bit f) 1 ≡ 1
-      is_candidate f is = eqb-true (part candidates (bit f) 1) 1 (candidate_is f ∙ is)
-
+    module _ (allowed : allows (bare m) s class ≡ true) (none : (f : Flag) → alone f ≡ false) where
       none_alone : (f : Flag) → RefusesAlone m front next f → ⊥
       none_alone f refuses = false≢true (sym (none f) ∙ (alone_refuses f).1 refuses)
 
-      -- A lower flag, and a higher one, is not the lowest.
-      module _ (k : ℕ) (least : IsLowestBit m s class candidates k) where
-        owner : (f : Flag) × (bit f ≡ k)
-        owner = mask_flag 0x73FF (omega arith) refl k (of_mask word 0x73FF k least.candidate)
+      -- The lowest flag that releases, where none refuses alone.
+      module _ (flag : Flag) (set : (m.flag flag && is_one_of requirement_flags flag) ≡ true) (free : allows (without flag m) s class ≡ true)
+          (least : (g : Flag) → bit g < bit flag → (m.flag g && is_one_of requirement_flags g) ≡ true → allows (without g m) s class ≡ false) where
+        releases : Releases m front next flag
+        releases = (set, (decides _ (without_weaker flag (and_parts (m.flag flag) _ set).1)).0 free)
 
-        releases : (f : Flag) → bit f ≡ k → Releases m front next f
-        releases f same =
-            let set = sym (candidate_is f) ∙ ap (λ n. part candidates n 1 == 1) same ∙ ap (λ n. n == 1) least.candidate in
-            (set, (decides _ (without_weaker f (and_parts (m.flag f) _ set).1)).0 (ap (λ n. allows (without_bit n m) s class) same ∙ least.allowed))
+        not_lower : (g : Flag) → bit g < bit flag → Releases m front next g → ⊥
+        not_lower g below is = false≢true (sym (least g below is.0) ∙ (decides _ (without_weaker g (and_parts (m.flag g) _ is.0).1)).1 is.1)
 
-        not_lower : (f : Flag) → bit f < k → Releases m front next f → ⊥
-        not_lower f below is = false≢true (sym (least.lowest (bit f) below (is_candidate f is.0))
-            ∙ (decides _ (without_weaker f (and_parts (m.flag f) _ is.0).1)).1 is.1)
+        is_lowest : IsLowest m front next flag
+        is_lowest = record { none_alone = none_alone; releases = releases; lowest = not_lower }
 
-        the_one : (f : Flag) → IsLowest m front next f → bit f ≡ k
-        the_one f lowest = elim (cases_lt (bit f) k) [
+        the_one : (f : Flag) → IsLowest m front next f → bit f ≡ bit flag
+        the_one f lowest = elim (cases_lt (bit f) (bit flag)) [
           | inl below ↦ absurd (not_lower f below lowest.releases)
-          | inr above ↦ elim (cases_lt k (bit f)) [
-            | inl higher ↦ absurd (lowest.lowest owner.0 (omega (arith, higher, owner.1)) (releases owner.0 owner.1))
+          | inr above ↦ elim (cases_lt (bit flag) (bit f)) [
+            | inl higher ↦ absurd (lowest.lowest flag higher releases)
             | inr same ↦ omega (arith, above, same)
           ]
         ]
 
-        pub one_lowest : allows (bare m) s class ≡ true → IsRequirement m front next (raw (2 ^ k)).flag
-        one_lowest allowed = record {
+        one_lowest : IsRequirement m front next (raw (2 ^ bit flag)).flag
+        one_lowest = record {
           allowed = (decides _ bare_weaker).0 allowed;
-          some = (owner.0, flag_pow owner.0 k ∙ eq-eqb (bit owner.0) k owner.1);
+          some = (flag, flag_pow flag (bit flag) ∙ eq-eqb (bit flag) (bit flag) refl);
           each = λ f. (
-            λ is.
-                let same = eqb-true (bit f) k (sym (flag_pow f k) ∙ is) in
-                inr (record {
-                  none_alone = none_alone;
-                  releases = releases f same;
-                  lowest = λ g below. not_lower g (omega (arith, below, same));
-                }),
+            λ is. inr (subst (IsLowest m front next) (sym (same_flag f flag (eqb-true (bit f) (bit flag) (sym (flag_pow f (bit flag)) ∙ is)))) is_lowest),
             λ is. elim is [
               | inl refuses ↦ absurd (none_alone f refuses)
-              | inr lowest ↦ flag_pow f k ∙ eq-eqb (bit f) k (the_one f lowest)
+              | inr lowest ↦ flag_pow f (bit flag) ∙ eq-eqb (bit f) (bit flag) (the_one f lowest)
             ],
           );
         }
 
-      not_false : (a : Bool) → beq a false ≡ false → a ≡ true
-      not_false true is = refl
-      not_false false is = absurd (false≢true (sym is))
+      met : (b a : Bool) → (b && not a) ≡ false → b ≡ true → a ≡ true
+      met b a none is = grind arith
 
-      binds_and : (a b : Bool) → a ≡ true → (a && b) ≡ false → b ≡ false
-      binds_and a b set is = grind arith
+      needs : (t n : Bool) → (t && not n) ≡ false → t ≡ true → n ≡ true
+      needs t n none is = grind arith
 
-      -- One flag is found.
-      pub some_lowest : allows (bare m) s class ≡ true → allows m s class ≡ false
-          → ((k : ℕ) → k < 15 → part candidates k 1 ≡ 1 → allows (without_bit k m) s class ≡ false) → ⊥
-      some_lowest allowed refused nothing =
-          let each : Alone m (λ n. allows n s class) = record {
-            free = allowed;
-            each = λ f is. not_false _ (binds_and (binds m f) _ is (none f));
-          } in
-          elim (joint m s class each) [
-            | inl is ↦ false≢true (sym refused ∙ is)
-            | inr both ↦ false≢true (sym (nothing 13 (omega arith) (is_candidate layout.no_float_leading_zeros (and_from _ _ both.0 refl))) ∙ both.1)
-          ]
+      -- Two flags on leading zeros refuse together.
+      module _ (refused : allows m s class ≡ false) where
+        each_free : Alone m (λ n. allows n s class)
+        each_free = record { free = allowed; each = λ f is. met (binds m f) _ (none f) is }
 
-    -- SEPARATORS
+        lower_free : (g : Flag) → is_lower m g ≡ true → allows (without g m) s class ≡ false
+        lower_free g below = lower m s class (going m s class allowed refused) g below each_free refused
 
-    module _ (byte : ℕ) (is_next : next ≡ Some byte) where
-      is_true : (a : Bool) → beq a true ≡ true → a ≡ true
-      is_true true is = refl
-      is_true false is = absurd (false≢true is)
+        two : (t : Bool) → zeros_bind m ≡ t → (if t then allows (without layout.no_integer_leading_zeros m) s class
+            else m.flag layout.no_float_leading_zeros && allows (without layout.no_float_leading_zeros m) s class) ≡ true
+        two t is = sym (ap (λ t. if t then allows (without layout.no_integer_leading_zeros m) s class
+            else m.flag layout.no_float_leading_zeros && allows (without layout.no_float_leading_zeros m) s class) is)
+            ∙ joint m s class (going m s class allowed refused) each_free refused
 
-      as_true : (a : Bool) → a ≡ true → beq a true ≡ true
-      as_true true is = refl
-      as_true false is = absurd (false≢true is)
+        pub first_of_two : zeros_bind m ≡ true → IsRequirement m front next (raw (2 ^ 12)).flag
+        first_of_two is = one_lowest layout.no_integer_leading_zeros (and_from _ _ (and_parts (m.flag layout.no_integer_leading_zeros) _ is).0 refl)
+            (two true is) (λ g below set. lower_free g (or_left _ _ (lt-ltb (bit g) 12 below)))
 
-      to_next : (n : Notation) → Allows n front next → Allows n front (Some byte)
-      to_next n is = subst (Allows n front) is_next is
+        pub second_of_two : zeros_bind m ≡ false → IsRequirement m front next (raw (2 ^ 13)).flag
+        second_of_two is =
+            let both = and_parts (m.flag layout.no_float_leading_zeros) _ (two false is) in
+            one_lowest layout.no_float_leading_zeros (and_from _ _ both.0 refl) both.1 (λ g below set. lower_free g (elim (cases_lt (bit g) 12) [
+              | inl under ↦ or_left _ _ (lt-ltb (bit g) 12 under)
+              | inr same ↦
+                  let twelve : bit g ≡ 12 = omega arith in
+                  let on = ap m.flag (sym (same_flag g layout.no_integer_leading_zeros twelve)) ∙ (and_parts (m.flag g) _ set).0 in
+                  or_right (nat_lt (bit g) 12) _ (and_from _ _ (eq-eqb (bit g) 12 twelve) (needs (m.flag layout.no_integer_leading_zeros) _ is on))
+            ]))
 
-      from_next : (n : Notation) → Allows n front (Some byte) → Allows n front next
-      from_next n is = subst (Allows n front) (sym is_next) is
+  -- SEPARATORS
 
-      -- `at` is true of the flags of the place where a separator is not allowed.
-      pub each_permits : (at : Flag → Bool) → ((f : Flag) → at f ≡ true → is_one_of separator_flags f ≡ true)
-          → ((f : Flag) → is_one_of separator_flags f ≡ true → allows (adding f (bare m)) s class ≡ true → at f ≡ true)
-          → (f : Flag) → ((at f && beq (allows (adding f (bare m)) s class) true) ≡ true) ↔ Permits m front byte f
-      each_permits at separates found f = (
-        λ is.
-            let both = and_parts (at f) _ is in (
-              separates f both.0,
-              to_next (adding f (bare m))
-                  ((decides _ (permits_weaker f (separates f both.0))).0 (is_true (allows (adding f (bare m)) s class) both.1)),
-            ),
-        λ permits.
-            let allowed = (decides _ (permits_weaker f permits.0)).1 (from_next (adding f (bare m)) permits.1) in
-            and_from _ _ (found f permits.0 allowed) (as_true (allows (adding f (bare m)) s class) allowed),
-      )
+  own_at : (place : Place) (part : Part) (f : Flag) → is_at place part f ≡ true → is_own part f ≡ true
+  own_at places.BeforeDigits part f is = grind arith
+  own_at _ part f is = grind arith
+
+  own_separates : (part : Part) (f : Flag) → is_own part f ≡ true → is_one_of separator_flags f ≡ true
+  own_separates parts.Integer f is = grind (arith, nat_tests)
+  own_separates _ f is = grind (arith, nat_tests)
+
+  module _ (s : Summary) (class : Class) (front : List ℕ) (byte : ℕ) (decides : Decides m s (Some class) front (Some byte))
+      (refused : allows (bare m) s (Some class) ≡ false) where
+    abbrev found : Flag → Bool
+    found f = (s.gap || is_role roles.Separator (in_part s.part class)) && (is_own s.part f && allows (adding f (bare m)) s (Some class))
+
+    at_place : (f : Flag) → is_one_of separator_flags f ≡ true → allows (adding f (bare m)) s (Some class) ≡ true
+        → ((s.gap || is_role roles.Separator (in_part s.part class)) ≡ true) × (is_at (place_of m s (in_part s.part class)) s.part f ≡ true)
+    at_place f separates allowed = and_parts (s.gap || is_role roles.Separator (in_part s.part class)) _ (at_next m f s class separates refused allowed)
+
+    owned : (f : Flag) → found f ≡ true → (is_one_of separator_flags f ≡ true) × (allows (adding f (bare m)) s (Some class) ≡ true)
+    owned f is =
+        let both = and_parts (is_own s.part f) _ (and_parts (s.gap || is_role roles.Separator (in_part s.part class)) _ is).1 in
+        (own_separates s.part f both.0, both.1)
+
+    -- The flags that are found are those that permit a separator, and of its place.
+    pub each_permits : (f : Flag) → (found f ≡ true) ↔ Permits m front byte f
+    each_permits f = (
+      λ is. let both = owned f is in (both.0, (decides _ (permits_weaker f both.0)).0 both.1),
+      λ permits.
+          let allowed = (decides _ (permits_weaker f permits.0)).1 permits.1 in
+          let at = at_place f permits.0 allowed in
+          and_from _ _ at.0 (and_from _ _ (own_at (place_of m s (in_part s.part class)) s.part f at.1) allowed),
+    )
+
+    pub found_at : (f : Flag) → found f ≡ true → is_at (place_of m s (in_part s.part class)) s.part f ≡ true
+    found_at f is = let both = owned f is in (at_place f both.0 both.1).1
 
 -- A mask as the flags of a notation.
 pub as_bare : (m : Notation) (mask : ℕ) → ((f : Flag) → (raw mask).flag f ≡ (bare m).flag f) → with_flags m (raw mask).flag ≡ bare m

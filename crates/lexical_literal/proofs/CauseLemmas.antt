@@ -1,22 +1,20 @@
 -- The flags of masks, and the bytes to show.
 use Rattle.std.proofs.Common.{ℕ, ◌≡◌, ◌≢◌, ◌<◌, ◌+◌, ◌*◌, ◌%◌, ◌^◌, ◌==◌, ◌&&◌, ◌||◌, not, nat_lt, Bool, true, false, if◌then◌else◌}
-use Rattle.std.proofs.Common.{bit_and, bit_or, Option, List, [], ◌∷◌, ◌++◌, length, refl, sym, ap, ◌∙◌, arith}
+use Rattle.std.proofs.Common.{bit_and, bit_or, inl, inr, List, [], ◌∷◌, ◌++◌, length, refl, sym, ap, ◌∙◌, arith}
 use Rattle.std.proofs.lemmas.Bool.Decides.{nat_tests}
 use Rattle.std.proofs.lemmas.List.Folds.{list_any-append}
-use Rattle.std.proofs.lemmas.Nat.Bits.{and_pow, bit_at_and, bit_at_or, bit_at_not, bit_at-zero, bit_at-pow_same, bit_at-pow_other}
-use Rattle.std.proofs.lemmas.Nat.{one_shl, pow_below}
-use Rattle.std.proofs.Math.Nat.{mod-lt}
-use Rattle.std.specs.Bool.{beq}
-use Rattle.std.specs.Int.{w128, bit_not}
+use Rattle.std.proofs.lemmas.Nat.Bits.{and_pow, bit_at_and, bit_at_or, bit_at_not, bit_at-zero, bit_at-pow_same, bit_at-pow_other, bit_at-trailing_zeros}
+use Rattle.std.proofs.Math.Nat.{eq-zero-or-pos, mod-lt}
+use Rattle.std.proofs.lemmas.Bool.{and_from, eq-eqb, or_left, or_right}
+use Rattle.std.proofs.lemmas.Nat.{one_shl}
+use Rattle.std.specs.Int.Bits.{or_zero_l}
+use Rattle.std.specs.Int.{w128, bit_not, trailing_zeros}
 use Rattle.lexical_util.specs.Ascii.{ByteSet}
 use Rattle.lexical_util.specs.Layout as layout
 use Rattle.lexical_util.specs.Layout.{Flag, bit, part}
 use Rattle.lexical_util.specs.Record.{raw}
-use Rattle.lexical_literal.specs.Additions.Causes.{allows, with_bit, without_bit}
-use Rattle.lexical_literal.specs.Cause.{adding, behind, case_set, first_in, is_one_of, requirement_flags, separator_flags, with_flags}
+use Rattle.lexical_literal.specs.Cause.{behind, case_set, first_in, is_one_of, requirement_flags, separator_flags}
 use Rattle.lexical_literal.specs.Notation.{Notation}
-use Rattle.lexical_literal.specs.declared.steps.Class.{Class}
-use Rattle.lexical_literal.specs.declared.steps.Summary.{Summary}
 
 -- THE FLAGS OF MASKS
 
@@ -55,31 +53,9 @@ pub all_bind : (f : Flag) → (raw 0x73FF).flag f ≡ (is_one_of requirement_fla
 all_bind layout.required_integer_digits = refl
 all_bind _ = refl
 
-pub separator_mask : (f : Flag) → (raw 0xFFF_0000_0000).flag f ≡ is_one_of separator_flags f
-separator_mask layout.required_integer_digits = refl
-separator_mask _ = refl
-
 -- The flags of a word without requirements.
 pub bare_flags : (word : ℕ) (f : Flag) → (raw (bit_and word (bit_not w128 0x73FF))).flag f ≡ ((raw word).flag f && not (is_one_of requirement_flags f))
 bare_flags word f = flag_and f word (bit_not w128 0x73FF) ∙ ap (λ t. (raw word).flag f && t) (flag_not f 0x73FF (omega arith) ∙ ap not (requirement_mask f))
-
--- `case_mask_of a b c` has the flags on the case of the exponent character, the prefix and the suffix, each if it is true.
-abbrev pub case_mask_of : Bool → Bool → Bool → ℕ
-case_mask_of a b c = bit_or (bit_or (if a then 2 ^ 15 else 0) (if b then 2 ^ 16 else 0)) (if c then 2 ^ 17 else 0)
-
-module _ (m : Notation) (byte : ℕ) where
-  pub case_each : (f : Flag) → (raw (case_mask_of (m.exponent_character byte) (m.prefix byte) (m.suffix byte))).flag f ≡ case_set f m byte
-  case_each layout.required_integer_digits = grind arith
-  case_each _ = grind arith
-
-  pub case_some : case_mask_of (m.exponent_character byte) (m.prefix byte) (m.suffix byte) ≢ 0 → (f : Flag) × (case_set f m byte ≡ true)
-  case_some some = go (m.exponent_character byte) (m.prefix byte) (m.suffix byte) refl refl refl some where
-    go : (a b c : Bool) → m.exponent_character byte ≡ a → m.prefix byte ≡ b → m.suffix byte ≡ c → case_mask_of a b c ≢ 0
-        → (f : Flag) × (case_set f m byte ≡ true)
-    go true b c is_a is_b is_c some = (layout.case_sensitive_exponent, is_a)
-    go false true c is_a is_b is_c some = (layout.case_sensitive_base_prefix, is_b)
-    go false false true is_a is_b is_c some = (layout.case_sensitive_base_suffix, is_c)
-    go false false false is_a is_b is_c some = absurd (some refl)
 
 -- A bit that a mask has, or has not.
 pub is_unset : (n k : ℕ) → bit_and n (2 ^ k) ≡ 0 → part n k 1 ≡ 0
@@ -88,40 +64,49 @@ is_unset n k none = omega (arith, bit_small n k, bit_at-pow_same k, bit_at_and n
 pub is_set : (n k : ℕ) → bit_and n (2 ^ k) ≢ 0 → part n k 1 ≡ 1
 is_set n k some = let bits = and_pow n k in let small = bit_small n k in grind arith
 
+-- A mask whose bits are flags has one, if it is not 0.
+pub some_flag : (n : ℕ) → n ≢ 0 → n < 2 ^ 128 → ((k : ℕ) → part n k 1 ≡ 1 → (f : Flag) × (bit f ≡ k)) → (f : Flag) × ((raw n).flag f ≡ true)
+some_flag n some fits owner =
+    let low = bit_at-trailing_zeros w128 n (omega (arith, some)) fits in
+    let f = owner (trailing_zeros w128 n) low.1 in
+    (f.0, ap (λ k. part n k 1 == 1) f.1 ∙ ap (λ n. n == 1) low.1)
+
 pub shifted : (k : ℕ) → k < 44 → 1 * 2 ^ k % 2 ^ 128 ≡ 2 ^ k
 shifted k small = one_shl k 128 (omega arith)
 
--- One more flag in a mask, or one less.
-pub with_shifted : (m : Notation) (mask k : ℕ) → k < 44 → with_flags m (raw (bit_or mask (1 * 2 ^ k % 2 ^ 128))).flag
-    ≡ with_bit k (with_flags m (raw mask).flag)
-with_shifted m mask k small = λ j. with_flags m (λ g. both g j) where
-  both : (g : Flag) → (raw (bit_or mask (1 * 2 ^ k % 2 ^ 128))).flag g ≡ ((bit g == k) || (raw mask).flag g)
-  both g = rw (shifted k small, flag_or g mask (2 ^ k), flag_pow g k) (grind arith)
+-- The flags of one mask or another.
+pub either : (f : Flag) (a b : ℕ) (x y : Bool) → (raw a).flag f ≡ x → (raw b).flag f ≡ y → (raw (bit_or a b)).flag f ≡ (x || y)
+either f a b x y is_a is_b = flag_or f a b ∙ (λ j. is_a j || is_b j)
 
-pub without_shifted : (m : Notation) (mask k : ℕ) → k < 44 → with_flags m (raw (bit_and mask (bit_not w128 (1 * 2 ^ k % 2 ^ 128)))).flag
-    ≡ without_bit k (with_flags m (raw mask).flag)
-without_shifted m mask k small = λ j. with_flags m (λ g. both g j) where
-  both : (g : Flag) → (raw (bit_and mask (bit_not w128 (1 * 2 ^ k % 2 ^ 128)))).flag g ≡ ((raw mask).flag g && not (bit g == k))
-  both g = rw (shifted k small, flag_and g mask (bit_not w128 (2 ^ k)), flag_not g (2 ^ k) (pow_below k 128 (omega arith)), flag_pow g k) refl
+-- `HasFlag n` holds if the mask `n` has a flag, or is 0.
+abbrev pub HasFlag : ℕ → Type 0
+HasFlag n = n ≢ 0 → (f : Flag) × ((raw n).flag f ≡ true)
 
-module _ (m : Notation) (s : Summary) (next : Option Class) (candidates mask : ℕ) (allow : Bool) (k : ℕ) (small : k < 44) (f : Flag) (same : bit f ≡ k) where
-  abbrev tested : Bool
-  tested = (raw candidates).flag f && beq (allows (adding f (with_flags m (raw mask).flag)) s next) allow
+pub has_either : (a b : ℕ) → HasFlag a → HasFlag b → HasFlag (bit_or a b)
+has_either a b of_a of_b some = elim (eq-zero-or-pos a) [
+  | inl none ↦
+      let found = of_b (λ zero. some (ap (λ n. bit_or n b) none ∙ or_zero_l b ∙ zero)) in
+      (found.0, flag_or found.0 a b ∙ or_right ((raw a).flag found.0) _ found.1)
+  | inr more ↦
+      let found = of_a (λ zero. absurd (omega (arith, more, zero))) in
+      (found.0, flag_or found.0 a b ∙ or_left _ _ found.1)
+]
 
-  -- A bit that was tested, or that is not a candidate.
-  pub as_tested : (result added : Bool) → bit_and candidates (1 * 2 ^ k % 2 ^ 128) ≢ 0
-      → result ≡ allows (with_flags m (raw (bit_or mask (1 * 2 ^ k % 2 ^ 128))).flag) s next → beq result allow ≡ added → tested ≡ added
-  as_tested result added some is test =
-      let set = is_set candidates k (λ none. some (ap (bit_and candidates) (shifted k small) ∙ none)) in
-      rw (same, set, ← with_shifted m mask k small, ← is) test
+-- The flags of a mask that is taken if `t` is true.
+pub flag_if : (t : Bool) (mask : ℕ) (f : Flag) → (raw (if t then mask else 0)).flag f ≡ (t && (raw mask).flag f)
+flag_if true mask f = refl
+flag_if false mask f = flag_zero f
 
-  pub as_unset : bit_and candidates (1 * 2 ^ k % 2 ^ 128) ≡ 0 → tested ≡ false
-  as_unset none = rw (same, is_unset candidates k (sym (ap (bit_and candidates) (shifted k small)) ∙ none)) refl
+pub is_taken : (t : Bool) (mask : ℕ) → (if t then mask else 0) ≢ 0 → t ≡ true
+is_taken true mask some = refl
+is_taken false mask some = absurd (some refl)
 
--- One more bit has been tried.
-pub tried_more : (b k : ℕ) (x added old new : Bool) → (b ≡ k → x ≡ added) → old ≡ (nat_lt b k && x) → new ≡ (old || ((b == k) && added))
-    → new ≡ (nat_lt b (k + 1) && x)
-tried_more b k x added old new same before now = grind (arith, nat_tests)
+-- A mask of one flag, if `t` is true.
+pub one_flag : (t : Bool) (k mask : ℕ) → mask ≡ (if t then 2 ^ k else 0) → (f : Flag) → (raw mask).flag f ≡ (t && (bit f == k))
+one_flag t k mask is f = ap (λ n. (raw n).flag f) is ∙ flag_if t (2 ^ k) f ∙ ap (λ b. t && b) (flag_pow f k)
+
+pub has_one : (t : Bool) (g : Flag) (mask : ℕ) → mask ≡ (if t then 2 ^ bit g else 0) → HasFlag mask
+has_one t g mask is some = (g, one_flag t (bit g) mask is g ∙ and_from _ _ (is_taken t _ (λ zero. some (is ∙ zero))) (eq-eqb (bit g) (bit g) refl))
 
 -- THE BYTES TO SHOW
 
@@ -129,11 +114,3 @@ module _ (A : ByteSet) where
   pub behind_more : (text : List ℕ) (byte : ℕ) → behind A (text ++ byte ∷ []) ≡ (if A byte then length text + 1 else behind A text)
   behind_more [] byte = grind arith
   behind_more (b ∷ text) byte = let more = behind_more text byte in let any = list_any-append A text (byte ∷ []) in grind arith
-
-  pub first_append : (x y : List ℕ) → first_in A x ≡ length x → first_in A (x ++ y) ≡ length x + first_in A y
-  first_append [] y none = omega arith
-  first_append (b ∷ x) y none = let more = first_append x y in grind arith
-
-  pub first_before : (x y : List ℕ) → first_in A x < length x → first_in A (x ++ y) ≡ first_in A x
-  first_before [] y some = absurd (omega arith)
-  first_before (b ∷ x) y some = let more = first_before x y in grind arith

@@ -13,7 +13,7 @@ use Rattle.lexical_literal.specs.Additions.Summary.{implies, has_digit, is_fresh
 use Rattle.lexical_literal.specs.declared.steps.Stage.{Stage}
 use Rattle.lexical_literal.specs.declared.steps.Stage.TheVariants as stages
 use Rattle.lexical_literal.specs.declared.steps.Summary.{Summary}
-use Rattle.lexical_literal.proofs.RunLemmas.{is_rest, rest_digit, rest_other}
+use Rattle.lexical_literal.proofs.RunLemmas.{is_rest}
 use Rattle.lexical_literal.proofs.ScanLemmas.{HasRoles, Accepts, took, none_accepts, role_in, as_digit, no_digit, as_role}
 use Rattle.lexical_literal.proofs.StepLemmas.{reading, begins, stage_after, after_byte, stage_at, gap_at, sign_fits, prefix_fits, ends_part, text_after}
 
@@ -63,10 +63,7 @@ module _ (m : Notation) where
     -- A part that ends.
     ended_by : (more : Literal) → text ≡ text_after part more → ends m (reading part stage gap) ≡ true
         → (digits_suffice m part stage ≡ true → ends_part m part more stage ≡ true) → Cut m part stage gap text
-    ended_by more whole is end =
-        let both = and_parts (is_signed m part stage) _ is in
-        let fits = and_parts (gap_fits m part (has_digit stage) gap false) _ both.1 in
-        cut_at [] [] [] more whole (no_sign_fits part stage both.0) refl fits.0 (end fits.1)
+    ended_by more whole is end = cut_at [] [] [] more whole (grind arith) refl (grind arith) (end (grind arith))
 
     -- Nothing but a suffix follows.
     stopped : (ends m (reading part stage gap) && continues m part stage roles.Suffix) ≡ true → is_none_or_one m.suffix text ≡ true → Cut m part stage gap text
@@ -90,9 +87,7 @@ module _ (m : Notation) where
     digit_first digit signed fits cut = go cut.prefix (unsigned part (after_digit stage gap (b == 48)) false text (grind arith) cut) where
       go : (prefix : List ℕ) → Found m part (after_digit stage gap (b == 48)) false [] prefix text → Cut m part stage gap (b ∷ text)
       go [] found = longer (after_digit stage gap (b == 48)) false true digit signed
-          (λ run is. rest_digit m part (has_digit stage) gap b run digit
-          ∙ and_from _ _ fits (subst (λ t. is_rest m part t false run ≡ true) (grind arith) is))
-          (λ run. refl) found
+          (λ run is. grind arith) (λ run. refl) found
       go (x ∷ []) found = cut_at part stage gap (b ∷ text) [] (b ∷ x ∷ []) found.digits found.more (ap (λ t. b ∷ t) found.whole)
           (no_sign_fits part stage signed) (let prefixed = found.prefixed in grind arith) found.run found.end
       go (z ∷ x ∷ more) found = absurd (let prefixed = found.prefixed in grind arith)
@@ -102,18 +97,14 @@ module _ (m : Notation) where
         → ((not gap || m.flag (separators_in part).consecutive) && is_open m part (has_digit stage) (may_follow m stage)) ≡ true
         → Cut m part (after_mark stage) true text → Cut m part stage gap (b ∷ text)
     separator_first other separator signed fits cut = longer (after_mark stage) true false other signed
-        (λ run is. rest_other m part (has_digit stage) gap b run other
-        ∙ and_from _ _ separator (and_from _ _ (and_parts _ _ fits).0 (subst (λ t. is_rest m part t true run ≡ true) (grind arith) is)))
-        (λ run. refl) (plain part (after_mark stage) true text (grind arith) (grind arith) (grind arith) cut)
+        (λ run is. grind arith) (λ run. refl) (plain part (after_mark stage) true text (grind arith) (grind arith) (grind arith) cut)
 
     -- A sign in front.
     sign_first : signs b ≡ true → (is_fresh stage && implies (forbids_plus m part) (not (b == 43))) ≡ true
         → Cut m part (after_mark stage) gap text → Cut m part stage gap (b ∷ text)
     sign_first one taken cut =
-        let both = and_parts (is_fresh stage) _ taken in
         let found = unsigned part (after_mark stage) gap text (grind arith) cut in
-        cut_at part stage gap (b ∷ text) (b ∷ []) cut.prefix found.digits found.more (ap (λ t. b ∷ t) found.whole)
-        (and_from _ _ one (and_from _ _ both.1 both.0))
+        cut_at part stage gap (b ∷ text) (b ∷ []) cut.prefix found.digits found.more (ap (λ t. b ∷ t) found.whole) (grind arith)
         (let prefixed = found.prefixed in grind arith) found.run found.end
 
     -- A prefix in front, whose zero has been read.
@@ -130,24 +121,21 @@ module _ (m : Notation) where
   point_first parts.Integer stage gap b text point is cut =
       let both = and_parts _ (may_float m stage) is in
       let found = plain parts.Fraction (after_point (has_digit stage)) false text (grind arith) (grind arith) (grind arith) cut in
-      let run = subst (λ t. is_rest m parts.Fraction t false found.digits ≡ true) (grind arith) found.run in
-      let fraction = and_parts _ _ found.end in
       ended_by parts.Integer stage gap (b ∷ text) (record found.more { point = b ∷ []; fraction = found.digits }) (ap (λ t. b ∷ t) found.whole) both.0
-      (λ digits. and_from _ _ digits (and_from _ _ point (and_from _ _ (and_from _ _ both.1 (and_from _ _ run fraction.0)) fraction.1)))
+      (λ digits. let float = both.1 in let run = found.run in let end = found.end in grind arith)
   point_first _ stage gap b text point is cut = absurd (false≢true (and_parts _ false is).1)
 
   -- An exponent character in front.
   exponent_first : (part : Part) (stage : Stage) (gap : Bool) (b : ℕ) (text : List ℕ) → m.exponent_character b ≡ true
       → (ends m (reading part stage gap) && continues m part stage roles.Exponent) ≡ true
       → Cut m parts.Exponent stages.Mark false text → Cut m part stage gap (b ∷ text)
-  exponent_first parts.Exponent stage gap b text character is cut = absurd (false≢true (and_parts _ false is).1)
+  exponent_first parts.Exponent stage gap b text character is cut = absurd (grind arith)
   exponent_first part stage gap b text character is cut =
       let both = and_parts _ (continues m part stage roles.Exponent) is in
       let found = unprefixed parts.Exponent stages.Mark false cut.sign cut.prefix text refl refl cut.found in
-      let run = subst (λ t. is_rest m parts.Exponent t false found.digits ≡ true) (grind arith) found.run in
       let more = record found.more { point = []; fraction = []; exponent_character = b ∷ []; exponent_sign = cut.sign; exponent = found.digits } in
       ended_by part stage gap (b ∷ text) more (ap (λ t. b ∷ t) found.whole) both.0
-      (λ digits. and_from _ _ digits (and_from _ _ character (and_from _ _ both.1 (and_from _ _ found.signed (and_from _ _ run found.end)))))
+      (λ digits. let scale = both.1 in let signed = found.signed in let run = found.run in let end = found.end in grind arith)
 
   module _ (h : HasRoles m) where
     -- Nothing follows the suffix.

@@ -32,11 +32,7 @@ module _ (m : Notation) where
   -- What can go on does so after each byte that is taken.
   goes_on : (s : Summary) (plus zero : Bool) (r : Role) → CanGoOn m s → takes m s plus r ≡ true → CanGoOn m (after s zero r)
   goes_on s plus zero roles.Digit can is = record { closes = refl; led = grind arith }
-  goes_on s plus zero roles.Separator can is = record { closes = grind arith; led = grind arith }
-  goes_on s plus zero roles.Sign can is = record { closes = grind arith; led = grind arith }
-  goes_on s plus zero roles.Point can is = record { closes = refl; led = point_unled (has_digit s.stage) }
-  goes_on s plus zero roles.Suffix can is = record { closes = can.closes; led = can.led }
-  goes_on s plus zero _ can is = record { closes = refl; led = refl }
+  goes_on s plus zero _ can is = record { closes = grind arith; led = grind arith }
 
   all_go_on : HasRoles m → (s : Summary) (text : List ℕ) (last : Summary) → CanGoOn m s → scan m (Some s) text ≡ Some last → CanGoOn m last
   all_go_on h s [] last can is = let same : s ≡ last = cc in subst (CanGoOn m) same can

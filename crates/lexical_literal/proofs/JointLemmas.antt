@@ -1,86 +1,210 @@
--- Where no flag refuses alone, two flags on leading zeros do together.
-use Rattle.std.proofs.Common.{◌≡◌, Bool, true, false, ◌&&◌, ◌||◌, ◌⊎◌, if◌then◌else◌, inl, inr, Option, Some, None, refl, arith}
-use Rattle.std.proofs.lemmas.Bool.{false≢true, and_parts, or_cases}
+-- Which flags refuse what is allowed without requirements: flags that refuse alone, or two flags on leading zeros.
+use Rattle.std.proofs.Common.{◌≡◌, Bool, true, false, not, ◌==◌, ◌&&◌, ◌||◌, if◌then◌else◌, nat_lt, Option, Some, None, refl, sym, ap, subst, ◌∙◌, arith}
+use Rattle.std.proofs.lemmas.Bool.{false≢true, and_parts, or_parts}
+use Rattle.std.proofs.lemmas.Bool.Decides.{nat_tests}
 use Rattle.std.specs.Prelude.{is_some}
 use Rattle.lexical_util.specs.Layout as layout
-use Rattle.lexical_util.specs.Layout.{Flag, separators_in}
+use Rattle.lexical_util.specs.Layout.{Flag, bit, separators_in}
 use Rattle.lexical_util.specs.declared.feature_format.roles.Role.{Role}
 use Rattle.lexical_util.specs.declared.feature_format.roles.Role.TheVariants as roles
 use Rattle.lexical_util.specs.declared.format_flags.Part.{Part}
 use Rattle.lexical_util.specs.declared.format_flags.Part.TheVariants as parts
 use Rattle.lexical_literal.specs.Notation.{Notation}
-use Rattle.lexical_literal.specs.Cause.{adding, bare, binds, without}
-use Rattle.lexical_literal.specs.Additions.Causes.{allows}
-use Rattle.lexical_literal.specs.Additions.Summary.{implies, continues, ends, takes, move, is_plus, is_zero, in_part}
+use Rattle.lexical_literal.specs.Run.{is_place}
+use Rattle.lexical_literal.specs.Cause.{adding, bare, binds, is_at, is_one_of, requirement_flags, separator_flags, without}
+use Rattle.lexical_literal.specs.Additions.Causes.{allows, is_plus_next, is_role, place_of, refuses, role_of_next, separates}
+use Rattle.lexical_literal.specs.Additions.Summary.{gap_fits, has_digit, implies, is_signed, in_part, is_plus, is_zero, may_follow, move, needs_exponent, takes}
 use Rattle.lexical_literal.specs.declared.steps.Class.{Class}
 use Rattle.lexical_literal.specs.declared.steps.Stage.{Stage}
 use Rattle.lexical_literal.specs.declared.steps.Stage.TheVariants as stages
 use Rattle.lexical_literal.specs.declared.steps.Summary.{Summary}
 use Rattle.lexical_literal.proofs.StepLemmas.{reading}
 
+-- ROLES
+
+-- `taken n s plus role` is true if a byte with the role `role` may follow, if it has one.
+abbrev pub taken : Notation → Summary → Bool → Option Role → Bool
+taken n s plus None = false
+taken n s plus (Some role) = takes n s plus role
+
+moved : (n : Notation) (s : Summary) (ended plus zero : Bool) (o : Option Role)
+    → is_some (move n (record s { ended = ended }) plus zero o) ≡ (not ended && taken n (reading s.part s.stage s.gap) plus o)
+moved n s ended plus zero None = grind arith
+moved n s ended plus zero (Some role) = grind arith
+
+-- What is allowed is a question of roles, before a suffix.
+pub allows_is : (n : Notation) (s : Summary) (next : Option Class) → s.ended ≡ false → allows n s next ≡ taken n (reading s.part s.stage s.gap) (is_plus_next next) (role_of_next s next)
+allows_is n s None going = grind arith
+allows_is n s (Some class) going = moved n s s.ended (is_plus class) (is_zero class) (in_part s.part class)
+    ∙ ap (λ e. not e && taken n (reading s.part s.stage s.gap) (is_plus class) (in_part s.part class)) going
+
+not_ended : (e t : Bool) → (not e && t) ≡ true → e ≡ false
+not_ended e t is = grind arith
+
 module _ (m : Notation) where
+  -- FLAGS THAT REFUSE ALONE
+
+  alone_role : (f : Flag) (part : Part) (stage : Stage) (gap plus : Bool) (o : Option Role) → is_one_of requirement_flags f ≡ true
+      → taken (bare m) (reading part stage gap) plus o ≡ true
+      → refuses m (reading part stage gap) plus o (bit f) ≡ not (taken (adding f (bare m)) (reading part stage gap) plus o)
+  alone_role f part stage gap plus None requires free = absurd (false≢true free)
+  alone_role layout.required_mantissa_digits parts.Integer stage gap plus (Some roles.Digit) requires free = grind arith
+  alone_role layout.required_mantissa_digits _ stage gap plus (Some _) requires free = grind arith
+  alone_role layout.no_exponent_notation parts.Integer stage gap plus (Some roles.Exponent) requires _ = grind arith
+  alone_role layout.no_exponent_notation _ stage gap plus (Some _) requires free = grind arith
+  alone_role layout.no_exponent_without_fraction parts.Integer stages.Start gap plus (Some roles.Exponent) requires _ = grind arith
+  alone_role layout.no_exponent_without_fraction parts.Integer _ gap plus (Some roles.Exponent) requires _ = grind arith
+  alone_role layout.no_exponent_without_fraction _ stage gap plus (Some _) requires free = grind arith
+  alone_role layout.no_integer_leading_zeros parts.Integer stage gap plus (Some roles.Digit) requires free = grind arith
+  alone_role layout.no_integer_leading_zeros _ stage gap plus (Some _) requires free = grind arith
+  alone_role layout.no_float_leading_zeros parts.Integer stage gap plus (Some roles.Digit) requires free = grind arith
+  alone_role layout.no_float_leading_zeros _ stage gap plus (Some _) requires free = grind arith
+  alone_role layout.required_exponent_notation parts.Integer stage gap plus (Some roles.Digit) requires free = grind arith
+  alone_role layout.required_exponent_notation _ stage gap plus (Some _) requires free = grind arith
+  alone_role _ part stage gap plus (Some role) requires free = grind arith
+
+  -- FLAGS THAT REFUSE TOGETHER
+
   -- `Alone P` holds if `P` is true of `m` without requirements, and with each one that binds.
   pub record Alone (P : Notation → Bool) : Type 0 where
     pub free : P (bare m) ≡ true
     pub each : (f : Flag) → binds m f ≡ true → P (adding f (bare m)) ≡ true
 
-  -- `Joint P` holds if `P` is true of `m`, or of `m` without the flag on the leading zeros of floats, which is set.
-  abbrev pub Joint : (Notation → Bool) → Type 0
-  Joint P = (P m ≡ true) ⊎ ((m.flag layout.no_float_leading_zeros ≡ true) × (P (without layout.no_float_leading_zeros m) ≡ true))
-
-  -- `in_two P` is `Joint P` as a truth value.
-  abbrev in_two : (Notation → Bool) → Bool
-  in_two P = P m || (m.flag layout.no_float_leading_zeros && P (without layout.no_float_leading_zeros m))
-
-  pub same_consecutive : (part : Part) → (bare m).flag (separators_in part).consecutive ≡ m.flag (separators_in part).consecutive
-  same_consecutive parts.Integer = grind arith
-  same_consecutive _ = grind arith
-
   met : {P : Notation → Bool} → Alone P → (f : Flag) → (P (bare m) && implies (binds m f) (P (adding f (bare m)))) ≡ true
   met a f = let free = a.free in let each = a.each f in grind arith
 
-  joint_role : (part : Part) (stage : Stage) (gap plus : Bool) (role : Role) → Alone (λ n. takes n (reading part stage gap) plus role)
-      → in_two (λ n. takes n (reading part stage gap) plus role) ≡ true
-  joint_role _ stages.Bare gap plus roles.Separator a = let leads = met a layout.no_integer_leading_zeros in grind arith
-  joint_role _ stages.Zero gap plus roles.Separator a = let leads = met a layout.no_integer_leading_zeros in grind arith
-  joint_role parts.Exponent stage gap plus roles.Separator a = let sign = met a layout.required_exponent_sign in grind arith
-  joint_role _ stage gap plus roles.Separator a = let sign = met a layout.required_mantissa_sign in grind arith
-  joint_role parts.Exponent stage gap plus roles.Digit a =
-      let sign = met a layout.required_exponent_sign in let leads = met a layout.no_integer_leading_zeros in grind arith
-  joint_role _ stage gap plus roles.Digit a = let sign = met a layout.required_mantissa_sign in let leads = met a layout.no_integer_leading_zeros in grind arith
-  joint_role parts.Exponent stage gap plus roles.Sign a = let forbidden = met a layout.no_positive_exponent_sign in grind arith
-  joint_role _ stage gap plus roles.Sign a = let forbidden = met a layout.no_positive_mantissa_sign in grind arith
-  joint_role parts.Integer stage gap plus roles.Suffix a =
+  -- `is_digits role` is true if a byte with the role `role` is of digits.
+  abbrev is_digits : Role → Bool
+  is_digits roles.Digit = true
+  is_digits roles.Separator = true
+  is_digits _ = false
+
+  whole_role : (part : Part) (stage : Stage) (gap plus : Bool) (role : Role) → Alone (λ n. takes n (reading part stage gap) plus role) → is_digits role ≡ false
+      → takes m (reading part stage gap) plus role ≡ true
+  whole_role _ stage gap plus roles.Digit a other = absurd (false≢true (sym other))
+  whole_role _ stage gap plus roles.Separator a other = absurd (false≢true (sym other))
+  whole_role parts.Exponent stage gap plus roles.Sign a other = let forbidden = met a layout.no_positive_exponent_sign in grind arith
+  whole_role _ stage gap plus roles.Sign a other = let forbidden = met a layout.no_positive_mantissa_sign in grind arith
+  whole_role parts.Integer stage gap plus roles.Suffix a other =
       let sign = met a layout.required_mantissa_sign in let digits = met a layout.required_integer_digits in
       let leads = met a layout.no_integer_leading_zeros in let needs = met a layout.required_exponent_notation in grind arith
-  joint_role parts.Integer stage gap plus role a =
+  whole_role parts.Integer stages.Start gap plus role a other =
+      let sign = met a layout.required_mantissa_sign in let digits = met a layout.required_integer_digits in
+      let mantissa = met a layout.required_mantissa_digits in
+      let none = met a layout.no_exponent_notation in let fraction = met a layout.no_exponent_without_fraction in grind arith
+  whole_role parts.Integer _ gap plus role a other =
       let sign = met a layout.required_mantissa_sign in let digits = met a layout.required_integer_digits in
       let floats = met a layout.no_float_leading_zeros in let mantissa = met a layout.required_mantissa_digits in
       let none = met a layout.no_exponent_notation in let fraction = met a layout.no_exponent_without_fraction in grind arith
-  joint_role parts.Fraction stage gap plus role a =
+  whole_role parts.Fraction stage gap plus roles.Suffix a other =
       let sign = met a layout.required_mantissa_sign in let digits = met a layout.required_fraction_digits in
-      let mantissa = met a layout.required_mantissa_digits in let none = met a layout.no_exponent_notation in
-      let needs = met a layout.required_exponent_notation in grind arith
-  joint_role parts.Exponent stage gap plus role a =
+      let mantissa = met a layout.required_mantissa_digits in let needs = met a layout.required_exponent_notation in grind arith
+  whole_role parts.Fraction stage gap plus role a other =
+      let sign = met a layout.required_mantissa_sign in let digits = met a layout.required_fraction_digits in
+      let mantissa = met a layout.required_mantissa_digits in let none = met a layout.no_exponent_notation in grind arith
+  whole_role parts.Exponent stage gap plus role a other =
       let sign = met a layout.required_exponent_sign in let digits = met a layout.required_exponent_digits in grind arith
 
-  step_joint : (s : Summary) (ended plus zero : Bool) (o : Option Role) → Alone (λ n. is_some (move n (record s { ended = ended }) plus zero o))
-      → in_two (λ n. is_some (move n (record s { ended = ended }) plus zero o)) ≡ true
-  step_joint s ended plus zero None a = absurd (false≢true a.free)
-  step_joint s true plus zero (Some role) a = absurd (false≢true a.free)
-  step_joint s false plus zero (Some role) a =
-      let is = joint_role s.part s.stage s.gap plus role (record { free = some _ _ a.free; each = λ f is. some _ _ (a.each f is) }) in grind arith where
-        some : (t : Bool) (u : Summary) → is_some (if t then Some u else None) ≡ true → t ≡ true
-        some t u is = grind arith
+  -- `zeros_bind` is true if the flag on the leading zeros of integers is set and requires something.
+  abbrev pub zeros_bind : Bool
+  zeros_bind = m.flag layout.no_integer_leading_zeros && not (needs_exponent m)
 
-  from : (P : Notation → Bool) → in_two P ≡ true → Joint P
-  from P is = elim (or_cases (P m) _ is) [ inl here ↦ inl here | inr less ↦ inr (and_parts (m.flag layout.no_float_leading_zeros) _ less) ]
+  -- `in_two P` is true if `P` is true of `m` without one flag on leading zeros, which is set.
+  abbrev pub in_two : (Notation → Bool) → Bool
+  in_two P = if zeros_bind then P (without layout.no_integer_leading_zeros m)
+      else m.flag layout.no_float_leading_zeros && P (without layout.no_float_leading_zeros m)
 
-  -- If no flag refuses alone, then two do together, of which one is the flag on the leading zeros of floats.
-  pub joint : (s : Summary) (next : Option Class) → Alone (λ n. allows n s next) → Joint (λ n. allows n s next)
-  joint s (Some class) a = from (λ n. allows n s (Some class)) (step_joint s s.ended (is_plus class) (is_zero class) (in_part s.part class) a)
-  joint s None a = from (λ n. allows n s None) (whole s.ended a) where
-    whole : (e : Bool) → Alone (λ n. e || (ends n (reading s.part s.stage s.gap) && continues n s.part s.stage roles.Suffix))
-        → in_two (λ n. e || (ends n (reading s.part s.stage s.gap) && continues n s.part s.stage roles.Suffix)) ≡ true
-    whole true a = refl
-    whole false a = joint_role s.part s.stage s.gap false roles.Suffix a
+  -- `is_lower g` is true of the flags below those that refuse together, and of the lower one if it requires nothing.
+  abbrev pub is_lower : Flag → Bool
+  is_lower g = nat_lt (bit g) 12 || ((bit g == 12) && needs_exponent m)
+
+  -- Behind a leading zero that is refused, a separator would have to be trailing.
+  led : (part : Part) (stage : Stage) (gap plus : Bool) (role : Role) → is_digits role ≡ true → Alone (λ n. takes n (reading part stage gap) plus role)
+      → takes m (reading part stage gap) plus role ≡ false
+      → (may_follow m stage || (is_role roles.Separator (Some role) && is_place m part (has_digit stage) false)) ≡ false
+  led parts.Exponent stage gap plus roles.Digit is a refused = let sign = met a layout.required_exponent_sign in grind arith
+  led _ stage gap plus roles.Digit is a refused = let sign = met a layout.required_mantissa_sign in grind arith
+  led parts.Exponent stage gap plus roles.Separator is a refused = let sign = met a layout.required_exponent_sign in grind arith
+  led _ stage gap plus roles.Separator is a refused = let sign = met a layout.required_mantissa_sign in grind arith
+  led _ stage gap plus _ is a refused = absurd (false≢true is)
+
+  joint_role : (part : Part) (stage : Stage) (gap plus : Bool) (o : Option Role) → Alone (λ n. taken n (reading part stage gap) plus o)
+      → taken m (reading part stage gap) plus o ≡ false → in_two (λ n. taken n (reading part stage gap) plus o) ≡ true
+  joint_role part stage gap plus None a refused = absurd (false≢true a.free)
+  joint_role parts.Exponent stage gap plus (Some roles.Digit) a refused =
+      let sign = met a layout.required_exponent_sign in let leads = met a layout.no_integer_leading_zeros in grind arith
+  joint_role _ stage gap plus (Some roles.Digit) a refused =
+      let sign = met a layout.required_mantissa_sign in let leads = met a layout.no_integer_leading_zeros in grind arith
+  joint_role _ stages.Bare gap plus (Some roles.Separator) a refused = let leads = met a layout.no_integer_leading_zeros in grind arith
+  joint_role _ stages.Zero gap plus (Some roles.Separator) a refused = let leads = met a layout.no_integer_leading_zeros in grind arith
+  joint_role part stage gap plus (Some roles.Separator) a refused = absurd (false≢true (sym (led part stage gap plus roles.Separator refl a refused)))
+  joint_role part stage gap plus (Some role) a refused = absurd (false≢true (sym refused ∙ whole_role part stage gap plus role a refl))
+
+  still_led : (g : Flag) (stage : Stage) → is_lower g ≡ true → may_follow m stage ≡ false → may_follow (without g m) stage ≡ false
+  still_led g stages.Start below none = grind (arith, nat_tests)
+  still_led g _ below none = grind (arith, nat_tests)
+
+  still_closed : (g : Flag) (part : Part) (digit : Bool) → is_place m part digit false ≡ false → is_place (without g m) part digit false ≡ false
+  still_closed g part digit none = grind arith
+
+  no_digit : (x y z : Bool) → z ≡ false → (x && (y && z)) ≡ false
+  no_digit x y z none = grind arith
+
+  no_separator : (x y z p q : Bool) → z ≡ false → q ≡ false → (x && (y && ((p && z) || q))) ≡ false
+  no_separator x y z p q none closed = grind arith
+
+  lower_role : (g : Flag) (part : Part) (stage : Stage) (gap plus : Bool) (o : Option Role) → is_lower g ≡ true
+      → Alone (λ n. taken n (reading part stage gap) plus o) → taken m (reading part stage gap) plus o ≡ false
+      → taken (without g m) (reading part stage gap) plus o ≡ false
+  lower_role g part stage gap plus None below a refused = refl
+  lower_role g part stage gap plus (Some roles.Digit) below a refused =
+      let n = without g m in
+      no_digit (is_signed n part stage) (gap_fits n part (has_digit stage) gap true) (may_follow n stage)
+      (still_led g stage below (or_parts (may_follow m stage) _ (led part stage gap plus roles.Digit refl a refused)).0)
+  lower_role g part stage gap plus (Some roles.Separator) below a refused =
+      let n = without g m in
+      let both = or_parts (may_follow m stage) _ (led part stage gap plus roles.Separator refl a refused) in
+      no_separator (is_signed n part stage) (not gap || n.flag (separators_in part).consecutive) (may_follow n stage) (is_place n part (has_digit stage) true)
+      (is_place n part (has_digit stage) false) (still_led g stage below both.0) (still_closed g part (has_digit stage) both.1)
+  lower_role g part stage gap plus (Some role) below a refused = absurd (false≢true (sym refused ∙ whole_role part stage gap plus role a refl))
+
+  -- SEPARATORS
+
+  at_role : (f : Flag) (part : Part) (stage : Stage) (gap plus : Bool) (o : Option Role) → is_one_of separator_flags f ≡ true
+      → taken (bare m) (reading part stage gap) plus o ≡ false → taken (adding f (bare m)) (reading part stage gap) plus o ≡ true
+      → separates m (reading part stage gap) o f ≡ true
+  at_role f part stage gap plus None is refused allowed = absurd (false≢true allowed)
+  at_role layout.required_integer_digits part stage gap plus (Some role) is refused allowed = grind arith
+  at_role _ part stage gap plus (Some role) is refused allowed = grind arith
+
+  -- THE SAME OF WHAT IS ALLOWED
+
+  -- What is allowed without requirements, and refused with them, follows no suffix.
+  pub going : (s : Summary) (next : Option Class) → allows (bare m) s next ≡ true → allows m s next ≡ false → s.ended ≡ false
+  going s None free refused = (or_parts s.ended _ refused).0
+  going s (Some class) free refused = not_ended s.ended _ (sym (moved (bare m) s s.ended (is_plus class) (is_zero class) (in_part s.part class)) ∙ free)
+
+  module _ (s : Summary) (next : Option Class) (unended : s.ended ≡ false) where
+    abbrev o : Option Role
+    o = role_of_next s next
+
+    same : ◌≡◌ {A = Notation → Bool} (λ n. taken n (reading s.part s.stage s.gap) (is_plus_next next) o) (λ n. allows n s next)
+    same = λ j n. sym (allows_is n s next unended) j
+
+    pub alone_refuses : (f : Flag) → is_one_of requirement_flags f ≡ true → allows (bare m) s next ≡ true
+        → refuses m s (is_plus_next next) o (bit f) ≡ not (allows (adding f (bare m)) s next)
+    alone_refuses f requires = subst (λ (P : Notation → Bool). P (bare m) ≡ true → refuses m s (is_plus_next next) o (bit f) ≡ not (P (adding f (bare m)))) same
+        (alone_role f s.part s.stage s.gap (is_plus_next next) o requires)
+
+    pub joint : Alone (λ n. allows n s next) → allows m s next ≡ false → in_two (λ n. allows n s next) ≡ true
+    joint = subst (λ P. Alone P → P m ≡ false → in_two P ≡ true) same (joint_role s.part s.stage s.gap (is_plus_next next) o)
+
+    pub lower : (g : Flag) → is_lower g ≡ true → Alone (λ n. allows n s next) → allows m s next ≡ false → allows (without g m) s next ≡ false
+    lower g below = subst (λ P. Alone P → P m ≡ false → P (without g m) ≡ false) same (lower_role g s.part s.stage s.gap (is_plus_next next) o below)
+
+  -- A flag that allows the byte is of the place and the part.
+  pub at_next : (f : Flag) (s : Summary) (class : Class) → is_one_of separator_flags f ≡ true → allows (bare m) s (Some class) ≡ false
+      → allows (adding f (bare m)) s (Some class) ≡ true → separates m s (in_part s.part class) f ≡ true
+  at_next f s class is refused allowed = subst (λ (P : Notation → Bool). P (bare m) ≡ false → P (adding f (bare m)) ≡ true → separates m s (in_part s.part class) f ≡ true)
+      (same s (Some class) (not_ended s.ended _ (sym (moved (adding f (bare m)) s s.ended (is_plus class) (is_zero class) (in_part s.part class)) ∙ allowed)))
+      (at_role f s.part s.stage s.gap (is_plus class) (in_part s.part class) is) refused allowed

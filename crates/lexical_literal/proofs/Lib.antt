@@ -17,6 +17,5 @@ mod CauseLemmas
 mod RefusalLemmas
 mod JointLemmas
 mod BlameLemmas
-mod PlaceLemmas
 mod PartOfLemmas
 mod OneCauseLemmas

@@ -16,7 +16,7 @@ use Rattle.lexical_literal.specs.Additions.Summary.{Cuts, implies, has_digit, is
 use Rattle.lexical_literal.specs.declared.steps.Piece.TheVariants as pieces
 use Rattle.lexical_literal.specs.declared.steps.Stage.{Stage}
 use Rattle.lexical_literal.specs.declared.steps.Stage.TheVariants as stages
-use Rattle.lexical_literal.proofs.RunLemmas.{is_rest, rest_of_none, digits_present, rest_digit, rest_other, opens}
+use Rattle.lexical_literal.proofs.RunLemmas.{is_rest, rest_of_none, digits_present, opens}
 use Rattle.lexical_literal.proofs.ScanLemmas.{HasRoles, Accepts, Arrives, add_all, arrives_byte, digit_role, is_role}
 use Rattle.lexical_literal.proofs.StepLemmas.{reading, led_after, stage_after, after_byte, passed, stage_at, sign_fits, prefix_fits, digits_fit, ends_exponent, ends_mantissa, fraction_fits, stops, scales, ends_part, text_after}
 use Rattle.lexical_literal.proofs.CutLemmas.{cut_of}
@@ -246,19 +246,15 @@ module _ (m : Notation) (h : HasRoles m) where
       λ t is. subst (λ t. Goes part (after_byte (m.digit part) stage gap b run t) (add_all more (digits_piece part) run) rest d) is goes in
       elim (cases_Bool (m.digit part b)) [
         | inl digit ↦
-            let fits = and_parts (gap_fits m part (has_digit stage) gap true) _ (sym (rest_digit m part (has_digit stage) gap b run digit) ∙ fit) in
-            arrives_byte m h (reading part stage gap) b roles.Digit c (run ++ rest) d refl (digit_role m h part b digit)
-            (and_from _ _ signed (and_from _ _ fits.0 (follow (m.digit part) stage gap (b ∷ run) goes.leads (or_left _ _ digit))))
-            (run_arrives part (after_digit stage gap (b == 48)) false run rest more d (grind arith)
-            (subst (λ t. is_rest m part t false run ≡ true) (grind arith) fits.1) (next true digit))
+            let may = follow (m.digit part) stage gap (b ∷ run) goes.leads (or_left _ _ digit) in
+            arrives_byte m h (reading part stage gap) b roles.Digit c (run ++ rest) d refl (digit_role m h part b digit) (grind arith)
+            (run_arrives part (after_digit stage gap (b == 48)) false run rest more d (grind arith) (grind arith) (next true digit))
         | inr other ↦
-            let separator = and_parts (m.separator b) _ (sym (rest_other m part (has_digit stage) gap b run other) ∙ fit) in
-            let fits = and_parts _ (is_rest m part (has_digit stage) true run) separator.1 in
-            arrives_byte m h (reading part stage gap) b roles.Separator c (run ++ rest) d refl (is_role m h part roles.Separator b (λ e. cc) separator.0)
-            (and_from _ _ signed (and_from _ _ fits.0 (opens m part (has_digit stage) (may_follow m stage) run fits.1
-            (λ some. follow (m.digit part) stage gap (b ∷ run) goes.leads (or_right (m.digit part b) _ some)))))
-            (run_arrives part (after_mark stage) true run rest more d (grind arith)
-            (subst (λ t. is_rest m part t true run ≡ true) (grind arith) fits.1) (next false other))
+            let may = λ (some : list_any (m.digit part) run ≡ true). follow (m.digit part) stage gap (b ∷ run) goes.leads (or_right (m.digit part b) _ some) in
+            let closes = opens m part (has_digit stage) (may_follow m stage) run (grind arith) may in
+            arrives_byte m h (reading part stage gap) b roles.Separator c (run ++ rest) d refl
+            (is_role m h part roles.Separator b (λ e. cc) (grind arith)) (grind arith)
+            (run_arrives part (after_mark stage) true run rest more d (grind arith) (grind arith) (next false other))
       ]
 
   -- Digits of a part without a leading zero.
@@ -279,10 +275,8 @@ module _ (m : Notation) (h : HasRoles m) where
       → Arrives m (Some (reading part stage gap)) c (sign ++ rest) d
   sign_arrives part stage gap [] rest c d fits more = more (and_parts (implies (forbids_plus m part) true) (is_signed m part stage) fits).1
   sign_arrives part stage gap (b ∷ []) rest c d fits more =
-      let both = and_parts (signs b) _ fits in
-      let taken = and_parts (implies (forbids_plus m part) (not (b == 43))) (is_fresh stage) both.1 in
-      arrives_byte m h (reading part stage gap) b roles.Sign c rest d refl (is_role m h part roles.Sign b (λ e. cc) both.0)
-      (and_from _ _ taken.1 taken.0) (more (grind arith))
+      arrives_byte m h (reading part stage gap) b roles.Sign c rest d refl (is_role m h part roles.Sign b (λ e. cc) (grind arith))
+      (grind arith) (more (grind arith))
   sign_arrives part stage gap (b ∷ x ∷ sign) rest c d fits more = absurd (false≢true fits)
 
   -- The suffix, or nothing.
@@ -300,12 +294,10 @@ module _ (m : Notation) (h : HasRoles m) where
       → Arrives m (Some (reading parts.Exponent stages.Mark false)) c (l.exponent_sign ++ (l.exponent ++ l.suffix))
       (add_all (add_all (add_all c pieces.ExponentSign l.exponent_sign) pieces.Exponent l.exponent) pieces.Suffix l.suffix)
   power_arrives l c sign fits =
-      let both = and_parts (is_rest m parts.Exponent false false l.exponent) _ fits in
-      let end = and_parts (digits_suffice m parts.Exponent (exponent_last m l)) _ both.1 in
       sign_arrives parts.Exponent stages.Mark false l.exponent_sign (l.exponent ++ l.suffix) c _ sign
-      (λ signed. unled_arrives parts.Exponent (stage_at stages.Mark l.exponent_sign []) l.exponent l.suffix _ _ signed (grind arith) (grind arith) both.0
-      (λ gap closed signed. stop_arrives parts.Exponent (exponent_last m l) gap _ l.suffix
-      (and_from _ true (and_from _ _ signed (and_from _ _ closed end.0)) refl) end.1))
+      (λ signed. unled_arrives parts.Exponent (stage_at stages.Mark l.exponent_sign []) l.exponent l.suffix _ _ signed
+      (grind arith) (grind arith) (grind arith)
+      (λ gap closed signed. stop_arrives parts.Exponent (exponent_last m l) gap _ l.suffix (grind arith) (grind arith)))
 
   -- What follows the mantissa.
   tail_arrives : (l : Literal) (part : Part) (stage : Stage) (gap : Bool) (c : Cuts) → ends m (reading part stage gap) ≡ true
@@ -318,15 +310,13 @@ module _ (m : Notation) (h : HasRoles m) where
     go [] [] [] fits =
         let both = and_parts (continues m part stage roles.Suffix) _ fits in
         stop_arrives part stage gap c l.suffix (and_from _ _ end both.0) both.1
-    go [] sign exponent fits = absurd (false≢true (and_parts (continues m part stage roles.Suffix) false fits).1)
+    go [] sign exponent fits = absurd (grind arith)
     go (b ∷ []) sign exponent fits =
-        let character = and_parts (m.exponent_character b) _ fits in
-        let scale = and_parts (continues m part stage roles.Exponent) _ character.1 in
-        let power = and_parts (sign_fits m parts.Exponent stages.Mark sign) _ scale.1 in
+        let scale = and_parts (continues m part stage roles.Exponent) _ (and_parts (m.exponent_character b) _ fits).1 in
         arrives_byte m h (reading part stage gap) b roles.Exponent c (sign ++ (exponent ++ l.suffix)) _ refl
-        (is_role m h part roles.Exponent b (λ e. cc) character.0) (and_from _ _ end scale.0)
+        (is_role m h part roles.Exponent b (λ e. cc) (and_parts (m.exponent_character b) _ fits).0) (and_from _ _ end scale.0)
         (power_arrives (record l { exponent_character = b ∷ []; exponent_sign = sign; exponent = exponent })
-        (add c pieces.ExponentCharacter) power.0 power.1)
+        (add c pieces.ExponentCharacter) (let fit = scale.1 in grind arith) (let fit = scale.1 in grind arith))
     go (b ∷ x ∷ character) sign exponent fits = absurd (false≢true fits)
 
   -- What follows the integer digits.

@@ -48,10 +48,7 @@ has_lengths m h l is = let twice = prefix l.prefix is.prefix in record {
   exponent = simp added (omega arith);
 } where
   prefix : (x : List ℕ) → is_none_or_prefix m.prefix x ≡ true → length x ≡ length (is_tail x) + length (is_tail x)
-  prefix [] one = refl
-  prefix (z ∷ []) one = cc
-  prefix (z ∷ b ∷ []) one = refl
-  prefix (z ∷ b ∷ c ∷ x) one = cc
+  prefix x one = grind arith
 
 -- `HasRead m text i s c longest` holds if the first `i` bytes of `text` have the summary `s` and parts with the lengths `c`,
 -- and if `longest` is their longest front that is a literal.
@@ -200,17 +197,7 @@ module _ (m : Notation) (ready : IsReady m) (text : List ℕ) where
       let exponent_character = same_part l.exponent_character k.exponent_character _ _ (a.exponent_character ∙ sym b.exponent_character) fraction.1 in
       let exponent_sign = same_part l.exponent_sign k.exponent_sign _ _ (a.exponent_sign ∙ sym b.exponent_sign) exponent_character.1 in
       let exponent = same_part l.exponent k.exponent _ _ (a.exponent ∙ sym b.exponent) exponent_sign.1 in
-      λ j. record {
-        sign = sign.0 j;
-        prefix = prefix.0 j;
-        integer = integer.0 j;
-        point = point.0 j;
-        fraction = fraction.0 j;
-        exponent_character = exponent_character.0 j;
-        exponent_sign = exponent_sign.0 j;
-        exponent = exponent.0 j;
-        suffix = exponent.1 j;
-      } where
+      grind arith where
         same_part : (x y X Y : List ℕ) → length x ≡ length y → x ++ X ≡ y ++ Y → (x ≡ y) × (X ≡ Y)
         same_part [] [] X Y same e = (refl, e)
         same_part [] (b ∷ y) X Y same e = cc

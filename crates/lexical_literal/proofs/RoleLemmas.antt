@@ -96,8 +96,7 @@ module _ (law : (A B : ByteSet) → Disjoint A B ↔ ((byte : ℕ) → byte < 25
     agree = exponent_flags_agree g.word is.lawful;
   } where
     integers : (o : Option Options) → lacks_options o ≡ true → (byte : ℕ) → (point_of o byte ≡ false) × (exponent_character_of (raw g.word) o byte ≡ false)
-    integers None lacks byte = (refl, refl)
-    integers (Some o) lacks byte = absurd (false≢true lacks)
+    integers o lacks byte = grind arith
 
     chosen : (o : Option Options) → FitIfAny g.word o → lacks_options o ≡ false
         → (exponent_character_of (raw g.word) o (exponent_byte o) ≡ true) × (point_of o (point_byte o) ≡ true)

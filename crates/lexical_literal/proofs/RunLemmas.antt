@@ -47,15 +47,6 @@ module _ (m : Notation) (part : Part) where
   pub rest_of_none : (run : List ℕ) → is_rest m part false false run ≡ are_fit m part [] run
   rest_of_none run = rest_is [] run
 
-module _ (m : Notation) (part : Part) (h g : Bool) (b : ℕ) (u : List ℕ) where
-  -- A digit or another byte in front.
-  pub rest_digit : m.digit part b ≡ true → is_rest m part h g (b ∷ u) ≡ (gap_fits m part h g true && is_rest m part true false u)
-  rest_digit digit = grind arith
-
-  pub rest_other : m.digit part b ≡ false
-      → is_rest m part h g (b ∷ u) ≡ (m.separator b && ((not g || m.flag (separators_in part).consecutive) && is_rest m part h true u))
-  rest_other other = grind arith
-
 -- After a separator, a digit follows or the run may end.
 gap_closes : (m : Notation) (part : Part) (h : Bool) (u : List ℕ) → is_rest m part h true u ≡ true → is_open m part h (list_any (m.digit part) u) ≡ true
 gap_closes m part h [] is = or_right (is_place m part h true && false) _ is

@@ -117,11 +117,7 @@ module _ (m : Notation) (h : HasRoles m) where
     go part class is = grind arith
 
   pub is_role : (part : Part) (r : Role) (b : ℕ) → (roles.Digit ≡ r → ⊥) → role_set m r b ≡ true → role_in m part b ≡ Some r
-  is_role part r b other is = go part (class_of m b) ((only_role b r).0 is) where
-    go : (part : Part) (class : Class) → role_of class ≡ Some r → in_part part class ≡ Some r
-    go part classes.MantissaDigit role = absurd (other cc)
-    go part classes.ExponentDigit role = absurd (other cc)
-    go part _ role = role
+  is_role part r b other is = let only = (only_role b r).0 is in grind arith
 
   -- What a byte makes of a summary.
   pub moved : (s : Summary) (b : ℕ) (o : Option Role) → role_in m s.part b ≡ o → step m s (class_of m b) ≡ move m s (b == 43) (b == 48) o

@@ -49,24 +49,12 @@ pub record Passed (D : ByteSet) (stage : Stage) (run : List ℕ) (last : Stage) 
   pub counts : not (is_lone last) ≡ (list_any D run || not (is_lone stage))
   pub led : is_led last ≡ led_after D stage run
 
-module _ (D : ByteSet) (stage : Stage) where
-  passed_none : Passed D stage [] stage
-  passed_none = record { seen = refl; counts = refl; led = grind arith }
-
-  module _ (b : ℕ) (run : List ℕ) (last : Stage) where
-    passed_digit : (gap : Bool) → D b ≡ true → Passed D (after_digit stage gap (b == 48)) run last → Passed D stage (b ∷ run) last
-    passed_digit gap is more = record { seen = grind arith; counts = grind arith; led = grind arith }
-
-    passed_mark : D b ≡ false → Passed D (after_mark stage) run last → Passed D stage (b ∷ run) last
-    passed_mark is more = record { seen = grind arith; counts = grind arith; led = grind arith }
-
 pub passed : (D : ByteSet) (stage : Stage) (gap : Bool) (run : List ℕ) → Passed D stage run (stage_after D stage gap run)
-passed D stage gap [] = passed_none D stage
-passed D stage gap (b ∷ run) = go (D b) refl (λ stage gap. passed D stage gap run) where
-  go : (d : Bool) → D b ≡ d → ((stage : Stage) (gap : Bool) → Passed D stage run (stage_after D stage gap run))
-      → Passed D stage (b ∷ run) (after_byte D stage gap b run d)
-  go true is more = passed_digit D stage b run _ gap is (more (after_digit stage gap (b == 48)) false)
-  go false is more = passed_mark D stage b run _ is (more (after_mark stage) true)
+passed D stage gap [] = record { seen = refl; counts = refl; led = grind arith }
+passed D stage gap (b ∷ run) =
+    let digit = passed D (after_digit stage gap (b == 48)) false run in
+    let mark = passed D (after_mark stage) true run in
+    record { seen = grind arith; counts = grind arith; led = grind arith }
 
 -- `stage_at stage sign prefix` is the stage after a sign and a prefix, and `gap_at gap prefix` tells whether a gap is before it.
 abbrev pub stage_at : Stage → List ℕ → List ℕ → Stage

@@ -2,7 +2,7 @@
 use Rattle.std.proofs.Common.{ℕ, Bor, Some, ◌≡◌, ◌≢◌, ◌<◌, ◌≤◌, ◌+◌, ◌*◌, ◌/◌, ◌%◌, ◌==◌, inl, inr, Bool, true, false, List, [], ◌∷◌, length, length-set, get_or, set, refl, sym, ap, subst, ◌∙◌, arith, below_more, get_or-set_other, get_or-set_same, replicate}
 use mir.Val.{bool_byte}
 use Rattle.std.specs.Option.{ForSome}
-use Rattle.std.proofs.lemmas.Bool.{cases_eq}
+use Rattle.std.proofs.lemmas.Bool.Decides.{nat_tests}
 use Rattle.lexical_literal.specs.Additions.Summary.{add, no_cuts, piece_number}
 use Rattle.lexical_literal.specs.Additions.Tables.{EachIs, cuts_of, part_at, stage_at, summary_at}
 use Rattle.lexical_literal.specs.declared.steps.Piece.{Piece}
@@ -25,12 +25,10 @@ fill_more P list size n x is small here = record {
 }
 
 bit_below : (b : Bool) → bool_byte b < 2
-bit_below true = omega arith
-bit_below false = omega arith
+bit_below b = grind arith
 
 bit_back : (b : Bool) → (bool_byte b == 1) ≡ b
-bit_back true = refl
-bit_back false = refl
+bit_back b = grind arith
 
 -- A summary is that of the number which the numbers of its fields make.
 pub number_back : (s : Summary) (p t : ℕ) → part_at p ≡ s.part → stage_at t ≡ s.stage → t < 9
@@ -38,23 +36,18 @@ pub number_back : (s : Summary) (p t : ℕ) → part_at p ≡ s.part → stage_a
 number_back s p t part stage small =
     let g = bool_byte s.gap in
     let e = bool_byte s.ended in
+    let gap = bit_below s.gap in
+    let ended = bit_below s.ended in
+    let at_part : ((p * 9 + t) * 4 + g * 2 + e) / 36 ≡ p = omega arith in
+    let at_stage : ((p * 9 + t) * 4 + g * 2 + e) / 4 % 9 ≡ t = omega arith in
+    let at_gap : ((p * 9 + t) * 4 + g * 2 + e) / 2 % 2 ≡ g = omega arith in
+    let at_end : ((p * 9 + t) * 4 + g * 2 + e) % 2 ≡ e = omega arith in
     λ j. record {
-      part = (ap part_at (parts_of p t g e small (bit_below s.gap) (bit_below s.ended)) ∙ part) j;
-      stage = (ap stage_at (stages_of p t g e small (bit_below s.gap) (bit_below s.ended)) ∙ stage) j;
-      gap = (ap (λ n. n == 1) (gaps_of p t g e (bit_below s.gap) (bit_below s.ended)) ∙ bit_back s.gap) j;
-      ended = (ap (λ n. n == 1) (ends_of p t g e (bit_below s.ended)) ∙ bit_back s.ended) j;
-    } where
-      parts_of : (p t g e : ℕ) → t < 9 → g < 2 → e < 2 → ((p * 9 + t) * 4 + g * 2 + e) / 36 ≡ p
-      parts_of p t g e low gap ended = omega arith
-
-      stages_of : (p t g e : ℕ) → t < 9 → g < 2 → e < 2 → ((p * 9 + t) * 4 + g * 2 + e) / 4 % 9 ≡ t
-      stages_of p t g e low gap ended = omega arith
-
-      gaps_of : (p t g e : ℕ) → g < 2 → e < 2 → ((p * 9 + t) * 4 + g * 2 + e) / 2 % 2 ≡ g
-      gaps_of p t g e gap ended = omega arith
-
-      ends_of : (p t g e : ℕ) → e < 2 → ((p * 9 + t) * 4 + g * 2 + e) % 2 ≡ e
-      ends_of p t g e ended = omega arith
+      part = (ap part_at at_part ∙ part) j;
+      stage = (ap stage_at at_stage ∙ stage) j;
+      gap = (ap (λ n. n == 1) at_gap ∙ bit_back s.gap) j;
+      ended = (ap (λ n. n == 1) at_end ∙ bit_back s.ended) j;
+    }
 
 -- What holds of a value holds of what is borrowed of it.
 pub lent : {X : Type 0} (P : X → Type 0) (own : Bor X) → P own.now → ForSome (Some own) (λ borrowed. P borrowed.now)
@@ -82,8 +75,7 @@ count_one counts nine piece = absurd (omega (arith, nine))
 -- No piece has more bytes than have been read.
 pub small_more : (counts : List ℕ) (n k : ℕ) → k < length counts → ((j : ℕ) → get_or counts j 0 ≤ n)
     → (j : ℕ) → get_or (set counts k (get_or counts k 0 + 1)) j 0 ≤ n + 1
-small_more counts n k inside small j = elim (cases_eq j k) [
-  | inl same ↦ subst (λ i. get_or (set counts k (get_or counts k 0 + 1)) i 0 ≤ n + 1) (sym same)
-      (subst (λ v. v ≤ n + 1) (sym (get_or-set_same counts k (get_or counts k 0 + 1) 0 inside)) (omega (arith, small k)))
-  | inr other ↦ subst (λ v. v ≤ n + 1) (sym (get_or-set_other counts k j (get_or counts k 0 + 1) 0 other)) (omega (arith, small j))
-]
+small_more counts n k inside small j =
+    let same = get_or-set_same counts k (get_or counts k 0 + 1) 0 inside in
+    let other = get_or-set_other counts k j (get_or counts k 0 + 1) 0 in
+    let here = small k in let there = small j in grind (arith, nat_tests)

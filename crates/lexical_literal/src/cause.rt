@@ -1,26 +1,26 @@
 //! Why a text is not a literal.
 
-ghost use Rattle.std.specs.Prelude.{◌≡◌, ◌≢◌, ◌↔◌, IsTrue, List, Option, Some, if◌then◌else◌, ◌<◌, ◌^◌, ◌≤◌, ◌&&◌, ℕ, true, false, length, take, slice_get};
+ghost use Rattle.std.specs.Prelude.{◌≡◌, ◌≢◌, ◌↔◌, IsTrue, List, Option, Some, if◌then◌else◌, ◌<◌, ◌^◌, ◌≤◌, ◌&&◌, ◌||◌, ◌==◌, ℕ, true, false, length, take, slice_get};
 ghost use Rattle.std.specs.Bool.{beq};
-ghost use Rattle.lexical_util.specs.Layout.{Flag, bit, part};
+ghost use Rattle.lexical_util.specs.Layout.{Flag, bit, part, separators_in};
 ghost use Rattle.lexical_util.specs.Record.{raw};
 ghost use Rattle.lexical_util.specs.Roles.{other_case};
-ghost use Rattle.lexical_literal.specs.Additions.Causes.{Decides, IsLowestBit, IsReadOf, allows, class_of_next, place_of, kind_set, mask_at, without_bit};
-ghost use Rattle.lexical_literal.specs.Cause.{IsCause, IsRefusal, IsRequirement, Permits, SomeFlag, adding, bare, case_set, behind, binds, error_of};
-ghost use Rattle.lexical_literal.specs.Cause.{first_in, is_at, requirement_error, requirement_span, span_of, with_flags};
-ghost use Rattle.lexical_literal.specs.Additions.Summary.{scan, start};
+ghost use Rattle.lexical_literal.specs.Additions.Causes.{Decides, IsReadOf, allows, class_of_next, ends_part, is_own, is_plus_next, is_role, kind_set, leads, place_of, refuses, role_of_next};
+ghost use Rattle.lexical_literal.specs.Cause.{IsCause, IsRefusal, IsRequirement, SomeFlag, adding, bare, case_set, behind, binds, error_of};
+ghost use Rattle.lexical_literal.specs.Cause.{first_in, is_one_of, requirement_error, requirement_flags, requirement_span, span_of, with_flags};
+ghost use Rattle.lexical_literal.specs.Additions.Summary.{class_of, scan, start};
 ghost use Rattle.lexical_literal.specs.Front.{IsValidUpTo};
 ghost use Rattle.lexical_literal.specs.Notation.{notation_of};
 ghost use Rattle.lexical_literal.specs.Syntax.{IsSyntax};
 
 use crate::steps::{
-    self, Class, Summary, class_of, has_digit, is_digit, is_exponent_character, is_point,
+    self, Class, Stage, Summary, class_of, has_digit, in_part, is_digit, is_exponent_character, is_point,
     needs_exponent,
 };
 use crate::syntax::Grammar;
 use lexical_util::error::Error;
 use lexical_util::format as masks;
-use lexical_util::format::Part;
+use lexical_util::format::{Part, Role};
 use lexical_util::laws::flags::role_facts;
 
 /// Where a digit separator is.
@@ -154,52 +154,6 @@ impl Stop {
         }
     }
 
-    // Returns those of `candidates`, from bit `first` to below bit `end`, that allow the text to go on, or do not, with the
-    // flags of `mask`.
-    const fn flags_that(
-        self,
-        allow: bool,
-        candidates: u128,
-        mask: u128,
-        first: u32,
-        end: u32,
-    ) -> u128
-        requires small { end ≤ 44 }
-        requires within { (f : Flag) → IsTrue ((raw candidates).flag f) → (first ≤ bit f) × (bit f < end) }
-        requires flags { (k : ℕ) → part candidates k 1 ≡ 1 → (f : Flag) × (bit f ≡ k) }
-        ensures each { (f : Flag) → (raw result).flag f ≡ ((raw candidates).flag f
-            && beq (allows (adding f (with_flags (notation_of self.grammar) (raw mask).flag)) self.read self.next) allow) }
-        ensures some { result ≢ 0 → SomeFlag (raw result).flag }
-    {
-        let mut found = 0;
-        let mut bit = first;
-        while bit < end {
-            let flag = 1u128 << bit;
-            if candidates & flag != 0 && self.allows(mask | flag) == allow {
-                found |= flag;
-            }
-            bit += 1;
-        }
-        found
-    }
-
-    // Returns the lowest of `candidates` without which the text can go on, or 0.
-    const fn lowest_without(self, candidates: u128) -> u128
-        ensures found { result ≢ 0 → (k : ℕ) × (result ≡ 2 ^ k) × IsLowestBit (notation_of self.grammar) self.read self.next candidates k }
-        ensures none { result ≡ 0 → (k : ℕ) → k < 15 → part candidates k 1 ≡ 1
-            → allows (without_bit k (notation_of self.grammar)) self.read self.next ≡ false }
-    {
-        let mut bit: u32 = 0;
-        while bit < 15 {
-            let flag = 1u128 << bit;
-            if candidates & flag != 0 && self.allows(self.grammar.word & !flag) {
-                return flag;
-            }
-            bit += 1;
-        }
-        0
-    }
-
     // Returns the flags without requirements.
     const fn bare(self) -> u128
         ensures { (f : Flag) → (raw result).flag f ≡ (bare (notation_of self.grammar)).flag f }
@@ -219,41 +173,153 @@ impl Stop {
         }
     }
 
-    // Returns the flags to blame for a requirement.
+    // Returns the role of what cannot follow, or `None` if it plays none.
+    const fn role(self) -> Option<Role>
+        ensures { result ≡ role_of_next self.read self.next }
+    {
+        match self.next {
+            None => Some(Role::Suffix),
+            Some(class) => in_part(self.read.part, class),
+        }
+    }
+
+    // Returns whether the flag with the number `number` alone refuses what has the role `role`.
+    #[inline(always)]
+    const fn refuses(self, role: Option<Role>, number: u32) -> bool
+        ensures { result ≡ refuses (notation_of self.grammar) self.read (is_plus_next self.next) role number }
+    {
+        let Summary { part, stage, .. } = self.read;
+        let is_sign = matches!(role, Some(Role::Sign));
+        match (number, part) {
+            (0, Part::Integer) | (1, Part::Fraction) | (2, Part::Exponent) => {
+                ends_part(role) && !has_digit(stage)
+            }
+            (3, Part::Integer) => matches!(role, Some(Role::Exponent)) && !has_digit(stage),
+            (3, Part::Fraction) => ends_part(role) && matches!(stage, Stage::Lone),
+            (4, Part::Integer | Part::Fraction) | (7, Part::Exponent) => {
+                is_sign && matches!(self.next, Some(Class::Plus))
+            }
+            (5, Part::Integer | Part::Fraction) | (8, Part::Exponent) => {
+                !is_sign && matches!(stage, Stage::Start | Stage::Mark)
+            }
+            (6, _) | (9, Part::Integer) => matches!(role, Some(Role::Exponent)),
+            (12, _) => self.leads(role),
+            (13, Part::Integer) => {
+                matches!(role, Some(Role::Point | Role::Exponent)) && matches!(stage, Stage::Led)
+            }
+            (14, Part::Integer | Part::Fraction) => {
+                matches!(role, Some(Role::Suffix)) && matches!(self.grammar.options, Some(_))
+            }
+            _ => false,
+        }
+    }
+
+    // Returns whether what has the role `role` is a digit or a separator behind a zero that must not lead, where literals
+    // are integers, or ends an integer with a leading zero.
+    const fn leads(self, role: Option<Role>) -> bool
+        ensures { result ≡ leads (notation_of self.grammar) self.read role }
+    {
+        let Summary { part, stage, .. } = self.read;
+        let integers = matches!(self.grammar.options, None);
+        let zero = matches!(stage, Stage::Bare | Stage::Zero);
+        match role {
+            Some(Role::Digit) => integers && zero,
+            Some(Role::Separator) => {
+                integers && zero && !self.grammar.view().separators(part).trailing
+            }
+            Some(Role::Suffix) => matches!(stage, Stage::Led) && matches!(part, Part::Integer),
+            _ => false,
+        }
+    }
+
+    // Returns the mask of the flag with the number `number` if it alone refuses what has the role `role`.
+    #[inline(always)]
+    const fn row(self, role: Option<Role>, number: u32) -> u128
+        requires { number < 44 }
+        ensures { (f : Flag) → (raw result).flag f
+            ≡ ((bit f == number) && refuses (notation_of self.grammar) self.read (is_plus_next self.next) role number) }
+    {
+        if self.refuses(role, number) {
+            1 << number
+        } else {
+            0
+        }
+    }
+
+    // Returns the flags that alone refuse what cannot follow.
+    const fn refusing(self) -> u128
+        ensures { (f : Flag) → (raw result).flag f ≡ (is_one_of requirement_flags f
+            && refuses (notation_of self.grammar) self.read (is_plus_next self.next) (role_of_next self.read self.next) (bit f)) }
+    {
+        let role = self.role();
+        let digits = self.row(role, 0) | self.row(role, 1) | self.row(role, 2) | self.row(role, 3);
+        let signs = self.row(role, 4) | self.row(role, 5) | self.row(role, 7) | self.row(role, 8);
+        let exponents = self.row(role, 6) | self.row(role, 9) | self.row(role, 14);
+        let zeros = self.row(role, 12) | self.row(role, 13);
+        digits | signs | exponents | zeros
+    }
+
+    // Returns the flags to blame for a requirement: those that refuse alone, or the lower one of two on leading zeros that
+    // refuse together.
     const fn requirements(self) -> u128
         requires allowed { allows (bare (notation_of self.grammar)) self.read self.next ≡ true }
         requires refused { allows (notation_of self.grammar) self.read self.next ≡ false }
         ensures { (front : List ℕ) → (next : Option ℕ) → Decides (notation_of self.grammar) self.read self.next front next
             → IsRequirement (notation_of self.grammar) front next (raw result).flag }
     {
-        let alone = self.flags_that(false, self.binding(), self.bare(), 0, 15);
-        if alone == 0 {
-            self.lowest_without(self.grammar.word & REQUIREMENTS)
-        } else {
+        let binding = self.binding();
+        let alone = self.refusing() & binding;
+        if alone != 0 {
             alone
+        } else if binding & masks::NO_INTEGER_LEADING_ZEROS != 0 {
+            masks::NO_INTEGER_LEADING_ZEROS
+        } else {
+            masks::NO_FLOAT_LEADING_ZEROS
         }
+    }
+
+    // Returns whether what cannot follow is a separator, or is behind one.
+    const fn is_at_gap(self) -> bool
+        ensures { result ≡ (self.read.gap || is_role Role.Separator (role_of_next self.read self.next)) }
+    {
+        self.read.gap || matches!(self.role(), Some(Role::Separator))
+    }
+
+    // Returns the mask of the flag with the number `number` if it alone allows what cannot follow, and 0 otherwise.
+    const fn permitted(self, number: u32) -> u128
+        requires { number < 44 }
+        ensures each { (g : Flag) → bit g ≡ number → (f : Flag) → (raw result).flag f
+            ≡ ((bit g == bit f) && allows (adding f (bare (notation_of self.grammar))) self.read self.next) }
+        ensures some { (g : Flag) → bit g ≡ number → result ≢ 0 → SomeFlag (raw result).flag }
+    {
+        let flag = 1 << number;
+        flag_if(self.allows(flag | self.bare()), flag)
     }
 
     // Returns the flags each of which would allow a separator that is not allowed.
     const fn separators(self) -> u128
-        ensures each { (class : Class) → self.next ≡ Some class → allows (bare (notation_of self.grammar)) self.read self.next ≡ false
-            → (front : List ℕ) → (byte : ℕ) → Decides (notation_of self.grammar) self.read self.next front (Some byte)
-            → (f : Flag) → IsTrue ((raw result).flag f) ↔ Permits (notation_of self.grammar) front byte f }
-        ensures at { (f : Flag) → IsTrue ((raw result).flag f)
-            → IsTrue (is_at (place_of (notation_of self.grammar) self.read self.next) self.read.part f) }
+        ensures each { (f : Flag) → (raw result).flag f
+            ≡ ((self.read.gap || is_role Role.Separator (role_of_next self.read self.next))
+            && (is_own self.read.part f && allows (adding f (bare (notation_of self.grammar))) self.read self.next)) }
         ensures some { result ≢ 0 → SomeFlag (raw result).flag }
     {
-        let candidates = separators_at(self.place(), self.read.part);
-        self.flags_that(true, candidates, self.bare(), 32, 44)
+        if !self.is_at_gap() {
+            return 0;
+        }
+        let internal = internal_number(self.read.part);
+        self.permitted(internal)
+            | self.permitted(internal + 3)
+            | self.permitted(internal + 6)
+            | self.permitted(internal + 9)
     }
 
     // Returns where a separator is not allowed.
     const fn place(self) -> Place
-        ensures { result ≡ place_of (notation_of self.grammar) self.read self.next }
+        ensures { result ≡ place_of (notation_of self.grammar) self.read (role_of_next self.read self.next) }
     {
         let is_consecutive = self.read.gap
             && !self.grammar.view().separators(self.read.part).consecutive;
-        if is_consecutive && matches!(self.next, Some(Class::Separator)) {
+        if is_consecutive && matches!(self.role(), Some(Role::Separator)) {
             Place::Consecutive
         } else if has_digit(self.read.stage) {
             Place::AfterDigit
@@ -262,17 +328,27 @@ impl Stop {
         }
     }
 
-    // Returns the flag by which the case of `other` counts, if it may be next.
-    const fn case_flag(self, other: u8) -> u128
-        ensures each { (f : Flag) → (raw result).flag f
-            ≡ (allows (bare (notation_of self.grammar)) self.read self.next && case_set f (notation_of self.grammar) other) }
+    // Returns the flag by which the case of `byte` counts, if its other case may be next.
+    const fn case_flag(self, byte: u8) -> u128
+        requires { allows (bare (notation_of self.grammar)) self.read (Some (class_of (notation_of self.grammar) byte)) ≡ false }
+        ensures each { (f : Flag) → (raw result).flag f ≡ (allows (bare (notation_of self.grammar)) self.read
+            (Some (class_of (notation_of self.grammar) (other_case byte))) && case_set f (notation_of self.grammar) (other_case byte)) }
         ensures some { result ≢ 0 → SomeFlag (raw result).flag }
     {
-        if self.allows(self.bare()) {
-            case_mask(self.grammar, other)
-        } else {
-            0
+        let other = other_case(byte);
+        if other == byte {
+            return 0;
         }
+        let mask = case_mask(self.grammar, other);
+        if mask == 0 {
+            return 0;
+        }
+        let stop = Stop {
+            grammar: self.grammar,
+            read: self.read,
+            next: Some(class_of(self.grammar, other)),
+        };
+        flag_if(stop.allows(self.bare()), mask)
     }
 
     // Returns why `byte` cannot follow, if no requirement is the cause.
@@ -289,13 +365,7 @@ impl Stop {
                 mask: separators,
             };
         }
-        let other = other_case(byte);
-        let mask = Stop {
-            grammar: self.grammar,
-            read: self.read,
-            next: class_of_next(self.grammar, Some(other)),
-        }
-        .case_flag(other);
+        let mask = self.case_flag(byte);
         let cause = if mask == 0 { Cause::Byte } else { Cause::Case };
         Blame { cause, mask }
     }
@@ -323,26 +393,25 @@ impl Stop {
     }
 }
 
-// Returns the flags that allow a digit separator in `part` at `place`.
-const fn separators_at(place: Place, part: Part) -> u128
-    ensures { result ≡ mask_at place part }
+// Returns whether a byte with the role `role` ends a part of a number.
+const fn ends_part(role: Option<Role>) -> bool
+    ensures { result ≡ ends_part role }
 {
-    match (place, part) {
-        (Place::BeforeDigits, Part::Integer) => masks::INTEGER_LEADING_DIGIT_SEPARATOR,
-        (Place::BeforeDigits, Part::Fraction) => masks::FRACTION_LEADING_DIGIT_SEPARATOR,
-        (Place::BeforeDigits, Part::Exponent) => masks::EXPONENT_LEADING_DIGIT_SEPARATOR,
-        (Place::AfterDigit, Part::Integer) => {
-            masks::INTEGER_INTERNAL_DIGIT_SEPARATOR | masks::INTEGER_TRAILING_DIGIT_SEPARATOR
-        }
-        (Place::AfterDigit, Part::Fraction) => {
-            masks::FRACTION_INTERNAL_DIGIT_SEPARATOR | masks::FRACTION_TRAILING_DIGIT_SEPARATOR
-        }
-        (Place::AfterDigit, Part::Exponent) => {
-            masks::EXPONENT_INTERNAL_DIGIT_SEPARATOR | masks::EXPONENT_TRAILING_DIGIT_SEPARATOR
-        }
-        (Place::Consecutive, Part::Integer) => masks::INTEGER_CONSECUTIVE_DIGIT_SEPARATOR,
-        (Place::Consecutive, Part::Fraction) => masks::FRACTION_CONSECUTIVE_DIGIT_SEPARATOR,
-        (Place::Consecutive, Part::Exponent) => masks::EXPONENT_CONSECUTIVE_DIGIT_SEPARATOR,
+    matches!(
+        role,
+        Some(Role::Point | Role::Exponent | Role::Suffix)
+    )
+}
+
+// Returns the number of the flag that allows a digit separator between digits of `part`. Those that allow it before digits,
+// behind them, and after another one have numbers that are higher by 3, 6 and 9.
+const fn internal_number(part: Part) -> u32
+    ensures { result ≡ bit (separators_in part).internal }
+{
+    match part {
+        Part::Integer => 32,
+        Part::Fraction => 33,
+        Part::Exponent => 34,
     }
 }
 
@@ -546,23 +615,21 @@ const fn byte_at(text: &[u8], size: usize) -> Option<u8>
     }
 }
 
-// Returns the class of the next byte, if there is one.
-const fn class_of_next(grammar: Grammar, next: Option<u8>) -> Option<Class>
-    ensures { result ≡ class_of_next (notation_of grammar) next }
-{
-    match next {
-        None => None,
-        Some(byte) => Some(class_of(grammar, byte)),
-    }
-}
-
-// Returns why `text` is not a literal, of which `size` bytes can be read, which makes `read` of them.
+// Returns why `text` is not a literal, of which `size` bytes can be read, which makes `read` of them. The class of the byte
+// behind them is `next`, if there is one.
 #[cold]
-pub(crate) const fn refusal(grammar: Grammar, text: &[u8], size: usize, read: Summary) -> ReadError
+pub(crate) const fn refusal(
+    grammar: Grammar,
+    text: &[u8],
+    size: usize,
+    read: Summary,
+    next: Option<Class>,
+) -> ReadError
     requires syntax { IsSyntax grammar }
     requires valid { IsValidUpTo (notation_of grammar) text.now size }
     requires read { scan (notation_of grammar) (Some start) (take size text.now) ≡ Some read }
-    requires refused { allows (notation_of grammar) read (class_of_next (notation_of grammar) (slice_get text.now size)) ≡ false }
+    requires next { next ≡ class_of_next (notation_of grammar) (slice_get text.now size) }
+    requires refused { allows (notation_of grammar) read next ≡ false }
     ensures { IsRefusal (notation_of grammar) text.now result }
 {
     role_facts();
@@ -570,7 +637,7 @@ pub(crate) const fn refusal(grammar: Grammar, text: &[u8], size: usize, read: Su
     let stop = Stop {
         grammar,
         read,
-        next: class_of_next(grammar, byte),
+        next,
     };
     let Blame { cause, mask } = stop.blame(byte);
     let number = mask.trailing_zeros();

@@ -1,6 +1,7 @@
 //! Calls that read literals, and the parts that they find.
 
-ghost use Rattle.std.specs.Prelude.{◌≡◌, ◌≢◌, ◌++◌, ◌<◌, ◌≤◌, ℕ, List, Some, length, take};
+ghost use Rattle.std.specs.Prelude.{◌≡◌, ◌≢◌, ◌++◌, ◌<◌, ◌≤◌, ℕ, List, Some, length, slice_get, take};
+ghost use Rattle.lexical_literal.specs.Additions.Causes.{class_of_next};
 ghost use Rattle.lexical_literal.specs.Additions.Summary.{HasLengths, class_of, is_complete};
 ghost use Rattle.lexical_literal.specs.Additions.Tables.{HasTables, IsStep, cuts_of, summary_at};
 ghost use Rattle.std.specs.Option.{ForSome};
@@ -12,7 +13,7 @@ ghost use Rattle.lexical_literal.specs.Parts.{IsRead, IsReadPrefix, literal_of};
 ghost use Rattle.lexical_literal.specs.Syntax.{IsSyntax};
 
 use crate::cause::{ReadError, refusal};
-use crate::steps::class_of;
+use crate::steps::{Class, class_of};
 use crate::syntax::{Grammar, Syntax};
 use crate::tables::{START, Step, Tables, is_complete, piece_number, step_from, summary_at};
 use lexical_util::laws::flags::role_facts;
@@ -158,7 +159,7 @@ fn read<'a>(
     let scanned = scan(grammar, tables, text);
     match scanned.literal {
         Some(size) if size == text.len() => Ok(cut(text, scanned.counts)),
-        _ => Err(refuse(grammar, text, scanned)),
+        _ => Err(refuse(grammar, tables, text, scanned)),
     }
 }
 
@@ -175,7 +176,7 @@ fn read_prefix<'a>(
 {
     let scanned = scan(grammar, tables, text);
     let Some(size) = scanned.literal else {
-        return Err(refuse(grammar, text, scanned));
+        return Err(refuse(grammar, tables, text, scanned));
     };
     let front = front_of(text, size);
     if size == scanned.valid_up_to {
@@ -191,14 +192,32 @@ fn read_prefix<'a>(
 }
 
 // Returns why `text` is not a literal.
-const fn refuse(grammar: Grammar, text: &[u8], scanned: Scanned) -> ReadError
+#[inline(always)]
+const fn refuse(grammar: Grammar, tables: Option<&Tables>, text: &[u8], scanned: Scanned) -> ReadError
     requires syntax { IsSyntax grammar }
+    requires tables { ForSome tables (λ tables. HasTables (notation_of grammar) tables.now) }
     requires scanned { IsScanned (notation_of grammar) text.now scanned }
     requires refused { scanned.literal ≢ Some (length text.now) }
     ensures { IsRefusal (notation_of grammar) text.now result }
 {
-    let read = summary_at(scanned.row);
-    refusal(grammar, text, scanned.valid_up_to, read)
+    let size = scanned.valid_up_to;
+    let next = class_at(grammar, tables, text, size);
+    refusal(grammar, text, size, summary_at(scanned.row), next)
+}
+
+// Returns the class of the byte behind the first `size`, if there is one, by the tables if there are any.
+#[inline(always)]
+const fn class_at(grammar: Grammar, tables: Option<&Tables>, text: &[u8], size: usize) -> Option<Class>
+    requires tables { ForSome tables (λ tables. HasTables (notation_of grammar) tables.now) }
+    ensures { result ≡ class_of_next (notation_of grammar) (slice_get text.now size) }
+{
+    if size >= text.len() {
+        return None;
+    }
+    Some(match tables {
+        None => class_of(grammar, text[size]),
+        Some(tables) => tables.class(text[size]),
+    })
 }
 
 // Returns the first `size` bytes.

@@ -4,12 +4,12 @@
 
 use crate::error::Error;
 use crate::literal::steps::{
-    self, class_of, has_digit, is_digit, is_exponent_character, is_point, needs_exponent, Class,
-    Summary,
+    self, class_of, has_digit, in_part, is_digit, is_exponent_character, is_point, needs_exponent,
+    Class, Stage, Summary,
 };
 use crate::literal::syntax::Grammar;
 use crate::word as masks;
-use crate::word::Part;
+use crate::word::{Part, Role};
 
 /// Where a digit separator is.
 #[derive(Debug, Clone, Copy, PartialEq, Eq, Hash)]
@@ -131,41 +131,6 @@ impl Stop {
         }
     }
 
-    // Returns those of `candidates`, from bit `first` to below bit `end`, that allow the text to go on, or do not, with the
-    // flags of `mask`.
-    const fn flags_that(
-        self,
-        allow: bool,
-        candidates: u128,
-        mask: u128,
-        first: u32,
-        end: u32,
-    ) -> u128 {
-        let mut found = 0;
-        let mut bit = first;
-        while bit < end {
-            let flag = 1u128 << bit;
-            if candidates & flag != 0 && self.allows(mask | flag) == allow {
-                found |= flag;
-            }
-            bit += 1;
-        }
-        found
-    }
-
-    // Returns the lowest of `candidates` without which the text can go on, or 0.
-    const fn lowest_without(self, candidates: u128) -> u128 {
-        let mut bit: u32 = 0;
-        while bit < 15 {
-            let flag = 1u128 << bit;
-            if candidates & flag != 0 && self.allows(self.grammar.word & !flag) {
-                return flag;
-            }
-            bit += 1;
-        }
-        0
-    }
-
     // Returns the flags without requirements.
     const fn bare(self) -> u128 {
         self.grammar.word & !REQUIREMENTS
@@ -180,27 +145,121 @@ impl Stop {
         }
     }
 
-    // Returns the flags to blame for a requirement.
-    const fn requirements(self) -> u128 {
-        let alone = self.flags_that(false, self.binding(), self.bare(), 0, 15);
-        if alone == 0 {
-            self.lowest_without(self.grammar.word & REQUIREMENTS)
-        } else {
-            alone
+    // Returns the role of what cannot follow, or `None` if it plays none.
+    const fn role(self) -> Option<Role> {
+        match self.next {
+            None => Some(Role::Suffix),
+            Some(class) => in_part(self.read.part, class),
         }
+    }
+
+    // Returns whether the flag with the number `number` alone refuses what has the role `role`.
+    #[inline(always)]
+    const fn refuses(self, role: Option<Role>, number: u32) -> bool {
+        let Summary { part, stage, .. } = self.read;
+        let is_sign = matches!(role, Some(Role::Sign));
+        match (number, part) {
+            (0, Part::Integer) | (1, Part::Fraction) | (2, Part::Exponent) => {
+                ends_part(role) && !has_digit(stage)
+            }
+            (3, Part::Integer) => matches!(role, Some(Role::Exponent)) && !has_digit(stage),
+            (3, Part::Fraction) => ends_part(role) && matches!(stage, Stage::Lone),
+            (4, Part::Integer | Part::Fraction) | (7, Part::Exponent) => {
+                is_sign && matches!(self.next, Some(Class::Plus))
+            }
+            (5, Part::Integer | Part::Fraction) | (8, Part::Exponent) => {
+                !is_sign && matches!(stage, Stage::Start | Stage::Mark)
+            }
+            (6, _) | (9, Part::Integer) => matches!(role, Some(Role::Exponent)),
+            (12, _) => self.leads(role),
+            (13, Part::Integer) => {
+                matches!(role, Some(Role::Point | Role::Exponent)) && matches!(stage, Stage::Led)
+            }
+            (14, Part::Integer | Part::Fraction) => {
+                matches!(role, Some(Role::Suffix)) && matches!(self.grammar.options, Some(_))
+            }
+            _ => false,
+        }
+    }
+
+    // Returns whether what has the role `role` is a digit or a separator behind a zero that must not lead, where literals
+    // are integers, or ends an integer with a leading zero.
+    const fn leads(self, role: Option<Role>) -> bool {
+        let Summary { part, stage, .. } = self.read;
+        let integers = matches!(self.grammar.options, None);
+        let zero = matches!(stage, Stage::Bare | Stage::Zero);
+        match role {
+            Some(Role::Digit) => integers && zero,
+            Some(Role::Separator) => {
+                integers && zero && !self.grammar.view().separators(part).trailing
+            }
+            Some(Role::Suffix) => matches!(stage, Stage::Led) && matches!(part, Part::Integer),
+            _ => false,
+        }
+    }
+
+    // Returns the mask of the flag with the number `number` if it alone refuses what has the role `role`.
+    #[inline(always)]
+    const fn row(self, role: Option<Role>, number: u32) -> u128 {
+        if self.refuses(role, number) {
+            1 << number
+        } else {
+            0
+        }
+    }
+
+    // Returns the flags that alone refuse what cannot follow.
+    const fn refusing(self) -> u128 {
+        let role = self.role();
+        let digits = self.row(role, 0) | self.row(role, 1) | self.row(role, 2) | self.row(role, 3);
+        let signs = self.row(role, 4) | self.row(role, 5) | self.row(role, 7) | self.row(role, 8);
+        let exponents = self.row(role, 6) | self.row(role, 9) | self.row(role, 14);
+        let zeros = self.row(role, 12) | self.row(role, 13);
+        digits | signs | exponents | zeros
+    }
+
+    // Returns the flags to blame for a requirement: those that refuse alone, or the lower one of two on leading zeros that
+    // refuse together.
+    const fn requirements(self) -> u128 {
+        let binding = self.binding();
+        let alone = self.refusing() & binding;
+        if alone != 0 {
+            alone
+        } else if binding & masks::NO_INTEGER_LEADING_ZEROS != 0 {
+            masks::NO_INTEGER_LEADING_ZEROS
+        } else {
+            masks::NO_FLOAT_LEADING_ZEROS
+        }
+    }
+
+    // Returns whether what cannot follow is a separator, or is behind one.
+    const fn is_at_gap(self) -> bool {
+        self.read.gap || matches!(self.role(), Some(Role::Separator))
+    }
+
+    // Returns the mask of the flag with the number `number` if it alone allows what cannot follow, and 0 otherwise.
+    const fn permitted(self, number: u32) -> u128 {
+        let flag = 1 << number;
+        flag_if(self.allows(flag | self.bare()), flag)
     }
 
     // Returns the flags each of which would allow a separator that is not allowed.
     const fn separators(self) -> u128 {
-        let candidates = separators_at(self.place(), self.read.part);
-        self.flags_that(true, candidates, self.bare(), 32, 44)
+        if !self.is_at_gap() {
+            return 0;
+        }
+        let internal = internal_number(self.read.part);
+        self.permitted(internal)
+            | self.permitted(internal + 3)
+            | self.permitted(internal + 6)
+            | self.permitted(internal + 9)
     }
 
     // Returns where a separator is not allowed.
     const fn place(self) -> Place {
         let is_consecutive =
             self.read.gap && !self.grammar.view().separators(self.read.part).consecutive;
-        if is_consecutive && matches!(self.next, Some(Class::Separator)) {
+        if is_consecutive && matches!(self.role(), Some(Role::Separator)) {
             Place::Consecutive
         } else if has_digit(self.read.stage) {
             Place::AfterDigit
@@ -209,13 +268,22 @@ impl Stop {
         }
     }
 
-    // Returns the flag by which the case of `other` counts, if it may be next.
-    const fn case_flag(self, other: u8) -> u128 {
-        if self.allows(self.bare()) {
-            case_mask(self.grammar, other)
-        } else {
-            0
+    // Returns the flag by which the case of `byte` counts, if its other case may be next.
+    const fn case_flag(self, byte: u8) -> u128 {
+        let other = other_case(byte);
+        if other == byte {
+            return 0;
         }
+        let mask = case_mask(self.grammar, other);
+        if mask == 0 {
+            return 0;
+        }
+        let stop = Stop {
+            grammar: self.grammar,
+            read: self.read,
+            next: Some(class_of(self.grammar, other)),
+        };
+        flag_if(stop.allows(self.bare()), mask)
     }
 
     // Returns why `byte` cannot follow, if no requirement is the cause.
@@ -227,13 +295,7 @@ impl Stop {
                 mask: separators,
             };
         }
-        let other = other_case(byte);
-        let mask = Stop {
-            grammar: self.grammar,
-            read: self.read,
-            next: class_of_next(self.grammar, Some(other)),
-        }
-        .case_flag(other);
+        let mask = self.case_flag(byte);
         let cause = if mask == 0 { Cause::Byte } else { Cause::Case };
         Blame { cause, mask }
     }
@@ -256,24 +318,18 @@ impl Stop {
     }
 }
 
-// Returns the flags that allow a digit separator in `part` at `place`.
-const fn separators_at(place: Place, part: Part) -> u128 {
-    match (place, part) {
-        (Place::BeforeDigits, Part::Integer) => masks::INTEGER_LEADING_DIGIT_SEPARATOR,
-        (Place::BeforeDigits, Part::Fraction) => masks::FRACTION_LEADING_DIGIT_SEPARATOR,
-        (Place::BeforeDigits, Part::Exponent) => masks::EXPONENT_LEADING_DIGIT_SEPARATOR,
-        (Place::AfterDigit, Part::Integer) => {
-            masks::INTEGER_INTERNAL_DIGIT_SEPARATOR | masks::INTEGER_TRAILING_DIGIT_SEPARATOR
-        }
-        (Place::AfterDigit, Part::Fraction) => {
-            masks::FRACTION_INTERNAL_DIGIT_SEPARATOR | masks::FRACTION_TRAILING_DIGIT_SEPARATOR
-        }
-        (Place::AfterDigit, Part::Exponent) => {
-            masks::EXPONENT_INTERNAL_DIGIT_SEPARATOR | masks::EXPONENT_TRAILING_DIGIT_SEPARATOR
-        }
-        (Place::Consecutive, Part::Integer) => masks::INTEGER_CONSECUTIVE_DIGIT_SEPARATOR,
-        (Place::Consecutive, Part::Fraction) => masks::FRACTION_CONSECUTIVE_DIGIT_SEPARATOR,
-        (Place::Consecutive, Part::Exponent) => masks::EXPONENT_CONSECUTIVE_DIGIT_SEPARATOR,
+// Returns whether a byte with the role `role` ends a part of a number.
+const fn ends_part(role: Option<Role>) -> bool {
+    matches!(role, Some(Role::Point | Role::Exponent | Role::Suffix))
+}
+
+// Returns the number of the flag that allows a digit separator between digits of `part`. Those that allow it before digits,
+// behind them, and after another one have numbers that are higher by 3, 6 and 9.
+const fn internal_number(part: Part) -> u32 {
+    match part {
+        Part::Integer => 32,
+        Part::Fraction => 33,
+        Part::Exponent => 34,
     }
 }
 
@@ -449,27 +505,21 @@ const fn byte_at(text: &[u8], size: usize) -> Option<u8> {
     }
 }
 
-// Returns the class of the next byte, if there is one.
-const fn class_of_next(grammar: Grammar, next: Option<u8>) -> Option<Class> {
-    match next {
-        None => None,
-        Some(byte) => Some(class_of(grammar, byte)),
-    }
-}
-
-// Returns why `text` is not a literal, of which `size` bytes can be read, which makes `read` of them.
+// Returns why `text` is not a literal, of which `size` bytes can be read, which makes `read` of them. The class of the byte
+// behind them is `next`, if there is one.
 #[cold]
 pub(crate) const fn refusal(
     grammar: Grammar,
     text: &[u8],
     size: usize,
     read: Summary,
+    next: Option<Class>,
 ) -> ReadError {
     let byte = byte_at(text, size);
     let stop = Stop {
         grammar,
         read,
-        next: class_of_next(grammar, byte),
+        next,
     };
     let Blame { cause, mask } = stop.blame(byte);
     let number = mask.trailing_zeros();

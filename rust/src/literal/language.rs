@@ -29,7 +29,7 @@ pub struct Language(&'static Definition);
 struct Definition {
     name: &'static str,
     syntax: Syntax,
-    reader: Reader,
+    reader: fn() -> &'static Reader,
     specials: Specials<'static>,
 }
 
@@ -44,12 +44,6 @@ pub enum Number<'a> {
 }
 
 impl Language {
-    /// Returns the language with this name, or `None` if there is none. Case matters.
-    #[must_use]
-    pub fn find(name: &str) -> Option<Language> {
-        Language::ALL.iter().copied().find(|it| it.name() == name)
-    }
-
     /// Returns the name of the constant, such as `C_HEX_FLOAT`.
     #[must_use]
     pub const fn name(&self) -> &'static str {
@@ -64,8 +58,8 @@ impl Language {
 
     /// Returns the reader of literals, for which NaN and infinity are not numbers.
     #[must_use]
-    pub const fn reader(&self) -> &'static Reader {
-        &self.0.reader
+    pub fn reader(&self) -> &'static Reader {
+        (self.0.reader)()
     }
 
     /// Returns the spellings of NaN and infinity. A language in which they are names, or do not exist, has none.
@@ -79,8 +73,8 @@ impl Language {
     /// # Errors
     ///
     /// If `text` is neither a literal nor a special value, returns why it is not a literal.
-    pub const fn read<'a>(&self, text: &'a [u8]) -> Result<Number<'a>, ReadError> {
-        match self.0.reader.read(text) {
+    pub fn read<'a>(&self, text: &'a [u8]) -> Result<Number<'a>, ReadError> {
+        match self.reader().read(text) {
             Ok(literal) => Ok(Number::Literal(literal)),
             Err(error) => match self.0.specials.read(&self.0.syntax, text) {
                 Some(special) => Ok(Number::Special(special)),
@@ -136,6 +130,17 @@ const NONE: Specials = Specials {
     infinity: None,
 };
 
+/// A type for each language, which has its syntax.
+trait Grammar {
+    const SYNTAX: Syntax;
+}
+
+/// Returns the reader of a language. It is generic, so that the compiler makes the tables of those languages alone that a
+/// program reads.
+fn reader<T: Grammar>() -> &'static Reader {
+    const { &Reader::new(T::SYNTAX) }
+}
+
 /// Defines the constants: the documentation, the name, the syntax and the special values of each.
 macro_rules! languages {
     ($($(#[$about:meta])+ $name:ident = $syntax:expr, $specials:expr;)+) => {
@@ -145,13 +150,16 @@ macro_rules! languages {
 
             $($(#[$about])+
             pub const $name: Language = {
-                static DEFINITION: Definition = Definition {
+                enum It {}
+                impl Grammar for It {
+                    const SYNTAX: Syntax = $syntax;
+                }
+                Language(&Definition {
                     name: stringify!($name),
-                    syntax: $syntax,
-                    reader: Reader::new($syntax),
+                    syntax: It::SYNTAX,
+                    reader: reader::<It>,
                     specials: $specials,
-                };
-                Language(&DEFINITION)
+                })
             };)+
         }
     };

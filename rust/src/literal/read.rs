@@ -3,7 +3,7 @@
 //! Calls that read literals, and the parts that they find.
 
 use crate::literal::cause::{refusal, ReadError};
-use crate::literal::steps::class_of;
+use crate::literal::steps::{class_of, Class};
 use crate::literal::syntax::{Grammar, Syntax};
 use crate::literal::tables::{
     is_complete, piece_number, step_from, summary_at, Step, Tables, START,
@@ -125,7 +125,7 @@ const fn read<'a>(
     let scanned = scan(grammar, tables, text);
     match scanned.literal {
         Some(size) if size == text.len() => Ok(cut(text, scanned.counts)),
-        _ => Err(refuse(grammar, text, scanned)),
+        _ => Err(refuse(grammar, tables, text, scanned)),
     }
 }
 
@@ -138,7 +138,7 @@ const fn read_prefix<'a>(
 ) -> Result<Front<'a>, ReadError> {
     let scanned = scan(grammar, tables, text);
     let Some(size) = scanned.literal else {
-        return Err(refuse(grammar, text, scanned));
+        return Err(refuse(grammar, tables, text, scanned));
     };
     let front = front_of(text, size);
     if size == scanned.valid_up_to {
@@ -154,9 +154,33 @@ const fn read_prefix<'a>(
 }
 
 // Returns why `text` is not a literal.
-const fn refuse(grammar: Grammar, text: &[u8], scanned: Scanned) -> ReadError {
-    let read = summary_at(scanned.row);
-    refusal(grammar, text, scanned.valid_up_to, read)
+#[inline(always)]
+const fn refuse(
+    grammar: Grammar,
+    tables: Option<&Tables>,
+    text: &[u8],
+    scanned: Scanned,
+) -> ReadError {
+    let size = scanned.valid_up_to;
+    let next = class_at(grammar, tables, text, size);
+    refusal(grammar, text, size, summary_at(scanned.row), next)
+}
+
+// Returns the class of the byte behind the first `size`, if there is one, by the tables if there are any.
+#[inline(always)]
+const fn class_at(
+    grammar: Grammar,
+    tables: Option<&Tables>,
+    text: &[u8],
+    size: usize,
+) -> Option<Class> {
+    if size >= text.len() {
+        return None;
+    }
+    Some(match tables {
+        None => class_of(grammar, text[size]),
+        Some(tables) => tables.class(text[size]),
+    })
 }
 
 // Returns the first `size` bytes.

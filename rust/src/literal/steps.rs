@@ -126,7 +126,7 @@ pub(crate) const fn role_of(class: Class) -> Option<Role> {
 }
 
 // Returns the role of a byte of `class` after a front that ends in `part`, whose radix decides what is a digit.
-const fn in_part(part: Part, class: Class) -> Option<Role> {
+pub(crate) const fn in_part(part: Part, class: Class) -> Option<Role> {
     match (class, part) {
         (Class::MantissaDigit, Part::Exponent) => None,
         (Class::ExponentDigit, Part::Integer | Part::Fraction) => None,

@@ -1,37 +1,28 @@
 -- What decides the cause of a refusal, computed from what has been read.
-use Rattle.std.specs.Prelude.{ℕ, ◌≡◌, ◌<◌, ◌+◌, ◌^◌, ◌==◌, ◌&&◌, ◌||◌, ◌↔◌, IsTrue, List, not, if◌then◌else◌, Bool, true, false, Option, Some, None, is_some}
+use Rattle.std.specs.Prelude.{ℕ, ◌≡◌, ◌<◌, ◌+◌, ◌^◌, ◌==◌, ◌&&◌, ◌||◌, ◌↔◌, IsTrue, List, [], ◌∷◌, not, if◌then◌else◌, Bool, true, false, Option, Some, None, is_some}
 use Rattle.lexical_util.specs.Ascii.{ByteSet}
 use Rattle.lexical_util.specs.Layout.{Flag, bit, part, separators_in}
+use Rattle.lexical_util.specs.declared.feature_format.roles.Role.{Role}
+use Rattle.lexical_util.specs.declared.feature_format.roles.Role.TheVariants as roles
 use Rattle.lexical_util.specs.declared.format_flags.Part.{Part}
 use Rattle.lexical_util.specs.declared.format_flags.Part.TheVariants as parts
-use Rattle.lexical_literal.specs.Cause.{Allows, is_mark, is_one_of, last_part, requirement_flags, with_flags}
+use Rattle.lexical_literal.specs.Cause.{Allows, is_at, is_mark, is_one_of, last_part, requirement_flags, with_flags}
 use Rattle.lexical_literal.specs.Notation.{Notation}
-use Rattle.lexical_literal.specs.Additions.Summary.{class_of, has_digit, is_complete, step}
+use Rattle.lexical_literal.specs.Additions.Summary.{class_of, has_digit, in_part, is_complete, is_fresh, is_led, is_lone, is_plus, step}
 use Rattle.lexical_literal.specs.declared.cause.Kind.{Kind}
 use Rattle.lexical_literal.specs.declared.cause.Kind.TheVariants as kinds
 use Rattle.lexical_literal.specs.declared.cause.Place.{Place}
 use Rattle.lexical_literal.specs.declared.cause.Place.TheVariants as places
 use Rattle.lexical_literal.specs.declared.steps.Class.{Class}
 use Rattle.lexical_literal.specs.declared.steps.Class.TheVariants as classes
+use Rattle.lexical_literal.specs.declared.steps.Stage.{Stage}
+use Rattle.lexical_literal.specs.declared.steps.Stage.TheVariants as stages
 use Rattle.lexical_literal.specs.declared.steps.Summary.{Summary}
 
 -- `allows m s next` is true if a byte of the class `next` may follow, or if a literal has been read, where `next` is `None`.
 abbrev pub allows : Notation → Summary → Option Class → Bool
 allows m s None = is_complete m s
 allows m s (Some class) = is_some (step m s class)
-
--- `with_bit k m` is `m` with the flag at the bit `k`, and `without_bit k m` is `m` without it.
-abbrev pub with_bit : ℕ → Notation → Notation
-with_bit k m = with_flags m (λ g. (bit g == k) || m.flag g)
-
-abbrev pub without_bit : ℕ → Notation → Notation
-without_bit k m = with_flags m (λ g. m.flag g && not (bit g == k))
-
--- `IsLowestBit m s next candidates k` holds if `k` is the lowest bit of `candidates` without which `m` allows `next`.
-pub record IsLowestBit (m : Notation) (s : Summary) (next : Option Class) (candidates k : ℕ) : Type 0 where
-  pub candidate : part candidates k 1 ≡ 1
-  pub allowed : allows (without_bit k m) s next ≡ true
-  pub lowest : (j : ℕ) → j < k → part candidates j 1 ≡ 1 → allows (without_bit j m) s next ≡ false
 
 -- `kind_set m kind` is the set of the bytes of `kind`.
 abbrev pub kind_set : Notation → Kind → ByteSet
@@ -56,24 +47,89 @@ abbrev pub class_of_next : Notation → Option ℕ → Option Class
 class_of_next m None = None
 class_of_next m (Some byte) = Some (class_of m byte)
 
--- `place_by digit` is after a digit if `digit` is true, and before digits otherwise.
-abbrev pub place_by : Bool → Place
-place_by digit = if digit then places.AfterDigit else places.BeforeDigits
-
 -- `IsReadOf m s front` holds if what is allowed after `s` is what is allowed after `front`, and if `s` is in the part that
 -- `front` ends in, unless a suffix has been read.
 pub record IsReadOf (m : Notation) (s : Summary) (front : List ℕ) : Type 0 where
   pub decides : (next : Option ℕ) → Decides m s (class_of_next m next) front next
   pub part : s.ended ≡ false → s.part ≡ last_part m front
 
--- `place_of m s next` is where `m` does not allow a separator after `s`, before a byte of the class `next`.
-abbrev pub place_of : Notation → Summary → Option Class → Place
-place_of m s (Some classes.Separator) =
-    if s.gap && not (m.flag (separators_in s.part).consecutive) then places.Consecutive else place_by (has_digit s.stage)
-place_of m s next = place_by (has_digit s.stage)
+-- `role_of_next s next` is the role of a byte of the class `next` after `s`, or that of a suffix, where `next` is `None`.
+abbrev pub role_of_next : Summary → Option Class → Option Role
+role_of_next s None = Some roles.Suffix
+role_of_next s (Some class) = in_part s.part class
 
--- `mask_at place part` is the number with 1 in the bits of the flags that allow a separator in `part` at `place`.
-abbrev pub mask_at : Place → Part → ℕ
-mask_at places.BeforeDigits part = 2 ^ bit (separators_in part).leading
-mask_at places.AfterDigit part = 2 ^ bit (separators_in part).internal + 2 ^ bit (separators_in part).trailing
-mask_at places.Consecutive part = 2 ^ bit (separators_in part).consecutive
+-- `is_plus_next next` is true if `next` is the class of plus signs.
+abbrev pub is_plus_next : Option Class → Bool
+is_plus_next None = false
+is_plus_next (Some class) = is_plus class
+
+-- `ends_part role` is true if a byte with the role `role` ends a part of a number.
+abbrev pub ends_part : Option Role → Bool
+ends_part (Some roles.Point) = true
+ends_part (Some roles.Exponent) = true
+ends_part (Some roles.Suffix) = true
+ends_part _ = false
+
+-- `is_part part other` is true if the two parts are the same.
+abbrev pub is_part : Part → Part → Bool
+is_part parts.Integer parts.Integer = true
+is_part parts.Fraction parts.Fraction = true
+is_part parts.Exponent parts.Exponent = true
+is_part _ _ = false
+
+-- `is_role role other` is true if `other` is the role `role`.
+abbrev pub is_role : Role → Option Role → Bool
+is_role roles.Exponent (Some roles.Exponent) = true
+is_role roles.Suffix (Some roles.Suffix) = true
+is_role roles.Sign (Some roles.Sign) = true
+is_role roles.Point (Some roles.Point) = true
+is_role roles.Separator (Some roles.Separator) = true
+is_role _ _ = false
+
+-- `is_after_zero stage` is true if the integer is the digit 0.
+abbrev pub is_after_zero : Stage → Bool
+is_after_zero stages.Bare = true
+is_after_zero stages.Zero = true
+is_after_zero _ = false
+
+-- `place_of m s role` is where `m` does not allow a separator after `s`, before a byte with the role `role`.
+abbrev pub place_of : Notation → Summary → Option Role → Place
+place_of m s role =
+    if (s.gap && not (m.flag (separators_in s.part).consecutive)) && is_role roles.Separator role then places.Consecutive
+    else (if has_digit s.stage then places.AfterDigit else places.BeforeDigits)
+
+-- `separates m s role f` is true if the flag `f` could allow a separator that `m` does not allow.
+abbrev pub separates : Notation → Summary → Option Role → Flag → Bool
+separates m s role f = (s.gap || is_role roles.Separator role) && is_at (place_of m s role) s.part f
+
+-- `is_own part f` is true if the flag `f` is about digit separators in `part`.
+abbrev pub is_own : Part → Flag → Bool
+is_own part f = is_one_of ((separators_in part).internal ∷ (separators_in part).leading ∷ (separators_in part).trailing
+    ∷ (separators_in part).consecutive ∷ []) f
+
+-- `leads m s role` is true if a byte with the role `role` makes a leading zero of an integer, or ends one with a leading zero.
+abbrev pub leads : Notation → Summary → Option Role → Bool
+leads m s (Some roles.Suffix) = is_led s.stage && is_part parts.Integer s.part
+leads m s (Some roles.Digit) = m.integers_only && is_after_zero s.stage
+leads m s (Some roles.Separator) = m.integers_only && (is_after_zero s.stage && not (m.flag (separators_in s.part).trailing))
+leads m s _ = false
+
+-- `refuses m s plus role number` is true if the flag with the number `number` alone refuses a byte with the role `role`, or
+-- a plus sign, if `plus` is true, which is allowed without requirements.
+abbrev pub refuses : Notation → Summary → Bool → Option Role → ℕ → Bool
+refuses m s plus role number =
+    if number == 0 then ends_part role && (is_part parts.Integer s.part && not (has_digit s.stage))
+    else (if number == 1 then ends_part role && (is_part parts.Fraction s.part && not (has_digit s.stage))
+    else (if number == 2 then ends_part role && (is_part parts.Exponent s.part && not (has_digit s.stage))
+    else (if number == 3 then (is_part parts.Integer s.part && (is_role roles.Exponent role && not (has_digit s.stage)))
+      || (is_part parts.Fraction s.part && (ends_part role && is_lone s.stage))
+    else (if number == 4 then plus && (is_role roles.Sign role && not (is_part parts.Exponent s.part))
+    else (if number == 5 then is_fresh s.stage && (not (is_role roles.Sign role) && not (is_part parts.Exponent s.part))
+    else (if number == 6 then is_role roles.Exponent role
+    else (if number == 7 then plus && (is_role roles.Sign role && is_part parts.Exponent s.part)
+    else (if number == 8 then is_fresh s.stage && (not (is_role roles.Sign role) && is_part parts.Exponent s.part)
+    else (if number == 9 then is_role roles.Exponent role && is_part parts.Integer s.part
+    else (if number == 12 then leads m s role
+    else (if number == 13 then is_led s.stage && (is_part parts.Integer s.part && (is_role roles.Point role || is_role roles.Exponent role))
+    else (if number == 14 then is_role roles.Suffix role && (not (is_part parts.Exponent s.part) && not m.integers_only)
+    else false))))))))))))

@@ -6,10 +6,9 @@ use Rattle.lexical_literal.specs.Notation.{notation_of}
 use Rattle.lexical_literal.proofs.read.refuse.Goals as goal
 
 pub refusal-requires-clause-read : goal.refusal-requires-clause-read
-refusal-requires-clause-read c = c.requires.scanned.read ∙ ap Some (sym c.summary_at-read.ensures)
+refusal-requires-clause-read c = c.requires.scanned.read ∙ ap Some (sym c.summary_at.ensures)
 
 pub refusal-requires-clause-refused : goal.refusal-requires-clause-refused
 refusal-requires-clause-refused c =
     let m = notation_of c.args.grammar in
-    ap (λ s. allows m s (class_of_next m (slice_get c.args.text.now c.args.scanned.valid_up_to))) c.summary_at-read.ensures
-    ∙ c.requires.scanned.refused c.requires.refused
+    (λ j. allows m (c.summary_at.ensures j) (c.class_at-next.ensures j)) ∙ c.requires.scanned.refused c.requires.refused

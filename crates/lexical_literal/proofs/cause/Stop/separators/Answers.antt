@@ -1,40 +1,45 @@
--- Each flag of the place is tried.
-use Rattle.std.proofs.Common.{◌≡◌, ◌&&◌, true, Some, refl, sym, ap, ◌∙◌}
-use Rattle.std.proofs.lemmas.Bool.{and_parts}
-use Rattle.std.specs.Bool.{beq}
-use Rattle.lexical_util.specs.Layout.{part}
-use Rattle.lexical_util.specs.Record.{raw}
-use Rattle.lexical_literal.specs.Additions.Causes.{allows, place_of}
-use Rattle.lexical_literal.specs.Cause.{adding, bare, is_at}
-use Rattle.lexical_literal.specs.Notation.{notation_of}
-use Rattle.lexical_literal.proofs.BlameLemmas.{as_bare, each_permits}
-use Rattle.lexical_literal.proofs.PlaceLemmas.{at_place, from_32, mask_flags, mask_is, separates_at}
+-- Each flag of the part is asked.
+use Rattle.std.proofs.Common.{◌≡◌, ◌+◌, ◌&&◌, ◌||◌, ◌==◌, Bool, true, false, refl, sym, ap, ◌∙◌, arith}
+use Rattle.lexical_util.specs.Layout.{bit, separators_in}
+use Rattle.lexical_util.specs.declared.format_flags.Part.{Part}
+use Rattle.lexical_util.specs.declared.format_flags.Part.TheVariants as parts
+use Rattle.lexical_literal.proofs.CauseLemmas.{either, has_either}
 use Rattle.lexical_literal.proofs.cause.Stop.separators.Goals as goal
 
-pub flags_that-requires-clause-within : goal.flags_that-requires-clause-within
-flags_that-requires-clause-within c f is = from_32 c.place.result c.args.self.read.part f
-    (sym (mask_is c.place.result c.args.self.read.part f) ∙ ap (λ n. (raw n).flag f) (sym c.separators_at-candidates.ensures) ∙ is)
+-- The numbers of the flags on separators.
+leading : (part : Part) → bit (separators_in part).leading ≡ bit (separators_in part).internal + 3
+leading parts.Integer = refl
+leading _ = refl
 
-pub flags_that-requires-clause-flags : goal.flags_that-requires-clause-flags
-flags_that-requires-clause-flags c k is =
-    mask_flags c.place.result c.args.self.read.part k (sym (ap (λ n. part n k 1) c.separators_at-candidates.ensures) ∙ is)
+trailing : (part : Part) → bit (separators_in part).trailing ≡ bit (separators_in part).internal + 6
+trailing parts.Integer = refl
+trailing _ = refl
+
+consecutive : (part : Part) → bit (separators_in part).consecutive ≡ bit (separators_in part).internal + 9
+consecutive parts.Integer = refl
+consecutive _ = refl
+
+one_of_four : (t a b c d p : Bool) → t ≡ true → ((((a && p) || (b && p)) || (c && p)) || (d && p)) ≡ (t && ((a || (b || (c || (d || false)))) && p))
+one_of_four t a b c d p is = grind arith
 
 pub returns-clause-each : goal.returns-clause-each
-returns-clause-each c class is_next refused front byte decides f =
-    let m = notation_of c.args.self.grammar in
-    let s = c.args.self.read in
-    let next = c.args.self.next in
-    let candidate : (raw c.separators_at-candidates.result).flag f ≡ is_at (place_of m s next) s.part f =
-    ap (λ n. (raw n).flag f) c.separators_at-candidates.ensures ∙ mask_is c.place.result s.part f ∙ ap (λ p. is_at p s.part f) c.place.ensures in
-    let same = c.flags_that.ensures.each f ∙ (λ j. candidate j && beq (allows (adding f (as_bare m c.bare.result c.bare.ensures j)) s next) true) in
-    let each = each_permits m s next front (Some byte) decides byte refl (is_at (place_of m s next) s.part) (separates_at (place_of m s next) s.part)
-    (λ f separates allowed. ap (λ next. is_at (place_of m s next) s.part f) is_next ∙ at_place m f separates s class
-    (sym (ap (allows (bare m) s) is_next) ∙ refused) (sym (ap (allows (adding f (bare m)) s) is_next) ∙ allowed)) f in
-    (λ is. each.0 (sym same ∙ is), λ permits. same ∙ each.1 permits)
+returns-clause-each c f =
+    let own = separators_in c.args.self.read.part in
+    let is = c.internal_number-internal.ensures in
+    let part = c.args.self.read.part in
+    either f _ _ _ _ (either f _ _ _ _ (either f _ _ _ _ (c.permitted.ensures.each own.internal (sym is) f)
+    (c.permitted-2.ensures.each own.leading (leading part ∙ ap (λ k. k + 3) (sym is)) f))
+    (c.permitted-3.ensures.each own.trailing (trailing part ∙ ap (λ k. k + 6) (sym is)) f))
+    (c.permitted-4.ensures.each own.consecutive (consecutive part ∙ ap (λ k. k + 9) (sym is)) f)
+    ∙ one_of_four _ (bit own.internal == bit f) (bit own.leading == bit f) (bit own.trailing == bit f) (bit own.consecutive == bit f) _
+    (sym c.is_at_gap.ensures ∙ c.if-not-is_at_gap.false)
 
-pub returns-clause-at : goal.returns-clause-at
-returns-clause-at c f is =
-    let m = notation_of c.args.self.grammar in
-    let s = c.args.self.read in
-    sym (ap (λ n. (raw n).flag f) c.separators_at-candidates.ensures ∙ mask_is c.place.result s.part f ∙ ap (λ p. is_at p s.part f) c.place.ensures)
-    ∙ (and_parts ((raw c.separators_at-candidates.result).flag f) _ (sym (c.flags_that.ensures.each f) ∙ is)).0
+pub returns-clause-some : goal.returns-clause-some
+returns-clause-some c =
+    let own = separators_in c.args.self.read.part in
+    let is = c.internal_number-internal.ensures in
+    let part = c.args.self.read.part in
+    has_either _ _ (has_either _ _ (has_either _ _ (c.permitted.ensures.some own.internal (sym is))
+    (c.permitted-2.ensures.some own.leading (leading part ∙ ap (λ k. k + 3) (sym is))))
+    (c.permitted-3.ensures.some own.trailing (trailing part ∙ ap (λ k. k + 6) (sym is))))
+    (c.permitted-4.ensures.some own.consecutive (consecutive part ∙ ap (λ k. k + 9) (sym is)))
