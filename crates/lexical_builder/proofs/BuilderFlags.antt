@@ -18,8 +18,7 @@ bit-lt n k = mod-lt _ (omega arith)
 
 -- The bit of each flag in a builder is below 32.
 pub builder_bit-lt : (f : Flag) → builder_bit f < 32
-builder_bit-lt layout.required_integer_digits = omega arith
-builder_bit-lt _ = omega arith
+builder_bit-lt f = grind arith
 
 -- Each flag of a word is at its bit in the flags of a builder.
 pub part-flags_in : (word : ℕ) (f : Flag) → part (flags_in word) (builder_bit f) 1 ≡ part word (bit f) 1
@@ -36,9 +35,9 @@ flags_in-mask layout.required_integer_digits = refl
 flags_in-mask _ = refl
 
 -- The two blocks of flags in a word, moved together and joined by `|`, are the flags of a builder.
-pub blocks_joined-builder : (word : ℕ) → bit_or (bit_and word (2 ^ low - 1))
+pub builder_blocks : (word : ℕ) → bit_or (bit_and word (2 ^ low - 1))
     (bit_and word ((2 ^ high - 1) * 2 ^ 32) / 2 ^ 32 * 2 ^ low % 2 ^ 32) ≡ flags_in word
-blocks_joined-builder word =
+builder_blocks word =
     let first : bit_and word (2 ^ low - 1) ≡ part word 0 low = and_mask word low ∙ omega arith in
     let small : part word 32 high < 2 ^ high = mod-lt _ (pow_pos high) in
     let second : bit_and word ((2 ^ high - 1) * 2 ^ 32) / 2 ^ 32 * 2 ^ low % 2 ^ 32 ≡ part word 32 high * 2 ^ low =
@@ -48,8 +47,7 @@ blocks_joined-builder word =
 
 -- The value of a bit if it is set, and 0 otherwise, is the bit times the value.
 pub bit_value : (n value : ℕ) → n < 2 → (if n == 1 then value else 0) ≡ n * value
-bit_value zero value l = omega arith
-bit_value (suc n) value l = let none : n ≡ 0 = omega arith in rw none (omega arith)
+bit_value n value l = grind (arith, nat_tests)
 
 -- The sum of the flags of a builder, at their bits in a word, is the two blocks of flags in the word.
 pub flags_as_blocks : (n : ℕ) → sum_by (λ f. if part n (builder_bit f) 1 == 1 then 2 ^ bit f else 0) flags
@@ -62,9 +60,9 @@ flags_as_blocks n =
     ∙ omega arith
 
 -- The two blocks of flags in a builder, moved apart and joined by `|`, are the two blocks of flags in a word.
-pub blocks_joined-word : (n : ℕ) → n < 2 ^ length flags → bit_or (bit_and n (2 ^ low - 1))
+pub word_blocks : (n : ℕ) → n < 2 ^ length flags → bit_or (bit_and n (2 ^ low - 1))
     (bit_and (n * 2 ^ (32 - low) % 2 ^ 128) ((2 ^ high - 1) * 2 ^ 32)) ≡ part n 0 low + part n low high * 2 ^ 32
-blocks_joined-word n l =
+word_blocks n l =
     let first : bit_and n (2 ^ low - 1) ≡ part n 0 low = and_mask n low ∙ omega arith in
     let moved : n * 2 ^ (32 - low) % 2 ^ 128 ≡ n * 2 ^ (32 - low) = omega (arith, l) in
     let second : bit_and (n * 2 ^ (32 - low) % 2 ^ 128) ((2 ^ high - 1) * 2 ^ 32) ≡ part n low high * 2 ^ 32 =
@@ -76,8 +74,7 @@ blocks_joined-word n l =
 -- If a bit is cleared where a mask is 1 and then set to a value, it has the value there, and is unchanged otherwise.
 set_bit : (a m : ℕ) (value : Bool) → a < 2 → m < 2 → (max (min a (1 - m)) (if value then m else 0) == 1)
     ≡ (if m == 1 then value else (a == 1))
-set_bit a m true l k = grind (arith, nat_tests)
-set_bit a m false l k = grind (arith, nat_tests)
+set_bit a m value l k = grind (arith, nat_tests)
 
 part-if : (value : Bool) (m i : ℕ) → part (if value then m else 0) i 1 ≡ (if value then part m i 1 else 0)
 part-if true m i = refl

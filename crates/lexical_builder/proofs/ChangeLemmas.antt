@@ -9,7 +9,7 @@ use Rattle.lexical_flags.specs.declared.format_flags.rule.Rule.{Rule}
 use Rattle.lexical_flags.specs.declared.format_flags.rule.Rule.TheVariants as rules
 use Rattle.lexical_flags.specs.Rules.{IsRadix, IsAbsentOrPunctuation, IsPunctuation, shape_of, Holds}
 use Rattle.lexical_flags.proofs.NormalRules.{Demands-bare, Demands-trim}
-use Rattle.lexical_flags.proofs.Packing.{raw-pack, pack-clean, trim-same, HasBytes-by_name}
+use Rattle.lexical_flags.proofs.Packing.{raw-pack, pack-clean, trim-same}
 use Rattle.lexical_flags.proofs.RecordLemmas.{record_same}
 use Rattle.lexical_flags.proofs.RuleFieldLemmas.{FieldsMeet}
 use Rattle.lexical_builder.specs.Writes.{write_byte, after}
@@ -42,7 +42,7 @@ module _ (word radix : ℕ) (all : (rule : Rule) → Holds rule word) (in_range 
 
   bytes : HasBytes (changed word radix)
   unfolding after
-  bytes = HasBytes-by_name _ (omega arith) (omega arith) (omega arith) (omega arith) (omega arith) (omega arith)
+  bytes = record { each = λ b. grind (arith, nat_tests) }
 
   -- A word that satisfies all rules does so with another mantissa radix, if none of its bytes is a digit of that radix.
   pub Holds-radix : (rule : Rule) → Holds rule (pack (after (raw word) (write_byte layout.mantissa_radix radix ∷ [])))
@@ -53,14 +53,11 @@ module _ (word radix : ℕ) (all : (rule : Rule) → Holds rule word) (in_range 
 -- Writing an absent digit separator is setting its byte to 0.
 written : (r : Record) → after r (write_byte layout.digit_separator 0 ∷ []) ≡ set_byte r layout.digit_separator 0
 unfolding after
-written r = record_same _ _ (λ f. refl) on_byte where
-  on_byte : (b : Byte) → (after r (write_byte layout.digit_separator 0 ∷ [])).byte b ≡ (if shift b == 64 then 0 else r.byte b)
-  on_byte layout.digit_separator = refl
-  on_byte _ = refl
+written r = record_same _ _ (λ f. refl) (λ b. grind arith)
 
 bare_bytes : (word : ℕ) → HasBytes (after (raw word) (write_byte layout.digit_separator 0 ∷ []))
 unfolding after
-bare_bytes word = HasBytes-by_name _ (omega arith) (omega arith) (omega arith) (omega arith) (omega arith) (omega arith)
+bare_bytes word = record { each = λ b. grind (arith, nat_tests) }
 
 -- A word without its digit separator has the other fields of the word.
 pub raw-bare : (word : ℕ) → raw (pack (after (raw word) (write_byte layout.digit_separator 0 ∷ [])))

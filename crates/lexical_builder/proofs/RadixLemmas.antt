@@ -13,10 +13,7 @@ use Rattle.lexical_builder.specs.Writes.{radix_record}
 
 -- If a radix is below 256, then each byte of its record is below 256.
 radix-bytes : (radix : ℕ) → radix < 256 → HasBytes (radix_record radix)
-radix-bytes radix fits = record { each = each } where
-  each : (b : layout.Byte) → (radix_record radix).byte b < 256
-  each layout.digit_separator = omega arith
-  each _ = omega arith
+radix-bytes radix fits = record { each = λ b. grind arith }
 
 raw-radix : (radix : ℕ) → radix < 256 → raw (pack (radix_record radix)) ≡ radix_record radix
 raw-radix radix fits = raw-pack (radix_record radix) (radix-bytes radix fits)

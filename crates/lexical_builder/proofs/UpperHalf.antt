@@ -28,13 +28,8 @@ upper_joined r h =
     let three = or_all start r.byte 8 h.each (layout.base_suffix ∷ layout.mantissa_radix ∷ []) 32
     (r.byte layout.base_prefix * 2 ^ 24) first refl in
     let four = or_shifted middle 24 separator (omega (arith, h.each layout.digit_separator)) in
-    let fits : middle * 2 ^ 24 + separator < 2 ^ 48 = omega (
-      arith,
-      h.each layout.base_prefix,
-      h.each layout.base_suffix,
-      h.each layout.mantissa_radix,
-      h.each layout.digit_separator,
-    ) in
+    let each = h.each in
+    let fits : middle * 2 ^ 24 + separator < 2 ^ 48 = omega arith in
     ap (λ n. bit_or (bit_or n (r.byte layout.exponent_base * 2 ^ 48)) (r.byte layout.exponent_radix * 2 ^ 56))
     (ap (λ n. bit_or n separator) (three ∙ omega arith) ∙ four)
     ∙ or_all start r.byte 8 h.each (layout.exponent_base ∷ layout.exponent_radix ∷ []) 48 (middle * 2 ^ 24 + separator) fits refl
@@ -42,17 +37,7 @@ upper_joined r h =
 
 -- The upper half has 64 bits.
 pub upper-lt : (r : Record) → HasBytes r → upper_of r < 2 ^ 64
-upper-lt r h =
-    omega (
-      arith,
-      upper_joined r h,
-      h.each layout.digit_separator,
-      h.each layout.base_prefix,
-      h.each layout.base_suffix,
-      h.each layout.mantissa_radix,
-      h.each layout.exponent_base,
-      h.each layout.exponent_radix,
-    )
+upper-lt r h = let each = h.each in omega (arith, upper_joined r h)
 
 -- If the upper half of a trimmed record is joined to the flags by `|`, then the result is the packed record.
 pub halves_joined : (r : Record) → HasBytes (trim r) → bit_or (sum_by (flag_bits r) flags) (upper_of (trim r) * 2 ^ 64) ≡ pack r

@@ -1,7 +1,7 @@
 -- Lemmas on the record after writes. Two lists of writes one after another have the effect of one joined list.
 use Rattle.std.proofs.Common.{◌≡◌, ℕ, ◌<◌, ◌==◌, List, [], ◌∷◌, ◌++◌, Option, Some, None, unwrap_or, filter_map, refl}
 use Rattle.std.proofs.Common.{sym, ap, subst, ◌∙◌, arith, All}
-use Rattle.std.proofs.lemmas.Bool.{cond_both}
+use Rattle.std.proofs.lemmas.Bool.Decides.{nat_tests}
 use Rattle.std.proofs.lemmas.List.Elements.{All-head, All-tail}
 use Rattle.std.proofs.Common.{Bool, true, false, ◌&&◌, ◌||◌, if◌then◌else◌, filter}
 use Rattle.std.proofs.Math.Bool.{or-false}
@@ -60,11 +60,7 @@ written p value f d (g ∷ fs) =
       picked : (e c rest : Bool)
           → (if rest then value else if c then unwrap_or (if e then Some value else None) d else d)
           ≡ (if (e && c) || rest then value else d)
-      picked true true true = refl
-      picked true true false = refl
-      picked true false rest = refl
-      picked false true rest = refl
-      picked false false rest = refl
+      picked e c rest = grind arith
 
 -- If the flags in a mask are written, they have the new value, and all other flags are unchanged.
 pub after-mask : (r : Record) (mask : ℕ) (value : Bool) (f : Flag) → (after r (write_flags (flags_with mask) value)).flag f
@@ -94,17 +90,10 @@ after-byte r c value b =
     left_by-cons (λ x. byte_written x b) (write_byte c value) [] (r.byte b) ∙ ap (λ e. unwrap_or (if e then Some value else None) (r.byte b)) (same b c)
     ∙ chosen (byte_index b == byte_index c) where
       same : (b c : Byte) → (shift c == shift b) ≡ (byte_index b == byte_index c)
-      same layout.digit_separator layout.digit_separator = refl
-      same layout.base_prefix layout.digit_separator = refl
-      same layout.base_suffix layout.digit_separator = refl
-      same layout.mantissa_radix layout.digit_separator = refl
-      same layout.exponent_base layout.digit_separator = refl
-      same layout.exponent_radix layout.digit_separator = refl
-      same _ _ = refl
+      same b c = grind arith
 
       chosen : (e : Bool) → unwrap_or (if e then Some value else None) (r.byte b) ≡ (if e then value else r.byte b)
-      chosen true = refl
-      chosen false = refl
+      chosen e = grind arith
 
 -- The record of these flags and bytes is the record of a new builder.
 pub new_parts : builder_record_of_parts 0xC (0 ∷ 0 ∷ 0 ∷ 10 ∷ 0 ∷ 0 ∷ []) ≡ new_record
@@ -136,10 +125,7 @@ after-same r writes others same = record_same _ _ (λ f. ap (λ o. unwrap_or o (
     (λ b. ap (λ o. unwrap_or o (r.byte b)) (same.same_bytes b))
 
 byte_written-fits : (x : Write) (b : Byte) (d : ℕ) → IsLegal x → d < 256 → unwrap_or (byte_written x b) d < 256
-byte_written-fits (write_flag f v) b d legal fits = fits
-byte_written-fits (write_byte c v) b d legal fits =
-    cond_both (shift c == shift b) (Some v) None (λ o. unwrap_or o d < 256)
-    (λ _. legal) (λ _. fits)
+byte_written-fits x b d legal fits = grind (arith, nat_tests)
 
 left_by-fits : (writes : List Write) (b : Byte) (d : ℕ) → All IsLegal writes → d < 256
     → left_by (λ x. byte_written x b) writes d < 256
@@ -155,7 +141,4 @@ HasBytes-after r writes bytes legal = record { each = λ b. left_by-fits writes 
 
 -- The record of a new builder has bytes.
 pub HasBytes-new : HasBytes new_record
-HasBytes-new = record { each = on_byte } where
-  on_byte : (b : Byte) → new_record.byte b < 256
-  on_byte layout.digit_separator = omega arith
-  on_byte _ = omega arith
+HasBytes-new = record { each = λ b. grind arith }

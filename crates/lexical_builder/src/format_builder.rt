@@ -343,6 +343,7 @@ impl NumberFormatBuilder {
 }
 
 // Returns the flags of a format word, each at its bit in a builder.
+#[tactic(auto, using(crate::proofs::BuilderFlags::builder_blocks))]
 const fn builder_flags(format: u128) -> u32
     ensures { result ≡ flags_in format }
 {
@@ -352,6 +353,7 @@ const fn builder_flags(format: u128) -> u32
 }
 
 // Returns the flags of a builder, each at its bit in a format word.
+#[tactic(auto, using(crate::proofs::BuilderFlags::word_blocks, crate::proofs::BuilderFlags::flags_as_blocks))]
 const fn word_flags(flags: u32) -> u128
     requires { flags < 2 ^ length layout.flags }
     ensures { result ≡ sum_by (λ f. if part flags (builder_bit f) 1 == 1 then 2 ^ bit f else 0) layout.flags }
@@ -377,6 +379,7 @@ const fn bits_if(condition: bool, bits: u32) -> u32
 }
 
 // Returns the digit separator, or 0 if none of `flags`, the flags of a format word, allows one.
+#[tactic(auto, using(lexical_flags::proofs::FlagBits::separator_flag_set, lexical_flags::proofs::FlagBits::no_separator_flag_set))]
 const fn kept_separator(flags: u128, separator: u8) -> u8
     ensures { result ≡ (if separator_allowed (raw flags) then separator else 0) }
 {

@@ -13,7 +13,7 @@ use Rattle.lexical_flags.specs.Record.{Record, raw, word_of, flag_bits}
 use Rattle.lexical_flags.specs.Record.{separator_allowed, HasBytes}
 use Rattle.lexical_flags.specs.Additions.Masks.{mask_of}
 use Rattle.lexical_flags.specs.declared.format_flags.TheConstants.{DIGIT_SEPARATOR_FLAG_MASK}
-use Rattle.lexical_flags.proofs.Packing.{high, bit_value, bit_value-lt, flag_bits-value, raw-word_of, HasBytes-by_name}
+use Rattle.lexical_flags.proofs.Packing.{high, bit_value, bit_value-lt, flag_bits-value, raw-word_of}
 use Rattle.lexical_flags.proofs.Masks.{ascends, and_all, or_all, sum-below}
 
 -- A bit times a power of two is 0 if and only if the bit is 0.
@@ -98,7 +98,6 @@ word_of-flags_only r = omega arith
 -- The word of the flags of a record allows a digit separator if and only if the record does.
 pub separator_allowed-flags : (r : Record) → separator_allowed (raw (sum_by (flag_bits r) flags)) ≡ separator_allowed r
 separator_allowed-flags r =
-    let none : HasBytes (flags_only r) = HasBytes-by_name (flags_only r) (omega arith) (omega arith) (omega arith)
-    (omega arith) (omega arith) (omega arith) in
+    let none : HasBytes (flags_only r) = record { each = λ b. omega arith } in
     ap (λ word. separator_allowed (raw word)) (word_of-flags_only r)
     ∙ ap separator_allowed (raw-word_of (flags_only r) none)

@@ -124,12 +124,6 @@ word_of-raw w l clean =
     word_of-joined (raw w) ∙ ap (joined 0 widths) (values-raw w clean)
     ∙ omega (arith, joined-segments 0 widths w, mod-eq_of_lt l)
 
--- If each of the six numbers of a record is below 256, then the record has bytes.
-pub HasBytes-by_name : (r : Record) → r.byte layout.digit_separator < 256 → r.byte layout.base_prefix < 256 → r.byte layout.base_suffix < 256
-    → r.byte layout.mantissa_radix < 256 → r.byte layout.exponent_base < 256 → r.byte layout.exponent_radix < 256
-    → HasBytes r
-HasBytes-by_name r separator prefix suffix radix base exponent = record { each = λ b. grind arith }
-
 -- The record of every word has bytes.
 pub HasBytes-raw : (w : ℕ) → HasBytes (raw w)
 HasBytes-raw w = record { each = λ b. mod-lt _ (pow_pos 8) }

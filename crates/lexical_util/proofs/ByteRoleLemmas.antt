@@ -37,15 +37,12 @@ listed _ = search (inl, inr) depth 8
 module _ (test : Role → Bool) (role : Role) where
   found : (list : List Role) → find test list ≡ Some role → IsTrue (test role)
   found [] = λ same. let no : None ≡ Some role = same in cc
-  found (x ∷ list) = cond_both (test x) (Some x) (find test list) (λ o. o ≡ Some role → IsTrue (test role))
-      (λ is same. let own : x ≡ role = cc in subst (λ y. IsTrue (test y)) own is) (λ _. found list)
+  found (x ∷ list) = let rest = found list in λ same. grind arith
 
   finds : IsTrue (test role) → ((x : Role) → IsTrue (test x) → x ≡ role) → (list : List Role) → IsAmong list role
       → find test list ≡ Some role
   finds plays alone [] none = absurd none
-  finds plays alone (x ∷ list) (inl own) = cond-true (test x) (Some x) _ (subst (λ y. IsTrue (test y)) (sym own) plays) ∙ ap Some own
-  finds plays alone (x ∷ list) (inr rest) =
-      cond_both (test x) (Some x) (find test list) (λ o. o ≡ Some role) (λ is. ap Some (alone x is)) (λ _. finds plays alone list rest)
+  finds plays alone (x ∷ list) among = let rest = finds plays alone list in grind arith
 
 -- The other case of a byte is a byte, and so is each byte that plays the role of a byte.
 other_below : (own : ℕ) → own < 256 → other_case own < 256

@@ -83,11 +83,7 @@ at_most_one t = grind arith
 -- If a field has another value after some writes, then one of them is to the field.
 touched : {T : Type 0} (h : Write → Option T) (L : List Write) (d : T) (differs : T → Bool) → differs d ≡ false
     → cond (differs (left_by h L d)) 1 0 ≤ cond (list_any (λ x. is_some (h x)) L) 1 0
-touched h L d differs same = elim (cases_Bool (list_any (λ x. is_some (h x)) L)) [
-  | inl some ↦ subst (λ t. cond (differs (left_by h L d)) 1 0 ≤ cond t 1 0) (sym some) (at_most_one _)
-  | inr none ↦ subst (λ t. cond t 1 0 ≤ cond (list_any (λ x. is_some (h x)) L) 1 0)
-      (sym (ap differs (untouched h L d none) ∙ same)) (omega arith)
-]
+touched h L d differs same = let same_value = untouched h L d in grind arith
 
 beq-same : (v : Bool) → not (beq v v) ≡ false
 beq-same v = grind arith

@@ -349,10 +349,7 @@ module _ (v w mask : ℕ) (clears : Clears mask v w) where
         → EachReason (λ r. Breaks r q → ⊥) list
     each [] blame free = tt
     each (None ∷ list) blame free = (tt, each list blame.1 free.1)
-    each (Some r ∷ list) blame free = (
-      λ breaks. let all = blame.0 (stay r.mask free.0) in all.1 q breaks holds,
-      each list blame.1 free.1,
-    )
+    each (Some r ∷ list) blame free = (λ breaks. let all = blame.0 (stay r.mask free.0) in all.1 q breaks holds, each list blame.1 free.1)
 
 -- Clearing what has no effect changes no rule, role or option, if no reason blames it.
 clear_idle : (v w : ℕ) (idle : Idle) → Without (raw v) idle → Clears (mask_at idle) v w → (reasons : List (Option Reason))

@@ -94,8 +94,7 @@ lacks_agrees : (v w : ℕ) (part : Part) → SameUnder (mask_of (separator_flags
 lacks_agrees v w part same = agree part (each part same) where
   each : (part : Part) → SameUnder (mask_of (separator_flags part)) v w → AllByRecursion (SameFlag v w) (separator_flags part)
   each parts.Integer same = flags_agree v w _ same (separator_flags parts.Integer) refl
-  each parts.Fraction same = flags_agree v w _ same (separator_flags parts.Fraction) refl
-  each parts.Exponent same = flags_agree v w _ same (separator_flags parts.Exponent) refl
+  each part same = flags_agree v w _ same (separator_flags part) refl
 
   agree : (part : Part) → AllByRecursion (SameFlag v w) (separator_flags part)
       → lacks_position (raw v) part ≡ lacks_position (raw w) part
@@ -156,8 +155,7 @@ abbrev Settled : (Cause → Type 0) → Type 0 → List (Option Cause) → Type 
 Settled P D list = EachCause P list × (NoCause list → D)
 
 alone : (P : Cause → Type 0) (D : Type 0) (o : Option Cause) → MatchOption o D P → Settled P D (o ∷ [])
-alone P D None h = ((tt, tt), λ none. h)
-alone P D (Some c) h = ((h, tt), λ none. absurd (let is = none.0 in cc))
+alone P D o h = grind arith
 
 settled_if : (P : Cause → Type 0) (D : Type 0) (b : Bool) (c : Cause) → (IsTrue b → P c) → (b ≡ false → D)
     → MatchOption (then_some b c) D P
@@ -165,10 +163,7 @@ settled_if P D b c some none = grind arith
 
 settled_there : (P : Cause → Type 0) (D : Type 0) (b : NamedByte) (o : Option Cause) → (b.value ≡ 0 → D)
     → (b.value ≢ 0 → MatchOption o D P) → MatchOption (if_present b o) D P
-settled_there P D b o absent there = test (b.value == 0) refl where
-  test : (t : Bool) → (b.value == 0) ≡ t → MatchOption (if t then None else o) D P
-  test true is = absent (eqb-true _ 0 is)
-  test false is = there (grind (arith, nat_tests))
+settled_there P D b o absent there = grind (arith, nat_tests)
 
 -- RADIXES
 
@@ -249,8 +244,7 @@ set_is w f = ap (any_flag w) (setter_alone f) ∙ or-false _
 unset_is : (v w : ℕ) (b : Byte) → IsUnset w (unset_flag (raw v) b) ↔ (is_cased (raw v) b ≡ false → is_cased (raw w) b ≡ false)
 unset_is v w b = is (case_flag b) where
   own : (f : Flag) (set : Bool) → IsUnset w (if set then None else Some (setter_of f)) ↔ (set ≡ false → (raw w).flag f ≡ false)
-  own f true = (λ h off. absurd (true≢false off), λ h. tt)
-  own f false = (λ h off. sym (set_is w f) ∙ h, λ h. set_is w f ∙ h refl)
+  own f set = let is = set_is w f in grind arith
 
   is : (flag : Option Flag) → IsUnset w (if (option_map_or (raw v).flag flag true) then None else option_map setter_of flag)
       ↔ (option_map_or (raw v).flag flag true ≡ false → option_map_or (raw w).flag flag true ≡ false)
@@ -421,27 +415,23 @@ shape_settled reserved_zero word =
 pub weaken : (P Q : Reason → Type 0) → ((r : Reason) → P r → Q r) → (list : List (Option Reason)) → EachReason P list
     → EachReason Q list
 weaken P Q step [] all = tt
-weaken P Q step (None ∷ list) all = (tt, weaken P Q step list all.1)
-weaken P Q step (Some r ∷ list) all = (step r all.0, weaken P Q step list all.1)
+weaken P Q step (o ∷ list) all = (grind arith, weaken P Q step list all.1)
 
 -- There is no reason if and only if each reason has every property.
 without : (P : Reason → Type 0) (list : List (Option Reason)) → NoReason list → EachReason P list
 without P [] none = tt
-without P (None ∷ list) none = (tt, without P list none.1)
-without P (Some r ∷ list) none = cc
+without P (o ∷ list) none = (grind arith, without P list none.1)
 
 -- The reasons of causes.
 lift : (f : Cause → Reason) (P : Cause → Type 0) (Q : Reason → Type 0) → ((c : Cause) → P c → Q (f c))
     → (list : List (Option Cause)) → EachCause P list → EachReason Q (map (option_map f) list)
 lift f P Q step [] all = tt
-lift f P Q step (None ∷ list) all = (tt, lift f P Q step list all.1)
-lift f P Q step (Some c ∷ list) all = (step c all.0, lift f P Q step list all.1)
+lift f P Q step (o ∷ list) all = (grind arith, lift f P Q step list all.1)
 
 no_causes : (f : Cause → Reason) (Q : Reason → Type 0) → ((c : Cause) → Q (f c) → ⊥) → (list : List (Option Cause))
     → EachReason Q (map (option_map f) list) → NoCause list
 no_causes f Q out [] all = tt
-no_causes f Q out (None ∷ list) all = (refl, no_causes f Q out list all.1)
-no_causes f Q out (Some c ∷ list) all = absurd (out c all.0)
+no_causes f Q out (o ∷ list) all = (grind arith, no_causes f Q out list all.1)
 
 -- If causes explain why `D` fails, and it holds without them, then it holds if and only if they give no reason.
 none_iff : (word e p : ℕ) (D : ℕ → Type 0) (f : Cause → Reason) (list : List (Option Cause))

@@ -1,10 +1,10 @@
 use Rattle.std.proofs.Common.{◌≡◌, ◌∙◌, ℕ, if◌then◌else◌, ap, sym, subst, arith}
-use Rattle.std.proofs.Common.{◌*◌, ◌%◌, ◌^◌, sum_by, slice_index}
+use Rattle.std.proofs.Common.{◌*◌, ◌%◌, ◌^◌, ◌<◌, sum_by, slice_index}
 use Rattle.std.proofs.lemmas.Nat.{or_lt, shl_whole}
 use Rattle.lexical_flags.specs.Layout.{Byte, IsClean, flags}
 use Rattle.lexical_flags.specs.Layout as layout
 use Rattle.lexical_flags.specs.Record.{Record, pack, trim, flag_bits, separator_allowed, raw, HasBytes}
-use Rattle.lexical_flags.proofs.Packing.{HasBytes-by_name, HasBytes-trim, raw-pack, pack-clean, pack-injective}
+use Rattle.lexical_flags.proofs.Packing.{HasBytes-trim, raw-pack, pack-clean, pack-injective}
 use Rattle.lexical_flags.proofs.FlagBits.{separator_allowed-flags}
 use Rattle.lexical_builder.proofs.UpperHalf.{upper_of, upper-lt, halves_joined}
 use Rattle.lexical_builder.specs.BuilderBits.{byte_index, builder_record}
@@ -18,15 +18,14 @@ overflow_cast-result c =
     record { fits = or_lt 128 _ (moved 5 56) (or_lt 128 _ (moved 4 48) four (omega arith)) (omega arith) }
 
 pub returns-clause-bytes : goal.returns-clause-bytes
-returns-clause-bytes c = subst HasBytes c.self.view_is (HasBytes-by_name (builder_record c.self.inside) (omega arith)
-    (omega arith) (omega arith) (omega arith) (omega arith) (omega arith))
+returns-clause-bytes c =
+    let each : (b : Byte) → (builder_record c.self.inside).byte b < 256 = λ b. grind arith in subst HasBytes c.self.view_is (record { each = each })
 
 pub returns-clause-word : goal.returns-clause-word
 returns-clause-word c =
     let r : Record = builder_record c.self.inside in
     let byte : Byte → ℕ = λ b. slice_index c.self.inside.bytes (byte_index b) in
-    let bytes : HasBytes r = HasBytes-by_name r (omega arith) (omega arith) (omega arith) (omega arith) (omega arith)
-    (omega arith) in
+    let bytes : HasBytes r = record { each = λ b. grind arith } in
     let flags_joined : c.word_flags-flags.result ≡ sum_by (flag_bits r) flags = c.word_flags-flags.ensures in
     let kept : HasBytes (trim r) = HasBytes-trim r bytes in
     let separator : c.kept_separator.result ≡ (trim r).byte layout.digit_separator =
