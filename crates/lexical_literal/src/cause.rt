@@ -14,8 +14,8 @@ ghost use Rattle.lexical_literal.specs.Notation.{notation_of};
 ghost use Rattle.lexical_literal.specs.Syntax.{IsSyntax};
 
 use crate::steps::{
-    self, Class, Stage, Summary, class_of, has_digit, in_part, is_digit, is_exponent_character, is_point,
-    needs_exponent,
+    self, Class, Stage, Summary, class_of, has_digit, in_part, is_digit, is_exponent_character,
+    is_point, needs_exponent,
 };
 use crate::syntax::Grammar;
 use lexical_util::error::Error;
@@ -400,10 +400,7 @@ impl Stop {
 const fn ends_part(role: Option<Role>) -> bool
     ensures { result ≡ ends_part role }
 {
-    matches!(
-        role,
-        Some(Role::Point | Role::Exponent | Role::Suffix)
-    )
+    matches!(role, Some(Role::Point | Role::Exponent | Role::Suffix))
 }
 
 // Returns the number of the flag that allows a digit separator between digits of `part`. Those that allow it before digits,
