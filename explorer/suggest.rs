@@ -232,6 +232,7 @@ fn settled(mut state: State, text: &[u8]) -> Result<State, usize> {
             error => return Err(error.map_or(text.len(), |it| it.valid_up_to())),
         }
     }
+    // Those of consecutive separators are removed first, and those between digits last.
     for flag in bits_of(state.word & SEPARATORS & !allowed).rev() {
         let without = State { word: state.word & !flag, ..state };
         if read_in(without).is_ok() {
