@@ -437,7 +437,7 @@ const char *peltzivar_language_name(size_t index);
  * setting. A setting overrides those before it. Fields without a setting have the values of PELTZIVAR_NEW_FIELDS, the
  * exponent character is `e`, and the decimal point is `.`. In a mantissa or exponent radix above 14, `e` is a digit, so
  * `exponent` must be set. If both options are `none`, literals are integers. One alone cannot be `none`: for numbers
- * with a point but no exponent, set no_exponent_notation, and an exponent character that is not a digit. */
+ * with a point but no exponent, set no_exponent_notation, and an `exponent` that is not a digit, such as '~'. */
 
 /* Reads the settings of a text of len bytes, and writes the syntax that they build to *out. Returns the number of
  * problems: first the lines that are refused, and then the reasons why the others do not build a lawful word or, if
