@@ -447,7 +447,7 @@ PELTZIVAR_MUST_USE size_t peltzivar_read_settings(const char *text, size_t len, 
 
 /* Writes a problem as a sentence, such as "unknown setting `base_suffx`; did you mean `base_suffix`?". The problems
  * have the indices from 0 on. Behind them are the notes: on the first 32 settings that later ones override completely,
- * and then on fields that have no effect. Each call takes the time to read the text. The buffer `to` has to_len bytes. */
+ * and then on fields that have no effect. Each call reads the whole text. The buffer `to` has to_len bytes. */
 size_t peltzivar_settings_text(const char *text, size_t len, size_t index, char *to, size_t to_len);
 
 /* Returns the number of lines that cause the problem or note with an index. Writes their indices, in ascending order, to
