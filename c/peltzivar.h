@@ -191,13 +191,13 @@ peltzivar_word peltzivar_pack(const peltzivar_fields *fields);
 
 /* SETTINGS */
 
-/* Parses a setting, which is a string of the form NAME=VALUE. The string has len bytes and need not be null-terminated.
- * It is split at the first `=`. If the string is a valid setting, writes its edit to *out and returns true. Otherwise,
- * returns false and leaves *out unchanged.
+/* Parses a setting: a string NAME=VALUE of len bytes, which need not be null-terminated. It is split at the first `=`.
+ * If it is valid, writes its edit to *out and returns true. Otherwise, returns false and leaves *out unchanged.
  *
  * A flag or a group takes `true` or `false`. A byte takes one ASCII character in single quotes, `0x` followed by one or
  * two hexadecimal digits, or one to three decimal digits. Every byte except mantissa_radix also takes `none`, which
- * makes the byte absent, as 0 does. The name radix is read as mantissa_radix. Spaces, exponent and point are refused. */
+ * makes the byte absent, as 0 does. Spaces are not skipped. The name radix is read as mantissa_radix. Only
+ * peltzivar_read_settings takes `exponent` and `point`, which are not fields. */
 PELTZIVAR_MUST_USE bool peltzivar_parse_edit(const char *text, size_t len, peltzivar_edit *out);
 
 /* Does the same for the value of a byte alone, such as `'p'`, `0x70`, `112` or `none`, which is 0. */
