@@ -12,7 +12,7 @@ use Rattle.lexical_util.specs.Layout.{Flag, bit, flags, part}
 use Rattle.lexical_util.specs.Record.{raw}
 use Rattle.lexical_util.specs.declared.feature_format.roles.Role.TheVariants as roles
 use Rattle.lexical_literal.specs.Notation.{Notation}
-use Rattle.lexical_literal.specs.Cause.{Allows, IsLowest, IsRequirement, Permits, RefusesAlone, Releases, SomeFlag, adding, bare, binds, is_one_of}
+use Rattle.lexical_literal.specs.Cause.{IsLowest, IsRequirement, Permits, RefusesAlone, Releases, SomeFlag, adding, bare, binds, is_one_of}
 use Rattle.lexical_literal.specs.Cause.{is_at, requirement_flags, separator_flags, with_flags, without}
 use Rattle.lexical_literal.specs.Additions.Causes.{Decides, IsWeaker, allows, is_own, is_role, place_of}
 use Rattle.lexical_util.specs.declared.format_flags.Part.{Part}

@@ -11,8 +11,8 @@ use Rattle.lexical_util.specs.declared.format_flags.Part.{Part}
 use Rattle.lexical_util.specs.declared.format_flags.Part.TheVariants as parts
 use Rattle.lexical_literal.specs.Notation.{Notation}
 use Rattle.lexical_literal.specs.Run.{is_place}
-use Rattle.lexical_literal.specs.Cause.{adding, bare, binds, is_at, is_one_of, requirement_flags, separator_flags, without}
-use Rattle.lexical_literal.specs.Additions.Causes.{allows, is_plus_next, is_role, place_of, refuses, role_of_next, separates}
+use Rattle.lexical_literal.specs.Cause.{adding, bare, binds, is_one_of, requirement_flags, separator_flags, without}
+use Rattle.lexical_literal.specs.Additions.Causes.{allows, is_plus_next, is_role, refuses, role_of_next, separates}
 use Rattle.lexical_literal.specs.Additions.Summary.{gap_fits, has_digit, implies, is_signed, in_part, is_plus, is_zero, may_follow, move, needs_exponent, takes}
 use Rattle.lexical_literal.specs.declared.steps.Class.{Class}
 use Rattle.lexical_literal.specs.declared.steps.Stage.{Stage}

@@ -14,8 +14,8 @@ ghost use Rattle.lexical_literal.specs.Notation.{notation_of};
 ghost use Rattle.lexical_literal.specs.Syntax.{IsSyntax};
 
 use crate::steps::{
-    self, Class, Stage, Summary, class_of, has_digit, in_part, is_digit, is_exponent_character, is_point,
-    needs_exponent,
+    self, Class, Stage, Summary, class_of, has_digit, in_part, is_digit, is_exponent_character,
+    is_point, needs_exponent,
 };
 use crate::syntax::Grammar;
 use lexical_util::error::Error;
@@ -201,10 +201,14 @@ impl Stop {
                 Part::Exponent => false,
             },
             4 => plus && matches!(role, Some(Role::Sign)) && !matches!(part, Part::Exponent),
-            5 => matches!(stage, Stage::Start | Stage::Mark) && !matches!(role, Some(Role::Sign)) && !matches!(part, Part::Exponent),
+            5 => matches!(stage, Stage::Start | Stage::Mark)
+                && !matches!(role, Some(Role::Sign))
+                && !matches!(part, Part::Exponent),
             6 => matches!(role, Some(Role::Exponent)),
             7 => plus && matches!(role, Some(Role::Sign)) && matches!(part, Part::Exponent),
-            8 => matches!(stage, Stage::Start | Stage::Mark) && !matches!(role, Some(Role::Sign)) && matches!(part, Part::Exponent),
+            8 => matches!(stage, Stage::Start | Stage::Mark)
+                && !matches!(role, Some(Role::Sign))
+                && matches!(part, Part::Exponent),
             9 => matches!(role, Some(Role::Exponent)) && matches!(part, Part::Integer),
             12 => match role {
                 Some(Role::Suffix) => matches!(stage, Stage::Led) && matches!(part, Part::Integer),
@@ -395,10 +399,7 @@ impl Stop {
 const fn ends_part(role: Option<Role>) -> bool
     ensures { result ≡ ends_part role }
 {
-    matches!(
-        role,
-        Some(Role::Point | Role::Exponent | Role::Suffix)
-    )
+    matches!(role, Some(Role::Point | Role::Exponent | Role::Suffix))
 }
 
 // Returns the number of the flag that allows a digit separator between digits of `part`. Those that allow it before digits,

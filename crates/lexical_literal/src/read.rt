@@ -193,7 +193,12 @@ fn read_prefix<'a>(
 
 // Returns why `text` is not a literal.
 #[inline(always)]
-const fn refuse(grammar: Grammar, tables: Option<&Tables>, text: &[u8], scanned: Scanned) -> ReadError
+const fn refuse(
+    grammar: Grammar,
+    tables: Option<&Tables>,
+    text: &[u8],
+    scanned: Scanned,
+) -> ReadError
     requires syntax { IsSyntax grammar }
     requires tables { ForSome tables (λ tables. HasTables (notation_of grammar) tables.now) }
     requires scanned { IsScanned (notation_of grammar) text.now scanned }
@@ -207,7 +212,12 @@ const fn refuse(grammar: Grammar, tables: Option<&Tables>, text: &[u8], scanned:
 
 // Returns the class of the byte behind the first `size`, if there is one, by the tables if there are any.
 #[inline(always)]
-const fn class_at(grammar: Grammar, tables: Option<&Tables>, text: &[u8], size: usize) -> Option<Class>
+const fn class_at(
+    grammar: Grammar,
+    tables: Option<&Tables>,
+    text: &[u8],
+    size: usize,
+) -> Option<Class>
     requires tables { ForSome tables (λ tables. HasTables (notation_of grammar) tables.now) }
     ensures { result ≡ class_of_next (notation_of grammar) (slice_get text.now size) }
 {

@@ -1,5 +1,5 @@
 use Rattle.std.proofs.Common.{ℕ, ◌≡◌, ◌^◌, ◌*◌, ◌%◌, ◌&&◌, ◌==◌, ◌||◌, if◌then◌else◌, Bool, false, bit_or, inl, inr, refl, sym, ap, subst, ◌∙◌, arith}
-use Rattle.std.proofs.lemmas.Bool.{and_from, cases_Bool, eq-eqb, eqb-true}
+use Rattle.std.proofs.lemmas.Bool.{cases_Bool, eq-eqb, eqb-true}
 use Rattle.std.proofs.lemmas.Bool.Decides.{nat_tests}
 use Rattle.lexical_util.specs.Layout.{Flag, bit}
 use Rattle.lexical_util.specs.Record.{raw}
@@ -38,6 +38,6 @@ pub returns-clause-some : goal.returns-clause-some
 returns-clause-some c g is some = (
   g,
   ap (λ n. (raw n).flag g) (c.flag_if.ensures ∙ ap (λ t. if t then 1 * 2 ^ c.args.number % 2 ^ 128 else 0)
-  (is_taken c.allows.result _ (λ zero. some (c.flag_if.ensures ∙ zero))) ∙ shifted c.args.number c.requires ∙ ap (λ k. 2 ^ k) (sym is))
+      (is_taken c.allows.result _ (λ zero. some (c.flag_if.ensures ∙ zero))) ∙ shifted c.args.number c.requires ∙ ap (λ k. 2 ^ k) (sym is))
       ∙ flag_pow g (bit g) ∙ eq-eqb (bit g) (bit g) refl,
 )
