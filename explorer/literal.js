@@ -101,7 +101,7 @@ class Trial {
                 element("span", { class: "written" }, this.pieces(answer)),
                 element("p", { class: isExpected ? "good" : "bad" }, this.told(answer)),
             ),
-            element("label", { class: "refuse" }, box, "refuse"),
+            element("label", { class: "refuse", title: "must be refused" }, box, "refuse"),
             element("ul", {}, isExpected || offers.length ? offers : element("li", {}, nothing)),
         );
     }

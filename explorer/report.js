@@ -26,7 +26,8 @@ class Report {
     /* Shows a reason why the word is not lawful, or why an option does not fit. */
     reason({ text, fields, rules, repairs }) {
         const broken = rules.map(({ index, error }) => {
-            return element("li", {}, `breaks rule ${index + 1}, \u201c${this.data.rules[index]}\u201d: ${error}`);
+            const text = `breaks rule ${index + 1}, \u201c${this.data.rules[index]}\u201d: `;
+            return element("li", {}, withCode(text), error);
         });
         const buttons = repairs.map((state) => {
             const changes = this.library.differences(state, this.state);

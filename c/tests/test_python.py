@@ -294,7 +294,7 @@ class Literals(unittest.TestCase):
         self.assertEqual(Syntax.of(*lines), Syntax(Format.of(radix=16, base_prefix="x"), "p"))
         self.assertEqual(Syntax.of(Edit("radix=16"), "exponent=none", "point=none"), Syntax.integers(Format.of(radix=16)))
         notes = [(str(it), it.indexes) for it in Syntax.notes_of(*lines, "digit_separator = '_'", "radix = 16")]
-        self.assertEqual(notes, [("radix is overridden", (1, 6)), ("no flag allows the digit separator '_'", (5,))])
+        self.assertEqual(notes, [("a later setting overrides radix", (1, 6)), ("no flag allows the digit separator '_'", (5,))])
         with self.assertRaises(SettingsError) as caught:
             Syntax.of("base_suffx='h'", "radix=16", "base_prefix='b'", "exponent_radix='9'")
         error = pickle.loads(pickle.dumps(caught.exception))

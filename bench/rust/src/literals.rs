@@ -3,11 +3,17 @@
 
 use crate::measure::Row;
 use crate::random::Random;
-use peltzivar::literal::Language;
+use peltzivar::literal::{Language, Reader};
 use std::hint::black_box;
 
-/// Texts of languages.
-type Texts = Vec<(Language, Vec<String>)>;
+/// Texts of a language.
+struct Group {
+    language: Language,
+    reader: &'static Reader,
+    texts: Vec<String>,
+}
+
+type Texts = Vec<Group>;
 
 pub struct Literals {
     /// A million texts of mixed shapes, and those that `parse::<f64>` takes.
@@ -29,12 +35,12 @@ impl Literals {
     pub fn new() -> Literals {
         let random = &mut Random::new(20_261_126);
         let mixed = texts(random, 333_334, literal, |_, _| true);
-        let take = |texts: &Vec<String>| texts.iter().filter(|it| it.parse::<f64>().is_ok()).cloned().collect();
-        let floats = mixed.iter().map(|(language, texts)| (*language, take(texts))).collect();
+        let are_floats = |it: &Group| Group::new(it.language, it.texts.iter().filter(|it| is_float(it)).cloned());
+        let floats = mixed.iter().map(are_floats).collect();
         let six_decimals =
             |random: &mut Random, _| format!("{}.{:06}", 100 + random.below(900), random.below(1_000_000));
         let own: Vec<_> = Language::ALL.iter().flat_map(|language| rows_of(*language)).collect();
-        let row = |(language, text): (Language, &str)| (language, vec![text.to_owned()]);
+        let row = |(language, text): (Language, &str)| Group::new(language, [text.to_owned()]);
         Literals {
             floats,
             rows: (0..100_000).map(|_| row(random.pick(&own))).collect(),
@@ -44,6 +50,16 @@ impl Literals {
             mixed,
         }
     }
+}
+
+impl Group {
+    fn new(language: Language, texts: impl IntoIterator<Item = String>) -> Group {
+        Group { language, reader: language.reader(), texts: texts.into_iter().collect() }
+    }
+}
+
+fn is_float(text: &str) -> bool {
+    text.parse::<f64>().is_ok()
 }
 
 fn accepts(language: Language, text: &str) -> bool {
@@ -59,7 +75,7 @@ fn texts(
 ) -> Texts {
     let mut of = |language| {
         let texts = std::iter::repeat_with(|| text(random, language)).filter(|text| is_kept(language, text));
-        (language, texts.take(count).collect())
+        Group::new(language, texts.take(count))
     };
     LANGUAGES.into_iter().map(&mut of).collect()
 }
@@ -68,7 +84,7 @@ fn texts(
 fn rows_of(language: Language) -> Vec<(Language, &'static str)> {
     let rows = ROWS.lines().map(|line| line.split_whitespace().collect::<Vec<_>>());
     let own = rows.filter(|row| row.first() == Some(&language.name())).map(|row| row[2]);
-    let taken = own.filter(|it| accepts(language, it) && it.parse::<f64>().is_ok());
+    let taken = own.filter(|it| accepts(language, it) && is_float(it));
     taken.map(|text| (language, text)).collect()
 }
 
@@ -109,30 +125,30 @@ fn spoiled(random: &mut Random, language: Language) -> String {
 }
 
 /// Returns how many texts a call returns `true` for.
-fn count<F: Fn(&str) -> bool>(texts: &Texts, call_of: impl Fn(Language) -> F) -> u64 {
-    let counts = texts.iter().map(|(language, texts)| {
-        let call = call_of(*language);
-        texts.iter().filter(|text| call(text)).count()
+fn count<F: Fn(&str) -> bool>(texts: &[Group], call_of: impl Fn(&Group) -> F) -> u64 {
+    let counts = texts.iter().map(|group| {
+        let call = call_of(group);
+        group.texts.iter().filter(|text| call(text)).count()
     });
     counts.sum::<usize>() as u64
 }
 
-fn reader(language: Language) -> impl Fn(&str) -> bool {
-    let reader = language.reader();
+fn reader(group: &Group) -> impl Fn(&str) -> bool + use<> {
+    let reader = group.reader;
     move |text| black_box(reader.read(text.as_bytes())).is_ok()
 }
 
-fn syntax(language: Language) -> impl Fn(&str) -> bool {
-    let syntax = language.syntax();
+fn syntax(group: &Group) -> impl Fn(&str) -> bool + use<> {
+    let syntax = group.language.syntax();
     move |text| black_box(syntax.read(text.as_bytes())).is_ok()
 }
 
-fn refuses(language: Language) -> impl Fn(&str) -> bool {
-    let reader = language.reader();
+fn refuses(group: &Group) -> impl Fn(&str) -> bool + use<> {
+    let reader = group.reader;
     move |text| black_box(reader.read(text.as_bytes())).is_err()
 }
 
-fn parse(_: Language) -> impl Fn(&str) -> bool {
+fn parse(_: &Group) -> impl Fn(&str) -> bool + use<> {
     |text| black_box(text.parse::<f64>()).is_ok()
 }
 
@@ -150,17 +166,17 @@ mod patterns {
     ];
     static ALL: LazyLock<[Regex; 3]> = LazyLock::new(|| PATTERNS.map(|it| Regex::new(it).expect("a pattern")));
 
-    fn pattern(language: Language) -> &'static Regex {
-        &ALL[LANGUAGES.iter().position(|it| *it == language).expect("one of three languages")]
+    fn pattern(group: &Group) -> &'static Regex {
+        &ALL[LANGUAGES.iter().position(|it| *it == group.language).expect("one of three languages")]
     }
 
-    pub fn captures(language: Language) -> impl Fn(&str) -> bool {
-        let pattern = pattern(language);
+    pub fn captures(group: &Group) -> impl Fn(&str) -> bool + use<> {
+        let pattern = pattern(group);
         move |text| black_box(pattern.captures(text)).is_some()
     }
 
-    pub fn is_match(language: Language) -> impl Fn(&str) -> bool {
-        let pattern = pattern(language);
+    pub fn is_match(group: &Group) -> impl Fn(&str) -> bool + use<> {
+        let pattern = pattern(group);
         move |text| black_box(pattern.is_match(text))
     }
 }
@@ -170,7 +186,7 @@ pub fn rows(texts: &Literals) -> Vec<Row<'_>> {
         ($($name:expr, $texts:ident.$call:expr, $others:ident.$other:expr;)*) => {
             vec![$(Row {
                 name: $name,
-                calls: texts.$texts.iter().map(|(_, texts)| texts.len()).sum(),
+                calls: texts.$texts.iter().map(|group| group.texts.len()).sum(),
                 ours: Box::new(|| count(black_box(&texts.$texts), $call)),
                 theirs: Box::new(|| count(black_box(&texts.$others), $other)),
             }),*]

@@ -32,11 +32,13 @@ fn passes(pass: &Loop) -> u32 {
 }
 
 impl Row<'_> {
-    /// Times both loops in turn, and returns the least nanoseconds of one call on each side.
+    /// Times both loops in turn, up to `rounds` times and some seconds, and returns the least nanoseconds of one call on
+    /// each side.
     pub fn measure(&self, rounds: usize) -> [f64; 2] {
         let sides = [&self.ours, &self.theirs].map(|pass| (pass, passes(pass)));
         let mut least = [f64::INFINITY; 2];
-        for _ in 0..rounds {
+        let start = Instant::now();
+        for _ in (0..rounds).take_while(|_| start.elapsed() < Duration::from_secs(3)) {
             for (least, (pass, times)) in least.iter_mut().zip(sides) {
                 let nanoseconds = time(pass, times).as_nanos() as f64 / times as f64;
                 *least = least.min(nanoseconds / self.calls as f64);

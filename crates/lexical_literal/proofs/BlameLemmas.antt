@@ -1,12 +1,11 @@
 -- The flags that are found are to blame.
-use Rattle.std.proofs.Common.{ℕ, ◌≡◌, ◌<◌, ◌≤◌, ◌/◌, ◌%◌, ◌^◌, ◌↔◌, min, Bool, true, false, not, ◌==◌, ◌&&◌, ◌||◌, inl, inr, IsTrue, bit_and, if◌then◌else◌, nat_lt, List, []}
-use Rattle.std.proofs.Common.{◌∷◌, Option, Some, refl, sym, ap, subst, ◌∙◌, arith}
-use Rattle.std.proofs.lemmas.Bool.{false≢true, and_parts, and_from, or_cases, or_left, or_right, cases_Bool, cases_lt, eq-eqb, eqb-true, false_from_ne_true, lt-ltb, agree_below}
+use Rattle.std.proofs.Common.{ℕ, ◌≡◌, ◌<◌, ◌≤◌, ◌/◌, ◌%◌, ◌^◌, ◌↔◌, min, Bool, true, false, not, ◌==◌, ◌&&◌, ◌||◌, inl, inr, IsTrue, bit_and, if◌then◌else◌, nat_lt, List}
+use Rattle.std.proofs.Common.{Option, Some, refl, sym, ap, subst, ◌∙◌, arith}
+use Rattle.std.proofs.lemmas.Bool.{false≢true, and_parts, and_from, or_left, or_right, cases_Bool, cases_lt, eq-eqb, eqb-true, false_from_ne_true, lt-ltb, agree_below}
 use Rattle.std.proofs.lemmas.Bool.{agree_below_at}
 use Rattle.std.proofs.lemmas.Bool.Decides.{nat_tests}
 use Rattle.std.proofs.lemmas.Nat.Bits.{bit_at_and}
 use Rattle.std.proofs.Math.Nat.{div-eq_of_lt, pow-le-pow_right}
-use Rattle.std.specs.List.{filter, list_any}
 use Rattle.lexical_util.specs.Layout as layout
 use Rattle.lexical_util.specs.Layout.{Flag, bit, flags, part}
 use Rattle.lexical_util.specs.Record.{raw}
@@ -24,28 +23,26 @@ use Rattle.lexical_literal.specs.declared.steps.Class.{Class}
 use Rattle.lexical_literal.specs.declared.steps.Summary.{Summary}
 use Rattle.lexical_literal.proofs.CauseLemmas.{bit_small, flag_pow}
 use Rattle.lexical_literal.proofs.JointLemmas.{Alone, at_next, going, is_lower, joint, lower, zeros_bind}
-use Rattle.lexical_literal.proofs.RefusalLemmas.{same_flag, apart}
+use Rattle.lexical_literal.proofs.RefusalLemmas.{apart, at, same_flag}
 
 -- THE FLAGS OF A MASK
 
-find : (fs : List Flag) (k : ℕ) → list_any (λ g. bit g == k) fs ≡ true → (f : Flag) × (bit f ≡ k)
-find [] k is = absurd (false≢true is)
-find (g ∷ fs) k is = elim (or_cases (bit g == k) _ is) [ inl here ↦ (g, eqb-true (bit g) k here) | inr more ↦ find fs k more ]
-
-abbrev pub flags_in : ℕ → List Flag
-flags_in mask = filter (λ g. part mask (bit g) 1 == 1) flags
-
 -- Each bit of a mask of flags is one of them.
-pub mask_flag : (mask : ℕ) → mask < 2 ^ 44 → agree_below (λ k. part mask k 1 == 1) (λ k. list_any (λ g. bit g == k) (flags_in mask)) 44 ≡ true
+pub mask_flag : (mask : ℕ) → mask < 2 ^ 44 → agree_below (λ k. (part mask k 1 == 1) && not (bit (at flags k) == k)) (λ k. false) 44 ≡ true
     → (k : ℕ) → part mask k 1 ≡ 1 → (f : Flag) × (bit f ≡ k)
 mask_flag mask small agree k one = elim (cases_lt k 44) [
-  | inl below ↦ find (flags_in mask) k (sym (agree_below_at (λ k. part mask k 1 == 1) (λ k. list_any (λ g. bit g == k) (flags_in mask)) 44 k agree below)
-      ∙ ap (λ n. n == 1) one)
+  | inl below ↦ (
+    at flags k,
+    eqb-true (bit (at flags k)) k (owned _ _ (eq-eqb (part mask k 1) 1 one)
+        (agree_below_at (λ k. (part mask k 1 == 1) && not (bit (at flags k) == k)) (λ k. false) 44 k agree below)),
+  )
   | inr high ↦
       let wide : 2 ^ 44 ≤ 2 ^ k = pow-le-pow_right {n = 2} (omega arith) high in
       let none : mask / 2 ^ k ≡ 0 = div-eq_of_lt (omega (arith, wide)) in
       absurd (omega (arith, one, ap (λ n. n % 2) none))
-]
+] where
+  owned : (x y : Bool) → x ≡ true → (x && not y) ≡ false → y ≡ true
+  owned x y is none = grind arith
 
 both_bits : (a b : ℕ) → min a b ≡ 1 → b < 2 → b ≡ 1
 both_bits a b is small = omega arith
@@ -53,27 +50,20 @@ both_bits a b is small = omega arith
 pub of_mask : (word mask k : ℕ) → part (bit_and word mask) k 1 ≡ 1 → part mask k 1 ≡ 1
 of_mask word mask k one = both_bits _ _ (sym (bit_at_and word mask k) ∙ one) (bit_small mask k)
 
--- What requires something is among the lowest flags.
-pub below_15 : (f : Flag) → is_one_of requirement_flags f ≡ true → bit f < 15
-below_15 f is = grind (arith, nat_tests)
-
 -- FEWER REQUIREMENTS
 
 module _ (m : Notation) where
-  weak_bare : (x r : Bool) → ((x && not r) && r) ≡ true → x ≡ true
-  weak_bare x r is = grind arith
-
-  kept_bare : (x r : Bool) → x ≡ true → ((x && not r) || r) ≡ true
-  kept_bare x r is = grind arith
-
-  pub bare_weaker : IsWeaker m (bare m).flag
-  bare_weaker = record { no_more = λ f is. weak_bare (m.flag f) _ is; no_less = λ f is. kept_bare (m.flag f) _ is }
-
-  weak_adding : (e x r : Bool) → ((e || (x && not r)) && r) ≡ true → e ≡ true
-  weak_adding e x r is = grind arith
+  weak_without : (x e r : Bool) → ((x && not e) && r) ≡ true → x ≡ true
+  weak_without x e r is = grind arith
 
   kept_adding : (e x r : Bool) → x ≡ true → ((e || (x && not r)) || r) ≡ true
   kept_adding e x r is = grind arith
+
+  pub bare_weaker : IsWeaker m (bare m).flag
+  bare_weaker = record { no_more = λ f is. weak_without (m.flag f) _ _ is; no_less = λ f is. kept_adding false (m.flag f) _ is }
+
+  weak_adding : (e x r : Bool) → ((e || (x && not r)) && r) ≡ true → e ≡ true
+  weak_adding e x r is = grind arith
 
   -- One requirement that is set, or one that allows separators.
   pub adding_weaker : (f : Flag) → (IsTrue (is_one_of requirement_flags f) → m.flag f ≡ true) → IsWeaker m (adding f (bare m)).flag
@@ -83,9 +73,6 @@ module _ (m : Notation) where
         ap m.flag same ∙ set (ap (is_one_of requirement_flags) (sym same) ∙ (and_parts ((bit g == bit f) || (bare m).flag g) _ is).1);
     no_less = λ g is. kept_adding (bit g == bit f) (m.flag g) (is_one_of requirement_flags g) is;
   }
-
-  weak_without : (x e r : Bool) → ((x && not e) && r) ≡ true → x ≡ true
-  weak_without x e r is = grind arith
 
   pub without_weaker : (f : Flag) → is_one_of requirement_flags f ≡ true → IsWeaker m (without f m).flag
   without_weaker f requires = record {
@@ -182,7 +169,7 @@ module _ (m : Notation) where
         each_free = record { free = allowed; each = λ f is. met (binds m f) _ (none f) is }
 
         lower_free : (g : Flag) → is_lower m g ≡ true → allows (without g m) s class ≡ false
-        lower_free = lower m s class (going m s class allowed refused) each_free refused
+        lower_free g below = lower m s class (going m s class allowed refused) g below each_free refused
 
         two : (t : Bool) → zeros_bind m ≡ t → (if t then allows (without layout.no_integer_leading_zeros m) s class
             else m.flag layout.no_float_leading_zeros && allows (without layout.no_float_leading_zeros m) s class) ≡ true

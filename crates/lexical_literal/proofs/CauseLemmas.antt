@@ -5,7 +5,7 @@ use Rattle.std.proofs.lemmas.Bool.Decides.{nat_tests}
 use Rattle.std.proofs.lemmas.List.Folds.{list_any-append}
 use Rattle.std.proofs.lemmas.Nat.Bits.{and_pow, bit_at_and, bit_at_or, bit_at_not, bit_at-zero, bit_at-pow_same, bit_at-pow_other, bit_at-trailing_zeros}
 use Rattle.std.proofs.Math.Nat.{eq-zero-or-pos, mod-lt}
-use Rattle.std.proofs.lemmas.Bool.{or_left, or_right}
+use Rattle.std.proofs.lemmas.Bool.{and_from, eq-eqb, or_left, or_right}
 use Rattle.std.proofs.lemmas.Nat.{one_shl}
 use Rattle.std.specs.Int.Bits.{or_zero_l}
 use Rattle.std.specs.Int.{w128, bit_not, trailing_zeros}
@@ -13,8 +13,7 @@ use Rattle.lexical_util.specs.Ascii.{ByteSet}
 use Rattle.lexical_util.specs.Layout as layout
 use Rattle.lexical_util.specs.Layout.{Flag, bit, part}
 use Rattle.lexical_util.specs.Record.{raw}
-use Rattle.lexical_literal.specs.Cause.{behind, case_set, first_in, is_one_of, requirement_flags, separator_flags}
-use Rattle.lexical_literal.specs.Notation.{Notation}
+use Rattle.lexical_literal.specs.Cause.{behind, is_one_of, requirement_flags}
 
 -- THE FLAGS OF MASKS
 
@@ -53,31 +52,9 @@ pub all_bind : (f : Flag) → (raw 0x73FF).flag f ≡ (is_one_of requirement_fla
 all_bind layout.required_integer_digits = refl
 all_bind _ = refl
 
-pub separator_mask : (f : Flag) → (raw 0xFFF_0000_0000).flag f ≡ is_one_of separator_flags f
-separator_mask layout.required_integer_digits = refl
-separator_mask _ = refl
-
 -- The flags of a word without requirements.
 pub bare_flags : (word : ℕ) (f : Flag) → (raw (bit_and word (bit_not w128 0x73FF))).flag f ≡ ((raw word).flag f && not (is_one_of requirement_flags f))
 bare_flags word f = flag_and f word (bit_not w128 0x73FF) ∙ ap (λ t. (raw word).flag f && t) (flag_not f 0x73FF (omega arith) ∙ ap not (requirement_mask f))
-
--- `case_mask_of a b c` has the flags on the case of the exponent character, the prefix and the suffix, each if it is true.
-abbrev pub case_mask_of : Bool → Bool → Bool → ℕ
-case_mask_of a b c = bit_or (bit_or (if a then 2 ^ 15 else 0) (if b then 2 ^ 16 else 0)) (if c then 2 ^ 17 else 0)
-
-module _ (m : Notation) (byte : ℕ) where
-  pub case_each : (f : Flag) → (raw (case_mask_of (m.exponent_character byte) (m.prefix byte) (m.suffix byte))).flag f ≡ case_set f m byte
-  case_each layout.required_integer_digits = grind arith
-  case_each _ = grind arith
-
-  pub case_some : case_mask_of (m.exponent_character byte) (m.prefix byte) (m.suffix byte) ≢ 0 → (f : Flag) × (case_set f m byte ≡ true)
-  case_some some = go (m.exponent_character byte) (m.prefix byte) (m.suffix byte) refl refl refl some where
-    go : (a b c : Bool) → m.exponent_character byte ≡ a → m.prefix byte ≡ b → m.suffix byte ≡ c → case_mask_of a b c ≢ 0
-        → (f : Flag) × (case_set f m byte ≡ true)
-    go true b c is_a is_b is_c some = (layout.case_sensitive_exponent, is_a)
-    go false true c is_a is_b is_c some = (layout.case_sensitive_base_prefix, is_b)
-    go false false true is_a is_b is_c some = (layout.case_sensitive_base_suffix, is_c)
-    go false false false is_a is_b is_c some = absurd (some refl)
 
 -- A bit that a mask has, or has not.
 pub is_unset : (n k : ℕ) → bit_and n (2 ^ k) ≡ 0 → part n k 1 ≡ 0
@@ -100,7 +77,8 @@ shifted k small = one_shl k 128 (omega arith)
 pub either : (f : Flag) (a b : ℕ) (x y : Bool) → (raw a).flag f ≡ x → (raw b).flag f ≡ y → (raw (bit_or a b)).flag f ≡ (x || y)
 either f a b x y is_a is_b = flag_or f a b ∙ (λ j. is_a j || is_b j)
 
-abbrev HasFlag : ℕ → Type 0
+-- `HasFlag n` holds if the mask `n` has a flag, or is 0.
+abbrev pub HasFlag : ℕ → Type 0
 HasFlag n = n ≢ 0 → (f : Flag) × ((raw n).flag f ≡ true)
 
 pub has_either : (a b : ℕ) → HasFlag a → HasFlag b → HasFlag (bit_or a b)
@@ -122,17 +100,16 @@ pub is_taken : (t : Bool) (mask : ℕ) → (if t then mask else 0) ≢ 0 → t �
 is_taken true mask some = refl
 is_taken false mask some = absurd (some refl)
 
+-- A mask of one flag, if `t` is true.
+pub one_flag : (t : Bool) (k mask : ℕ) → mask ≡ (if t then 2 ^ k else 0) → (f : Flag) → (raw mask).flag f ≡ (t && (bit f == k))
+one_flag t k mask is f = ap (λ n. (raw n).flag f) is ∙ flag_if t (2 ^ k) f ∙ ap (λ b. t && b) (flag_pow f k)
+
+pub has_one : (t : Bool) (g : Flag) (mask : ℕ) → mask ≡ (if t then 2 ^ bit g else 0) → HasFlag mask
+has_one t g mask is some = (g, one_flag t (bit g) mask is g ∙ and_from _ _ (is_taken t _ (λ zero. some (is ∙ zero))) (eq-eqb (bit g) (bit g) refl))
+
 -- THE BYTES TO SHOW
 
 module _ (A : ByteSet) where
   pub behind_more : (text : List ℕ) (byte : ℕ) → behind A (text ++ byte ∷ []) ≡ (if A byte then length text + 1 else behind A text)
   behind_more [] byte = grind arith
   behind_more (b ∷ text) byte = let more = behind_more text byte in let any = list_any-append A text (byte ∷ []) in grind arith
-
-  pub first_append : (x y : List ℕ) → first_in A x ≡ length x → first_in A (x ++ y) ≡ length x + first_in A y
-  first_append [] y none = omega arith
-  first_append (b ∷ x) y none = let more = first_append x y in grind arith
-
-  pub first_before : (x y : List ℕ) → first_in A x < length x → first_in A (x ++ y) ≡ first_in A x
-  first_before [] y some = absurd (omega arith)
-  first_before (b ∷ x) y some = let more = first_before x y in grind arith

@@ -1,6 +1,6 @@
 -- Which flags refuse what is allowed without requirements: flags that refuse alone, or two flags on leading zeros.
-use Rattle.std.proofs.Common.{◌≡◌, Bool, true, false, not, ◌==◌, ◌&&◌, ◌||◌, if◌then◌else◌, nat_lt, Option, Some, None, refl, sym, ap, ◌∙◌, arith}
-use Rattle.std.proofs.lemmas.Bool.{false≢true, and_parts, or_parts}
+use Rattle.std.proofs.Common.{◌≡◌, Bool, true, false, not, ◌==◌, ◌&&◌, ◌||◌, if◌then◌else◌, nat_lt, Option, Some, None, refl, sym, ap, subst, ◌∙◌, arith}
+use Rattle.std.proofs.lemmas.Bool.{false≢true, or_parts}
 use Rattle.std.proofs.lemmas.Bool.Decides.{nat_tests}
 use Rattle.std.specs.Prelude.{is_some}
 use Rattle.lexical_util.specs.Layout as layout
@@ -27,20 +27,17 @@ abbrev pub taken : Notation → Summary → Bool → Option Role → Bool
 taken n s plus None = false
 taken n s plus (Some role) = takes n s plus role
 
--- `unended s` is `s` where no suffix has been read.
-abbrev pub unended : Summary → Summary
-unended s = reading s.part s.stage s.gap
-
 moved : (n : Notation) (s : Summary) (ended plus zero : Bool) (o : Option Role)
-    → is_some (move n (record s { ended = ended }) plus zero o) ≡ (not ended && taken n (unended s) plus o)
+    → is_some (move n (record s { ended = ended }) plus zero o) ≡ (not ended && taken n (reading s.part s.stage s.gap) plus o)
 moved n s ended plus zero None = grind arith
 moved n s ended plus zero (Some role) = grind arith
 
 -- What is allowed is a question of roles, before a suffix.
-pub allows_is : (n : Notation) (s : Summary) (next : Option Class) → s.ended ≡ false → allows n s next ≡ taken n (unended s) (is_plus_next next) (role_of_next s next)
+pub allows_is : (n : Notation) (s : Summary) (next : Option Class) → s.ended ≡ false
+    → allows n s next ≡ taken n (reading s.part s.stage s.gap) (is_plus_next next) (role_of_next s next)
 allows_is n s None going = grind arith
 allows_is n s (Some class) going = moved n s s.ended (is_plus class) (is_zero class) (in_part s.part class)
-    ∙ ap (λ e. not e && taken n (unended s) (is_plus class) (in_part s.part class)) going
+    ∙ ap (λ e. not e && taken n (reading s.part s.stage s.gap) (is_plus class) (in_part s.part class)) going
 
 not_ended : (e t : Bool) → (not e && t) ≡ true → e ≡ false
 not_ended e t is = grind arith
@@ -48,23 +45,24 @@ not_ended e t is = grind arith
 module _ (m : Notation) where
   -- FLAGS THAT REFUSE ALONE
 
-  pub alone_role : (f : Flag) (part : Part) (stage : Stage) (gap plus : Bool) (role : Role) → is_one_of requirement_flags f ≡ true
-      → takes (bare m) (reading part stage gap) plus role ≡ true
-      → refuses m (reading part stage gap) plus (Some role) (bit f) ≡ not (takes (adding f (bare m)) (reading part stage gap) plus role)
-  alone_role layout.required_mantissa_digits parts.Integer stage gap plus roles.Digit requires free = grind arith
-  alone_role layout.required_mantissa_digits _ stage gap plus _ requires free = grind arith
-  alone_role layout.no_exponent_notation parts.Integer stage gap plus roles.Exponent requires _ = grind arith
-  alone_role layout.no_exponent_notation _ stage gap plus _ requires free = grind arith
-  alone_role layout.no_exponent_without_fraction parts.Integer stages.Start gap plus roles.Exponent requires _ = grind arith
-  alone_role layout.no_exponent_without_fraction parts.Integer _ gap plus roles.Exponent requires _ = grind arith
-  alone_role layout.no_exponent_without_fraction _ stage gap plus _ requires free = grind arith
-  alone_role layout.no_integer_leading_zeros parts.Integer stage gap plus roles.Digit requires free = grind arith
-  alone_role layout.no_integer_leading_zeros _ stage gap plus _ requires free = grind arith
-  alone_role layout.no_float_leading_zeros parts.Integer stage gap plus roles.Digit requires free = grind arith
-  alone_role layout.no_float_leading_zeros _ stage gap plus _ requires free = grind arith
-  alone_role layout.required_exponent_notation parts.Integer stage gap plus roles.Digit requires free = grind arith
-  alone_role layout.required_exponent_notation _ stage gap plus _ requires free = grind arith
-  alone_role _ part stage gap plus role requires free = grind arith
+  alone_role : (f : Flag) (part : Part) (stage : Stage) (gap plus : Bool) (o : Option Role) → is_one_of requirement_flags f ≡ true
+      → taken (bare m) (reading part stage gap) plus o ≡ true
+      → refuses m (reading part stage gap) plus o (bit f) ≡ not (taken (adding f (bare m)) (reading part stage gap) plus o)
+  alone_role f part stage gap plus None requires free = absurd (false≢true free)
+  alone_role layout.required_mantissa_digits parts.Integer stage gap plus (Some roles.Digit) requires free = grind arith
+  alone_role layout.required_mantissa_digits _ stage gap plus (Some _) requires free = grind arith
+  alone_role layout.no_exponent_notation parts.Integer stage gap plus (Some roles.Exponent) requires _ = grind arith
+  alone_role layout.no_exponent_notation _ stage gap plus (Some _) requires free = grind arith
+  alone_role layout.no_exponent_without_fraction parts.Integer stages.Start gap plus (Some roles.Exponent) requires _ = grind arith
+  alone_role layout.no_exponent_without_fraction parts.Integer _ gap plus (Some roles.Exponent) requires _ = grind arith
+  alone_role layout.no_exponent_without_fraction _ stage gap plus (Some _) requires free = grind arith
+  alone_role layout.no_integer_leading_zeros parts.Integer stage gap plus (Some roles.Digit) requires free = grind arith
+  alone_role layout.no_integer_leading_zeros _ stage gap plus (Some _) requires free = grind arith
+  alone_role layout.no_float_leading_zeros parts.Integer stage gap plus (Some roles.Digit) requires free = grind arith
+  alone_role layout.no_float_leading_zeros _ stage gap plus (Some _) requires free = grind arith
+  alone_role layout.required_exponent_notation parts.Integer stage gap plus (Some roles.Digit) requires free = grind arith
+  alone_role layout.required_exponent_notation _ stage gap plus (Some _) requires free = grind arith
+  alone_role _ part stage gap plus (Some role) requires free = grind arith
 
   -- FLAGS THAT REFUSE TOGETHER
 
@@ -131,16 +129,17 @@ module _ (m : Notation) where
   led _ stage gap plus roles.Separator is a refused = let sign = met a layout.required_mantissa_sign in grind arith
   led _ stage gap plus _ is a refused = absurd (false≢true is)
 
-  joint_role : (part : Part) (stage : Stage) (gap plus : Bool) (role : Role) → Alone (λ n. takes n (reading part stage gap) plus role)
-      → takes m (reading part stage gap) plus role ≡ false → in_two (λ n. takes n (reading part stage gap) plus role) ≡ true
-  joint_role parts.Exponent stage gap plus roles.Digit a refused =
+  joint_role : (part : Part) (stage : Stage) (gap plus : Bool) (o : Option Role) → Alone (λ n. taken n (reading part stage gap) plus o)
+      → taken m (reading part stage gap) plus o ≡ false → in_two (λ n. taken n (reading part stage gap) plus o) ≡ true
+  joint_role part stage gap plus None a refused = absurd (false≢true a.free)
+  joint_role parts.Exponent stage gap plus (Some roles.Digit) a refused =
       let sign = met a layout.required_exponent_sign in let leads = met a layout.no_integer_leading_zeros in grind arith
-  joint_role _ stage gap plus roles.Digit a refused =
+  joint_role _ stage gap plus (Some roles.Digit) a refused =
       let sign = met a layout.required_mantissa_sign in let leads = met a layout.no_integer_leading_zeros in grind arith
-  joint_role _ stages.Bare gap plus roles.Separator a refused = let leads = met a layout.no_integer_leading_zeros in grind arith
-  joint_role _ stages.Zero gap plus roles.Separator a refused = let leads = met a layout.no_integer_leading_zeros in grind arith
-  joint_role part stage gap plus roles.Separator a refused = absurd (false≢true (sym (led part stage gap plus roles.Separator refl a refused)))
-  joint_role part stage gap plus role a refused = absurd (false≢true (sym refused ∙ whole_role part stage gap plus role a refl))
+  joint_role _ stages.Bare gap plus (Some roles.Separator) a refused = let leads = met a layout.no_integer_leading_zeros in grind arith
+  joint_role _ stages.Zero gap plus (Some roles.Separator) a refused = let leads = met a layout.no_integer_leading_zeros in grind arith
+  joint_role part stage gap plus (Some roles.Separator) a refused = absurd (false≢true (sym (led part stage gap plus roles.Separator refl a refused)))
+  joint_role part stage gap plus (Some role) a refused = absurd (false≢true (sym refused ∙ whole_role part stage gap plus role a refl))
 
   still_led : (g : Flag) (stage : Stage) → is_lower g ≡ true → may_follow m stage ≡ false → may_follow (without g m) stage ≡ false
   still_led g stages.Start below none = grind (arith, nat_tests)
@@ -155,27 +154,29 @@ module _ (m : Notation) where
   no_separator : (x y z p q : Bool) → z ≡ false → q ≡ false → (x && (y && ((p && z) || q))) ≡ false
   no_separator x y z p q none closed = grind arith
 
-  lower_role : (g : Flag) (part : Part) (stage : Stage) (gap plus : Bool) (role : Role) → is_lower g ≡ true
-      → Alone (λ n. takes n (reading part stage gap) plus role) → takes m (reading part stage gap) plus role ≡ false
-      → takes (without g m) (reading part stage gap) plus role ≡ false
-  lower_role g part stage gap plus roles.Digit below a refused =
+  lower_role : (g : Flag) (part : Part) (stage : Stage) (gap plus : Bool) (o : Option Role) → is_lower g ≡ true
+      → Alone (λ n. taken n (reading part stage gap) plus o) → taken m (reading part stage gap) plus o ≡ false
+      → taken (without g m) (reading part stage gap) plus o ≡ false
+  lower_role g part stage gap plus None below a refused = refl
+  lower_role g part stage gap plus (Some roles.Digit) below a refused =
       let n = without g m in
       no_digit (is_signed n part stage) (gap_fits n part (has_digit stage) gap true) (may_follow n stage)
       (still_led g stage below (or_parts (may_follow m stage) _ (led part stage gap plus roles.Digit refl a refused)).0)
-  lower_role g part stage gap plus roles.Separator below a refused =
+  lower_role g part stage gap plus (Some roles.Separator) below a refused =
       let n = without g m in
       let both = or_parts (may_follow m stage) _ (led part stage gap plus roles.Separator refl a refused) in
       no_separator (is_signed n part stage) (not gap || n.flag (separators_in part).consecutive) (may_follow n stage) (is_place n part (has_digit stage) true)
       (is_place n part (has_digit stage) false) (still_led g stage below both.0) (still_closed g part (has_digit stage) both.1)
-  lower_role g part stage gap plus role below a refused = absurd (false≢true (sym refused ∙ whole_role part stage gap plus role a refl))
+  lower_role g part stage gap plus (Some role) below a refused = absurd (false≢true (sym refused ∙ whole_role part stage gap plus role a refl))
 
   -- SEPARATORS
 
-  at_role : (f : Flag) (part : Part) (stage : Stage) (gap plus : Bool) (role : Role) → is_one_of separator_flags f ≡ true
-      → takes (bare m) (reading part stage gap) plus role ≡ false → takes (adding f (bare m)) (reading part stage gap) plus role ≡ true
-      → separates m (reading part stage gap) (Some role) f ≡ true
-  at_role layout.required_integer_digits part stage gap plus role is refused allowed = grind arith
-  at_role _ part stage gap plus role is refused allowed = grind arith
+  at_role : (f : Flag) (part : Part) (stage : Stage) (gap plus : Bool) (o : Option Role) → is_one_of separator_flags f ≡ true
+      → taken (bare m) (reading part stage gap) plus o ≡ false → taken (adding f (bare m)) (reading part stage gap) plus o ≡ true
+      → separates m (reading part stage gap) o f ≡ true
+  at_role f part stage gap plus None is refused allowed = absurd (false≢true allowed)
+  at_role layout.required_integer_digits part stage gap plus (Some role) is refused allowed = grind arith
+  at_role _ part stage gap plus (Some role) is refused allowed = grind arith
 
   -- THE SAME OF WHAT IS ALLOWED
 
@@ -184,50 +185,28 @@ module _ (m : Notation) where
   going s None free refused = (or_parts s.ended _ refused).0
   going s (Some class) free refused = not_ended s.ended _ (sym (moved (bare m) s s.ended (is_plus class) (is_zero class) (in_part s.part class)) ∙ free)
 
-  module _ (s : Summary) (next : Option Class) (unended_is : s.ended ≡ false) where
-    abbrev P : Notation → Bool
-    P n = allows n s next
+  module _ (s : Summary) (next : Option Class) (unended : s.ended ≡ false) where
+    abbrev o : Option Role
+    o = role_of_next s next
 
-    abbrev Q : Option Role → Notation → Bool
-    Q o n = taken n (unended s) (is_plus_next next) o
+    same : ◌≡◌ {A = Notation → Bool} (λ n. taken n (reading s.part s.stage s.gap) (is_plus_next next) o) (λ n. allows n s next)
+    same = λ j n. sym (allows_is n s next unended) j
 
-    same : (n : Notation) → P n ≡ Q (role_of_next s next) n
-    same n = allows_is n s next unended_is
+    pub alone_refuses : (f : Flag) → is_one_of requirement_flags f ≡ true → allows (bare m) s next ≡ true
+        → refuses m s (is_plus_next next) o (bit f) ≡ not (allows (adding f (bare m)) s next)
+    alone_refuses f requires = subst (λ (P : Notation → Bool). P (bare m) ≡ true → refuses m s (is_plus_next next) o (bit f) ≡ not (P (adding f (bare m)))) same
+        (alone_role f s.part s.stage s.gap (is_plus_next next) o requires)
 
-    pub alone_refuses : (f : Flag) → is_one_of requirement_flags f ≡ true → P (bare m) ≡ true
-        → refuses m s (is_plus_next next) (role_of_next s next) (bit f) ≡ not (P (adding f (bare m)))
-    alone_refuses f requires free = go (role_of_next s next) (sym (same (bare m)) ∙ free) ∙ ap not (sym (same (adding f (bare m)))) where
-      go : (o : Option Role) → Q o (bare m) ≡ true → refuses m s (is_plus_next next) o (bit f) ≡ not (Q o (adding f (bare m)))
-      go None none = absurd (false≢true none)
-      go (Some role) is = alone_role f s.part s.stage s.gap (is_plus_next next) role requires is
+    pub joint : Alone (λ n. allows n s next) → allows m s next ≡ false → in_two (λ n. allows n s next) ≡ true
+    joint = subst (λ P. Alone P → P m ≡ false → in_two P ≡ true) same (joint_role s.part s.stage s.gap (is_plus_next next) o)
 
-    module _ (each : Alone P) (refused : P m ≡ false) where
-      as_taken : Alone (Q (role_of_next s next))
-      as_taken = record { free = sym (same (bare m)) ∙ each.free; each = λ f is. sym (same (adding f (bare m))) ∙ each.each f is }
-
-      pub joint : in_two P ≡ true
-      joint = (λ j. in_two (λ n. same n j)) ∙ go (role_of_next s next) as_taken (sym (same m) ∙ refused) where
-        go : (o : Option Role) → Alone (Q o) → Q o m ≡ false → in_two (Q o) ≡ true
-        go None a none = absurd (false≢true a.free)
-        go (Some role) a is = joint_role s.part s.stage s.gap (is_plus_next next) role a is
-
-      pub lower : (g : Flag) → is_lower g ≡ true → P (without g m) ≡ false
-      lower g below = same (without g m) ∙ go (role_of_next s next) as_taken (sym (same m) ∙ refused) where
-        go : (o : Option Role) → Alone (Q o) → Q o m ≡ false → Q o (without g m) ≡ false
-        go None a none = refl
-        go (Some role) a is = lower_role g s.part s.stage s.gap (is_plus_next next) role below a is
+    pub lower : (g : Flag) → is_lower g ≡ true → Alone (λ n. allows n s next) → allows m s next ≡ false → allows (without g m) s next ≡ false
+    lower g below = subst (λ P. Alone P → P m ≡ false → P (without g m) ≡ false) same (lower_role g s.part s.stage s.gap (is_plus_next next) o below)
 
   -- A flag that allows the byte is of the place and the part.
   pub at_next : (f : Flag) (s : Summary) (class : Class) → is_one_of separator_flags f ≡ true → allows (bare m) s (Some class) ≡ false
       → allows (adding f (bare m)) s (Some class) ≡ true → separates m s (in_part s.part class) f ≡ true
-  at_next f s class is refused allowed = go (in_part s.part class) (parts_of (bare m) refused) (and_parts (not s.ended) _ (parts_of (adding f (bare m)) allowed)) where
-    parts_of : (n : Notation) {t : Bool} → allows n s (Some class) ≡ t → (not s.ended && taken n (unended s) (is_plus class) (in_part s.part class)) ≡ t
-    parts_of n is = sym (moved n s s.ended (is_plus class) (is_zero class) (in_part s.part class)) ∙ is
-
-    none_of : (e t : Bool) → (e && t) ≡ false → e ≡ true → t ≡ false
-    none_of e t none is = grind arith
-
-    go : (o : Option Role) → (not s.ended && taken (bare m) (unended s) (is_plus class) o) ≡ false
-        → (not s.ended ≡ true) × (taken (adding f (bare m)) (unended s) (is_plus class) o ≡ true) → separates m s o f ≡ true
-    go None none both = absurd (false≢true both.1)
-    go (Some role) none both = at_role f s.part s.stage s.gap (is_plus class) role is (none_of _ _ none both.0) both.1
+  at_next f s class is refused allowed =
+      subst (λ (P : Notation → Bool). P (bare m) ≡ false → P (adding f (bare m)) ≡ true → separates m s (in_part s.part class) f ≡ true)
+      (same s (Some class) (not_ended s.ended _ (sym (moved (adding f (bare m)) s s.ended (is_plus class) (is_zero class) (in_part s.part class)) ∙ allowed)))
+      (at_role f s.part s.stage s.gap (is_plus class) (in_part s.part class) is) refused allowed

@@ -23,7 +23,8 @@ use Rattle.lexical_literal.proofs.PartOfLemmas.{none_after}
 
 -- FLAGS
 
-abbrev at : List Flag → ℕ → Flag
+-- `at fs k` is the flag of `fs` with the bit `k`.
+abbrev pub at : List Flag → ℕ → Flag
 at [] k = layout.special_digit_separator
 at (g ∷ gs) k = if bit g == k then g else at gs k
 

@@ -46,10 +46,11 @@ with_flags m flag = record m { flag = flag }
 abbrev pub bare : Notation → Notation
 bare m = with_flags m (λ g. m.flag g && not (is_one_of requirement_flags g))
 
--- `adding f m` is `m` with the flag `f`, and `without f m` is `m` without it.
+-- `adding f m` is `m` with the flag `f`.
 abbrev pub adding : Flag → Notation → Notation
 adding f m = with_flags m (λ g. (bit g == bit f) || m.flag g)
 
+-- `without f m` is `m` without the flag `f`.
 abbrev pub without : Flag → Notation → Notation
 without f m = with_flags m (λ g. m.flag g && not (bit g == bit f))
 
@@ -61,10 +62,11 @@ abbrev pub Allows : Notation → List ℕ → Option ℕ → Type 0
 Allows m front None = (l : Literal) × Reads m l front
 Allows m front (Some byte) = IsFront m (front ++ byte ∷ [])
 
--- `NoFlag flag` holds if `flag` is true of no flag, and `SomeFlag flag` if it is true of one.
+-- `NoFlag flag` holds if `flag` is true of no flag.
 abbrev pub NoFlag : (Flag → Bool) → Type 0
 NoFlag flag = (f : Flag) → flag f ≡ false
 
+-- `SomeFlag flag` holds if `flag` is true of some flag.
 abbrev pub SomeFlag : (Flag → Bool) → Type 0
 SomeFlag flag = (f : Flag) × IsTrue (flag f)
 

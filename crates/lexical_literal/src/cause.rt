@@ -5,7 +5,7 @@ ghost use Rattle.std.specs.Bool.{beq};
 ghost use Rattle.lexical_util.specs.Layout.{Flag, bit, part, separators_in};
 ghost use Rattle.lexical_util.specs.Record.{raw};
 ghost use Rattle.lexical_util.specs.Roles.{other_case};
-ghost use Rattle.lexical_literal.specs.Additions.Causes.{Decides, IsReadOf, allows, class_of_next, ends_part, is_own, is_plus_next, is_role, kind_set, place_of, refuses, role_of_next};
+ghost use Rattle.lexical_literal.specs.Additions.Causes.{Decides, IsReadOf, allows, class_of_next, ends_part, is_own, is_plus_next, is_role, kind_set, leads, place_of, refuses, role_of_next};
 ghost use Rattle.lexical_literal.specs.Cause.{IsCause, IsRefusal, IsRequirement, SomeFlag, adding, bare, case_set, behind, binds, error_of};
 ghost use Rattle.lexical_literal.specs.Cause.{first_in, is_one_of, requirement_error, requirement_flags, requirement_span, span_of, with_flags};
 ghost use Rattle.lexical_literal.specs.Additions.Summary.{class_of, scan, start};
@@ -34,7 +34,8 @@ pub enum Place {
     Consecutive,
 }
 
-/// Why a text is not a literal. Another cause may follow when this one is mended.
+/// Why a text is not a literal. Another cause may follow when this one is mended. The `Cause` of a `Reason` is another
+/// enum: why a format word is not lawful.
 #[derive(Debug, Clone, Copy, PartialEq, Eq, Hash)]
 pub enum Cause {
     /// Flags are set whose requirements the text does not satisfy.
@@ -49,7 +50,9 @@ pub enum Cause {
     Missing(Part),
 }
 
-/// Why a text is not a literal, and where.
+/// Why a text is not a literal, and where. If a byte cannot follow, the error is that of the byte, as in `1e;`. To say
+/// what is missing before it, read the front of the text that ends at [`valid_up_to`][Self::valid_up_to]. If this front
+/// is not a literal either, its error says it.
 #[derive(Debug, Clone, Copy, PartialEq, Eq)]
 pub struct ReadError {
     pub(crate) valid_up_to: usize,
@@ -189,47 +192,45 @@ impl Stop {
         ensures { result ≡ refuses (notation_of self.grammar) self.read (is_plus_next self.next) role number }
     {
         let Summary { part, stage, .. } = self.read;
-        let plus = matches!(self.next, Some(Class::Plus));
+        let is_sign = matches!(role, Some(Role::Sign));
+        match (number, part) {
+            (0, Part::Integer) | (1, Part::Fraction) | (2, Part::Exponent) => {
+                ends_part(role) && !has_digit(stage)
+            }
+            (3, Part::Integer) => matches!(role, Some(Role::Exponent)) && !has_digit(stage),
+            (3, Part::Fraction) => ends_part(role) && matches!(stage, Stage::Lone),
+            (4, Part::Integer | Part::Fraction) | (7, Part::Exponent) => {
+                is_sign && matches!(self.next, Some(Class::Plus))
+            }
+            (5, Part::Integer | Part::Fraction) | (8, Part::Exponent) => {
+                !is_sign && matches!(stage, Stage::Start | Stage::Mark)
+            }
+            (6, _) | (9, Part::Integer) => matches!(role, Some(Role::Exponent)),
+            (12, _) => self.leads(role),
+            (13, Part::Integer) => {
+                matches!(role, Some(Role::Point | Role::Exponent)) && matches!(stage, Stage::Led)
+            }
+            (14, Part::Integer | Part::Fraction) => {
+                matches!(role, Some(Role::Suffix)) && matches!(self.grammar.options, Some(_))
+            }
+            _ => false,
+        }
+    }
+
+    // Returns whether what has the role `role` is a digit or a separator behind a zero that must not lead, where literals
+    // are integers, or ends an integer with a leading zero.
+    const fn leads(self, role: Option<Role>) -> bool
+        ensures { result ≡ leads (notation_of self.grammar) self.read role }
+    {
+        let Summary { part, stage, .. } = self.read;
         let integers = matches!(self.grammar.options, None);
-        match number {
-            0 => ends_part(role) && matches!(part, Part::Integer) && !has_digit(stage),
-            1 => ends_part(role) && matches!(part, Part::Fraction) && !has_digit(stage),
-            2 => ends_part(role) && matches!(part, Part::Exponent) && !has_digit(stage),
-            3 => match part {
-                Part::Integer => matches!(role, Some(Role::Exponent)) && !has_digit(stage),
-                Part::Fraction => ends_part(role) && matches!(stage, Stage::Lone),
-                Part::Exponent => false,
-            },
-            4 => plus && matches!(role, Some(Role::Sign)) && !matches!(part, Part::Exponent),
-            5 => matches!(stage, Stage::Start | Stage::Mark)
-                && !matches!(role, Some(Role::Sign))
-                && !matches!(part, Part::Exponent),
-            6 => matches!(role, Some(Role::Exponent)),
-            7 => plus && matches!(role, Some(Role::Sign)) && matches!(part, Part::Exponent),
-            8 => matches!(stage, Stage::Start | Stage::Mark)
-                && !matches!(role, Some(Role::Sign))
-                && matches!(part, Part::Exponent),
-            9 => matches!(role, Some(Role::Exponent)) && matches!(part, Part::Integer),
-            12 => match role {
-                Some(Role::Suffix) => matches!(stage, Stage::Led) && matches!(part, Part::Integer),
-                Some(Role::Digit) => integers && matches!(stage, Stage::Bare | Stage::Zero),
-                Some(Role::Separator) => {
-                    integers
-                        && matches!(stage, Stage::Bare | Stage::Zero)
-                        && !self.grammar.view().separators(part).trailing
-                }
-                _ => false,
-            },
-            13 => {
-                matches!(stage, Stage::Led)
-                    && matches!(part, Part::Integer)
-                    && matches!(role, Some(Role::Point | Role::Exponent))
+        let zero = matches!(stage, Stage::Bare | Stage::Zero);
+        match role {
+            Some(Role::Digit) => integers && zero,
+            Some(Role::Separator) => {
+                integers && zero && !self.grammar.view().separators(part).trailing
             }
-            14 => {
-                matches!(role, Some(Role::Suffix))
-                    && !matches!(part, Part::Exponent)
-                    && matches!(self.grammar.options, Some(_))
-            }
+            Some(Role::Suffix) => matches!(stage, Stage::Led) && matches!(part, Part::Integer),
             _ => false,
         }
     }

@@ -19,12 +19,8 @@ impl Syntax {
         literal(self.grammar(), text, self.read_parts(text))
     }
 
-    /// Returns the longest literal that `text` begins with, and the rest of `text`, which may be anything. No byte
-    /// behind the first that no literal can have is looked at.
-    ///
-    /// # Errors
-    ///
-    /// If `text` does not begin with a literal, returns the error of [`read`][Self::read].
+    /// Returns the longest literal that `text` begins with, and the rest of `text`, which may be anything. It looks at
+    /// no byte behind the first one that cannot follow.
     ///
     /// ```
     /// use peltzivar::{literal::Syntax, Format};
@@ -33,11 +29,28 @@ impl Syntax {
     /// let mut rest = &b"1.5-3e2+.25"[..];
     /// while !rest.is_empty() {
     ///     let (literal, after) = syntax.read_prefix(rest)?;
-    ///     println!("{}", literal.as_bytes().escape_ascii()); // 1.5, then -3e2, then +.25
+    ///     println!("{literal}"); // 1.5, then -3e2, then +.25
     ///     rest = after;
     /// }
     /// # Ok::<(), peltzivar::literal::ReadError>(())
     /// ```
+    ///
+    /// # Errors
+    ///
+    /// If `text` does not begin with a literal, returns the error of [`read`][Self::read]. If a byte cannot follow,
+    /// this is the error of the byte. To say what is missing before the byte, read the front that ends there:
+    ///
+    /// ```
+    /// # let syntax = peltzivar::literal::Language::C_HEX_FLOAT.syntax();
+    /// let text = b"0x1p;";
+    /// let error = syntax.read_prefix(text).unwrap_err();
+    /// assert_eq!((error.valid_up_to(), error.to_string()), (4, "no literal has the byte ';' here".into()));
+    /// let missing = syntax.read(&text[..error.valid_up_to()]).unwrap_err();
+    /// assert_eq!(format!("{missing:#}"), "expected a digit after the exponent character");
+    /// ```
+    ///
+    /// Where `text` begins with a literal, as `1e;` does in decimal, the rest begins with what does not fit. So the
+    /// example `tokenizer` finds the end of the token first, and reads all of it.
     pub const fn read_prefix<'a>(
         &self,
         text: &'a [u8],
@@ -65,6 +78,13 @@ impl Syntax {
 }
 
 impl Reader {
+    /// Returns the syntax.
+    #[must_use]
+    pub const fn syntax(&self) -> Syntax {
+        let grammar = self.grammar;
+        Syntax { grammar }
+    }
+
     /// Returns `text` as a literal, as [`Syntax::read`] does.
     ///
     /// # Errors
@@ -121,37 +141,37 @@ const fn front<'a>(
 
 /// A text that was read as a literal: its parts, and the values of its digits.
 ///
-/// A part that is absent has no bytes. All bytes are [allowed ASCII][crate::ascii::is_valid_ascii]. Two literals are
-/// equal if they have the same format, up to its [normal form][crate::Format::normal_form], and the same parts.
+/// A part that is absent has no bytes. All bytes are ASCII. Two literals are equal if they have the same format, up to
+/// its [normal form][crate::Format::normal_form], and the same parts.
 ///
 /// ```
-/// use peltzivar::literal::{Literal, Syntax};
-/// use peltzivar::{Format, NumberFormatBuilder, Part};
-/// use std::num::NonZeroU8;
+/// use peltzivar::literal::{Language, Literal};
+/// use peltzivar::Part;
 ///
-/// /// Returns the value of an integer, or `None` if it is too large.
-/// fn integer(literal: Literal<'_>) -> Option<u64> {
-///     let mut value = 0u64;
-///     for digit in literal.digits(Part::Integer) {
-///         value = value.checked_mul(literal.radix(Part::Integer).into())?.checked_add(digit.into())?;
-///     }
-///     Some(value)
+/// /// Returns the value of an integer. Returns `None` if the literal is a float, or if its value is not an `i64`.
+/// fn integer(literal: Literal<'_>) -> Option<i64> {
+///     let radix = literal.radix(Part::Integer).into();
+///     let sign = if literal.is_negative() { -1 } else { 1 };
+///     let mut digits = literal.digits(Part::Integer).map(|digit| sign * i64::from(digit));
+///     let value = digits.try_fold(0i64, |value, digit| value.checked_mul(radix)?.checked_add(digit));
+///     value.filter(|_| !literal.is_float())
 /// }
 ///
-/// /// Returns the value of a decimal number with the decimal point `.` and the exponent character `e`.
+/// /// Returns the nearest `f64`, in radix 10. The separator, the decimal point and the exponent character may be any.
 /// fn float(literal: Literal<'_>) -> Result<f64, std::num::ParseFloatError> {
-///     let without_separators = literal.as_bytes().iter().filter(|&&byte| byte != b'_');
-///     String::from_iter(without_separators.map(|&byte| char::from(byte))).parse()
+///     let digits = |part| literal.digits(part).map(|digit| digit.to_string()).collect::<String>();
+///     let [integer, fraction, exponent] = [Part::Integer, Part::Fraction, Part::Exponent].map(digits);
+///     let [sign, exponent_sign] = [literal.sign(), literal.exponent_sign()].map(<[u8]>::escape_ascii);
+///     format!("{sign}0{integer}.{fraction}0e{exponent_sign}0{exponent}").parse()
 /// }
 ///
-/// let builder = NumberFormatBuilder::new().digit_separator(NonZeroU8::new(b'_')).internal_digit_separator(true);
-/// let syntax = Syntax::new(builder.build_format()?, b'e', b'.')?;
-/// let literal = syntax.read(b"1_000")?;
-/// assert_eq!((literal.is_float(), integer(literal)), (false, Some(1000)));
-/// let literal = syntax.read(b"-1_000.5e-3")?;
-/// assert_eq!((literal.is_float(), float(literal)), (true, Ok(-1.0005)));
+/// let literal = Language::TOML.reader().read(b"-9_223_372_036_854_775_808")?;
+/// assert_eq!((literal.is_float(), integer(literal)), (false, Some(i64::MIN)));
+/// let literal = Language::TOML.reader().read(b"-1_000.5e-3")?;
+/// assert_eq!((literal.is_float(), integer(literal), float(literal)), (true, None, Ok(-1.0005)));
 /// assert_eq!((literal.integer(), literal.fraction()), (&b"1_000"[..], &b"5"[..]));
-/// # Ok::<(), Box<dyn std::error::Error>>(())
+/// assert_eq!(float(Language::SPREADSHEET_CSV.reader().read(b"1,234.50")?), Ok(1234.5));
+/// # Ok::<(), peltzivar::literal::ReadError>(())
 /// ```
 #[derive(Clone, Copy, PartialEq, Eq, Hash)]
 pub struct Literal<'a> {
@@ -166,6 +186,15 @@ impl<'a> Literal<'a> {
     #[must_use]
     pub const fn as_bytes(&self) -> &'a [u8] {
         self.text
+    }
+
+    /// Returns all bytes of the literal, as a string.
+    #[must_use]
+    pub const fn as_str(&self) -> &'a str {
+        match core::str::from_utf8(self.text) {
+            Ok(text) => text,
+            Err(_) => unreachable!(),
+        }
     }
 
     /// Returns whether the literal is a float: whether it has a decimal point or an exponent character.
@@ -244,6 +273,19 @@ parts! {
     exponent
     /// Returns the base suffix.
     suffix
+}
+
+impl AsRef<[u8]> for Literal<'_> {
+    fn as_ref(&self) -> &[u8] {
+        self.text
+    }
+}
+
+/// Prints the text that was read.
+impl fmt::Display for Literal<'_> {
+    fn fmt(&self, f: &mut fmt::Formatter<'_>) -> fmt::Result {
+        f.pad(self.as_str())
+    }
 }
 
 /// Writes the parts that are present, such as `Literal { integer: "1", point: ".", fraction: "5" }`.

@@ -46,10 +46,6 @@ abbrev pub class_of_next : Notation → Option ℕ → Option Class
 class_of_next m None = None
 class_of_next m (Some byte) = Some (class_of m byte)
 
--- `place_by digit` is after a digit if `digit` is true, and before digits otherwise.
-abbrev pub place_by : Bool → Place
-place_by digit = if digit then places.AfterDigit else places.BeforeDigits
-
 -- `IsReadOf m s front` holds if what is allowed after `s` is what is allowed after `front`, and if `s` is in the part that
 -- `front` ends in, unless a suffix has been read.
 pub record IsReadOf (m : Notation) (s : Summary) (front : List ℕ) : Type 0 where
@@ -99,7 +95,7 @@ is_after_zero _ = false
 abbrev pub place_of : Notation → Summary → Option Role → Place
 place_of m s role =
     if (s.gap && not (m.flag (separators_in s.part).consecutive)) && is_role roles.Separator role then places.Consecutive
-    else place_by (has_digit s.stage)
+    else (if has_digit s.stage then places.AfterDigit else places.BeforeDigits)
 
 -- `separates m s role f` is true if the flag `f` could allow a separator that `m` does not allow.
 abbrev pub separates : Notation → Summary → Option Role → Flag → Bool
