@@ -47,6 +47,14 @@ def section(title):
     return FORMAT.partition(f"\n## {title}\n\n")[2].partition("\n## ")[0] or sys.exit(f"docs/FORMAT.md: no section {title}")
 
 
+def named(text):
+    """Returns a text in which flags have names, in place of the numbers of their bits."""
+    names = dict(rows(r"^\| (\d+) \| (`\w+`) \| \w+ \|[^|]*\| `[^|]*` \| `[^|]*` \|$"))
+    text = re.sub(r"Flags \d+ to [^.]* are", "These flags are", text)
+    numbers = r"\b[Ff]lags? (\d+(?:,?\s+(?:and\s+|or\s+)?\d+)*)|(\d+)(?=: )"
+    return re.sub(numbers, lambda match: re.sub(r"\d+", lambda number: names[number[0]], match[1] or match[2]), text)
+
+
 def html(text):
     """Returns paragraphs, lists and blocks of code in Markdown as HTML. Links become their texts."""
     text = re.sub(r"\[([^\]]*)\]\([^)]*\)", r"\1", text).replace("&", "&amp;").replace("<", "&lt;")
@@ -116,13 +124,18 @@ def languages():
         }
 
 
+def rules():
+    """Returns the conditions of the rules."""
+    return [named(condition) for condition in rows(r"^\| \d+ \| (.*?) \| `Invalid")]
+
+
 def data():
     """Returns the data that the page shows."""
     limits = section("What a format cannot express")
     header = (TOP / "c/peltzivar.h").read_text()
     return {
         **fields(),
-        "rules": [demand for _, demand in rows(r"^\| (\d+) \| (.*?) \| `Invalid")],
+        "rules": rules(),
         "languages": [*languages()],
         "limits": re.findall(r"^\| (.*) \| (.*) \|$", limits, re.M)[1:],
         "version": re.search(r'^#define PELTZIVAR_VERSION "(.*)"$', header, re.M)[1],
@@ -189,8 +202,8 @@ def page(wasm):
     policy = f"default-src 'none'; script-src {digest(script)} 'wasm-unsafe-eval'; style-src {digest(style)}"
     _, literals = section("How a reader applies the flags").split("A *literal* is", 1)
     parts = {
-        "literals": html("A *literal* is" + literals.partition("This answers the questions")[0]),
-        "rules": html("\n".join(f"- Rule {number}: {demand}." for number, demand in rows(r"^\| (\d+) \| (.*?) \| `Invalid"))),
+        "literals": html(named("A *literal* is" + literals.partition("This answers the questions")[0])),
+        "rules": html("\n".join(f"- Rule {index}: {rule}." for index, rule in enumerate(rules(), 1))),
         "punctuation": html(section("The rules").partition("\n\n")[0].rpartition("\n[`Outcomes`")[0]),
         "equivalent": html(section("Equivalent words")),
         "policy": f"{policy}; img-src data:; base-uri 'none'; form-action 'none'",

@@ -3,7 +3,7 @@
 
 const LANGUAGES = ["rust", "c", "python", "settings"];
 /* After how many milliseconds without an edit the fragment is written. */
-const PAUSE = 200;
+const PAUSE = 400;
 const TOLD = "Copied is the part from # on, since others cannot open a file of this machine. It belongs behind the address "
     + "of their page, or into the field of its format word.";
 
@@ -51,10 +51,7 @@ class Page {
         click("redo", () => this.travel(this.future, this.past));
         document.addEventListener("keydown", (event) => this.undo(event));
         click("standard", () => this.jump({ word: this.library.standard, ...STANDARD_OPTIONS }));
-        find("language").addEventListener("change", ({ target }) => {
-            const { word, exponent, point, numbers } = this.data.languages.find(({ name }) => name === target.value);
-            this.jump({ word, exponent, point, numbers });
-        });
+        find("language").addEventListener("change", ({ target }) => this.start(target.value));
         find("as-numbers").addEventListener("change", (event) => {
             this.controls.asNumbers = event.target.checked;
             this.show();
@@ -143,6 +140,14 @@ class Page {
         find("language").append(...choices(this.data.languages));
     }
 
+    /* Starts from a language, with its numbers in place of those of another. */
+    start(name) {
+        const { languages } = this.data;
+        const { word, exponent, point, numbers } = languages.find((it) => it.name === name) ?? this.state;
+        const isOwn = this.state.numbers && !languages.some((it) => it.numbers === this.state.numbers);
+        this.jump({ word, exponent, point, numbers: isOwn ? this.state.numbers : numbers });
+    }
+
     /* Shows the language as chosen while the state is its state. */
     showLanguage() {
         const isSame = (it) => ["word", "exponent", "point"].every((name) => it[name] === this.state[name]);
@@ -183,7 +188,8 @@ class Page {
         if (!(name in STANDARD_OPTIONS)) return this.change({ word: this.library.put(this.state.word, name, value) }, key);
         const other = name === "point" ? "exponent" : "point";
         const isAlone = (value === 0) !== (this.state[other] === 0);
-        this.change({ [name]: value, ...(isAlone ? { [other]: value && STANDARD_OPTIONS[other] } : {}) }, key);
+        const before = this.past.at(-1)?.[other] || STANDARD_OPTIONS[other];
+        this.change({ [name]: value, [other]: isAlone ? value && before : this.state[other] }, key);
     }
 
     /* Changes the state. What is typed into one control is undone at once. */
@@ -234,6 +240,7 @@ class Page {
         const usual = { word: this.library.standard, ...STANDARD_OPTIONS };
         for (const name of lost) found[name] = usual[name];
         if (this.state) this.past.push(this.state);
+        this.future = [];
         this.state = { ...found, numbers: (parts.get("numbers") ?? "").replace(/\r\n?/g, "\n") };
         this.key = "";
         this.showAnew();

@@ -26,7 +26,8 @@ class Report {
     /* Shows a reason why the word is not lawful, or why an option does not fit. */
     reason({ text, fields, rules, repairs }) {
         const broken = rules.map(({ index, error }) => {
-            return element("li", {}, `breaks rule ${index + 1}, \u201c${this.data.rules[index]}\u201d: ${error}`);
+            const text = `breaks rule ${index + 1}, \u201c${this.data.rules[index]}\u201d: `;
+            return element("li", {}, withCode(text), error);
         });
         const buttons = repairs.map((state) => {
             const changes = this.library.differences(state, this.state);
@@ -91,8 +92,8 @@ class Report {
 
     showNormal(word, normal) {
         const use = button("use", "use it", () => this.use({ word: normal }));
-        const text = element("code", {}, wordText(normal));
-        find("normal").replaceChildren(...(normal === word ? ["The word is its own normal form."] : [text, " ", use]));
+        const text = ["The normal form is ", element("code", {}, wordText(normal)), " ", use];
+        find("normal").replaceChildren(...(normal === word ? ["The word is its own normal form."] : text));
     }
 
     /* Shows all of this for a state and what explains it, and returns the reasons. */

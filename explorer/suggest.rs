@@ -232,6 +232,7 @@ fn settled(mut state: State, text: &[u8]) -> Result<State, usize> {
             error => return Err(error.map_or(text.len(), |it| it.valid_up_to())),
         }
     }
+    // Those of consecutive separators are removed first, and those between digits last.
     for flag in bits_of(state.word & SEPARATORS & !allowed).rev() {
         let without = State { word: state.word & !flag, ..state };
         if read_in(without).is_ok() {
@@ -254,7 +255,7 @@ fn candidates(state: State, text: &[u8], at: usize) -> [Option<State>; 9] {
         shown,
         same,
         needed,
-        is_mark(byte).then(|| state.with(DIGIT_SEPARATOR, byte)),
+        separator(state, byte),
         radix.map(|radix| state.with_radix(radix)),
         state.is_integers().then_some(State { exponent: b'e', point: b'.', ..state }),
     ]
@@ -293,6 +294,16 @@ fn point(state: State, before: &[u8], byte: u8, rest: &[u8]) -> Option<State> {
         false => state,
     };
     (matches!(byte, b',' | b'.') && is_last).then_some(State { point: byte, ..state })
+}
+
+/// A mark is the digit separator. If it was the decimal point, that is the other one of comma and point then.
+fn separator(state: State, byte: u8) -> Option<State> {
+    let point = match (state.point == byte, byte) {
+        (true, b'.') => b',',
+        (true, _) => b'.',
+        (false, _) => state.point,
+    };
+    is_mark(byte).then(|| State { point, ..state.with(DIGIT_SEPARATOR, byte) })
 }
 
 /// The last byte is the base suffix: with the radix that its letter shows, with the same radix, and with the one that the

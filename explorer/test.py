@@ -2,12 +2,13 @@
 
     python3 explorer/test.py
 
-`build --check` compares index.html with its sources. The WebAssembly of the page returns the recorded results, in
-Node.js. One walk through the page in Chromium takes the steps of a user. The code that the page shows builds its word.
-A test is skipped by name if the machine lacks its programs.
+`build --check` compares index.html with its sources. In Chromium, the WebAssembly of the page returns the recorded
+results, the code that the page shows builds its word, and one walk through the page takes the steps of a user. A test is
+skipped by name if the machine lacks its programs.
 """
 import os
 import pathlib
+import re
 import shutil
 import subprocess
 import sys
@@ -33,6 +34,26 @@ except ImportError:
 STANDARD = "0x00000A0000000000000000000000000C"
 # A word with bits in each of its bytes, and among both kinds of flags.
 MIXED = "0x0A0210687800005F00000FC70001441F"
+# Words that a builder makes, with bytes that need an escape or cannot be seen, and words that none makes.
+WORDS = [STANDARD, MIXED, "0x000002005C000027000000010000000C", "0x00000A807F0000220000000100000000",
+         "0x00000A000000005F000000000000000C", "0x01FF257862000020800017FF8003FFFF"]
+# Returns those of the recorded results that the library in the page does not return.
+WRONG_RESULTS = """const { library } = page;
+    const hex = (word) => word.toString(16).toUpperCase().padStart(32, "0");
+    return arguments[0].filter((line) => {
+        const [kind, first, ...rest] = line.split(" crate: ")[0].split(" ");
+        const word = BigInt(`0x${first}`);
+        const explain = (exponent, point) => library.explain({ word, exponent, point });
+        const set = () => library.flags.filter(({ name }) => library.get(word, name)).reduce((all, { mask }) => all | mask, 0n);
+        const bytes = () => library.bytes.map(({ name }) => library.effective(word, name));
+        const results = {
+            fields: () => [hex(set()), ...bytes()].join() === rest.join(),
+            check: () => [explain(101, 46)].every(({ error, reasons }) => {
+                return (error === "") === (rest[0] === "Success") && (reasons.length === 0) === (rest[0] === "Success"); }),
+            options: () => String(explain(Number(rest[0]), Number(rest[1])).options.length === 0) === rest[2],
+            build: () => hex(library.build(rest.slice(1)).word) === first,
+        };
+        return !results[kind](); })"""
 
 
 def has(*programs):
@@ -51,57 +72,6 @@ def run(*command, **options):
 class Sources(unittest.TestCase):
     def test_index_is_up_to_date(self):
         run(sys.executable, HERE / "build.py", "--check")
-
-    @unittest.skipUnless(has("node"), "no Node.js")
-    def test_webassembly_returns_the_recorded_results(self):
-        self.assertRegex(run("node", HERE / "test.js"), r"^\d{5} recorded results\n$")
-
-
-@unittest.skipUnless(has("node"), "no Node.js")
-class Code(unittest.TestCase):
-    """The code that the page shows for a word builds this word."""
-
-    # Words that a builder makes, with bytes that need an escape or cannot be seen, and words that none makes.
-    WORDS = [STANDARD, MIXED, "0x000002005C000027000000010000000C", "0x00000A807F0000220000000100000000",
-             "0x00000A000000005F000000000000000C", "0x01FF257862000020800017FF8003FFFF"]
-
-    def setUp(self):
-        self.folder = pathlib.Path(tempfile.mkdtemp())
-        self.addCleanup(shutil.rmtree, self.folder)
-        run("node", HERE / "test.js", self.folder, *self.WORDS)
-
-    def code(self, language):
-        return [(self.folder / f"{index}.{language}").read_text() for index in range(len(self.WORDS))]
-
-    def cargo(self, command, manifest, *options):
-        return run("cargo", command, "--quiet", "--offline", "--manifest-path", manifest, "--target-dir", self.folder, *options)
-
-    @unittest.skipUnless(has("cargo"), "no cargo")
-    def test_rust(self):
-        blocks = "".join(f'{{ {text} println!("{{FORMAT:#034X}}"); }}\n' for text in self.code("rust"))
-        (self.folder / "main.rs").write_text(f"fn main() {{ {blocks} }}")
-        (self.folder / "Cargo.toml").write_text(
-            '[package]\nname = "code"\nedition = "2021"\n[[bin]]\nname = "code"\npath = "main.rs"\n[workspace]\n'
-            f'[dependencies]\npeltzivar = {{ path = "{TOP / "rust"}" }}\n')
-        self.assertEqual(self.cargo("run", self.folder / "Cargo.toml").split(), self.WORDS)
-
-    @unittest.skipUnless(has("cc"), "no C compiler")
-    def test_c(self):
-        show = r'printf("0x%016llX%016llX\n", (unsigned long long)FORMAT.high, (unsigned long long)FORMAT.low);'
-        blocks = "".join(f"{{\n{text}\n{show}\n}}\n" for text in self.code("c"))
-        (self.folder / "main.c").write_text(
-            f'#include "peltzivar.h"\n#include <stdio.h>\nint main(void) {{ {blocks} return 0; }}\n')
-        run("cc", "-Wall", "-Wextra", "-Werror", "-I", TOP / "c", "-o", self.folder / "main", self.folder / "main.c")
-        self.assertEqual(run(self.folder / "main").split(), self.WORDS)
-
-    @unittest.skipUnless(has("cargo"), "no cargo")
-    def test_python(self):
-        self.cargo("build", TOP / "rust/capi/Cargo.toml", "--release")
-        library = next(it for it in (self.folder / "release").iterdir() if it.suffix in (".so", ".dylib"))
-        (self.folder / "main.py").write_text("".join(f"{text}print(format)\n" for text in self.code("python")))
-        variables = {"PELTZIVAR_LIBRARY": str(library), "PYTHONPATH": str(TOP / "c"), "PYTHONDONTWRITEBYTECODE": "1"}
-        printed = run(sys.executable, self.folder / "main.py", env={**os.environ, **variables})
-        self.assertEqual(printed.split(), self.WORDS)
 
 
 @unittest.skipUnless(webdriver and has("chromium", "chromedriver"), "no chromium, chromium-driver or python3-selenium")
@@ -162,6 +132,53 @@ class Walk(unittest.TestCase):
         chosen = next(it for it in found if text is None or it.text == text)
         self.run_script("arguments[0].scrollIntoView({block: 'center'})", chosen)
         chosen.click()
+
+    def test_webassembly_returns_the_recorded_results(self):
+        text = (TOP / "crates/recorded/data/results.txt").read_text()
+        lines = re.findall("^(?:fields|check|options|build) .*", text, re.M)
+        self.assertEqual((self.run_script(WRONG_RESULTS, lines), lines == []), ([], False))
+
+    def code(self, language):
+        """Returns a new folder, and the code that the page shows for each of WORDS."""
+        folder = pathlib.Path(tempfile.mkdtemp())
+        self.addCleanup(shutil.rmtree, folder)
+        return folder, self.run_script("""const [language, words] = arguments;
+            return words.map((text) => {
+                const state = { word: BigInt(text), exponent: 101, point: 46 };
+                return page.code[language](state, page.library.explain(state)); })""", language, WORDS)
+
+    def cargo(self, command, manifest, folder, *options):
+        return run("cargo", command, "--quiet", "--offline", "--manifest-path", manifest, "--target-dir", folder, *options)
+
+    @unittest.skipUnless(has("cargo"), "no cargo")
+    def test_rust_code_builds_the_word(self):
+        folder, codes = self.code("rust")
+        blocks = "".join(f'{{ {text} println!("{{FORMAT:#034X}}"); }}\n' for text in codes)
+        (folder / "main.rs").write_text(f"fn main() {{ {blocks} }}")
+        (folder / "Cargo.toml").write_text(
+            '[package]\nname = "code"\nedition = "2021"\n[[bin]]\nname = "code"\npath = "main.rs"\n[workspace]\n'
+            f'[dependencies]\npeltzivar = {{ path = "{TOP / "rust"}" }}\n')
+        self.assertEqual(self.cargo("run", folder / "Cargo.toml", folder).split(), WORDS)
+
+    @unittest.skipUnless(has("cc"), "no C compiler")
+    def test_c_code_has_the_word(self):
+        folder, codes = self.code("c")
+        show = r'printf("0x%016llX%016llX\n", (unsigned long long)FORMAT.high, (unsigned long long)FORMAT.low);'
+        blocks = "".join(f"{{\n{text}\n{show}\n}}\n" for text in codes)
+        (folder / "main.c").write_text(
+            f'#include "peltzivar.h"\n#include <stdio.h>\nint main(void) {{ {blocks} return 0; }}\n')
+        run("cc", "-Wall", "-Wextra", "-Werror", "-I", TOP / "c", "-o", folder / "main", folder / "main.c")
+        self.assertEqual(run(folder / "main").split(), WORDS)
+
+    @unittest.skipUnless(has("cargo"), "no cargo")
+    def test_python_code_builds_the_word(self):
+        folder, codes = self.code("python")
+        self.cargo("build", TOP / "rust/capi/Cargo.toml", folder, "--release")
+        library = next(it for it in (folder / "release").iterdir() if it.suffix in (".so", ".dylib"))
+        (folder / "main.py").write_text("".join(f"{text}print(format)\n" for text in codes))
+        variables = {"PELTZIVAR_LIBRARY": str(library), "PYTHONPATH": str(TOP / "c"), "PYTHONDONTWRITEBYTECODE": "1"}
+        printed = run(sys.executable, folder / "main.py", env={**os.environ, **variables})
+        self.assertEqual(printed.split(), WORDS)
 
     def test_flags_are_set_by_box_label_key_and_bit(self):
         self.assertEqual((self.value(), self.text("#verdict")), (STANDARD, "Lawful"))
@@ -375,12 +392,21 @@ class Walk(unittest.TestCase):
         self.assertEqual(self.value(), "0x0A02100078000027000000070000441C")
         self.click("#no_special")
         self.assertEqual(self.value("#language"), "")
+        self.type("#literal", "7")
+        Select(self.find("#language")).select_by_value("JSON")
+        Select(self.find("#language")).select_by_value("")
+        self.assertEqual((self.value(), self.value("#literal")), ("0x00000A0000000000000000000000341F", "7"))
 
     def test_integers_alone_have_no_options(self):
         Select(self.find("#language")).select_by_value("RUST_HEX_INTEGER")
         self.assertEqual((self.value("#exponent"), self.value("#point")), ("", ""))
         self.type("#exponent", "p")
         self.assertEqual((self.value("#point"), self.text("#verdict")), (".", "Lawful"))
+        self.type("#point", ",")
+        self.type("#exponent", "")
+        self.assertEqual(self.run_script("return [page.state.exponent, page.state.point]"), [0, 0])
+        self.find("#exponent").send_keys("^")
+        self.assertEqual(self.value("#point"), ",")
 
     def test_links_have_the_whole_state(self):
         self.load("#word=0x0A0A10006200005F000000070001400C&exponent=p&point=44&numbers=+1%0A!2%203")

@@ -261,7 +261,7 @@ static void test_settings(void) {
     CHECK(!peltzivar_read_settings(good, sizeof good - 1, &syntax) && is_word(syntax.format, 0x1010100000000000, 0xC));
     CHECK(syntax.exponent == 'p' && syntax.decimal_point == '.');
     CHECK(WRITES("unknown setting name", peltzivar_setting_error_text("no_special=\xFF", 12, text, sizeof text)));
-    CHECK(WRITES("radix is overridden", peltzivar_settings_text(good, sizeof good - 1, 0, text, sizeof text)));
+    CHECK(WRITES("a later setting overrides radix", peltzivar_settings_text(good, sizeof good - 1, 0, text, sizeof text)));
     CHECK(peltzivar_settings_lines(good, sizeof good - 1, 0, NULL, 0) == 2);
     CHECK(!peltzivar_read_settings("exponent=none\npoint=none", 24, &syntax) && !syntax.exponent && !syntax.decimal_point);
     CHECK(peltzivar_read_settings(good, SIZE_MAX, &syntax) == 1 && !peltzivar_read_settings(NULL, 0, &syntax));

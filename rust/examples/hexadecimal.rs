@@ -11,18 +11,19 @@ const HEXADECIMAL: Format = NumberFormatBuilder::new()
     .internal_digit_separator(true)
     .build_format_or_panic();
 
-/// Returns the value of an integer. Returns `None` if the text is not an integer of the syntax, or if it is too large.
+/// Returns the value of an integer. Returns `None` if the text is not an integer of the syntax, or is not in range.
 fn integer(syntax: &Syntax, text: &[u8]) -> Option<i64> {
     let literal = syntax.read(text).ok()?;
-    let (mut value, radix) = (0i64, literal.radix(Part::Integer).into());
-    for digit in literal.digits(Part::Integer) {
-        value = value.checked_mul(radix)?.checked_add(digit.into())?;
-    }
-    Some(if literal.is_negative() { -value } else { value })
+    let sign = if literal.is_negative() { -1 } else { 1 };
+    let radix = literal.radix(Part::Integer).into();
+    let mut digits = literal.digits(Part::Integer).map(i64::from);
+    let add = |value: i64, digit| value.checked_mul(radix)?.checked_add(sign * digit);
+    digits.try_fold(0, add)
 }
 
 fn main() {
     let syntax = Syntax::integers(HEXADECIMAL);
     assert_eq!(integer(&syntax, b"00_ff"), Some(255));
+    assert_eq!(integer(&syntax, b"-8000_0000_0000_0000"), Some(i64::MIN));
     assert_eq!(integer(&syntax, b"00__ff"), None);
 }

@@ -25,6 +25,7 @@ fn main() {
     let others = Language::ALL.iter().map(|it| (it.name(), it.syntax()));
     for (name, syntax) in LANGUAGES.into_iter().chain(others) {
         let is_number = syntax.read(text.as_encoded_bytes()).is_ok();
-        println!("{name}: {is_number} {syntax}");
+        let verb = ["rejects", "accepts"][usize::from(is_number)];
+        println!("{name} {verb} it: {syntax}");
     }
 }

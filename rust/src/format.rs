@@ -62,7 +62,8 @@ pub const fn format_error<const FORMAT: u128>() -> Error {
 
 impl NumberFormatBuilder {
     /// Packs the fields into a format word. If this method is called in a constant and the word is not [lawful][Rule],
-    /// the program does not compile.
+    /// the program does not compile. A digit separator that no flag allows is dropped without an error: only
+    /// [`notes`][Self::notes] of the builder has a note on it.
     ///
     /// ```
     /// use core::num::NonZeroU8;
@@ -105,7 +106,8 @@ impl NumberFormatBuilder {
         }
     }
 
-    /// Packs the fields into a word, and returns it as a [`Format`]. Use it in constants, as `build_or_panic`.
+    /// Packs the fields into a word, and returns it as a [`Format`]. Use it in constants, as `build_or_panic`, which
+    /// also drops a digit separator that no flag allows.
     ///
     /// # Panics
     ///

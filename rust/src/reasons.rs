@@ -72,7 +72,8 @@ pub struct NamedByte {
     pub value: u8,
 }
 
-/// The cause of a [`Reason`]: the fields that are to blame, with their values.
+/// The cause of a [`Reason`]: the fields that are to blame, with their values. The `Cause` of a `ReadError` is another
+/// enum: why a text is not a literal.
 #[derive(Debug, Clone, Copy, PartialEq, Eq, Hash)]
 #[non_exhaustive]
 pub enum Cause {

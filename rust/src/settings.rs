@@ -17,6 +17,7 @@ const DEFAULTS: [u8; 2] = *b"e.";
 /// The bits that stand for the options in masks. They hold no field of a word.
 const EXPONENT: u128 = 1 << 18;
 const POINT: u128 = 1 << 19;
+const MASKS: [u128; 2] = [EXPONENT, POINT];
 
 /// The number of fields and options, and thereby the largest number of settings that are not overridden.
 const LIVE: usize = FIELD_COUNT + OPTIONS.len();
@@ -33,13 +34,17 @@ const SHOWN: usize = 40;
 /// Settings that are read from texts, such as the lines of a file, and the format or syntax that they build.
 ///
 /// A setting has the form `NAME=VALUE`. NAME is one of [`Edit::NAMES`], or `exponent` or `point` for the exponent
-/// character and the decimal point. VALUE is a value that [`Setter::parse`] takes, but quotes are refused for
-/// the mantissa radix, the exponent base and the exponent radix. `exponent` and `point` take what `digit_separator`
-/// takes. ASCII white space around NAME and VALUE is skipped, such as the carriage return at the end of a line. A text
-/// that is blank or begins with `#` sets nothing. A byte order mark before the first text is skipped.
+/// character and the decimal point. VALUE is a value that [`Setter::parse`] takes, but quotes are refused for the
+/// mantissa radix, the exponent base and the exponent radix. `exponent` and `point` take what `digit_separator` takes.
+/// A text that is blank or begins with `#` sets nothing. White space around the text, NAME and VALUE is skipped, as by
+/// [`trim_ascii`][slice::trim_ascii], such as the carriage return at the end of a line, but not a vertical tab. A byte
+/// order mark is skipped only at the start of the first text, and `#` begins a comment only at the start of a text.
 ///
 /// A setting overrides those before it. Fields without a setting have the values of a new builder, the exponent
-/// character is `e`, and the decimal point is `.`. If both are `none`, literals are integers.
+/// character is `e`, and the decimal point is `.`. A radix above 14 needs another exponent character, since `e` is one
+/// of its digits. If both options are `none`, literals are integers. One option alone cannot be `none`: for numbers
+/// without an exponent, write `no_exponent_notation=true` and, in a radix above 14, an unused character, such as
+/// `exponent='~'`.
 ///
 /// The *index* of a text is the number of texts before it, so the index of the first line is 0.
 ///
@@ -56,7 +61,7 @@ const SHOWN: usize = 40;
 /// assert!(settings.build_syntax()?.read(b"0x1.8p3").is_ok());
 /// let notes: Vec<_> = settings.notes().map(|note| (note.to_string(), note.indexes().to_vec())).collect();
 /// assert_eq!(notes, [
-///     ("base_prefix is overridden".into(), vec![2, 5]),
+///     ("a later setting overrides base_prefix".into(), vec![2, 5]),
 ///     ("no flag allows the digit separator '_'".into(), vec![4]),
 /// ]);
 /// # Ok::<(), Box<dyn core::error::Error>>(())
@@ -66,6 +71,8 @@ pub struct Settings {
     builder: NumberFormatBuilder,
     /// The exponent character and the decimal point. A character that is `none` is 0.
     options: [u8; 2],
+    /// The bits of the settings that were refused, and that no later setting writes.
+    refused: u128,
     /// The number of texts.
     count: usize,
     /// The settings of which a field is not overridden, sorted by their indexes.
@@ -95,6 +102,7 @@ impl Settings {
         Settings {
             builder: NumberFormatBuilder::new(),
             options: DEFAULTS,
+            refused: 0,
             count: 0,
             live: [None; LIVE],
             overridden: [None; OVERRIDDEN],
@@ -114,7 +122,8 @@ impl Settings {
     }
 
     /// Adds a text. A text that is refused is counted, and sets nothing. What the other texts build is then not what the
-    /// file means, so call this after an error only to find others.
+    /// file means, so call this after an error only to find others. If the value is refused, [`reasons`][Self::reasons]
+    /// and [`notes`][Self::notes] leave out what blames a field or option of this text, until a later text sets it.
     ///
     /// ```
     /// let error = peltzivar::Settings::new().add("base_suffx = 'h'").unwrap_err();
@@ -134,11 +143,16 @@ impl Settings {
         if matches!(text, [] | [b'#', ..]) {
             return Ok(());
         }
-        let (option, edit) = parse(index, text)?;
+        let (option, edit) = parse(index, text).inspect_err(|it| {
+            if let Fault::BadValue(setter) = it.error.0 {
+                self.refused |= it.option.map_or(setter.mask(), |option| MASKS[option]);
+            }
+        })?;
         let (name, mask) = match option {
-            Some(option) => (OPTIONS[option], [EXPONENT, POINT][option]),
+            Some(option) => (OPTIONS[option], MASKS[option]),
             None => (edit.name(), edit.mask()),
         };
+        self.refused &= !mask;
         match option {
             Some(option) => self.options[option] = edit.argument_byte(),
             None => self.builder = apply(self.builder, edit),
@@ -190,7 +204,8 @@ impl Settings {
     /// exponent character and the decimal point do not fit it.
     pub fn reasons(&self) -> impl Iterator<Item = Finding> + Clone + '_ {
         let error = self.build_syntax().err().into_iter();
-        error.flat_map(|error| error.reasons()).map(|reason| {
+        let reasons = error.flat_map(|error| error.reasons());
+        reasons.filter_map(|reason| {
             let mask = reason.mask() | options_of(reason.cause());
             self.finding(FindingKind::Reason(reason), mask)
         })
@@ -205,14 +220,15 @@ impl Settings {
             Finding::new(kind, [old.index, *by].into_iter())
         });
         let notes = self.builder.notes();
-        overridden.chain(notes.map(|note| self.finding(FindingKind::Note(note), note.mask())))
+        let notes = notes.filter_map(|note| self.finding(FindingKind::Note(note), note.mask()));
+        overridden.chain(notes)
     }
 
-    /// Returns a finding with the indexes of the settings that write bits of `mask`.
-    fn finding(&self, kind: FindingKind, mask: u128) -> Finding {
+    /// Returns a finding with the indexes of the settings that write bits of `mask`, unless a refused one would do so.
+    fn finding(&self, kind: FindingKind, mask: u128) -> Option<Finding> {
         let live = self.live.iter().flatten();
         let blamed = live.filter(|it| it.mask & mask != 0);
-        Finding::new(kind, blamed.map(|it| it.index))
+        (mask & self.refused == 0).then(|| Finding::new(kind, blamed.map(|it| it.index)))
     }
 }
 
@@ -329,12 +345,14 @@ impl Finding {
     }
 }
 
+impl core::error::Error for Finding {}
+
 impl fmt::Display for Finding {
     fn fmt(&self, f: &mut fmt::Formatter<'_>) -> fmt::Result {
         match &self.kind {
             FindingKind::Reason(it) if is_one_option(it.cause()) => f.write_str(ONE_OPTION),
             FindingKind::Reason(reason) => reason.fmt(f),
-            FindingKind::Overridden(name) => write!(f, "{name} is overridden"),
+            FindingKind::Overridden(name) => write!(f, "a later setting overrides {name}"),
             FindingKind::Note(note) => note.fmt(f),
         }
     }

@@ -12,7 +12,7 @@ use settings::load;
 #[test]
 fn files_give_a_syntax_and_what_is_found() {
     #[rustfmt::skip]
-    let rows: [(&[u8], &str, &[&str]); 39] = [
+    let rows: [(&[u8], &str, &[&str]); 42] = [
         (include_bytes!("../examples/settings.txt"), "0x100A10007800005F000000010000000C 112 46", &[]),
         // Nothing is set.
         (b"", "0x0A0A0A0000000000000000000000000C 101 46", &[]),
@@ -42,12 +42,12 @@ fn files_give_a_syntax_and_what_is_found() {
         (b"exponent_base = 1", "", &["line 1: the exponent base 1 is not between 2 and 36"]),
         // Later lines override.
         (b"radix=8\nradix=16\nmantissa_radix=2", "0x0202020000000000000000000000000C 101 46",
-            &["lines 1, 2: radix is overridden", "lines 2, 3: radix is overridden"]),
+            &["lines 1, 2: a later setting overrides radix", "lines 2, 3: a later setting overrides radix"]),
         (b"required_digits=true\nrequired_mantissa_digits=false", "0x0A0A0A00000000000000000000000007 101 46", &[]),
         (b"digit_separator='_'\ntrailing_digit_separator=true\ninteger_digit_separator_flags=false\nfraction_digit_separator_flags=false\nexponent_digit_separator_flags=false\nspecial_digit_separator=true",
-            "0x0A0A0A000000005F000010000000000C 101 46", &["lines 2, 5: trailing_digit_separator is overridden"]),
+            "0x0A0A0A000000005F000010000000000C 101 46", &["lines 2, 5: a later setting overrides trailing_digit_separator"]),
         (b"point=','\nexponent='x'\npoint='.'\nexponent=94", "0x0A0A0A0000000000000000000000000C 94 46",
-            &["lines 1, 3: point is overridden", "lines 2, 4: exponent is overridden"]),
+            &["lines 1, 3: a later setting overrides point", "lines 2, 4: a later setting overrides exponent"]),
         // No such name, and none that is near.
         (b"base_suffx='h'\nradx=8\nprefix=120\ndecimal_point=46\ncolour=7\n=8", "", &[
             "line 1: unknown setting `base_suffx`; did you mean `base_suffix`?",
@@ -88,7 +88,14 @@ fn files_give_a_syntax_and_what_is_found() {
         (b"point=none", "", &["line 1: only one of the exponent character and the decimal point is absent"]),
         (b"\npoint='.'\nexponent=none", "", &["lines 2, 3: only one of the exponent character and the decimal point is absent"]),
         (b"point=none\nexponent=0\nradix=16", "0x1010100000000000000000000000000C", &[]),
-        (b"point=none\nexponent='e'\npoint='.'", "0x0A0A0A0000000000000000000000000C 101 46", &["lines 1, 3: point is overridden"]),
+        (b"point=none\nexponent='e'\npoint='.'", "0x0A0A0A0000000000000000000000000C 101 46", &["lines 1, 3: a later setting overrides point"]),
+        // What blames a field or option of a refused text is left out, until a later text sets it.
+        (b"radix=16\nexponent = p", "", &["line 2: exponent takes a character such as 'e', a number from 0 to 255, or `none`, not `p`"]),
+        (b"exponent=none\npoint=.", "", &["line 2: point takes a character such as '.', a number from 0 to 255, or `none`, not `.`"]),
+        (b"digit_separator='_'\ninternal_digit_separator=on\nradix=x\nradix=40", "", &[
+            "line 2: internal_digit_separator takes `true` or `false`, not `on`",
+            "line 3: radix takes a number, 2 to 36 in a lawful format, not `x`",
+            "line 4: the mantissa radix 40 is not between 2 and 36"]),
         // A note beside an error.
         (b"digit_separator='_'\ncolour=7", "", &["line 2: unknown setting `colour`", "line 1: no flag allows the digit separator '_'"]),
     ];

@@ -81,6 +81,7 @@ REPLACED = [
     ("read.rt", "\nfn read_prefix<", "\nconst fn read_prefix<"),
     # Calls with these names are written by hand: they take or return a `Format`, a `Literal` or a range.
     ("read.rt", "Reader {\n    grammar: Grammar,\n    tables", "Reader {\n    pub(crate) grammar: Grammar,\n    tables"),
+    ("syntax.rt", "Syntax {\n    grammar: Grammar,", "Syntax {\n    pub(crate) grammar: Grammar,"),
     ("syntax.rt", "pub const fn options(&self)", "pub(crate) const fn options(&self)"),
     ("syntax.rt", "pub const fn new(word", "#[doc(hidden)] pub const fn of_word(word"),
     ("syntax.rt", "pub const fn integers(word", "#[doc(hidden)] pub const fn integers_of_word(word"),

@@ -1,6 +1,6 @@
 -- Lemmas on the flags of a builder: their bits, how they are moved to and from a word, and how they are written under a
 -- mask. One lemma is on the bytes of a word.
-use Rattle.std.proofs.Common.{ℕ, zero, suc, ◌≡◌, ◌+◌, ◌-◌, ◌*◌, ◌/◌, ◌%◌, ◌^◌, ◌<◌, ◌==◌, min, max, Bool, true, false}
+use Rattle.std.proofs.Common.{ℕ, ◌≡◌, ◌+◌, ◌-◌, ◌*◌, ◌/◌, ◌%◌, ◌^◌, ◌<◌, ◌==◌, min, max, Bool, true, false}
 use Rattle.std.proofs.Common.{if◌then◌else◌, length, map, sum_by, bit_and, bit_or, w32, refl, ap, ◌∙◌, arith}
 use Rattle.std.proofs.Math.Nat.{mod-lt}
 use Rattle.std.proofs.lemmas.Nat.{mod-pow-add, and_mask, or_comm, or_shifted, pow_pos, shr-shr}

@@ -1,12 +1,12 @@
 -- Lemmas on the flags of a word under a mask, and on the flags of a record joined by `|`.
-use Rattle.std.proofs.Common.{ℕ, ◌≡◌, ◌≢◌, ◌+◌, ◌*◌, ◌/◌, ◌%◌, ◌^◌, ◌<◌, ◌==◌, true, false, not, ◌||◌, inl, inr}
+use Rattle.std.proofs.Common.{ℕ, ◌≡◌, ◌≢◌, ◌+◌, ◌*◌, ◌/◌, ◌%◌, ◌^◌, ◌<◌, ◌==◌, true, false, not, ◌||◌}
 use Rattle.std.proofs.Common.{List, [], ◌∷◌, sum_by, bit_and, bit_or, refl, ap, sym, subst, ◌∙◌, arith}
 use Rattle.std.specs.List.{filter, fold, list_any}
-use Rattle.std.proofs.Math.Nat.{mod-lt, zero-mul}
+use Rattle.std.proofs.Math.Nat.{mod-lt}
 use Rattle.std.proofs.lemmas.List.Sums.{sum_by-cons}
 use Rattle.std.proofs.lemmas.Nat.{pow_pos}
 use Rattle.std.proofs.lemmas.Nat.Bits.{and_pow}
-use Rattle.std.proofs.lemmas.Bool.{cases_lt, ne_eqb, eq-eqb}
+use Rattle.std.proofs.lemmas.Bool.{ne_eqb, eq-eqb}
 use Rattle.std.proofs.lemmas.Bool.Decides.{nat_tests}
 use Rattle.lexical_flags.specs.Layout.{part, Flag, bit, flags, digit_separator_flags}
 use Rattle.lexical_flags.specs.Record.{Record, raw, word_of, flag_bits}

@@ -1,6 +1,6 @@
 -- Lemmas on an exponent character and a decimal point, in addition to the five roles of a word.
 use Rattle.std.proofs.Common.{ℕ, ◌≡◌, ◌+◌, ◌≤◌, ◌≢◌, ◌⊎◌, ◌==◌, ◌||◌, not, if◌then◌else◌, Bool, true, false, IsTrue}
-use Rattle.std.proofs.Common.{◌↔◌, ◌∙◌, sym, inl, inr, arith}
+use Rattle.std.proofs.Common.{◌↔◌, arith}
 use Rattle.std.specs.List.{AllByRecursion}
 use Rattle.std.proofs.lemmas.Bool.Decides.{nat_tests}
 use Rattle.lexical_base.specs.Ascii.{ByteSet, allowed_ascii}

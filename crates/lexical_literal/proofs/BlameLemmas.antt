@@ -1,18 +1,17 @@
 -- The flags that are found are to blame.
-use Rattle.std.proofs.Common.{ℕ, ◌≡◌, ◌<◌, ◌≤◌, ◌/◌, ◌%◌, ◌^◌, ◌↔◌, min, Bool, true, false, not, ◌==◌, ◌&&◌, ◌||◌, inl, inr, IsTrue, bit_and, if◌then◌else◌, nat_lt, List, []}
-use Rattle.std.proofs.Common.{◌∷◌, Option, Some, refl, sym, ap, subst, ◌∙◌, arith}
-use Rattle.std.proofs.lemmas.Bool.{false≢true, and_parts, and_from, or_cases, or_left, or_right, cases_Bool, cases_lt, eq-eqb, eqb-true, false_from_ne_true, lt-ltb, agree_below}
+use Rattle.std.proofs.Common.{ℕ, ◌≡◌, ◌<◌, ◌≤◌, ◌/◌, ◌%◌, ◌^◌, ◌↔◌, min, Bool, true, false, not, ◌==◌, ◌&&◌, ◌||◌, inl, inr, IsTrue, bit_and, if◌then◌else◌, nat_lt, List}
+use Rattle.std.proofs.Common.{Option, Some, refl, sym, ap, subst, ◌∙◌, arith}
+use Rattle.std.proofs.lemmas.Bool.{false≢true, and_parts, and_from, or_left, or_right, cases_Bool, cases_lt, eq-eqb, eqb-true, false_from_ne_true, lt-ltb, agree_below}
 use Rattle.std.proofs.lemmas.Bool.{agree_below_at}
 use Rattle.std.proofs.lemmas.Bool.Decides.{nat_tests}
 use Rattle.std.proofs.lemmas.Nat.Bits.{bit_at_and}
 use Rattle.std.proofs.Math.Nat.{div-eq_of_lt, pow-le-pow_right}
-use Rattle.std.specs.List.{filter, list_any}
 use Rattle.lexical_util.specs.Layout as layout
 use Rattle.lexical_util.specs.Layout.{Flag, bit, flags, part}
 use Rattle.lexical_util.specs.Record.{raw}
 use Rattle.lexical_util.specs.declared.feature_format.roles.Role.TheVariants as roles
 use Rattle.lexical_literal.specs.Notation.{Notation}
-use Rattle.lexical_literal.specs.Cause.{Allows, IsLowest, IsRequirement, Permits, RefusesAlone, Releases, SomeFlag, adding, bare, binds, is_one_of}
+use Rattle.lexical_literal.specs.Cause.{IsLowest, IsRequirement, Permits, RefusesAlone, Releases, SomeFlag, adding, bare, binds, is_one_of}
 use Rattle.lexical_literal.specs.Cause.{is_at, requirement_flags, separator_flags, with_flags, without}
 use Rattle.lexical_literal.specs.Additions.Causes.{Decides, IsWeaker, allows, is_own, is_role, place_of}
 use Rattle.lexical_util.specs.declared.format_flags.Part.{Part}
@@ -32,8 +31,11 @@ use Rattle.lexical_literal.proofs.RefusalLemmas.{apart, at, same_flag}
 pub mask_flag : (mask : ℕ) → mask < 2 ^ 44 → agree_below (λ k. (part mask k 1 == 1) && not (bit (at flags k) == k)) (λ k. false) 44 ≡ true
     → (k : ℕ) → part mask k 1 ≡ 1 → (f : Flag) × (bit f ≡ k)
 mask_flag mask small agree k one = elim (cases_lt k 44) [
-  | inl below ↦ (at flags k, eqb-true (bit (at flags k)) k (owned _ _ (eq-eqb (part mask k 1) 1 one)
-      (agree_below_at (λ k. (part mask k 1 == 1) && not (bit (at flags k) == k)) (λ k. false) 44 k agree below)))
+  | inl below ↦ (
+    at flags k,
+    eqb-true (bit (at flags k)) k (owned _ _ (eq-eqb (part mask k 1) 1 one)
+        (agree_below_at (λ k. (part mask k 1 == 1) && not (bit (at flags k) == k)) (λ k. false) 44 k agree below)),
+  )
   | inr high ↦
       let wide : 2 ^ 44 ≤ 2 ^ k = pow-le-pow_right {n = 2} (omega arith) high in
       let none : mask / 2 ^ k ≡ 0 = div-eq_of_lt (omega (arith, wide)) in

@@ -1,6 +1,6 @@
 -- Which flags refuse what is allowed without requirements: flags that refuse alone, or two flags on leading zeros.
 use Rattle.std.proofs.Common.{◌≡◌, Bool, true, false, not, ◌==◌, ◌&&◌, ◌||◌, if◌then◌else◌, nat_lt, Option, Some, None, refl, sym, ap, subst, ◌∙◌, arith}
-use Rattle.std.proofs.lemmas.Bool.{false≢true, and_parts, or_parts}
+use Rattle.std.proofs.lemmas.Bool.{false≢true, or_parts}
 use Rattle.std.proofs.lemmas.Bool.Decides.{nat_tests}
 use Rattle.std.specs.Prelude.{is_some}
 use Rattle.lexical_util.specs.Layout as layout
@@ -11,8 +11,8 @@ use Rattle.lexical_util.specs.declared.format_flags.Part.{Part}
 use Rattle.lexical_util.specs.declared.format_flags.Part.TheVariants as parts
 use Rattle.lexical_literal.specs.Notation.{Notation}
 use Rattle.lexical_literal.specs.Run.{is_place}
-use Rattle.lexical_literal.specs.Cause.{adding, bare, binds, is_at, is_one_of, requirement_flags, separator_flags, without}
-use Rattle.lexical_literal.specs.Additions.Causes.{allows, is_plus_next, is_role, place_of, refuses, role_of_next, separates}
+use Rattle.lexical_literal.specs.Cause.{adding, bare, binds, is_one_of, requirement_flags, separator_flags, without}
+use Rattle.lexical_literal.specs.Additions.Causes.{allows, is_plus_next, is_role, refuses, role_of_next, separates}
 use Rattle.lexical_literal.specs.Additions.Summary.{gap_fits, has_digit, implies, is_signed, in_part, is_plus, is_zero, may_follow, move, needs_exponent, takes}
 use Rattle.lexical_literal.specs.declared.steps.Class.{Class}
 use Rattle.lexical_literal.specs.declared.steps.Stage.{Stage}
@@ -33,7 +33,8 @@ moved n s ended plus zero None = grind arith
 moved n s ended plus zero (Some role) = grind arith
 
 -- What is allowed is a question of roles, before a suffix.
-pub allows_is : (n : Notation) (s : Summary) (next : Option Class) → s.ended ≡ false → allows n s next ≡ taken n (reading s.part s.stage s.gap) (is_plus_next next) (role_of_next s next)
+pub allows_is : (n : Notation) (s : Summary) (next : Option Class) → s.ended ≡ false
+    → allows n s next ≡ taken n (reading s.part s.stage s.gap) (is_plus_next next) (role_of_next s next)
 allows_is n s None going = grind arith
 allows_is n s (Some class) going = moved n s s.ended (is_plus class) (is_zero class) (in_part s.part class)
     ∙ ap (λ e. not e && taken n (reading s.part s.stage s.gap) (is_plus class) (in_part s.part class)) going
@@ -205,6 +206,7 @@ module _ (m : Notation) where
   -- A flag that allows the byte is of the place and the part.
   pub at_next : (f : Flag) (s : Summary) (class : Class) → is_one_of separator_flags f ≡ true → allows (bare m) s (Some class) ≡ false
       → allows (adding f (bare m)) s (Some class) ≡ true → separates m s (in_part s.part class) f ≡ true
-  at_next f s class is refused allowed = subst (λ (P : Notation → Bool). P (bare m) ≡ false → P (adding f (bare m)) ≡ true → separates m s (in_part s.part class) f ≡ true)
+  at_next f s class is refused allowed =
+      subst (λ (P : Notation → Bool). P (bare m) ≡ false → P (adding f (bare m)) ≡ true → separates m s (in_part s.part class) f ≡ true)
       (same s (Some class) (not_ended s.ended _ (sym (moved (adding f (bare m)) s s.ended (is_plus class) (is_zero class) (in_part s.part class)) ∙ allowed)))
       (at_role f s.part s.stage s.gap (is_plus class) (in_part s.part class) is) refused allowed

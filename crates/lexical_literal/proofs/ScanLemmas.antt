@@ -1,5 +1,5 @@
 -- How a text is read, byte by byte.
-use Rattle.std.proofs.Common.{ℕ, ◌≡◌, Bool, true, false, not, IsTrue, ◌==◌, ◌&&◌, ◌+◌, if◌then◌else◌, List, [], ◌∷◌, ◌++◌, Option, Some, None}
+use Rattle.std.proofs.Common.{ℕ, ◌≡◌, Bool, true, false, not, IsTrue, ◌==◌, ◌&&◌, if◌then◌else◌, List, [], ◌∷◌, ◌++◌, Option, Some, None}
 use Rattle.std.proofs.Common.{refl, sym, ap, subst, ◌∙◌, arith}
 use Rattle.std.proofs.lemmas.Bool.{false≢true, false_from_ne_true, or_left}
 use Rattle.lexical_util.specs.Layout as layout
@@ -11,7 +11,6 @@ use Rattle.lexical_literal.specs.Notation.{Notation, role_set, IsOnlyRole}
 use Rattle.lexical_literal.specs.Additions.Summary.{Cuts, add, class_of, role_of, in_part, is_plus, is_zero, takes, after}
 use Rattle.lexical_literal.specs.Additions.Summary.{move, scan, step, is_accepted, count, tally}
 use Rattle.lexical_literal.specs.declared.steps.Class.{Class}
-use Rattle.lexical_literal.specs.declared.steps.Class.TheVariants as classes
 use Rattle.lexical_literal.specs.declared.steps.Piece.{Piece}
 use Rattle.lexical_literal.specs.declared.steps.Summary.{Summary}
 

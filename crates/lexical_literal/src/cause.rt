@@ -14,8 +14,8 @@ ghost use Rattle.lexical_literal.specs.Notation.{notation_of};
 ghost use Rattle.lexical_literal.specs.Syntax.{IsSyntax};
 
 use crate::steps::{
-    self, Class, Stage, Summary, class_of, has_digit, in_part, is_digit, is_exponent_character, is_point,
-    needs_exponent,
+    self, Class, Stage, Summary, class_of, has_digit, in_part, is_digit, is_exponent_character,
+    is_point, needs_exponent,
 };
 use crate::syntax::Grammar;
 use lexical_util::error::Error;
@@ -34,7 +34,8 @@ pub enum Place {
     Consecutive,
 }
 
-/// Why a text is not a literal. Another cause may follow when this one is mended.
+/// Why a text is not a literal. Another cause may follow when this one is mended. The `Cause` of a `Reason` is another
+/// enum: why a format word is not lawful.
 #[derive(Debug, Clone, Copy, PartialEq, Eq, Hash)]
 pub enum Cause {
     /// Flags are set whose requirements the text does not satisfy.
@@ -49,7 +50,9 @@ pub enum Cause {
     Missing(Part),
 }
 
-/// Why a text is not a literal, and where.
+/// Why a text is not a literal, and where. If a byte cannot follow, the error is that of the byte, as in `1e;`. To say
+/// what is missing before it, read the front of the text that ends at [`valid_up_to`][Self::valid_up_to]. If this front
+/// is not a literal either, its error says it.
 #[derive(Debug, Clone, Copy, PartialEq, Eq)]
 pub struct ReadError {
     pub(crate) valid_up_to: usize,
@@ -397,10 +400,7 @@ impl Stop {
 const fn ends_part(role: Option<Role>) -> bool
     ensures { result ≡ ends_part role }
 {
-    matches!(
-        role,
-        Some(Role::Point | Role::Exponent | Role::Suffix)
-    )
+    matches!(role, Some(Role::Point | Role::Exponent | Role::Suffix))
 }
 
 // Returns the number of the flag that allows a digit separator between digits of `part`. Those that allow it before digits,

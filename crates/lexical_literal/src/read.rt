@@ -76,8 +76,9 @@ impl Syntax {
     }
 }
 
-/// A syntax with tables of all its steps. It reads literals in less time than [`Syntax::read`], and is worth its making
-/// where many texts are read.
+/// A syntax with tables of all its steps. It reads literals in less time than [`Syntax::read`]. It takes about 5 to 15
+/// microseconds to make, as long as [`Syntax::read`] takes for some 30 texts of 18 bytes. For a `static`, as in the
+/// first example of this module, the compiler makes it.
 #[derive(Drop)]
 pub struct Reader {
     grammar: Grammar,
@@ -193,7 +194,12 @@ fn read_prefix<'a>(
 
 // Returns why `text` is not a literal.
 #[inline(always)]
-const fn refuse(grammar: Grammar, tables: Option<&Tables>, text: &[u8], scanned: Scanned) -> ReadError
+const fn refuse(
+    grammar: Grammar,
+    tables: Option<&Tables>,
+    text: &[u8],
+    scanned: Scanned,
+) -> ReadError
     requires syntax { IsSyntax grammar }
     requires tables { ForSome tables (λ tables. HasTables (notation_of grammar) tables.now) }
     requires scanned { IsScanned (notation_of grammar) text.now scanned }
@@ -207,7 +213,12 @@ const fn refuse(grammar: Grammar, tables: Option<&Tables>, text: &[u8], scanned:
 
 // Returns the class of the byte behind the first `size`, if there is one, by the tables if there are any.
 #[inline(always)]
-const fn class_at(grammar: Grammar, tables: Option<&Tables>, text: &[u8], size: usize) -> Option<Class>
+const fn class_at(
+    grammar: Grammar,
+    tables: Option<&Tables>,
+    text: &[u8],
+    size: usize,
+) -> Option<Class>
     requires tables { ForSome tables (λ tables. HasTables (notation_of grammar) tables.now) }
     ensures { result ≡ class_of_next (notation_of grammar) (slice_get text.now size) }
 {

@@ -1,10 +1,10 @@
 -- Lemmas that a list of legal writes that builds a word has at least as many writes as the word needs.
 use Rattle.std.proofs.Common.{◌≡◌, ℕ, ◌+◌, ◌≤◌, ◌==◌, ◌||◌, Bool, true, false, not, cond, if◌then◌else◌, List, [], ◌∷◌}
-use Rattle.std.proofs.Common.{length, Option, Some, None, unwrap_or, is_some, inl, inr, refl, sym, ap, ◌∙◌, subst}
-use Rattle.std.proofs.Common.{count_by, arith, le_refl, eq-eqb, true≢false, All}
+use Rattle.std.proofs.Common.{length, Option, unwrap_or, is_some, refl, sym, ap, ◌∙◌, subst}
+use Rattle.std.proofs.Common.{count_by, arith, le_refl, eq-eqb, All}
 use Rattle.std.specs.List.{list_any}
 use Rattle.std.proofs.Math.Bool.{beq}
-use Rattle.std.proofs.lemmas.Bool.{cases_Bool, or_parts}
+use Rattle.std.proofs.lemmas.Bool.{or_parts}
 use Rattle.std.proofs.lemmas.List.Elements.{All-head, All-tail}
 use Rattle.std.proofs.lemmas.List.Sums.{sum_by-cons, length-filter}
 use Rattle.lexical_flags.specs.Layout.{Flag, Byte}

@@ -8,7 +8,7 @@ use Rattle.std.specs.Prelude.{IfSome, MatchOption}
 use Rattle.std.specs.Option.{option_map_or}
 use Rattle.std.specs.Bool.{then_some}
 use Rattle.std.specs.List.{AllByRecursion}
-use Rattle.std.proofs.lemmas.Bool.{true≢false, cases_eq, eqb-true, eq-eqb, and_from, and_parts}
+use Rattle.std.proofs.lemmas.Bool.{true≢false, eqb-true, eq-eqb, and_from, and_parts}
 use Rattle.std.proofs.lemmas.Bool.{not_from_true, not-false}
 use Rattle.std.proofs.lemmas.Bool.Decides.{nat_tests}
 use Rattle.std.proofs.lemmas.Option.{same_Some, none-some}
@@ -484,26 +484,26 @@ rule_blames : (word other : ℕ) (rule : Rule) → EachReason (Blames word other
 unfolding Holds
 rule_blames word other rules.MantissaRadixInRange =
     let ((own, none), enough) = shape_settled (radix_in_range layout.mantissa_radix) word in (one _ own, tt) where
-  cause : Cause
-  cause = causes.OutOfRange (named (raw word) 0 0 bytes.MantissaRadix)
+      cause : Cause
+      cause = causes.OutOfRange (named (raw word) 0 0 bytes.MantissaRadix)
 
-  mantissa : ℕ
-  mantissa = (raw other).byte layout.mantissa_radix
+      mantissa : ℕ
+      mantissa = (raw other).byte layout.mantissa_radix
 
-  follow : Demanded word rules.MantissaRadixInRange cause other
-  follow same q follows holds =
-      let base = absent_mask (raw word) bytes.ExponentBase in
-      let radix = absent_mask (raw word) bytes.ExponentRadix in
-      let both = halves word other (mask_of_byte bytes.MantissaRadix) (bit_or base radix) same in
-      let absent = halves word other base radix both.1 in elim follows [
-        | inl is ↦ followed word other mantissa bytes.ExponentBase rules.ExponentBaseInRange q (λ h. h) is absent.0 holds
-        | inr is ↦ followed word other mantissa bytes.ExponentRadix rules.ExponentRadixInRange q (λ h. h) is absent.1 holds
-      ]
+      follow : Demanded word rules.MantissaRadixInRange cause other
+      follow same q follows holds =
+          let base = absent_mask (raw word) bytes.ExponentBase in
+          let radix = absent_mask (raw word) bytes.ExponentRadix in
+          let both = halves word other (mask_of_byte bytes.MantissaRadix) (bit_or base radix) same in
+          let absent = halves word other base radix both.1 in elim follows [
+            | inl is ↦ followed word other mantissa bytes.ExponentBase rules.ExponentBaseInRange q (λ h. h) is absent.0 holds
+            | inr is ↦ followed word other mantissa bytes.ExponentRadix rules.ExponentRadixInRange q (λ h. h) is absent.1 holds
+          ]
 
-  one : (t : Bool) → IfSome (then_some t cause) (Explains word 0 0 (Own (radix_in_range layout.mantissa_radix)))
-      → IfSome (option_map (reason_of (raw word) (Some rules.MantissaRadixInRange)) (then_some t cause)) (Blames word other)
-  one false h = tt
-  one true h = blames word rules.MantissaRadixInRange cause other h follow
+      one : (t : Bool) → IfSome (then_some t cause) (Explains word 0 0 (Own (radix_in_range layout.mantissa_radix)))
+          → IfSome (option_map (reason_of (raw word) (Some rules.MantissaRadixInRange)) (then_some t cause)) (Blames word other)
+      one false h = tt
+      one true h = blames word rules.MantissaRadixInRange cause other h follow
 rule_blames word other rule =
     lift (reason_of (raw word) (Some rule)) _ (Blames word other)
     (λ c h. blames word rule c other h (λ same q follows holds. elim follows [ inl is ↦ cc | inr is ↦ cc ]))

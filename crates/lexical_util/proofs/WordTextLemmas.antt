@@ -1,6 +1,6 @@
 -- Lemmas on the loop of `word_text`, and on the only text with a given form and value.
 use Rattle.std.proofs.Common.{◌≡◌, ℕ, zero, suc, ◌+◌, ◌-◌, ◌*◌, ◌/◌, ◌%◌, ◌^◌, ◌<◌, ◌==◌, ◌&&◌, Bool, true, not}
-use Rattle.std.proofs.Common.{IsTrue, IsSome, ◌↔◌, false, bytes_eq}
+use Rattle.std.proofs.Common.{IsTrue, IsSome, ◌↔◌, bytes_eq}
 use Rattle.std.proofs.Common.{List, [], ◌∷◌, ◌++◌, map, take, drop, length, codes, replicate, slice_index_or, refl}
 use Rattle.std.proofs.Common.{sym, ap}
 use Rattle.std.proofs.Common.{◌∙◌, subst, arith, cond, inl, inr, nat_lt, unwrap_or, Some, None}

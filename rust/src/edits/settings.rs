@@ -173,7 +173,7 @@ impl Edit {
 }
 
 /// Prints the edit as `NAME=VALUE`, such as `mantissa_radix=16`, `no_special=true` or `digit_separator=none`.
-/// [`Edit::from_text`] parses this text into the same edit.
+/// In plain Rust, [`FromStr`][core::str::FromStr] parses this text into the same edit.
 impl fmt::Display for Edit {
     fn fmt(&self, f: &mut fmt::Formatter<'_>) -> fmt::Result {
         f.write_str(self.name())?;

@@ -23,7 +23,8 @@ pub enum Place {
     Consecutive,
 }
 
-/// Why a text is not a literal. Another cause may follow when this one is mended.
+/// Why a text is not a literal. Another cause may follow when this one is mended. The `Cause` of a `Reason` is another
+/// enum: why a format word is not lawful.
 #[derive(Debug, Clone, Copy, PartialEq, Eq, Hash)]
 #[non_exhaustive]
 pub enum Cause {
@@ -39,7 +40,9 @@ pub enum Cause {
     Missing(Part),
 }
 
-/// Why a text is not a literal, and where.
+/// Why a text is not a literal, and where. If a byte cannot follow, the error is that of the byte, as in `1e;`. To say
+/// what is missing before it, read the front of the text that ends at [`valid_up_to`][Self::valid_up_to]. If this front
+/// is not a literal either, its error says it.
 #[derive(Debug, Clone, Copy, PartialEq, Eq, Hash)]
 pub struct ReadError {
     pub(crate) valid_up_to: usize,

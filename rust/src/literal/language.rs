@@ -9,8 +9,12 @@ use core::{fmt, hash, num::NonZeroU8};
 /// constant, so no tables are made at run time.
 ///
 /// The documentation of each language names the section of the grammar that it follows, and what a format cannot
-/// express. No format rejects `-`, and no format requires its base prefix or suffix. A language whose name ends in
-/// `HEX_INTEGER` has integers alone. To copy a format, print its setter calls with [`source`][crate::source].
+/// express. No format rejects `-`, and no format requires its base prefix or suffix, or a decimal point, so
+/// [`C_FLOAT`][Self::C_FLOAT] reads `1` and `08`. A language whose name ends in `HEX_INTEGER` has integers alone. To
+/// copy a format, print its setter calls with [`source`][crate::source].
+///
+/// For a [`Syntax`] of your own with [`Specials`], keep a [`Reader`] and the spellings. Where `reader.read(text)`
+/// fails, call `specials.read(&reader.syntax(), text)`, as [`read`][Self::read] does.
 ///
 /// ```
 /// use peltzivar::literal::{Language, Number};
@@ -21,6 +25,7 @@ use core::{fmt, hash, num::NonZeroU8};
 ///
 /// let error = Language::TOML.read(b"1_000.").unwrap_err();
 /// assert_eq!(error.to_string(), "expected a digit after the decimal point, which required_fraction_digits requires");
+/// assert_eq!(format!("{error:#}"), "expected a digit after the decimal point");
 /// ```
 #[derive(Clone, Copy)]
 pub struct Language(&'static Definition);
@@ -74,13 +79,11 @@ impl Language {
     ///
     /// If `text` is neither a literal nor a special value, returns why it is not a literal.
     pub fn read<'a>(&self, text: &'a [u8]) -> Result<Number<'a>, ReadError> {
-        match self.reader().read(text) {
-            Ok(literal) => Ok(Number::Literal(literal)),
-            Err(error) => match self.0.specials.read(&self.0.syntax, text) {
-                Some(special) => Ok(Number::Special(special)),
-                None => Err(error),
-            },
-        }
+        let literal = self.reader().read(text);
+        literal.map(Number::Literal).or_else(|error| {
+            let special = self.0.specials.read(&self.0.syntax, text);
+            special.map(Number::Special).ok_or(error)
+        })
     }
 }
 
@@ -123,13 +126,6 @@ const fn integers(builder: NumberFormatBuilder) -> Syntax {
     Syntax::integers(builder.build_format_or_panic())
 }
 
-/// No special values.
-const NONE: Specials = Specials {
-    nan: None,
-    inf: None,
-    infinity: None,
-};
-
 /// A type for each language, which has its syntax.
 trait Grammar {
     const SYNTAX: Syntax;
@@ -141,9 +137,9 @@ fn reader<T: Grammar>() -> &'static Reader {
     const { &Reader::new(T::SYNTAX) }
 }
 
-/// Defines the constants: the documentation, the name, the syntax and the special values of each.
+/// Defines the constants: the documentation, the name, the syntax and the special values, if there are any, of each.
 macro_rules! languages {
-    ($($(#[$about:meta])+ $name:ident = $syntax:expr, $specials:expr;)+) => {
+    ($($(#[$about:meta])+ $name:ident = $syntax:expr $(, $specials:expr)?;)+) => {
         impl Language {
             /// All languages, in alphabetical order.
             pub const ALL: &'static [Language] = &[$(Language::$name),+];
@@ -158,7 +154,7 @@ macro_rules! languages {
                     name: stringify!($name),
                     syntax: It::SYNTAX,
                     reader: reader::<It>,
-                    specials: $specials,
+                    specials: [$($specials,)? Specials { nan: None, inf: None, infinity: None }][0],
                 })
             };)+
         }
@@ -173,7 +169,7 @@ languages! {
         .no_special(true) // rejects `NaN` and `inf`, which are names
         .digit_separator(NonZeroU8::new(b'_')) // the byte, which the flags below allow
         .internal_digit_separator(true) // accepts `1_0.0_1E1_0`, not `1__0`, `_1` or `1_`
-    ), NONE;
+    );
 
     /// C's decimal floating constants (C23, Floating constants). A format cannot accept both `1.0f` and `1.0L`.
     C_FLOAT = numbers(b'e', NumberFormatBuilder::new()
@@ -181,7 +177,7 @@ languages! {
         .no_special(true) // rejects `NAN` and `INFINITY`, which are macros
         .digit_separator(NonZeroU8::new(b'\'')) // the byte; leave out these two lines for C17
         .internal_digit_separator(true) // accepts `1'000.5`
-    ), NONE;
+    );
 
     /// C's hexadecimal floating constants (C23, Floating constants): `0x1.8p3` is 1.5 × 2^3. A format cannot accept both
     /// `0x1p3f` and `0x1p3L`.
@@ -195,7 +191,7 @@ languages! {
         .no_special(true) // rejects `NAN` and `INFINITY`
         .digit_separator(NonZeroU8::new(b'\'')) // the byte; leave out these two lines for C17
         .internal_digit_separator(true) // accepts `0x1'000p3`
-    ), NONE;
+    );
 
     /// C#'s real literals and decimal integers (C# standard, 6.4.5.3 and 6.4.5.4). A format cannot accept `1L`, `1f` and
     /// `1m`.
@@ -206,13 +202,13 @@ languages! {
         .digit_separator(NonZeroU8::new(b'_')) // the byte, which the flags below allow
         .internal_digit_separator(true) // accepts `1_0.0_1e1_0`, not `_1` or `1_`
         .consecutive_digit_separator(true) // accepts `1__0`
-    ), NONE;
+    );
 
     /// Fortran's signed integers and reals (ISO/IEC 1539-1:2018, 7.4.3). A format cannot accept both `1E3` and `1D3`,
     /// or a kind as in `1.0_8`.
     FORTRAN = numbers(b'e', NumberFormatBuilder::new()
         .no_special(true) // rejects `NaN` and `inf`
-    ), NONE;
+    );
 
     /// Go's hexadecimal floats (Language Specification, Floating-point literals).
     GO_HEX_FLOAT = numbers(b'p', NumberFormatBuilder::new()
@@ -226,14 +222,14 @@ languages! {
         .digit_separator(NonZeroU8::new(b'_')) // the byte, which the flags below allow
         .internal_digit_separator(true) // accepts `0x1_0.0_8p1_0`, not `0x1__0p0` or `0x1_p0`
         .integer_leading_digit_separator(true) // accepts `0x_1p0`
-    ), NONE;
+    );
 
     /// Haskell's floats and decimal integers (Haskell 2010 Report, 2.5).
     HASKELL = numbers(b'e', NumberFormatBuilder::new()
         .required_digits(true) // rejects `.5`, `1.`, `1e` and `.`
         .no_positive_mantissa_sign(true) // rejects `+1`, in which `+` is an operator
         .no_special(true) // rejects `NaN` and `inf`
-    ), NONE;
+    );
 
     /// Java's floats and decimal integers (Language Specification 21, 3.10.1 and 3.10.2). A format cannot accept
     /// `1L`, `1f` and `1d`.
@@ -244,7 +240,7 @@ languages! {
         .digit_separator(NonZeroU8::new(b'_')) // the byte, which the flags below allow
         .internal_digit_separator(true) // accepts `1_0.0_1e1_0`, not `_1` or `1_`
         .consecutive_digit_separator(true) // accepts `1__0`
-    ), NONE;
+    );
 
     /// JavaScript's decimal literals in strict code (ECMA-262, Numeric Literals). A format cannot accept `1n` but reject
     /// `1.5n`.
@@ -255,7 +251,7 @@ languages! {
         .no_special(true) // rejects `NaN` and `Infinity`, which are names
         .digit_separator(NonZeroU8::new(b'_')) // the byte, which the flags below allow
         .internal_digit_separator(true) // accepts `1_0.0_1e1_0`, not `1__0`, `_1` or `1_`
-    ), NONE;
+    );
 
     /// JSON's numbers (RFC 8259, 6. Numbers).
     JSON = numbers(b'e', NumberFormatBuilder::new()
@@ -264,7 +260,7 @@ languages! {
         .no_integer_leading_zeros(true) // rejects `01`
         .no_float_leading_zeros(true) // rejects `01.0`
         .no_special(true) // rejects `NaN` and `inf`
-    ), NONE;
+    );
 
     /// Julia's floats and decimal integers (Manual 1.11, Integers and Floating-Point Numbers). A format cannot accept
     /// both `1e3` and `1f3`.
@@ -274,7 +270,7 @@ languages! {
         .digit_separator(NonZeroU8::new(b'_')) // the byte, which the flags below allow
         .integer_internal_digit_separator(true) // accepts `1_000`, not `1__0`, `_1` or `1_`
         .fraction_internal_digit_separator(true) // accepts `0.000_1`, and no separator in an exponent
-    ), NONE;
+    );
 
     /// Kotlin's real literals and decimal integers (Kotlin language specification 1.9, Literals). A format cannot accept
     /// `1L`, `1f` and `1u`.
@@ -286,7 +282,7 @@ languages! {
         .digit_separator(NonZeroU8::new(b'_')) // the byte, which the flags below allow
         .internal_digit_separator(true) // accepts `1_0.0_1e1_0`, not `_1` or `1_`
         .consecutive_digit_separator(true) // accepts `1__0`
-    ), NONE;
+    );
 
     /// NASM's hexadecimal integers with a suffix (NASM manual, Numeric Constants). A format cannot accept `0FFh` but
     /// reject `FFh`, which is a name.
@@ -296,7 +292,7 @@ languages! {
         .no_positive_mantissa_sign(true) // rejects `+1h`, in which `+` is an operator
         .digit_separator(NonZeroU8::new(b'_')) // the byte, which the flag below allows
         .integer_internal_digit_separator(true) // accepts `0C8_00h`
-    ), NONE;
+    );
 
     /// OCaml's floats and decimal integers (Manual 5.2, 11.1 Lexical conventions). A format cannot accept `1._`, whose
     /// fraction has a separator alone, or `1l`, `1L` and `1n`.
@@ -309,7 +305,7 @@ languages! {
         .fraction_leading_digit_separator(true) // accepts `1._5`, not `_1` or `1e_5`
         .trailing_digit_separator(true) // accepts `1_.5_e5_`
         .consecutive_digit_separator(true) // accepts `1__0`
-    ), NONE;
+    );
 
     /// Python's floats and decimal integers (Language Reference 3.12, 2.4.5 and 2.4.6). A format cannot accept `00` and
     /// reject `01`.
@@ -319,7 +315,7 @@ languages! {
         .no_special(true) // rejects `nan` and `inf`, which are names
         .digit_separator(NonZeroU8::new(b'_')) // the byte, which the flags below allow
         .internal_digit_separator(true) // accepts `1_0.0_1e1_0`, not `1__0`, `_1` or `1_`
-    ), NONE;
+    );
 
     /// Python's hexadecimal integers (Language Reference 3.12, 2.4.5).
     PYTHON_HEX_INTEGER = integers(NumberFormatBuilder::new()
@@ -329,7 +325,7 @@ languages! {
         .digit_separator(NonZeroU8::new(b'_')) // the byte, which the flags below allow
         .integer_internal_digit_separator(true) // accepts `0x1_F`, not `0x1__F` or `0x1F_`
         .integer_leading_digit_separator(true) // accepts `0x_1F`
-    ), NONE;
+    );
 
     /// Ruby's floats and decimal integers (ISO/IEC 30170:2012, 8.7.6.2). A format cannot accept `1r` and `1i`.
     RUBY = numbers(b'e', NumberFormatBuilder::new()
@@ -339,7 +335,7 @@ languages! {
         .no_special(true) // rejects `NaN`, which is a name
         .digit_separator(NonZeroU8::new(b'_')) // the byte, which the flags below allow
         .internal_digit_separator(true) // accepts `1_0.0_1e1_0`, not `1__0`, `_1` or `1_`
-    ), NONE;
+    );
 
     /// Rust's hexadecimal integers (Reference, Integer literals). A format cannot accept the suffix in `0x1F_u8`.
     RUST_HEX_INTEGER = integers(NumberFormatBuilder::new()
@@ -349,7 +345,7 @@ languages! {
         .digit_separator(NonZeroU8::new(b'_')) // the byte, which the flags below allow
         .integer_digit_separator_flags(true) // accepts `0x1_F`, `0x_1F`, `0x1F_` and `0x1__F`
         .no_positive_mantissa_sign(true) // rejects `+0x1F`
-    ), NONE;
+    );
 
     /// Numbers in CSV, as spreadsheets write cells of the format `#,##0.00`, in quotes (RFC 4180): `"1,234.50"`. A format
     /// cannot require groups of three digits. For `1.234,50` use the separator `.` and the decimal point `,`.
@@ -362,12 +358,12 @@ languages! {
         .no_special(true) // rejects `NaN` and `inf`
         .digit_separator(NonZeroU8::new(b',')) // the byte, which the flag below allows
         .integer_internal_digit_separator(true) // accepts `1,234.50`, not `0.123,4`
-    ), NONE;
+    );
 
     /// SQL's signed numeric literals (ISO/IEC 9075-2:2016, 5.3 `<literal>`).
     SQL = numbers(b'e', NumberFormatBuilder::new()
         .no_special(true) // rejects `NaN` and `inf`
-    ), NONE;
+    );
 
     /// Swift's hexadecimal floats (The Swift Programming Language, Lexical Structure, Floating-Point Literals).
     SWIFT_HEX_FLOAT = numbers(b'p', NumberFormatBuilder::new()
@@ -384,7 +380,7 @@ languages! {
         .internal_digit_separator(true) // accepts `0x1_0.0_8p1_0`, not `0x_1p0`
         .trailing_digit_separator(true) // accepts `0x1_.8_p3_`
         .consecutive_digit_separator(true) // accepts `0x1__0p3`
-    ), NONE;
+    );
 
     /// TOML's floats and decimal integers (TOML 1.0.0, Integer and Float).
     TOML = numbers(b'e', NumberFormatBuilder::new()

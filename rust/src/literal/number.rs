@@ -19,25 +19,29 @@ impl Syntax {
         literal(self.grammar(), text, self.read_parts(text))
     }
 
-    /// Returns the longest literal that `text` begins with, and the rest of `text`, which may be anything. No byte
-    /// behind the first that no literal can have is looked at.
-    ///
-    /// # Errors
-    ///
-    /// If `text` does not begin with a literal, returns the error of [`read`][Self::read].
+    /// Returns the longest literal that `text` begins with, and the rest of `text`, which may be anything. It looks at
+    /// no byte behind the first one that cannot follow.
     ///
     /// ```
     /// use peltzivar::{literal::Syntax, Format};
     ///
     /// let syntax = Syntax::new_or_panic(Format::default(), b'e', b'.');
-    /// let mut rest = &b"1.5-3e2+.25"[..];
-    /// while !rest.is_empty() {
-    ///     let (literal, after) = syntax.read_prefix(rest)?;
-    ///     println!("{}", literal.as_bytes().escape_ascii()); // 1.5, then -3e2, then +.25
+    /// let mut rest = &b"1.5-3e2+.25-;"[..];
+    /// while let Ok((literal, after)) = syntax.read_prefix(rest) {
+    ///     println!("{literal}"); // 1.5, then -3e2, then +.25
     ///     rest = after;
     /// }
-    /// # Ok::<(), peltzivar::literal::ReadError>(())
+    /// let error = syntax.read_prefix(rest).unwrap_err();
+    /// assert_eq!((error.valid_up_to(), error.to_string()), (1, "no literal has the byte ';' here".into()));
+    /// let missing = syntax.read(&rest[..error.valid_up_to()]).unwrap_err();
+    /// assert_eq!(missing.to_string(), "expected a digit of the integer");
     /// ```
+    ///
+    /// # Errors
+    ///
+    /// If `text` does not begin with a literal, returns the error of [`read`][Self::read]. For a wrong byte, the text
+    /// before it may have an error that states what is missing, as above. A text such as `1e;` begins with the literal
+    /// `1`. To refuse it, the example `tokenizer` first finds the end of the token, and reads all of it.
     pub const fn read_prefix<'a>(
         &self,
         text: &'a [u8],
@@ -65,6 +69,13 @@ impl Syntax {
 }
 
 impl Reader {
+    /// Returns the syntax.
+    #[must_use]
+    pub const fn syntax(&self) -> Syntax {
+        let grammar = self.grammar;
+        Syntax { grammar }
+    }
+
     /// Returns `text` as a literal, as [`Syntax::read`] does.
     ///
     /// # Errors
@@ -93,13 +104,10 @@ const fn literal<'a>(
     text: &'a [u8],
     parts: Result<Parts<'a>, ReadError>,
 ) -> Result<Literal<'a>, ReadError> {
+    let view = grammar.view();
     match parts {
         Err(error) => Err(error),
-        Ok(parts) => Ok(Literal {
-            text,
-            parts,
-            view: grammar.view(),
-        }),
+        Ok(parts) => Ok(Literal { text, parts, view }),
     }
 }
 
@@ -121,37 +129,37 @@ const fn front<'a>(
 
 /// A text that was read as a literal: its parts, and the values of its digits.
 ///
-/// A part that is absent has no bytes. All bytes are [allowed ASCII][crate::ascii::is_valid_ascii]. Two literals are
-/// equal if they have the same format, up to its [normal form][crate::Format::normal_form], and the same parts.
+/// A part that is absent has no bytes. All bytes are ASCII. Two literals are equal if they have the same format, up to
+/// its [normal form][crate::Format::normal_form], and the same parts.
 ///
 /// ```
-/// use peltzivar::literal::{Literal, Syntax};
-/// use peltzivar::{Format, NumberFormatBuilder, Part};
-/// use std::num::NonZeroU8;
+/// use peltzivar::literal::{Language, Literal};
+/// use peltzivar::Part;
 ///
-/// /// Returns the value of an integer, or `None` if it is too large.
-/// fn integer(literal: Literal<'_>) -> Option<u64> {
-///     let mut value = 0u64;
-///     for digit in literal.digits(Part::Integer) {
-///         value = value.checked_mul(literal.radix(Part::Integer).into())?.checked_add(digit.into())?;
-///     }
-///     Some(value)
+/// /// Returns the value of an integer. Returns `None` if the literal is a float, or if its value is not an `i64`.
+/// fn integer(literal: Literal<'_>) -> Option<i64> {
+///     let radix = literal.radix(Part::Integer).into();
+///     let sign = if literal.is_negative() { -1 } else { 1 };
+///     let mut digits = literal.digits(Part::Integer).map(|digit| sign * i64::from(digit));
+///     let value = digits.try_fold(0i64, |value, digit| value.checked_mul(radix)?.checked_add(digit));
+///     value.filter(|_| !literal.is_float())
 /// }
 ///
-/// /// Returns the value of a decimal number with the decimal point `.` and the exponent character `e`.
+/// /// Returns the nearest `f64`, in radix 10. The separator, the decimal point and the exponent character may be any.
 /// fn float(literal: Literal<'_>) -> Result<f64, std::num::ParseFloatError> {
-///     let without_separators = literal.as_bytes().iter().filter(|&&byte| byte != b'_');
-///     String::from_iter(without_separators.map(|&byte| char::from(byte))).parse()
+///     let digits = |part| literal.digits(part).map(|digit| digit.to_string()).collect::<String>();
+///     let [integer, fraction, exponent] = [Part::Integer, Part::Fraction, Part::Exponent].map(digits);
+///     let [sign, exponent_sign] = [literal.sign(), literal.exponent_sign()].map(<[u8]>::escape_ascii);
+///     format!("{sign}0{integer}.{fraction}0e{exponent_sign}0{exponent}").parse()
 /// }
 ///
-/// let builder = NumberFormatBuilder::new().digit_separator(NonZeroU8::new(b'_')).internal_digit_separator(true);
-/// let syntax = Syntax::new(builder.build_format()?, b'e', b'.')?;
-/// let literal = syntax.read(b"1_000")?;
-/// assert_eq!((literal.is_float(), integer(literal)), (false, Some(1000)));
-/// let literal = syntax.read(b"-1_000.5e-3")?;
-/// assert_eq!((literal.is_float(), float(literal)), (true, Ok(-1.0005)));
+/// let literal = Language::TOML.reader().read(b"-9_223_372_036_854_775_808")?;
+/// assert_eq!((literal.is_float(), integer(literal)), (false, Some(i64::MIN)));
+/// let literal = Language::TOML.reader().read(b"-1_000.5e-3")?;
+/// assert_eq!((literal.is_float(), integer(literal), float(literal)), (true, None, Ok(-1.0005)));
 /// assert_eq!((literal.integer(), literal.fraction()), (&b"1_000"[..], &b"5"[..]));
-/// # Ok::<(), Box<dyn std::error::Error>>(())
+/// assert_eq!(float(Language::SPREADSHEET_CSV.reader().read(b"1,234.50")?), Ok(1234.5));
+/// # Ok::<(), peltzivar::literal::ReadError>(())
 /// ```
 #[derive(Clone, Copy, PartialEq, Eq, Hash)]
 pub struct Literal<'a> {
@@ -166,6 +174,15 @@ impl<'a> Literal<'a> {
     #[must_use]
     pub const fn as_bytes(&self) -> &'a [u8] {
         self.text
+    }
+
+    /// Returns all bytes of the literal, as a string.
+    #[must_use]
+    pub const fn as_str(&self) -> &'a str {
+        match core::str::from_utf8(self.text) {
+            Ok(text) => text,
+            Err(_) => unreachable!(),
+        }
     }
 
     /// Returns whether the literal is a float: whether it has a decimal point or an exponent character.
@@ -196,10 +213,9 @@ impl<'a> Literal<'a> {
             Part::Fraction => self.fraction(),
             Part::Exponent => self.exponent(),
         };
-        Digits {
-            bytes: bytes.iter(),
-            separator: self.view.digit_separator().map_or(0, |byte| byte.get()),
-        }
+        let (bytes, separator) = (bytes.iter(), self.view.digit_separator());
+        let separator = separator.map_or(0, |byte| byte.get());
+        Digits { bytes, separator }
     }
 }
 
@@ -246,6 +262,19 @@ parts! {
     suffix
 }
 
+impl AsRef<[u8]> for Literal<'_> {
+    fn as_ref(&self) -> &[u8] {
+        self.text
+    }
+}
+
+/// Prints the text that was read.
+impl fmt::Display for Literal<'_> {
+    fn fmt(&self, f: &mut fmt::Formatter<'_>) -> fmt::Result {
+        f.pad(self.as_str())
+    }
+}
+
 /// Writes the parts that are present, such as `Literal { integer: "1", point: ".", fraction: "5" }`.
 impl fmt::Debug for Literal<'_> {
     fn fmt(&self, f: &mut fmt::Formatter<'_>) -> fmt::Result {
@@ -281,10 +310,6 @@ impl Iterator for Digits<'_> {
     fn size_hint(&self) -> (usize, Option<usize>) {
         let bytes = self.bytes.len();
         (if self.separator == 0 { bytes } else { 0 }, Some(bytes))
-    }
-
-    fn count(self) -> usize {
-        self.bytes.filter(|&&byte| byte != self.separator).count()
     }
 }
 

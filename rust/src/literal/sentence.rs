@@ -3,7 +3,6 @@
 use core::{fmt, ops::Range};
 
 use crate::edits::{Edit, FlagSetter};
-use crate::format_flags::Part;
 use crate::literal::{Cause, Place, ReadError};
 use crate::short_text::ShortText;
 
@@ -15,7 +14,7 @@ impl ReadError {
         self.byte().is_none()
     }
 
-    /// Returns the range of the bytes to show. It may be empty.
+    /// Returns the range of the bytes to show. It may be empty, and in a UTF-8 text, it may end inside a character.
     #[must_use]
     pub const fn span(&self) -> Range<usize> {
         let (start, end) = self.bounds();
@@ -57,12 +56,13 @@ impl ReadError {
 impl core::error::Error for ReadError {}
 
 /// Prints the cause as a sentence without a full stop, such as `a leading zero, which no_integer_leading_zeros forbids`.
-/// If several flags are to blame for a requirement, the sentence names the lowest.
+/// If several flags are to blame for a requirement, the sentence names the lowest. For users of a language, who know no
+/// flags, `{:#}` prints the sentence without them, such as `a leading zero` or `a digit separator before digits`.
 impl fmt::Display for ReadError {
     fn fmt(&self, f: &mut fmt::Formatter<'_>) -> fmt::Result {
         let mut blamed = self.blamed();
         let text = match (self.cause(), blamed.next()) {
-            (Cause::Missing(part), _) => ShortText::of(digit(part)),
+            (Cause::Missing(part), _) => ShortText::of("expected a digit of the ").and(part.name()),
             (Cause::Separator(_, place), Some(flag)) => {
                 let text = ShortText::of(separator(place)).and(", which requires ");
                 let join = |text: ShortText, other: FlagSetter| text.and(" or ").and(other.name());
@@ -79,15 +79,10 @@ impl fmt::Display for ReadError {
                 text.quoted(self.byte().unwrap_or(0)).and(" here")
             }
         };
-        f.pad(text.as_str())
-    }
-}
-
-fn digit(part: Part) -> &'static str {
-    match part {
-        Part::Integer => "expected a digit of the integer",
-        Part::Fraction => "expected a digit of the fraction",
-        Part::Exponent => "expected a digit of the exponent",
+        f.pad(match text.as_str().split_once(", which ") {
+            Some((front, _)) if f.alternate() => front,
+            _ => text.as_str(),
+        })
     }
 }
 

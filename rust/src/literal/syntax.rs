@@ -34,7 +34,7 @@ impl Grammar {
 /// both. Without both, literals are integers.
 #[derive(Clone, Copy, PartialEq, Eq, Hash, PartialOrd, Ord)]
 pub struct Syntax {
-    grammar: Grammar,
+    pub(crate) grammar: Grammar,
 }
 
 impl Syntax {

@@ -1,7 +1,7 @@
 -- What decides the cause of a refusal, computed from what has been read.
-use Rattle.std.specs.Prelude.{ℕ, ◌≡◌, ◌<◌, ◌+◌, ◌^◌, ◌==◌, ◌&&◌, ◌||◌, ◌↔◌, IsTrue, List, [], ◌∷◌, not, if◌then◌else◌, Bool, true, false, Option, Some, None, is_some}
+use Rattle.std.specs.Prelude.{ℕ, ◌≡◌, ◌==◌, ◌&&◌, ◌||◌, ◌↔◌, IsTrue, List, [], ◌∷◌, not, if◌then◌else◌, Bool, true, false, Option, Some, None, is_some}
 use Rattle.lexical_util.specs.Ascii.{ByteSet}
-use Rattle.lexical_util.specs.Layout.{Flag, bit, part, separators_in}
+use Rattle.lexical_util.specs.Layout.{Flag, part, separators_in}
 use Rattle.lexical_util.specs.declared.feature_format.roles.Role.{Role}
 use Rattle.lexical_util.specs.declared.feature_format.roles.Role.TheVariants as roles
 use Rattle.lexical_util.specs.declared.format_flags.Part.{Part}
@@ -14,7 +14,6 @@ use Rattle.lexical_literal.specs.declared.cause.Kind.TheVariants as kinds
 use Rattle.lexical_literal.specs.declared.cause.Place.{Place}
 use Rattle.lexical_literal.specs.declared.cause.Place.TheVariants as places
 use Rattle.lexical_literal.specs.declared.steps.Class.{Class}
-use Rattle.lexical_literal.specs.declared.steps.Class.TheVariants as classes
 use Rattle.lexical_literal.specs.declared.steps.Stage.{Stage}
 use Rattle.lexical_literal.specs.declared.steps.Stage.TheVariants as stages
 use Rattle.lexical_literal.specs.declared.steps.Summary.{Summary}
@@ -122,7 +121,7 @@ refuses m s plus role number =
     else (if number == 1 then ends_part role && (is_part parts.Fraction s.part && not (has_digit s.stage))
     else (if number == 2 then ends_part role && (is_part parts.Exponent s.part && not (has_digit s.stage))
     else (if number == 3 then (is_part parts.Integer s.part && (is_role roles.Exponent role && not (has_digit s.stage)))
-      || (is_part parts.Fraction s.part && (ends_part role && is_lone s.stage))
+    || (is_part parts.Fraction s.part && (ends_part role && is_lone s.stage))
     else (if number == 4 then plus && (is_role roles.Sign role && not (is_part parts.Exponent s.part))
     else (if number == 5 then is_fresh s.stage && (not (is_role roles.Sign role) && not (is_part parts.Exponent s.part))
     else (if number == 6 then is_role roles.Exponent role

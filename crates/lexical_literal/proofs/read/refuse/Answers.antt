@@ -1,7 +1,6 @@
 -- What has been read refuses what follows.
 use Rattle.std.proofs.Common.{Some, sym, ap, ◌∙◌}
-use Rattle.std.specs.Prelude.{slice_get}
-use Rattle.lexical_literal.specs.Additions.Causes.{allows, class_of_next}
+use Rattle.lexical_literal.specs.Additions.Causes.{allows}
 use Rattle.lexical_literal.specs.Notation.{notation_of}
 use Rattle.lexical_literal.proofs.read.refuse.Goals as goal
 

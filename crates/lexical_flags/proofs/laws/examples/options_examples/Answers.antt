@@ -1,9 +1,6 @@
 use Rattle.std.proofs.Common.{ℕ}
-use Rattle.std.proofs.lemmas.Bool.{false≢true}
 use Rattle.lexical_flags.specs.Literals.{on_literals}
 use Rattle.lexical_flags.specs.Options.{OptionsHaveOneRole}
-use Rattle.lexical_flags.specs.Record.{Record, raw}
-use Rattle.lexical_flags.specs.Roles.{Disjoint, prefix, suffix}
 use Rattle.lexical_flags.proofs.laws.examples.options_examples.Goals as goal
 
 -- If a byte is both prefix and suffix, then it plays two roles with any exponent character and decimal point.

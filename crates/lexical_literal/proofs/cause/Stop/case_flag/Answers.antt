@@ -1,6 +1,5 @@
-use Rattle.std.proofs.Common.{ℕ, ◌≡◌, ◌&&◌, ◌==◌, Bool, true, false, if◌then◌else◌, Some, sym, ap, ◌∙◌}
-use Rattle.std.proofs.lemmas.Bool.{and_right, eqb-true}
-use Rattle.lexical_util.specs.Layout.{Flag}
+use Rattle.std.proofs.Common.{◌&&◌, if◌then◌else◌, Some, sym, ap, ◌∙◌}
+use Rattle.std.proofs.lemmas.Bool.{and_right}
 use Rattle.lexical_util.specs.Record.{raw}
 use Rattle.lexical_util.specs.Roles.{other_case}
 use Rattle.lexical_literal.specs.Additions.Causes.{allows}

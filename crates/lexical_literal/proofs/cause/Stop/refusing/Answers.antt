@@ -1,8 +1,7 @@
 -- Each row has one flag.
-use Rattle.std.proofs.Common.{ℕ, ◌≡◌, ◌==◌, ◌&&◌, ◌||◌, Bool, bit_or, ap, ◌∙◌, arith}
+use Rattle.std.proofs.Common.{ℕ, ◌≡◌, ◌==◌, ◌&&◌, ◌||◌, Bool, ap, ◌∙◌, arith}
 use Rattle.lexical_util.specs.Layout as layout
 use Rattle.lexical_util.specs.Layout.{Flag, bit}
-use Rattle.lexical_util.specs.Record.{raw}
 use Rattle.lexical_literal.specs.Additions.Causes.{is_plus_next, refuses}
 use Rattle.lexical_literal.specs.Cause.{is_one_of, requirement_flags}
 use Rattle.lexical_literal.specs.Notation.{notation_of}

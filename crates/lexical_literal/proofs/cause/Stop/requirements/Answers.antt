@@ -30,8 +30,8 @@ module _ (stop : Stop) (A B : ℕ) where
     each_alone : (f : Flag) → (raw (bit_and A B)).flag f ≡ (binds m f && not (allows (adding f (bare m)) stop.read stop.next))
     each_alone f = flag_and f A B ∙ (λ j. of_A f j && of_B f j) ∙ both _ _ (binds m f) _ requires
         (λ is. alone_refuses m stop.read stop.next (going m stop.read stop.next allowed refused) f (requires is) allowed) where
-      requires : binds m f ≡ true → is_one_of requirement_flags f ≡ true
-      requires is = (and_parts (is_one_of requirement_flags f) _ (and_parts (m.flag f) _ is).1).0
+          requires : binds m f ≡ true → is_one_of requirement_flags f ≡ true
+          requires is = (and_parts (is_one_of requirement_flags f) _ (and_parts (m.flag f) _ is).1).0
 
     none_alone : bit_and A B ≡ 0 → (f : Flag) → (binds m f && not (allows (adding f (bare m)) stop.read stop.next)) ≡ false
     none_alone none f = sym (each_alone f) ∙ ap (λ n. (raw n).flag f) none ∙ flag_zero f
@@ -42,7 +42,8 @@ returns-then-alone-ne0 c front next decides =
     let B = c.binding-binding.result in
     all_alone (notation_of c.args.self.grammar) c.args.self.read c.args.self.next front next decides (bit_and A B) c.requires.allowed
     (each_alone c.args.self A B c.requires.allowed c.requires.refused c.refusing.ensures c.binding-binding.ensures.each)
-    (some_flag (bit_and A B) c.if-alone-ne0.true (omega (arith, and_le_l A B, c.refusing.type_inv)) (λ k is. c.binding-binding.ensures.flags k (of_mask A B k is)))
+    (some_flag (bit_and A B) c.if-alone-ne0.true (omega (arith, and_le_l A B, c.refusing.type_inv))
+    (λ k is. c.binding-binding.ensures.flags k (of_mask A B k is)))
 
 pub returns-then-binding-ne0 : goal.returns-then-binding-ne0
 returns-then-binding-ne0 c front next decides =

@@ -24,7 +24,8 @@ module _ (stop : Stop) (byte : ℕ) (front : List ℕ) where
 
   -- `found next f` is true if the flag `f` allows a separator before a byte of the class `next`.
   abbrev found : Option Class → Flag → Bool
-  found next f = (stop.read.gap || is_role roles.Separator (role_of_next stop.read next)) && (is_own stop.read.part f && allows (adding f (bare m)) stop.read next)
+  found next f = (stop.read.gap || is_role roles.Separator (role_of_next stop.read next))
+      && (is_own stop.read.part f && allows (adding f (bare m)) stop.read next)
 
   -- The flags of `separators` are found, and those of `cases` are of the other case of the byte.
   record Known (separators cases : ℕ) : Type 0 where
@@ -62,7 +63,8 @@ case_flag-mask-requires c = sym (ap (allows (bare (notation_of c.args.self.gramm
 
 pub returns-then-separators-ne0 : goal.returns-then-separators-ne0
 returns-then-separators-ne0 c front is_read =
-    let k = known c.args.self c.args.byte front c.separators-separators.result 0 is_read c.requires.next c.requires.refused c.separators-separators.ensures.each in
+    let k = known c.args.self c.args.byte front c.separators-separators.result 0 is_read c.requires.next c.requires.refused
+    c.separators-separators.ensures.each in
     record {
       refused = k.refused;
       some = c.separators-separators.ensures.some c.if-separators-ne0.true;
