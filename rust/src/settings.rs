@@ -4,7 +4,7 @@ use core::fmt::{self, Write};
 use core::str::from_utf8;
 
 use crate::edits::{apply, Edit, Fault, Setter, SettingError, SettingErrorKind, FIELD_COUNT};
-use crate::format_builder::NumberFormatBuilder;
+use crate::format::{NumberFormatBuilder, EXPONENT_BASE, EXPONENT_RADIX, MANTISSA_RADIX};
 use crate::format_error::{self, ONE_OPTION};
 use crate::literal::Syntax;
 use crate::reasons::{Byte, Cause, NamedByte, Note, Reason};
@@ -224,11 +224,16 @@ impl Settings {
         overridden.chain(notes)
     }
 
-    /// Returns a finding with the indexes of the settings that write bits of `mask`, unless a refused one would do so.
+    /// Returns a finding with the indexes of the settings that write bits of `mask`, unless a refused one would do so. The
+    /// exponent bytes only follow a mantissa radix that is to blame.
     fn finding(&self, kind: FindingKind, mask: u128) -> Option<Finding> {
         let live = self.live.iter().flatten();
         let blamed = live.filter(|it| it.mask & mask != 0);
-        (mask & self.refused == 0).then(|| Finding::new(kind, blamed.map(|it| it.index)))
+        let own = match mask & MANTISSA_RADIX {
+            0 => mask,
+            _ => mask & !(EXPONENT_BASE | EXPONENT_RADIX),
+        };
+        (own & self.refused == 0).then(|| Finding::new(kind, blamed.map(|it| it.index)))
     }
 }
 

@@ -92,9 +92,10 @@ fn files_give_a_syntax_and_what_is_found() {
         // What blames a field or option of a refused text is left out, until a later text sets it.
         (b"radix=16\nexponent = p", "", &["line 2: exponent takes a character such as 'e', a number from 0 to 255, or `none`, not `p`"]),
         (b"exponent=none\npoint=.", "", &["line 2: point takes a character such as '.', a number from 0 to 255, or `none`, not `.`"]),
-        (b"digit_separator='_'\ninternal_digit_separator=on\nradix=x\nradix=40", "", &[
+        (b"digit_separator='_'\ninternal_digit_separator=on\nradix=x\nradix=40\nexponent_base=x", "", &[
             "line 2: internal_digit_separator takes `true` or `false`, not `on`",
             "line 3: radix takes a number, 2 to 36 in a lawful format, not `x`",
+            "line 5: exponent_base takes a number, 2 to 36 in a lawful format, or `none`, not `x`",
             "line 4: the mantissa radix 40 is not between 2 and 36"]),
         // A note beside an error.
         (b"digit_separator='_'\ncolour=7", "", &["line 2: unknown setting `colour`", "line 1: no flag allows the digit separator '_'"]),
