@@ -106,8 +106,8 @@ def parameters():
 def languages():
     """Returns the lines."""
     documented = re.findall(r"((?:^ +///.*\n)+) +(\w+) = \w+\(", LANGUAGES, re.M)
-    yield '"""How a language, or a file, writes numbers. `languages` is this class. `read(text)` returns a `Literal` or'
-    yield "a `Special`. `syntax` is the syntax of literals, and `specials` has the spellings of NaN and infinity."
+    yield '"""How a language, or a file, writes numbers. `languages` is another name of this class.'
+    yield from ("", "`read(text)` returns a `Literal` of `syntax`, or a `Special` with a spelling of `specials`.")
     for text, name in documented:
         about = " ".join(text.replace("///", " ").replace("×", "*").split())
         yield from ("", *textwrap.wrap(f"{name}: {about}", 115, subsequent_indent="    "))

@@ -1219,8 +1219,9 @@ class Specials:
 
 class Language(_Named):
     # Made by make_python.py: languages
-    """How a language, or a file, writes numbers. `languages` is this class. `read(text)` returns a `Literal` or
-    a `Special`. `syntax` is the syntax of literals, and `specials` has the spellings of NaN and infinity.
+    """How a language, or a file, writes numbers. `languages` is another name of this class.
+
+    `read(text)` returns a `Literal` of `syntax`, or a `Special` with a spelling of `specials`.
 
     ADA: Ada's decimal literals (Reference Manual 2012, 2.4.1). A format cannot accept `1.0E-3` but reject `1E-3`.
 
