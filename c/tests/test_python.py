@@ -296,11 +296,11 @@ class Literals(unittest.TestCase):
         notes = [(str(it), it.indexes) for it in Syntax.notes_of(*lines, "digit_separator = '_'", "radix = 16")]
         self.assertEqual(notes, [("a later setting overrides radix", (1, 6)), ("no flag allows the digit separator '_'", (5,))])
         with self.assertRaises(SettingsError) as caught:
-            Syntax.of("base_suffx='h'", "radix=16", "base_prefix='b'", "no_special=1")
+            Syntax.of("base_suffx='h'", "radix=16", "base_prefix='b'", "exponent_base='9'")
         error = pickle.loads(pickle.dumps(caught.exception))
         sentences = [
             ("unknown setting `base_suffx`; did you mean `base_suffix`?", (0,)),
-            ("no_special takes `true` or `false`, not `1`", (3,)),
+            ("exponent_base takes a number, 2 to 36 in a lawful format, or `none`, not `'9'`", (3,)),
             ("the base prefix 'b' is a digit in radix 16", (1, 2)),
         ]
         self.assertEqual([(str(it), it.indexes) for it in error.reasons], sentences)

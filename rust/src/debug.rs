@@ -1,5 +1,5 @@
-//! `Debug` for builders, views, formats, syntaxes and readers. It prints the format word, each field that differs from a new builder's, any
-//! reserved bits, and any broken rules.
+//! `Debug` for builders, views, formats, syntaxes and readers. It prints the format word, each field that differs from a
+//! new builder's, any reserved bits, and any broken rules.
 
 use core::fmt;
 
@@ -55,12 +55,8 @@ impl fmt::Debug for NumberFormatBuilder {
     fn fmt(&self, f: &mut fmt::Formatter<'_>) -> fmt::Result {
         let word = self.build_unchecked();
         let separator = self.get_digit_separator().map_or(0, |byte| byte.get());
-        write(
-            f,
-            "NumberFormatBuilder",
-            word,
-            word | u128::from(separator) << DIGIT_SEPARATOR_SHIFT,
-        )
+        let fields = word | u128::from(separator) << DIGIT_SEPARATOR_SHIFT;
+        write(f, "NumberFormatBuilder", word, fields)
     }
 }
 

@@ -45,9 +45,8 @@ impl FormatView {
         exponent: u8,
         decimal_point: u8,
     ) -> impl Iterator<Item = Reason> + Clone {
-        options_reasons(self.word(), exponent, decimal_point)
-            .into_iter()
-            .flatten()
+        let reasons = options_reasons(self.word(), exponent, decimal_point);
+        reasons.into_iter().flatten()
     }
 
     /// Returns notes on the fields that are set but have no effect on any number. A lawful word may have notes.

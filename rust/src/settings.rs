@@ -143,7 +143,11 @@ impl Settings {
         if matches!(text, [] | [b'#', ..]) {
             return Ok(());
         }
-        let (option, edit) = parse(index, text).inspect_err(|it| self.refused |= it.mask())?;
+        let (option, edit) = parse(index, text).inspect_err(|it| {
+            if let Fault::BadValue(setter) = it.error.0 {
+                self.refused |= it.option.map_or(setter.mask(), |option| MASKS[option]);
+            }
+        })?;
         let (name, mask) = match option {
             Some(option) => (OPTIONS[option], MASKS[option]),
             None => (edit.name(), edit.mask()),
@@ -379,15 +383,6 @@ impl SettingsError {
     #[must_use]
     pub const fn kind(&self) -> SettingErrorKind {
         self.error.kind()
-    }
-
-    /// Returns the bits that the text would write with another value.
-    fn mask(&self) -> u128 {
-        match (self.option, self.error.0) {
-            (Some(option), _) => MASKS[option],
-            (None, Fault::BadValue(setter)) => setter.mask(),
-            _ => 0,
-        }
     }
 }
 

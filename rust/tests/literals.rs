@@ -158,15 +158,6 @@ fn causes_are_those_of_the_page() {
     }
 }
 
-/// The alternate form of a sentence lacks the flags.
-#[test]
-fn sentences_without_flags_are_known() {
-    for (text, sentence) in [("_1", "a digit separator before digits"), ("01", "a leading zero")] {
-        let error = Language::PYTHON.reader().read(text.as_bytes()).expect_err(text);
-        assert_eq!(format!("{error:#}"), sentence);
-    }
-}
-
 /// The parts of the number in the picture of the page, and of the longest front that is a literal.
 #[test]
 fn parts_are_known() {

@@ -25,6 +25,7 @@ use core::{fmt, hash, num::NonZeroU8};
 ///
 /// let error = Language::TOML.read(b"1_000.").unwrap_err();
 /// assert_eq!(error.to_string(), "expected a digit after the decimal point, which required_fraction_digits requires");
+/// assert_eq!(format!("{error:#}"), "expected a digit after the decimal point");
 /// ```
 #[derive(Clone, Copy)]
 pub struct Language(&'static Definition);
@@ -78,13 +79,11 @@ impl Language {
     ///
     /// If `text` is neither a literal nor a special value, returns why it is not a literal.
     pub fn read<'a>(&self, text: &'a [u8]) -> Result<Number<'a>, ReadError> {
-        match self.reader().read(text) {
-            Ok(literal) => Ok(Number::Literal(literal)),
-            Err(error) => match self.0.specials.read(&self.0.syntax, text) {
-                Some(special) => Ok(Number::Special(special)),
-                None => Err(error),
-            },
-        }
+        let literal = self.reader().read(text);
+        literal.map(Number::Literal).or_else(|error| {
+            let special = self.0.specials.read(&self.0.syntax, text);
+            special.map(Number::Special).ok_or(error)
+        })
     }
 }
 
@@ -127,13 +126,6 @@ const fn integers(builder: NumberFormatBuilder) -> Syntax {
     Syntax::integers(builder.build_format_or_panic())
 }
 
-/// No special values.
-const NONE: Specials = Specials {
-    nan: None,
-    inf: None,
-    infinity: None,
-};
-
 /// A type for each language, which has its syntax.
 trait Grammar {
     const SYNTAX: Syntax;
@@ -162,7 +154,7 @@ macro_rules! languages {
                     name: stringify!($name),
                     syntax: It::SYNTAX,
                     reader: reader::<It>,
-                    specials: [$($specials,)? NONE][0],
+                    specials: [$($specials,)? Specials { nan: None, inf: None, infinity: None }][0],
                 })
             };)+
         }

@@ -26,31 +26,22 @@ impl Syntax {
     /// use peltzivar::{literal::Syntax, Format};
     ///
     /// let syntax = Syntax::new_or_panic(Format::default(), b'e', b'.');
-    /// let mut rest = &b"1.5-3e2+.25"[..];
-    /// while !rest.is_empty() {
-    ///     let (literal, after) = syntax.read_prefix(rest)?;
+    /// let mut rest = &b"1.5-3e2+.25-;"[..];
+    /// while let Ok((literal, after)) = syntax.read_prefix(rest) {
     ///     println!("{literal}"); // 1.5, then -3e2, then +.25
     ///     rest = after;
     /// }
-    /// # Ok::<(), peltzivar::literal::ReadError>(())
+    /// let error = syntax.read_prefix(rest).unwrap_err();
+    /// assert_eq!((error.valid_up_to(), error.to_string()), (1, "no literal has the byte ';' here".into()));
+    /// let missing = syntax.read(&rest[..error.valid_up_to()]).unwrap_err();
+    /// assert_eq!(missing.to_string(), "expected a digit of the integer");
     /// ```
     ///
     /// # Errors
     ///
-    /// If `text` does not begin with a literal, returns the error of [`read`][Self::read]. If a byte cannot follow,
-    /// this is the error of the byte. To say what is missing before the byte, read the front that ends there:
-    ///
-    /// ```
-    /// # let syntax = peltzivar::literal::Language::C_HEX_FLOAT.syntax();
-    /// let text = b"0x1p;";
-    /// let error = syntax.read_prefix(text).unwrap_err();
-    /// assert_eq!((error.valid_up_to(), error.to_string()), (4, "no literal has the byte ';' here".into()));
-    /// let missing = syntax.read(&text[..error.valid_up_to()]).unwrap_err();
-    /// assert_eq!(format!("{missing:#}"), "expected a digit after the exponent character");
-    /// ```
-    ///
-    /// Where `text` begins with a literal, as `1e;` does in decimal, the rest begins with what does not fit. So the
-    /// example `tokenizer` finds the end of the token first, and reads all of it.
+    /// If `text` does not begin with a literal, returns the error of [`read`][Self::read]. For a wrong byte, the text
+    /// before it may have an error that states what is missing, as above. A text such as `1e;` begins with the literal
+    /// `1`. To refuse it, the example `tokenizer` first finds the end of the token, and reads all of it.
     pub const fn read_prefix<'a>(
         &self,
         text: &'a [u8],
@@ -113,13 +104,10 @@ const fn literal<'a>(
     text: &'a [u8],
     parts: Result<Parts<'a>, ReadError>,
 ) -> Result<Literal<'a>, ReadError> {
+    let view = grammar.view();
     match parts {
         Err(error) => Err(error),
-        Ok(parts) => Ok(Literal {
-            text,
-            parts,
-            view: grammar.view(),
-        }),
+        Ok(parts) => Ok(Literal { text, parts, view }),
     }
 }
 
@@ -225,10 +213,9 @@ impl<'a> Literal<'a> {
             Part::Fraction => self.fraction(),
             Part::Exponent => self.exponent(),
         };
-        Digits {
-            bytes: bytes.iter(),
-            separator: self.view.digit_separator().map_or(0, |byte| byte.get()),
-        }
+        let (bytes, separator) = (bytes.iter(), self.view.digit_separator());
+        let separator = separator.map_or(0, |byte| byte.get());
+        Digits { bytes, separator }
     }
 }
 
@@ -323,10 +310,6 @@ impl Iterator for Digits<'_> {
     fn size_hint(&self) -> (usize, Option<usize>) {
         let bytes = self.bytes.len();
         (if self.separator == 0 { bytes } else { 0 }, Some(bytes))
-    }
-
-    fn count(self) -> usize {
-        self.bytes.filter(|&&byte| byte != self.separator).count()
     }
 }
 

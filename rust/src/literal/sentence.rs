@@ -3,7 +3,6 @@
 use core::{fmt, ops::Range};
 
 use crate::edits::{Edit, FlagSetter};
-use crate::format_flags::Part;
 use crate::literal::{Cause, Place, ReadError};
 use crate::short_text::ShortText;
 
@@ -63,7 +62,7 @@ impl fmt::Display for ReadError {
     fn fmt(&self, f: &mut fmt::Formatter<'_>) -> fmt::Result {
         let mut blamed = self.blamed();
         let text = match (self.cause(), blamed.next()) {
-            (Cause::Missing(part), _) => ShortText::of(digit(part)),
+            (Cause::Missing(part), _) => ShortText::of("expected a digit of the ").and(part.name()),
             (Cause::Separator(_, place), Some(flag)) => {
                 let text = ShortText::of(separator(place)).and(", which requires ");
                 let join = |text: ShortText, other: FlagSetter| text.and(" or ").and(other.name());
@@ -84,14 +83,6 @@ impl fmt::Display for ReadError {
             Some((front, _)) if f.alternate() => front,
             _ => text.as_str(),
         })
-    }
-}
-
-fn digit(part: Part) -> &'static str {
-    match part {
-        Part::Integer => "expected a digit of the integer",
-        Part::Fraction => "expected a digit of the fraction",
-        Part::Exponent => "expected a digit of the exponent",
     }
 }
 
