@@ -235,7 +235,7 @@ class Literals(unittest.TestCase):
         text = "-0x1_F.8_0p+1_2h"
         parts = ["-", "0x", "1_F", ".", "8_0", "p", "+", "1_2", "h"]
         for literal, in_type in ((syntax.read(text), str), (syntax.read(text.encode()), str.encode)):
-            self.assertEqual([*vars(literal).values()][2:], [*map(in_type, parts)])
+            self.assertEqual((str(literal), [*vars(literal).values()][2:]), (text, [*map(in_type, parts)]))
             self.assertEqual([*map(literal.digits, Part)], [*map(in_type, ["1F", "80", "12"])])
         self.assertEqual([syntax.read(it).is_float for it in ("-F_F", "1.", "1p0")], [False, True, True])
         literal, rest = syntax.read_prefix("1.8p+\u00e9")
@@ -287,7 +287,7 @@ class Literals(unittest.TestCase):
             self.assertEqual((str(special), repr(float(str(special)))), (wanted, repr(float(text))))
         specials = Specials(nan="n\u00e4n", infinity="\u221e")
         self.assertEqual(specials.read(Syntax(Format()), "-\u221e"), Special("-", Spelling.INFINITY))
-        self.assertIsNone(specials.read(Syntax(Format()), ""))
+        self.assertEqual((specials.read(Syntax(Format()), ""), Language.TOML.specials), (None, Specials("nan", "inf")))
 
     def test_settings_make_a_syntax(self):
         lines = ["# hexadecimal\r\n", "radix = 16\n", "base_prefix='x'", "", "exponent = 'p'"]
@@ -316,7 +316,7 @@ WRONG = [
     ("Format().edit(colour=7)", TypeError, "edit() got an unexpected keyword argument 'colour'"),
     ("Edit.of('colour', 7)", ValueError, "unknown setting name: 'colour'"),
     ("Format().check_options('e', b'')", ValueError, f"point is {BYTE}: b''"),
-    ("Syntax.of('radix=16\\nradix=2')", ValueError, "a setting is one line: b'radix=16\\nradix=2'"),
+    ("Syntax.of('radix=16\\nradix=2')", ValueError, "a setting is one line: 'radix=16\\nradix=2'"),
     ("Specials('a\\0').read(Syntax(Format()), '')", ValueError, "a spelling has a null character: Specials(nan='a\\x00', inf=None, infinity=None)"),
 ]
 
