@@ -28,9 +28,9 @@ def defined(name):
 
 def enumeration(name, pattern, meaning, *lines):
     members = sorted(re.findall(rf"\bPELTZIVAR_{pattern} = (\d+)", HEADER), key=lambda it: int(it[1]))
-    yield from ("", "", f"class {name}(Enum):", f'    """{meaning}"""', "")
+    yield from ("", "", f"class {name}(_Named):", f'    """{meaning}"""', "")
     yield from (f"    {member} = {number}" for member, number in members)
-    yield from ("", "    def __str__(self) -> str:", "        return self.name", *lines)
+    yield from lines
 
 
 def text(name, call, meaning):
@@ -44,6 +44,8 @@ def argument(text):
     return "c_char_p" if kind == "char" else f"POINTER({TYPES[kind]})" if pointer else TYPES[kind]
 
 
+RULE = "`condition` is what a rule requires of a word."
+ERROR = "`description` is the sentence of an error in single quotes. Success is 0, and false."
 DESCRIPTION = text("description", "description", "The description of the error in single quotes.")
 DESCRIPTION += ("", "    def __bool__(self) -> bool:", "        return self is not Error.SUCCESS")
 CONDITION = text("condition", "rule_condition", "What the rule requires of a word.")
@@ -61,8 +63,8 @@ def constants():
     yield f"_NO_DIGIT = {2**32 - 1}"
     for row in (
         ("Setter", r"SET_(\w+)", "The setters. A member has the name of the setter in uppercase."),
-        ("Rule", r"RULE_(\w+)", "The rules, in the order in which they are checked.", *CONDITION),
-        ("Error", r"((?!SET_|RULE_|PART_|ROLE_|CAUSE_|SPELLING_)\w+)", "The errors, and success, which is 0 and false.", *DESCRIPTION),
+        ("Rule", r"RULE_(\w+)", f"The rules, in the order in which they are checked. {RULE}", *CONDITION),
+        ("Error", r"((?!SET_|RULE_|PART_|ROLE_|CAUSE_|SPELLING_)\w+)", f"The errors, and success. {ERROR}", *DESCRIPTION),
         ("Part", r"PART_(\w+)", "The parts of a number that can have digit separators."),
         ("Role", r"ROLE_((?!NONE)\w+)", "The roles of a byte in a number."),
         ("Cause", r"CAUSE_(\w+)", "The kinds of causes why a text is not a literal."),
@@ -104,12 +106,12 @@ def parameters():
 def languages():
     """Returns the lines."""
     documented = re.findall(r"((?:^ +///.*\n)+) +(\w+) = \w+\(", LANGUAGES, re.M)
-    yield '"""How a language, or a file, writes numbers: a syntax, and the spellings of NaN and infinity.'
+    yield '"""How a language, or a file, writes numbers. `languages` is another name of this class.'
+    yield from ("", "`read(text)` returns a `Literal` of `syntax`, or a `Special` with a spelling of `specials`.")
     for text, name in documented:
         about = " ".join(text.replace("///", " ").replace("×", "*").split())
         yield from ("", *textwrap.wrap(f"{name}: {about}", 115, subsequent_indent="    "))
     yield from ('"""', "", *(f'{name} = "{name}"' for _, name in documented))
-    yield from ("", "def __str__(self) -> str:", "    return self.name")
 
 
 def made(text):

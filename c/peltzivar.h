@@ -19,7 +19,10 @@
  * is absent, the mantissa radix is used in its place. The flags in bits 32 to 44 are the digit separator flags.
  *
  * A setter writes a flag, a group of flags, or a byte. An edit is a setter with a value. A word is lawful if it
- * satisfies all rules below. In the repository, docs/FORMAT.md describes each field and each rule.
+ * satisfies all rules below. FORMAT.md, which is installed in share/doc/peltzivar, describes each byte and rule, and
+ * each flag with texts that it accepts and rejects.
+ *
+ * If a call succeeds, a peltzivar_error is 0 (PELTZIVAR_SUCCESS), a bool is true, and peltzivar_read_settings returns 0.
  *
  * An argument that is a word, an edit, a syntax, a number or a byte may have any value. A pointer that is passed with a
  * length must point to an array of at least that many elements, but it may be null if the length is 0. An input array
@@ -188,13 +191,13 @@ peltzivar_word peltzivar_pack(const peltzivar_fields *fields);
 
 /* SETTINGS */
 
-/* Parses a setting, which is a string of the form NAME=VALUE. The string has len bytes and need not be null-terminated.
- * It is split at the first `=`. If the string is a valid setting, writes its edit to *out and returns true. Otherwise,
- * returns false and leaves *out unchanged.
+/* Parses a setting: a string NAME=VALUE of len bytes, which need not be null-terminated. It is split at the first `=`.
+ * If it is valid, writes its edit to *out and returns true. Otherwise, returns false and leaves *out unchanged.
  *
  * A flag or a group takes `true` or `false`. A byte takes one ASCII character in single quotes, `0x` followed by one or
  * two hexadecimal digits, or one to three decimal digits. Every byte except mantissa_radix also takes `none`, which
- * makes the byte absent, as 0 does. Spaces are not skipped. The name radix is read as mantissa_radix. */
+ * makes the byte absent, as 0 does. Spaces are not skipped. The name radix is read as mantissa_radix. Only
+ * peltzivar_read_settings takes `exponent` and `point`, which are not fields. */
 PELTZIVAR_MUST_USE bool peltzivar_parse_edit(const char *text, size_t len, peltzivar_edit *out);
 
 /* Does the same for the value of a byte alone, such as `'p'`, `0x70`, `112` or `none`, which is 0. */
@@ -252,14 +255,14 @@ peltzivar_word peltzivar_note_mask(const peltzivar_fields *fields, size_t index)
  *
  * The exponent character and the decimal point of a number are not part of a format. They are options of a parser. */
 
-/* Checks whether an exponent character and a decimal point fit a word, lawful or not. Both must be punctuation. Neither
- * may match a byte that the other option, the digit separator, the base prefix or the base suffix matches. The decimal
- * point matches only itself. If the exponent character is a letter, it matches both cases of the letter unless
- * case_sensitive_exponent is set. PELTZIVAR_RULE_PUNCTUATION_DIFFERS states which bytes the others match. Of a lawful
- * word, peltzivar_syntax_check accepts more: it checks the normal form, in which a digit separator that no flag allows
- * is absent.
- * Returns PELTZIVAR_SUCCESS, or the first of these errors that applies: PELTZIVAR_INVALID_EXPONENT_SYMBOL or
- * PELTZIVAR_INVALID_DECIMAL_POINT if this option is not punctuation, or PELTZIVAR_INVALID_PUNCTUATION. */
+/* Checks whether an exponent character and a decimal point fit a word, lawful or not. Both must be punctuation, and so
+ * not 0. Neither may match a byte that the other option, the digit separator, the base prefix or the base suffix
+ * matches. The decimal point matches only itself. If the exponent character is a letter, it matches both cases of the
+ * letter unless case_sensitive_exponent is set. PELTZIVAR_RULE_PUNCTUATION_DIFFERS states which bytes the others match.
+ * Of a lawful word, peltzivar_syntax_check accepts more: 0 for both options, and, since it checks the normal form, a
+ * digit separator that no flag allows. Returns PELTZIVAR_SUCCESS, or the first of these errors that applies:
+ * PELTZIVAR_INVALID_EXPONENT_SYMBOL or PELTZIVAR_INVALID_DECIMAL_POINT if this option is not punctuation, or
+ * PELTZIVAR_INVALID_PUNCTUATION. */
 peltzivar_error peltzivar_check_options(peltzivar_word format, uint8_t exponent, uint8_t decimal_point);
 
 /* Writes a reason why the options do not fit, such as "the exponent character 'e' is a digit in radix 16". */
@@ -325,8 +328,8 @@ const char *peltzivar_role_name(peltzivar_role role);
  *
  * A literal is a text that is a number of a syntax. A syntax is a lawful word with an exponent character and a decimal
  * point, or with 0 for both. Then literals are integers. Each call that takes a syntax checks it: if
- * peltzivar_syntax_check refuses it, the call returns the same error, and writes nothing. In the repository,
- * docs/FORMAT.md defines literals, and why a text is not one. */
+ * peltzivar_syntax_check refuses it, the call returns the same error, and writes nothing. FORMAT.md defines literals,
+ * and why a text is not one. */
 typedef struct {
     peltzivar_word format;
     uint8_t exponent, decimal_point;
@@ -364,10 +367,11 @@ enum {
 
 /* Why a text is not a literal. The first `valid_up_to` bytes are the longest beginning of the text that some literal
  * begins with. If these are all of its bytes, bytes are missing, and a longer text may be a literal. `span` has the
- * bytes to show, maybe none. `index` is the index for peltzivar_error_text. `mask` has the flags to blame, and `number`
- * is the lowest as a setter. For a wrong byte and for missing digits, they are 0 and PELTZIVAR_NO_SETTER. `part` is the
- * part of a separator or of missing digits, and otherwise PELTZIVAR_NO_PART. To end the cause, set one of the flags if
- * it is a separator, and otherwise clear all of them. Then there may be another cause. */
+ * bytes to show. If it is empty, it marks the place before `start`. `index` is the index for peltzivar_error_text.
+ * `mask` has the flags to blame, and `number` is the lowest as a setter. For a wrong byte and for missing digits, they
+ * are 0 and PELTZIVAR_NO_SETTER. `part` is the part of a separator or of missing digits, and otherwise
+ * PELTZIVAR_NO_PART. To end the cause, set one of the flags to blame if `cause` is PELTZIVAR_CAUSE_SEPARATOR, and
+ * otherwise clear all of them. Then there may be another cause. */
 typedef struct {
     size_t valid_up_to;
     peltzivar_span span;
@@ -379,8 +383,8 @@ typedef struct {
 } peltzivar_read_error;
 
 /* Reads a text of len bytes. If it is a literal, writes its parts to *literal and returns PELTZIVAR_SUCCESS. Otherwise,
- * writes the reason to *error and returns a parse error. If the syntax is refused, or if the text is, which is
- * PELTZIVAR_OVERFLOW, writes nothing. */
+ * writes the reason to *error and returns a parse error. Of all errors, only two leave *error unchanged: a format error
+ * if the syntax is refused, and PELTZIVAR_OVERFLOW if the text has more than PTRDIFF_MAX bytes. */
 PELTZIVAR_MUST_USE peltzivar_error peltzivar_read(
     const peltzivar_syntax *syntax, const char *text, size_t len, peltzivar_literal *literal, peltzivar_read_error *error);
 
@@ -408,16 +412,16 @@ typedef struct {
 } peltzivar_special;
 enum { PELTZIVAR_SPELLING_NAN = 1, PELTZIVAR_SPELLING_INF = 2, PELTZIVAR_SPELLING_INFINITY = 3 };
 
-/* Reads a text of len bytes as a special value: an optional sign, and the first of the spellings that matches. The flags
- * of the syntax decide which signs, cases of letters and digit separators match. If the text is a special value, writes
- * it to *out and returns PELTZIVAR_SUCCESS. Otherwise, leaves *out unchanged and returns PELTZIVAR_INVALID_DIGIT, or an
- * error as peltzivar_read. A text can also be a literal, such as `inf` in radix 36. So call peltzivar_read first. */
+/* Reads a text of len bytes as a special value: an optional sign, and the first of the spellings that matches. The
+ * flags of the syntax decide which signs, cases and digit separators match. If the text is a special value, writes it
+ * to *out and returns PELTZIVAR_SUCCESS. Otherwise, leaves *out unchanged and returns PELTZIVAR_INVALID_DIGIT, or one
+ * of the two errors above. A text can also be a literal, such as `inf` in radix 36. So call peltzivar_read first. */
 PELTZIVAR_MUST_USE peltzivar_error peltzivar_read_special(const peltzivar_syntax *syntax,
     const peltzivar_specials *specials, const char *text, size_t len, peltzivar_special *out);
 
 /* If a language or file format has a name of len bytes, such as "JSON" or "C_HEX_FLOAT", writes its syntax and its
- * spellings, which last as long as the program, and returns true. Otherwise, writes nothing and returns false. In the
- * repository, rust/src/literal/language.rs describes each language. */
+ * spellings, which last as long as the program, and returns true. A spelling that it lacks is "". Otherwise, writes
+ * nothing and returns false. Names are case-sensitive. In Python, `help(peltzivar.Language)` describes each language. */
 PELTZIVAR_MUST_USE bool peltzivar_language(
     const char *name, size_t len, peltzivar_syntax *syntax, peltzivar_specials *specials);
 
@@ -427,20 +431,23 @@ const char *peltzivar_language_name(size_t index);
 /* SETTINGS OF A TEXT
  *
  * A text, such as a file, has one setting a line, in the form that peltzivar_parse_edit describes, or `exponent=VALUE`
- * or `point=VALUE` for the options, with a VALUE as for digit_separator. White space around the name and the value is
- * skipped, and so are a line that is blank or begins with `#`, and a byte order mark. A character in quotes is not a
- * radix or an exponent base. A setting overrides those before it. Fields without a setting have the values of
- * PELTZIVAR_NEW_FIELDS, the exponent character is `e`, and the decimal point is `.`. If both are `none`, literals are
- * integers. */
+ * or `point=VALUE` for the options, with a VALUE as for digit_separator. A character in quotes is not a radix or an
+ * exponent base. Lines end with \n. Around names and values, spaces, horizontal tabs, \f and \r are skipped, and so are
+ * a byte order mark at the start of the text, and lines that are then empty or begin with `#`. No comment can follow a
+ * setting. A setting overrides those before it. Fields without a setting have the values of PELTZIVAR_NEW_FIELDS, the
+ * exponent character is `e`, and the decimal point is `.`. In a mantissa or exponent radix above 14, `e` is a digit, so
+ * `exponent` must be set. If both options are `none`, literals are integers. One alone cannot be `none`: for numbers
+ * with a point but no exponent, set no_exponent_notation, and an `exponent` that is not a digit, such as '~'. */
 
 /* Reads the settings of a text of len bytes, and writes the syntax that they build to *out. Returns the number of
- * problems: first the lines that are refused, and then the reasons why the word is not lawful or the options do not fit
- * it. If it is not 0, leaves *out unchanged. */
+ * problems: first the lines that are refused, and then the reasons why the others do not build a lawful word or, if
+ * they do, why the options do not fit it. Reasons and notes on a field or option are left out if its last line is
+ * refused. If there is a problem, leaves *out unchanged. */
 PELTZIVAR_MUST_USE size_t peltzivar_read_settings(const char *text, size_t len, peltzivar_syntax *out);
 
-/* Writes a problem as a sentence, such as "unknown setting `base_suffx`; did you mean `base_suffix`?". The problems have
- * the indices from 0 on. The notes have the indices behind them. They are on settings that are overridden, and on fields
- * that have no effect. The buffer `to` has to_len bytes. */
+/* Writes a problem as a sentence, such as "unknown setting `base_suffx`; did you mean `base_suffix`?". The problems
+ * have the indices from 0 on. Behind them are the notes: on the first 32 settings that later ones override completely,
+ * and then on fields that have no effect. Each call reads the whole text. The buffer `to` has to_len bytes. */
 size_t peltzivar_settings_text(const char *text, size_t len, size_t index, char *to, size_t to_len);
 
 /* Returns the number of lines that cause the problem or note with an index. Writes their indices, in ascending order, to
@@ -530,9 +537,9 @@ enum {
 };
 
 /* The errors: 1 to 19 are parse errors, 20 to 36 are format errors, and 37 to 48 are option errors. A parse error is
- * found in a string, a format error in a word, and an option error in the options of a parser or writer. The functions
- * above return only PELTZIVAR_SUCCESS, parse errors and format errors. The other errors are for parsers and writers that
- * use this library. Two rules share PELTZIVAR_INVALID_SPECIAL. */
+ * found in a string, a format error in a syntax, and an option error in other options of a parser or writer. The
+ * functions above return only PELTZIVAR_SUCCESS, parse errors and format errors. The other errors are for parsers and
+ * writers that use this library. Two rules share PELTZIVAR_INVALID_SPECIAL. */
 enum {
     PELTZIVAR_SUCCESS = 0,
     PELTZIVAR_OVERFLOW = 1,

@@ -53,6 +53,7 @@ class SourceDistribution(sdist):
             shutil.copy(WORKSPACE / name, Path(base_dir, "workspace"))
 
 
+shutil.copy(WORKSPACE / "rust/LICENSE", HERE)
 setup(
     long_description=ast.get_docstring(ast.parse((HERE / "peltzivar/__init__.py").read_text(encoding="utf8"))),
     long_description_content_type="text/plain",

@@ -112,15 +112,18 @@ def numbers(name, has_specials):
 def languages():
     """Returns the languages: name, comment, settings, options and numbers. Integers alone have the options 0."""
     text = (TOP / "rust/src/literal/language.rs").read_text()
-    language = r"((?:^    ///.*\n)+)^    (\w+) = \w+\((?:b'(.)', )?NumberFormatBuilder::new\(\)((?:\n        \..*)*)\s*\),\s+(\w+)"
-    for comment, name, exponent, body, specials in re.findall(language, text, re.M):
+    head = r"^    (\w+) = \w+\((?:b'(.)', )?NumberFormatBuilder::new\(\)"
+    found = re.findall(rf"((?:^    ///.*\n)+){head}((?:\n        \..*)*)\s*\)([,;])", text, re.M)
+    if len(found) != len(re.findall(head, text, re.M)):
+        sys.exit("rust/src/literal/language.rs: a language has another form")
+    for comment, name, exponent, body, end in found:
         yield {
             "name": name,
             "about": " ".join(comment.replace("///", "").split()),
             "settings": [setting(call) for call in re.findall(r"^ +(\.\w+\(.*?\))(?: //.*)?$", body, re.M)],
             "exponent": ord(exponent or "\0"),
             "point": ord("." if exponent else "\0"),
-            "numbers": numbers(name, specials != "NONE"),
+            "numbers": numbers(name, end == ","),
         }
 
 

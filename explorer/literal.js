@@ -28,41 +28,47 @@ class Trial {
     /* Reads the numbers of a state, and shows what was read. Returns how many of them are as expected, in words, and the
      * first number that is not. */
     show(state) {
+        this.state = state;
         const box = find("literal");
         if (box.value !== state.numbers) box.value = state.numbers;
-        const all = state.numbers.split("\n").map((text, index) => ({ text, index })).filter(({ text }) => text);
         box.rows = Math.min(Math.max(state.numbers.split("\n").length, 2), MOST_ROWS);
-        let bytes = 0;
-        const lines = all.slice(0, MOST_LINES).filter(({ text }) => (bytes += 4 * text.length + 1) < MOST_TEXT);
-        const answers = this.library.numbers(state, lines.map(({ text }) => text).join("\n")).map((answer, index) => {
-            const { text, index: place } = lines[index];
-            const isRefused = text.startsWith("!");
-            const isExpected = isRefused === Boolean(answer.error);
-            return { ...answer, text: text.slice(Number(isRefused)), place, isRefused, isExpected };
-        });
-        this.state = state;
-        this.answers = answers;
-        for (const { text, isRefused, offers } of answers) {
-            for (const offer of offers) {
-                offer.changes = this.library.differences(offer, state).sort((a, b) => Number(!a.isByte) - Number(!b.isByte));
-                offer.label = `set ${offer.changes.map((it) => it.text).join(", ")}`;
-                const count = answers.length > 1 ? `, then ${offer.expected} of ${answers.length} as expected` : "";
-                offer.then = ` ${text}: ${isRefused ? "refused" : this.reading(offer, text, offer.parts)}${count}`;
-            }
-        }
-        this.expected = answers.filter(({ isExpected }) => isExpected).length;
-        this.total = answers.length;
-        box.setAttribute("aria-invalid", String(this.expected < this.total));
+        const all = state.numbers.split("\n").map((text, place) => ({ text, place })).filter(({ text }) => text);
+        let size = 0;
+        const lines = all.slice(0, MOST_LINES).filter(({ text }) => (size += 4 * text.length + 1) < MOST_TEXT);
+        this.answers = this.read(lines);
+        const [first] = this.answers.filter(({ isExpected }) => !isExpected);
+        box.setAttribute("aria-invalid", String(Boolean(first)));
         const left = all.length - lines.length;
-        const rest = [
-            ...(lines.length && !answers.length ? ["not read, since the word is not lawful"] : []),
+        const texts = [
+            ...(lines.length && !this.answers.length ? ["not read, since the word is not lawful"] : []),
             ...(left ? [left === 1 ? "1 more line is not read" : `${left} more lines are not read`] : []),
         ];
-        const texts = rest.map((text) => ({ key: text, make: () => element("li", { class: "bad" }, text) }));
-        this.fill([...answers.map((answer) => ({ key: this.keyOf(answer), make: () => this.row(answer) })), ...texts]);
-        const first = answers.find(({ isExpected }) => !isExpected);
-        const count = this.total ? `${this.expected} of ${this.total} as expected` : "";
+        this.fill([
+            ...this.answers.map((answer) => ({ key: this.keyOf(answer), make: () => this.row(answer) })),
+            ...texts.map((text) => ({ key: text, make: () => element("li", { class: "bad" }, text) })),
+        ]);
+        const expected = this.answers.filter(({ isExpected }) => isExpected).length;
+        const count = this.answers.length ? `${expected} of ${this.answers.length} as expected` : "";
         return { count, isGood: !first, first: first && `${first.text} ${this.told(first)}` };
+    }
+
+    /* Returns what the library returns for lines, with what each line expects and what is offered in words. */
+    read(lines) {
+        const answers = this.library.numbers(this.state, lines.map(({ text }) => text).join("\n"));
+        return answers.map(({ offers, ...answer }, index) => {
+            const isRefused = lines[index].text.startsWith("!");
+            const text = lines[index].text.slice(Number(isRefused));
+            const worded = offers.map((offer) => {
+                const differences = this.library.differences(offer, this.state);
+                const changes = differences.sort((a, b) => Number(!a.isByte) - Number(!b.isByte));
+                const then = isRefused ? "refused" : this.reading(offer, text, offer.parts);
+                const count = answers.length > 1 ? `, then ${offer.expected} of ${answers.length} as expected` : "";
+                const label = `set ${changes.map((it) => it.text).join(", ")}`;
+                return { ...offer, changes, label, then: `${text}: ${then}${count}` };
+            });
+            const isExpected = isRefused === Boolean(answer.error);
+            return { ...answer, text, place: lines[index].place, isRefused, isExpected, offers: worded };
+        });
     }
 
     /* Returns a text of all that a row shows. */

@@ -92,8 +92,8 @@ class Report {
 
     showNormal(word, normal) {
         const use = button("use", "use it", () => this.use({ word: normal }));
-        const text = element("code", {}, wordText(normal));
-        find("normal").replaceChildren(...(normal === word ? ["The word is its own normal form."] : [text, " ", use]));
+        const text = ["The normal form is ", element("code", {}, wordText(normal)), " ", use];
+        find("normal").replaceChildren(...(normal === word ? ["The word is its own normal form."] : text));
     }
 
     /* Shows all of this for a state and what explains it, and returns the reasons. */

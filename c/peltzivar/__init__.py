@@ -8,8 +8,9 @@
     '1F'
 
 A word is lawful if it satisfies all rules. A `FormatView` holds any word, and a `Format` a lawful one. A `Syntax` reads
-literals, which are the numbers of a format, and `languages` has those of languages. In the repository, docs/FORMAT.md
-describes fields, rules and literals. A value of a wrong type raises a TypeError, and another wrong value a ValueError.
+literals, which are the numbers of a format, and the class `languages` has those of languages. In the repository,
+docs/FORMAT.md describes fields, rules and literals, and docs/C-AND-PYTHON.md this module. A value of a wrong type
+raises a TypeError, and another wrong value a ValueError.
 
 This module needs the shared library of peltzivar.h, but no other package. `make install` and pip install both. To use
 another library, set PELTZIVAR_LIBRARY to its path. If none is found, importing this module raises an ImportError.
@@ -25,7 +26,7 @@ from ctypes import CDLL, POINTER, Structure, c_bool, c_char_p, c_size_t, c_uint8
 from ctypes import create_string_buffer
 from dataclasses import dataclass, field
 from enum import Enum
-from itertools import count, islice, repeat, takewhile
+from itertools import count, repeat, takewhile
 from pathlib import Path
 from types import SimpleNamespace
 from typing import Any, AnyStr, Callable, Dict, Generic, Iterable, List, Optional, Tuple, Type, TypeVar, Union, cast
@@ -33,6 +34,11 @@ from typing import Any, AnyStr, Callable, Dict, Generic, Iterable, List, Optiona
 __all__ = ["STANDARD", "Byte", "Cause", "Edit", "Error", "Format", "FormatError", "FormatView", "Language", "Literal"]
 __all__ += ["LiteralError", "Note", "OptionsError", "Part", "Reason", "ReasonsError", "Role", "Rule", "Separators"]
 __all__ += ["Setter", "SettingsError", "Special", "Specials", "Spelling", "Syntax", "Value", "languages", "notes_of"]
+
+class _Named(Enum):
+    def __str__(self) -> str:
+        return self.name
+
 
 # Made by make_python.py: constants
 __version__ = "0.9.0"
@@ -46,7 +52,7 @@ _NO_PART = 255
 _NO_DIGIT = 4294967295
 
 
-class Setter(Enum):
+class Setter(_Named):
     """The setters. A member has the name of the setter in uppercase."""
 
     REQUIRED_INTEGER_DIGITS = 0
@@ -96,12 +102,9 @@ class Setter(Enum):
     FRACTION_DIGIT_SEPARATOR_FLAGS = 135
     EXPONENT_DIGIT_SEPARATOR_FLAGS = 136
 
-    def __str__(self) -> str:
-        return self.name
 
-
-class Rule(Enum):
-    """The rules, in the order in which they are checked."""
+class Rule(_Named):
+    """The rules, in the order in which they are checked. `condition` is what a rule requires of a word."""
 
     MANTISSA_RADIX_IN_RANGE = 1
     EXPONENT_BASE_IN_RANGE = 2
@@ -120,17 +123,14 @@ class Rule(Enum):
     EXPONENT_CONSECUTIVE_IS_ALLOWED = 15
     RESERVED_BITS_ARE_ZERO = 16
 
-    def __str__(self) -> str:
-        return self.name
-
     @property
     def condition(self) -> str:
         """What the rule requires of a word."""
         return str(_library.rule_condition(self.value).decode())
 
 
-class Error(Enum):
-    """The errors, and success, which is 0 and false."""
+class Error(_Named):
+    """The errors, and success. `description` is the sentence of an error in single quotes. Success is 0, and false."""
 
     SUCCESS = 0
     OVERFLOW = 1
@@ -182,9 +182,6 @@ class Error(Enum):
     INVALID_NEGATIVE_EXPONENT_BREAK = 47
     INVALID_POSITIVE_EXPONENT_BREAK = 48
 
-    def __str__(self) -> str:
-        return self.name
-
     @property
     def description(self) -> str:
         """The description of the error in single quotes."""
@@ -194,18 +191,15 @@ class Error(Enum):
         return self is not Error.SUCCESS
 
 
-class Part(Enum):
+class Part(_Named):
     """The parts of a number that can have digit separators."""
 
     INTEGER = 0
     FRACTION = 1
     EXPONENT = 2
 
-    def __str__(self) -> str:
-        return self.name
 
-
-class Role(Enum):
+class Role(_Named):
     """The roles of a byte in a number."""
 
     DIGIT = 1
@@ -216,11 +210,8 @@ class Role(Enum):
     EXPONENT = 6
     POINT = 7
 
-    def __str__(self) -> str:
-        return self.name
 
-
-class Cause(Enum):
+class Cause(_Named):
     """The kinds of causes why a text is not a literal."""
 
     REQUIREMENT = 1
@@ -229,19 +220,13 @@ class Cause(Enum):
     BYTE = 4
     MISSING = 5
 
-    def __str__(self) -> str:
-        return self.name
 
-
-class Spelling(Enum):
+class Spelling(_Named):
     """The spellings of special values."""
 
     NAN = 1
     INF = 2
     INFINITY = 3
-
-    def __str__(self) -> str:
-        return self.name
 
 
 class _Word(Structure):
@@ -397,13 +382,14 @@ _CALLS: Dict[str, Tuple[Any, List[Any]]] = {
 
 
 def _candidates() -> Iterable[str]:
-    """Returns the paths where the library may be: the given one, or those in the folder of this file and the three
-    folders above it, and then the names that the system's loader looks for."""
+    """Returns the paths where the library may be: the given one, or those in the folder of this file, in the three
+    folders above it and where a checkout builds it, and then the names that the system's loader looks for."""
     if given := os.environ.get("PELTZIVAR_LIBRARY"):
         return [os.path.abspath(given)]
     major, minor, _ = __version__.split(".")
     names = (f"libpeltzivar_c.so.{major if int(major) else f'0.{minor}'}", "libpeltzivar_c.so")
     folders = list(Path(__file__).resolve().parents)[:4]
+    folders += [top / built for top in folders[2:3] for built in ("rust/target/make/release", "target/release")]
     return [*(str(it) for folder in folders for name in names if (it := folder / name).exists()), *names]
 
 
@@ -419,7 +405,8 @@ def _load() -> Any:
     else:
         raise ImportError(
             f"the shared library of peltzivar.h does not load ({why[0]}): name its path in PELTZIVAR_LIBRARY, "
-            f"put it beside {__file__}, or install it where the system's loader finds it"
+            f"put it beside {__file__}, or install it where the system's loader finds it. In a checkout, build it with "
+            "`make -C c`, or run a program outside c/, which hides an installed package"
         )
     version = getattr(library, "peltzivar_version", lambda: 0)()
     unchanged = 16 if _VERSION >> 16 else 8
@@ -447,6 +434,7 @@ Call = TypeVar("Call", bound=Callable[..., Any])
 _RADIXES = (Setter.MANTISSA_RADIX, Setter.EXPONENT_BASE, Setter.EXPONENT_RADIX)
 _BYTES = (Setter.DIGIT_SEPARATOR, Setter.BASE_PREFIX, Setter.BASE_SUFFIX)
 _SETTERS = {**{it.name.lower(): it for it in Setter}, "radix": Setter.MANTISSA_RADIX}
+_SETTING = "a str or an Edit (pass a list as `*settings`)"
 
 
 def _text(call: Any, *arguments: Any, size: int = _TEXT_SIZE) -> str:
@@ -471,10 +459,10 @@ def _joined(halves: _Word) -> int:
     return int(halves.high << 64 | halves.low)
 
 
-def _typed(name: str, value: object, kind: Type[Typed]) -> Typed:
+def _typed(name: str, value: object, kind: Type[Typed], wanted: str = "") -> Typed:
     """Returns a value of this type. Raises an error that names the argument if the value has another one."""
     if not isinstance(value, kind):
-        raise TypeError(f"{name} is a {kind.__name__}, not {type(value).__name__}")
+        raise TypeError(f"{name} is {wanted or 'a ' + kind.__name__}, not {type(value).__name__}")
     return value
 
 
@@ -498,9 +486,9 @@ def _byte(name: str, value: Any) -> int:
     return ord(value)
 
 
-def _encoded(name: str, text: object) -> bytes:
+def _encoded(name: str, text: object, wanted: str = "a str or bytes") -> bytes:
     """Returns a text as bytes. Raises an error that names the argument if it is not a text."""
-    return text if isinstance(text, bytes) else _typed(name, text, str).encode("utf-8", "surrogatepass")
+    return text if isinstance(text, bytes) else _typed(name, text, str, wanted).encode("utf-8", "surrogatepass")
 
 
 def _takes_fields(call: Call) -> Call:
@@ -622,7 +610,7 @@ class Separators:
 
 @dataclass(eq=False)
 class ReasonsError(ValueError):
-    """Raised with each reason why there is no such format or syntax."""
+    """Raised with the reasons why there is no such format or syntax. Options are checked if the format is lawful."""
 
     reasons: Tuple[Reason, ...]
 
@@ -643,7 +631,7 @@ class OptionsError(ReasonsError):
 
 
 class SettingsError(ReasonsError):
-    """Raised if settings make no syntax."""
+    """Raised if settings make no syntax. Of more than 100 reasons, it has the first 100."""
 
 
 @dataclass(eq=False)
@@ -1035,13 +1023,16 @@ class Format(FormatView):
 @dataclass(frozen=True)
 class Literal(Generic[AnyStr]):
     """A text that is a literal of a syntax, and its parts in the order of the text. An absent part is empty. The prefix
-    includes the zero before it, and a part with digits includes digit separators.
+    includes the zero before it, and a part with digits includes digit separators. `str(literal)` is the text.
 
-    The number of an integer is `int(literal.sign + literal.digits(Part.INTEGER), syntax.format.mantissa_radix)`. If all
-    radixes are 10, that of a float is:
+    If `is_float` is false, the number is `int(literal.sign + literal.digits(Part.INTEGER), radix)`, where the radix is
+    `literal.syntax.format.mantissa_radix`. `int` raises a ValueError for more than 4300 digits, unless the radix is a
+    power of two: see `sys.set_int_max_str_digits`. If the text is a `str` and all radixes are 10, a float is:
 
         integer, fraction, exponent = map(literal.digits, Part)
-        float(f"{literal.sign}{integer}.{fraction}e{literal.exponent_sign}{exponent or 0}")
+        float(f"{literal.sign}{integer or 0}.{fraction}e{literal.exponent_sign}{exponent or 0}")
+
+    A float of `languages.C_HEX_FLOAT` is `float.fromhex(literal.text)`, if it has no digit separator.
     """
 
     syntax: Syntax = field(repr=False)
@@ -1060,6 +1051,10 @@ class Literal(Generic[AnyStr]):
     def is_float(self) -> bool:
         """Whether the literal has a decimal point or an exponent character."""
         return bool(self.point or self.exponent_character)
+
+    def __str__(self) -> str:
+        text: Union[str, bytes] = self.text
+        return text.decode() if isinstance(text, bytes) else text
 
     def digits(self, part: Part) -> AnyStr:
         """Returns the digits of a part without digit separators."""
@@ -1109,21 +1104,21 @@ class Syntax:
             Syntax.of("mantissa_radix = 16", "base_prefix = 'x'", "exponent = 'p'")
 
         A setting has the form that `Edit` takes, and a setting of `exponent` or `point` that of `base_prefix`. If both
-        are `none`, literals are integers. White space around a name or a value is skipped, and so is a setting that is
+        are `none`, literals are integers, and one alone is refused: for floats without an exponent, keep its character
+        and set `no_exponent_notation`. White space around a name or a value is skipped, and so is a setting that is
         blank or begins with `#`. A number is not in quotes. A setting overrides those before it.
         """
         text, made = _lines(settings), _Syntax()
         if problems := _library.read_settings(text, len(text), made):
-            raise SettingsError(tuple(Reason(*it) for it in islice(_findings(text), problems)))
+            raise SettingsError(tuple(Reason(*it) for it in _findings(text, range(min(problems, 100)))))
         return cls._of_numbers(made)
 
     @classmethod
     def notes_of(cls, *settings: Union[Edit, str]) -> Tuple[Note, ...]:
-        """Returns the notes on settings that later ones override, and on those that have no effect, such as a digit
-        separator that no flag allows, which the syntax lacks."""
+        """Returns the notes on settings that later ones override, the first 32 alone, and on those that have no effect,
+        such as a digit separator that no flag allows, which the syntax lacks."""
         text = _lines(settings)
-        problems = _library.read_settings(text, len(text), _Syntax())
-        return tuple(Note(*it) for it in islice(_findings(text), problems, None))
+        return tuple(Note(*it) for it in _findings(text, count(_library.read_settings(text, len(text), _Syntax()))))
 
     @classmethod
     def _of_numbers(cls, numbers: _Syntax) -> Syntax:
@@ -1167,22 +1162,25 @@ class Syntax:
 def _readable(text: object) -> bytes:
     """Returns a text as bytes, up to the first character that is not ASCII, for which it has a byte that is not."""
     try:
-        return text if isinstance(text, bytes) else _typed("a text", text, str).encode("ascii")
+        return text if isinstance(text, bytes) else _typed("a text", text, str, "a str or bytes").encode("ascii")
     except UnicodeEncodeError as error:
         return error.object[: error.start].encode("ascii") + b"\xff"
 
 
 def _lines(settings: Iterable[Union[Edit, str]]) -> bytes:
     """Returns settings as the lines of a text."""
-    lines = [_encoded("a setting", str(it) if isinstance(it, Edit) else it).rstrip(b"\r\n") for it in settings]
-    if more := [line for line in lines if b"\n" in line]:
+    texts = [str(it) if isinstance(it, Edit) else it for it in settings]
+    lines = [_encoded("a setting", it, _SETTING).rstrip(b"\r\n") for it in texts]
+    if more := [text for text, line in zip(texts, lines) if b"\n" in line]:
         raise ValueError(f"a setting is one line: {reprlib.repr(more[0])}")
     return b"\n".join(lines)
 
 
-def _findings(text: bytes) -> Iterable[Tuple[str, int, Tuple[int, ...]]]:
-    """Returns the text, no mask and the indexes of each problem of settings, and then of each note on them."""
-    for index, sentence in enumerate(_texts(_library.settings_text, text, len(text))):
+def _findings(text: bytes, wanted: Iterable[int]) -> Iterable[Tuple[str, int, Tuple[int, ...]]]:
+    """Returns the text, no mask and the indexes of problems of settings, behind which are the notes on them."""
+    for index in wanted:
+        if not (sentence := _text(_library.settings_text, text, len(text), index)):
+            break
         lines = (c_size_t * _FIELD_COUNT)()
         blamed = _library.settings_lines(text, len(text), index, lines, len(lines))
         yield sentence, 0, tuple(lines[:blamed])
@@ -1219,9 +1217,11 @@ class Specials:
         return Special(chr(special.sign) if special.sign else "", Spelling(special.spelling))
 
 
-class Language(Enum):
+class Language(_Named):
     # Made by make_python.py: languages
-    """How a language, or a file, writes numbers: a syntax, and the spellings of NaN and infinity.
+    """How a language, or a file, writes numbers. `languages` is another name of this class.
+
+    `read(text)` returns a `Literal` of `syntax`, or a `Special` with a spelling of `specials`.
 
     ADA: Ada's decimal literals (Reference Manual 2012, 2.4.1). A format cannot accept `1.0E-3` but reject `1E-3`.
 
@@ -1308,9 +1308,6 @@ class Language(Enum):
     SWIFT_HEX_FLOAT = "SWIFT_HEX_FLOAT"
     TOML = "TOML"
     YAML = "YAML"
-
-    def __str__(self) -> str:
-        return self.name
     # End
 
     @functools.cached_property
@@ -1318,7 +1315,7 @@ class Language(Enum):
         syntax, specials = _Syntax(), _Specials()
         _library.language(self.name.encode(), len(self.name), syntax, specials)
         spellings = (getattr(specials, it) for it, _ in _Specials._fields_)
-        return Syntax._of_numbers(syntax), Specials(*(it and it.decode() for it in spellings))
+        return Syntax._of_numbers(syntax), Specials(*(it.decode() if it else None for it in spellings))
 
     @property
     def syntax(self) -> Syntax:
@@ -1410,6 +1407,6 @@ def _notes(fields: _Fields) -> Tuple[Note, ...]:
 
 def _apply(settings: Iterable[Union[Edit, str]], fields: _Fields) -> List[Edit]:
     """Applies settings to fields, and returns their edits."""
-    edits = [it if isinstance(it, Edit) else Edit(it) for it in settings]
+    edits = [it if isinstance(it, Edit) else Edit(_typed("a setting", it, str, _SETTING)) for it in settings]
     _library.edit_fields(fields, (_Edit * len(edits))(*(edit._numbers() for edit in edits)), len(edits))
     return edits

@@ -235,7 +235,7 @@ class Literals(unittest.TestCase):
         text = "-0x1_F.8_0p+1_2h"
         parts = ["-", "0x", "1_F", ".", "8_0", "p", "+", "1_2", "h"]
         for literal, in_type in ((syntax.read(text), str), (syntax.read(text.encode()), str.encode)):
-            self.assertEqual([*vars(literal).values()][2:], [*map(in_type, parts)])
+            self.assertEqual((str(literal), [*vars(literal).values()][2:]), (text, [*map(in_type, parts)]))
             self.assertEqual([*map(literal.digits, Part)], [*map(in_type, ["1F", "80", "12"])])
         self.assertEqual([syntax.read(it).is_float for it in ("-F_F", "1.", "1p0")], [False, True, True])
         literal, rest = syntax.read_prefix("1.8p+\u00e9")
@@ -287,7 +287,7 @@ class Literals(unittest.TestCase):
             self.assertEqual((str(special), repr(float(str(special)))), (wanted, repr(float(text))))
         specials = Specials(nan="n\u00e4n", infinity="\u221e")
         self.assertEqual(specials.read(Syntax(Format()), "-\u221e"), Special("-", Spelling.INFINITY))
-        self.assertIsNone(specials.read(Syntax(Format()), ""))
+        self.assertEqual((specials.read(Syntax(Format()), ""), Language.TOML.specials), (None, Specials("nan", "inf")))
 
     def test_settings_make_a_syntax(self):
         lines = ["# hexadecimal\r\n", "radix = 16\n", "base_prefix='x'", "", "exponent = 'p'"]
@@ -296,11 +296,11 @@ class Literals(unittest.TestCase):
         notes = [(str(it), it.indexes) for it in Syntax.notes_of(*lines, "digit_separator = '_'", "radix = 16")]
         self.assertEqual(notes, [("a later setting overrides radix", (1, 6)), ("no flag allows the digit separator '_'", (5,))])
         with self.assertRaises(SettingsError) as caught:
-            Syntax.of("base_suffx='h'", "radix=16", "base_prefix='b'", "exponent_radix='9'")
+            Syntax.of("base_suffx='h'", "radix=16", "base_prefix='b'", "exponent_base='9'")
         error = pickle.loads(pickle.dumps(caught.exception))
         sentences = [
             ("unknown setting `base_suffx`; did you mean `base_suffix`?", (0,)),
-            ("exponent_radix takes a number, 2 to 36 in a lawful format, or `none`, not `'9'`", (3,)),
+            ("exponent_base takes a number, 2 to 36 in a lawful format, or `none`, not `'9'`", (3,)),
             ("the base prefix 'b' is a digit in radix 16", (1, 2)),
         ]
         self.assertEqual([(str(it), it.indexes) for it in error.reasons], sentences)
@@ -316,7 +316,7 @@ WRONG = [
     ("Format().edit(colour=7)", TypeError, "edit() got an unexpected keyword argument 'colour'"),
     ("Edit.of('colour', 7)", ValueError, "unknown setting name: 'colour'"),
     ("Format().check_options('e', b'')", ValueError, f"point is {BYTE}: b''"),
-    ("Syntax.of('radix=16\\nradix=2')", ValueError, "a setting is one line: b'radix=16\\nradix=2'"),
+    ("Syntax.of('radix=16\\nradix=2')", ValueError, "a setting is one line: 'radix=16\\nradix=2'"),
     ("Specials('a\\0').read(Syntax(Format()), '')", ValueError, "a spelling has a null character: Specials(nan='a\\x00', inf=None, infinity=None)"),
 ]
 

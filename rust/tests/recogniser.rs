@@ -1,7 +1,7 @@
 //! A recogniser of literals, written from docs/FORMAT.md alone, and the comparison of the reader with it. The recogniser
 //! tries all splits of a text into parts, all fronts of a text, and all flags.
 //!
-//! `cargo test` compares a sample. To compare all texts, which takes seven minutes:
+//! `cargo test` compares a sample. To compare all texts, which takes ten minutes:
 //!
 //!     cargo test --release --test recogniser -- --ignored
 
@@ -322,7 +322,7 @@ fn some_answers_are_those_of_the_recogniser() {
 }
 
 #[test]
-#[ignore = "seven minutes in release"]
+#[ignore = "ten minutes in release"]
 fn all_answers_are_those_of_the_recogniser() {
     compare_all(8, 2000, 8);
 }

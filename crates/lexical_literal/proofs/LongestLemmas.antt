@@ -1,6 +1,7 @@
 -- Fronts of a text, and where the loop is left.
 use Rattle.std.proofs.Common.{ℕ, Bool, Option, if◌then◌else◌, ◌≡◌, ◌==◌, ◌<◌, ◌≤◌, ◌+◌, inl, inr, true, false, List, [], ◌∷◌, ◌++◌}
 use Rattle.std.proofs.Common.{length, get_or, take, drop, Some, None, Ok, refl, sym, ap, subst, append_assoc, append-nil, take-append-drop, ◌∙◌, arith}
+use Rattle.std.specs.Prelude.{slice_get}
 use Rattle.std.proofs.lemmas.Bool.{false≢true, false_from_ne_true, cases_lt}
 use Rattle.std.proofs.lemmas.Bool.Decides.{nat_tests}
 use Rattle.std.proofs.lemmas.List.{take-take, take_more, take_all}
@@ -10,6 +11,7 @@ use Rattle.lexical_literal.specs.Additions.Summary.{Cuts, class_of, in_part, sca
 use Rattle.lexical_literal.specs.Additions.Summary.{tally, count, add, piece_number, start, no_cuts, HasLengths}
 use Rattle.lexical_literal.specs.Front.{IsFront, IsValidUpTo, NoLiteral}
 use Rattle.lexical_literal.specs.Additions.Longest.{IsLongest, IsScanned}
+use Rattle.lexical_literal.specs.Additions.Causes.{allows, class_of_next}
 use Rattle.lexical_literal.specs.Additions.Tables as tables
 use Rattle.lexical_literal.specs.Parts.{IsReadPrefix, literal_of}
 use Rattle.lexical_literal.specs.declared.read.Parts.{Parts}
@@ -170,14 +172,28 @@ module _ (m : Notation) (ready : IsReady m) (text : List ℕ) where
         let all : i ≡ length text = omega (arith, has.within) in
         none_at m text i longest has.longest_is (λ found. other (found ∙ ap Some all)) l.0 l.1)
 
-    pub longest_from : IsValidUpTo m text i → IsLongest m text (length text) longest
+    longest_from : IsValidUpTo m text i → IsLongest m text (length text) longest
     longest_from wrong = record {
       found = λ size is. let old = has.longest_is.found size is in (omega (arith, old.0, has.within), old.1, old.2);
       no_longer = λ more within past l reads. has.longest_is.no_longer more (no_longer_than m text i wrong more within l reads) past l reads;
     }
 
-    pub counted_from : (l : Literal) → Reads m l (take i text) → HasLengths l c
+    counted_from : (l : Literal) → Reads m l (take i text) → HasLengths l c
     counted_from l reads = rw (← has.counted, reads.whole, (literal_arrives m ready.roles l reads.literal).1) (has_lengths m ready.roles l reads.literal)
+
+  -- What the loop has found where it is left.
+  pub is_scanned : (i row : ℕ) (counts : List ℕ) (longest : Option ℕ) → row < 108
+      → HasRead m text i (tables.summary_at row) (tables.cuts_of counts) longest → IsValidUpTo m text i
+      → ((longest ≡ Some (length text) → ⊥) → allows m (tables.summary_at row) (class_of_next m (slice_get text i)) ≡ false)
+      → IsScanned m text (record { valid_up_to = i; row = row; literal = longest; counts = counts })
+  is_scanned i row counts longest small has wrong refused = record {
+    error = wrong;
+    row = small;
+    read = has.read;
+    refused = refused;
+    longest = longest_from i (tables.summary_at row) (tables.cuts_of counts) longest has wrong;
+    counted = counted_from i (tables.summary_at row) (tables.cuts_of counts) longest has;
+  }
 
   -- A text has one reading.
   pub one_reading : (l k : Literal) → Reads m l text → Reads m k text → l ≡ k
@@ -200,8 +216,7 @@ module _ (m : Notation) (ready : IsReady m) (text : List ℕ) where
       grind arith where
         same_part : (x y X Y : List ℕ) → length x ≡ length y → x ++ X ≡ y ++ Y → (x ≡ y) × (X ≡ Y)
         same_part [] [] X Y same e = (refl, e)
-        same_part [] (b ∷ y) X Y same e = cc
-        same_part (b ∷ x) [] X Y same e = cc
         same_part (b ∷ x) (c ∷ y) X Y same e =
             let head : b ≡ c = cc in
             let more = same_part x y X Y (omega (arith, same)) cc in ((λ j. head j ∷ more.0 j), more.1)
+        same_part _ _ X Y same e = cc

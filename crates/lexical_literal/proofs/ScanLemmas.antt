@@ -59,10 +59,8 @@ module _ (m : Notation) where
 
   pub tally_append : (o : Option Summary) (c : Cuts) (x y : List ℕ) → tally m o c (x ++ y) ≡ tally m (scan m o x) (tally m o c x) y
   tally_append o c [] y = refl
-  tally_append None c (b ∷ x) y = sym (none y) where
-    none : (y : List ℕ) → tally m None c y ≡ c
-    none [] = refl
-    none (a ∷ y) = refl
+  tally_append None c (b ∷ x) [] = refl
+  tally_append None c (b ∷ x) (a ∷ y) = refl
   tally_append (Some s) c (b ∷ x) y = tally_append (step m s (class_of m b)) (count s.part (role_in m s.part b) c) x y
 
   pub none_accepts : (text : List ℕ) → Accepts m None text → ⊥

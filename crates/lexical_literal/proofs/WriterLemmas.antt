@@ -54,5 +54,4 @@ module _ (m : Notation) (h : HasRoles m) where
         ) where
           go : (plus : Bool) → (if implies plus true then Some (reading parts.Integer stages.Empty false) else None)
               ≡ Some (reading parts.Integer stages.Empty false)
-          go true = refl
-          go false = refl
+          go plus = grind arith

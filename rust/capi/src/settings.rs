@@ -13,9 +13,9 @@ unsafe fn parsed(text: *const u8, len: usize) -> Result<Edit, SettingError> {
     text.unwrap_or("=").parse()
 }
 
-/// Returns the lines of a text. A text that is too long is read as one with an unknown name.
+/// Returns the lines of a text. A text that is too long is read as a line that states this.
 unsafe fn lines<'a>(text: *const u8, len: usize) -> impl Iterator<Item = &'a [u8]> {
-    let text = input(text, len).unwrap_or(b"=");
+    let text = input(text, len).unwrap_or(b"a text of more than PTRDIFF_MAX bytes");
     text.split(|byte| *byte == b'\n')
 }
 

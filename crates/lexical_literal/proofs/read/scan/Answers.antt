@@ -7,7 +7,7 @@ use Rattle.lexical_literal.specs.Notation.{notation_of}
 use Rattle.lexical_literal.specs.Additions.Tables.{summary_at, cuts_of}
 use Rattle.lexical_literal.proofs.RoleLemmas.{ready}
 use Rattle.lexical_literal.proofs.TableLemmas.{no_counts, count_one, small_more}
-use Rattle.lexical_literal.proofs.LongestLemmas.{HasRead, read_nothing, read_more, wrong_at, wrong_at_end, longest_from, counted_from, not_complete}
+use Rattle.lexical_literal.proofs.LongestLemmas.{HasRead, read_nothing, read_more, wrong_at, wrong_at_end, not_complete, is_scanned}
 use Rattle.lexical_literal.proofs.read.scan.Goals as goal
 use Rattle.lexical_literal.proofs.read.scan.Goals.{then-is_complete_by, else-is_complete_by}
 
@@ -47,27 +47,13 @@ loop-index-preserved c =
 pub returns-in_default : goal.returns-in_default
 returns-in_default c =
     let has = c.loop-index.invariant.has in
-    let wrong = wrong_at _ has.ready _ _ _ _ _ has c.loop-index-test.true c.in_default.ensures in
-    record {
-      error = wrong;
-      row = c.loop-index.invariant.is_row;
-      read = has.read;
-      refused = λ other. ap (λ next. allows (notation_of c.args.grammar) (summary_at c.loop-index.row) (class_of_next (notation_of c.args.grammar) next))
-          (slice_get-get_or c.args.text.now c.loop-index.index 0 c.loop-index-test.true) ∙ ap is_some c.in_default.ensures;
-      longest = longest_from _ has.ready _ _ _ _ _ has wrong;
-      counted = counted_from _ has.ready _ _ _ _ _ has;
-    }
+    is_scanned _ has.ready _ _ _ _ _ c.loop-index.invariant.is_row has (wrong_at _ has.ready _ _ _ _ _ has c.loop-index-test.true c.in_default.ensures)
+    (λ other. ap (λ next. allows (notation_of c.args.grammar) (summary_at c.loop-index.row) (class_of_next (notation_of c.args.grammar) next))
+    (slice_get-get_or c.args.text.now c.loop-index.index 0 c.loop-index-test.true) ∙ ap is_some c.in_default.ensures)
 
 pub returns : goal.returns
 returns c =
     let has = c.loop-index.invariant.has in
-    let wrong = wrong_at_end _ has.ready _ _ _ _ _ has c.loop-index-test.false in
-    record {
-      error = wrong;
-      row = c.loop-index.invariant.is_row;
-      read = has.read;
-      refused = λ other. ap (λ next. allows (notation_of c.args.grammar) (summary_at c.loop-index.row) (class_of_next (notation_of c.args.grammar) next))
-          (slice_get_past c.args.text.now c.loop-index.index c.loop-index-test.false) ∙ not_complete _ has.ready _ _ _ _ _ has c.loop-index-test.false other;
-      longest = longest_from _ has.ready _ _ _ _ _ has wrong;
-      counted = counted_from _ has.ready _ _ _ _ _ has;
-    }
+    is_scanned _ has.ready _ _ _ _ _ c.loop-index.invariant.is_row has (wrong_at_end _ has.ready _ _ _ _ _ has c.loop-index-test.false)
+    (λ other. ap (λ next. allows (notation_of c.args.grammar) (summary_at c.loop-index.row) (class_of_next (notation_of c.args.grammar) next))
+    (slice_get_past c.args.text.now c.loop-index.index c.loop-index-test.false) ∙ not_complete _ has.ready _ _ _ _ _ has c.loop-index-test.false other)
