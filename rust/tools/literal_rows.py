@@ -26,7 +26,7 @@ def languages():
     """Yields the row of each language: its word, its exponent character, and its texts."""
     lines = [line.split() for line in (TOP / "rust/tests/literals.txt").read_text().splitlines() if line[:1] not in ("", "#")]
     # The languages of the crate come after those of the example.
-    printed = re.findall(r"^([A-Z_]+): \w+ (\w+)(?: (\d+) \d+)?$", cargo("--example", "languages"), re.M)
+    printed = re.findall(r"^([A-Z_]+) \w+ it: (\w+)(?: (\d+) \d+)?$", cargo("--example", "languages"), re.M)
     for name, (word, exponent) in {name: syntax for name, *syntax in printed}.items():
         texts = {text: mark in ("+", "-!") for language, mark, text, *_ in lines if language == name}
         yield word, exponent and chr(int(exponent)), texts
