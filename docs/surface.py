@@ -1,7 +1,9 @@
 #!/usr/bin/env python3
-"""Lists what programs can name: the items of the crate as its documentation shows them, and the declarations of the C
-header. `docs/surface.py > docs/surface.txt` writes the list. `docs/surface.py --check` compares it with that file, if the same
-version of rustdoc made it: another one may print items in another way."""
+"""Lists what programs can name: the items of the crate as its documentation shows them, and the lines of the C header.
+
+`docs/surface.py > docs/surface.txt` writes the list. `docs/surface.py --check` compares it with that file, if the same
+version of rustdoc made it: another one may print items in another way.
+"""
 import difflib
 import html
 import os
@@ -19,7 +21,8 @@ def output(*command):
 
 
 def text_of(markup):
-    text = re.sub(r'<summary.*?</summary>|<a[^>]*class="src[^>]*>.*?</a>|<span class="comment">.*?</span>', "", markup.replace("</div>", " "))
+    hidden = r'<summary.*?</summary>|<a[^>]*class="src[^>]*>.*?</a>|<span class="comment">.*?</span>'
+    text = re.sub(hidden, "", markup.replace("</div>", " "))
     text = " ".join(html.unescape(re.sub("<[^>]*>|\u24d8", "", text)).split())
     return re.sub(r",? ([)}\]>])|([(\[<]) ", r"\1\2", text)
 
