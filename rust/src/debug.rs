@@ -21,9 +21,7 @@ fn write(f: &mut fmt::Formatter<'_>, name: &str, word: u128, fields: u128) -> fm
         let (name, byte) = (edit.name(), edit.argument_byte());
         match edit {
             Edit::Flag(_, flag) => text.field(name, flag),
-            Edit::DigitSeparator(_) | Edit::BasePrefix(_) | Edit::BaseSuffix(_)
-                if byte.is_ascii_graphic() =>
-            {
+            Edit::DigitSeparator(_) | Edit::BasePrefix(_) | Edit::BaseSuffix(_) if byte.is_ascii_graphic() => {
                 text.field(name, &char::from(byte))
             }
             _ => text.field(name, &byte),

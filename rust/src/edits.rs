@@ -14,8 +14,7 @@ mod settings;
 pub use listing::{edits_of, is_built};
 pub(crate) use setters::mask_of;
 pub use setters::{
-    field_edits_of, ArgumentKind, Edit, FlagSetter, Setter, ALL_SETTERS, FIELD_COUNT, FLAG_COUNT,
-    SETTERS,
+    field_edits_of, ArgumentKind, Edit, FlagSetter, Setter, ALL_SETTERS, FIELD_COUNT, FLAG_COUNT, SETTERS,
 };
 pub(crate) use settings::Fault;
 pub use settings::{byte_from_decimal, SettingError, SettingErrorKind};
@@ -37,11 +36,7 @@ pub const fn apply(builder: NumberFormatBuilder, edit: Edit) -> NumberFormatBuil
 
 // Calls a flag setter or a group setter with `flag`.
 #[inline(always)]
-const fn apply_flag(
-    builder: NumberFormatBuilder,
-    setter: FlagSetter,
-    flag: bool,
-) -> NumberFormatBuilder {
+const fn apply_flag(builder: NumberFormatBuilder, setter: FlagSetter, flag: bool) -> NumberFormatBuilder {
     builder.with_flags(mask_of(setter) as u128, flag)
 }
 

@@ -168,9 +168,7 @@ impl Error {
             Error::InvalidExponent(_) => "'exponent found but not allowed'",
             Error::InvalidPositiveExponentSign(_) => "'invalid `+` sign in exponent'",
             Error::MissingExponentSign(_) => "'missing required `+/-` sign for exponent'",
-            Error::ExponentWithoutFraction(_) => {
-                "'invalid float containing exponent without fraction'"
-            }
+            Error::ExponentWithoutFraction(_) => "'invalid float containing exponent without fraction'",
             Error::InvalidLeadingZeros(_) => "'invalid number with leading zeros before digits'",
             Error::MissingExponent(_) => "'missing required exponent'",
             Error::MissingSign(_) => "'missing required `+/-` sign for integer'",
@@ -179,25 +177,15 @@ impl Error {
             Error::InvalidMantissaRadix => "'invalid radix for mantissa digits'",
             Error::InvalidExponentBase => "'invalid exponent base'",
             Error::InvalidExponentRadix => "'invalid radix for exponent digits'",
-            Error::InvalidDigitSeparator => {
-                "'invalid digit separator: must be ASCII and not a digit or a `+/-` sign'"
-            }
-            Error::InvalidDecimalPoint => {
-                "'invalid decimal point: must be ASCII and not a digit or a `+/-` sign'"
-            }
-            Error::InvalidExponentSymbol => {
-                "'invalid exponent symbol: must be ASCII and not a digit or a `+/-` sign'"
-            }
+            Error::InvalidDigitSeparator => "'invalid digit separator: must be ASCII and not a digit or a `+/-` sign'",
+            Error::InvalidDecimalPoint => "'invalid decimal point: must be ASCII and not a digit or a `+/-` sign'",
+            Error::InvalidExponentSymbol => "'invalid exponent symbol: must be ASCII and not a digit or a `+/-` sign'",
             Error::InvalidBasePrefix => "'invalid base prefix character'",
             Error::InvalidBaseSuffix => "'invalid base suffix character'",
             Error::InvalidPunctuation => "'invalid punctuation: multiple characters overlap'",
             Error::InvalidExponentFlags => "'exponent flags set while disabling exponent notation'",
-            Error::InvalidMantissaSign => {
-                "'disabled the `+` sign while requiring a sign for significant digits'"
-            }
-            Error::InvalidExponentSign => {
-                "'disabled the `+` sign while requiring a sign for exponent digits'"
-            }
+            Error::InvalidMantissaSign => "'disabled the `+` sign while requiring a sign for significant digits'",
+            Error::InvalidExponentSign => "'disabled the `+` sign while requiring a sign for exponent digits'",
             Error::InvalidSpecial => "'special flags set while disabling special floats'",
             Error::InvalidConsecutiveIntegerDigitSeparator => {
                 "'enabled consecutive digit separators in the integer without setting a valid location'"
@@ -218,15 +206,9 @@ impl Error {
             Error::InfinityStringTooShort => "'long infinity string is too short'",
             Error::InvalidFloatParseAlgorithm => "'invalid combination of float parse algorithms'",
             Error::InvalidRadix => "'invalid radix for significant digits'",
-            Error::InvalidFloatPrecision => {
-                "'invalid float precision: min digits is larger than max digits'"
-            }
-            Error::InvalidNegativeExponentBreak => {
-                "'invalid negative exponent break: value is above 0'"
-            }
-            Error::InvalidPositiveExponentBreak => {
-                "'invalid positive exponent break: value is below 0'"
-            }
+            Error::InvalidFloatPrecision => "'invalid float precision: min digits is larger than max digits'",
+            Error::InvalidNegativeExponentBreak => "'invalid negative exponent break: value is above 0'",
+            Error::InvalidPositiveExponentBreak => "'invalid positive exponent break: value is below 0'",
             Error::Success => "'not actually an error'",
         }
     }

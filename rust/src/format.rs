@@ -15,17 +15,16 @@ pub use crate::feature_format::NumberFormat;
 pub use crate::format_builder::{NonZeroU8, NumberFormatBuilder, OptionU8};
 #[doc(inline)]
 pub use crate::format_flags::{
-    base_prefix, base_suffix, digit_separator, exponent_base, exponent_radix, is_clean,
-    is_digit_of_either_radix, is_separator_allowed, is_valid_base_prefix, is_valid_base_suffix,
-    is_valid_digit_separator, is_valid_exponent_flags, is_valid_options_punctuation,
-    is_valid_punctuation, is_valid_radix, mantissa_radix, radix_from_flags,
+    base_prefix, base_suffix, digit_separator, exponent_base, exponent_radix, is_clean, is_digit_of_either_radix,
+    is_separator_allowed, is_valid_base_prefix, is_valid_base_suffix, is_valid_digit_separator,
+    is_valid_exponent_flags, is_valid_options_punctuation, is_valid_punctuation, is_valid_radix, mantissa_radix,
+    radix_from_flags,
 };
 #[doc(no_inline)]
 pub use crate::format_flags::{
-    Part, Rule, BASE_PREFIX, BASE_PREFIX_SHIFT, BASE_SUFFIX, BASE_SUFFIX_SHIFT, DIGIT_SEPARATOR,
-    DIGIT_SEPARATOR_SHIFT, EXPONENT_BASE, EXPONENT_BASE_SHIFT, EXPONENT_FLAG_MASK, EXPONENT_RADIX,
-    EXPONENT_RADIX_SHIFT, FLAG_MASK, INTERFACE_FLAG_MASK, MANTISSA_RADIX, MANTISSA_RADIX_SHIFT,
-    RADIX, RADIX_MASK, RADIX_SHIFT,
+    Part, Rule, BASE_PREFIX, BASE_PREFIX_SHIFT, BASE_SUFFIX, BASE_SUFFIX_SHIFT, DIGIT_SEPARATOR, DIGIT_SEPARATOR_SHIFT,
+    EXPONENT_BASE, EXPONENT_BASE_SHIFT, EXPONENT_FLAG_MASK, EXPONENT_RADIX, EXPONENT_RADIX_SHIFT, FLAG_MASK,
+    INTERFACE_FLAG_MASK, MANTISSA_RADIX, MANTISSA_RADIX_SHIFT, RADIX, RADIX_MASK, RADIX_SHIFT,
 };
 #[doc(no_inline)]
 pub use crate::lawful::Format;

@@ -23,9 +23,8 @@ const LOW_FLAGS: u32 = (1 << FIRST_SEPARATOR) - 1;
 const NEW_FLAGS: u128 = flags::REQUIRED_EXPONENT_DIGITS | flags::REQUIRED_MANTISSA_DIGITS;
 
 // The word whose mantissa radix, exponent base and exponent radix are 1, and whose other bits are 0.
-const ONE_IN_EACH_RADIX: u128 = 1 << flags::MANTISSA_RADIX_SHIFT
-    | 1 << flags::EXPONENT_BASE_SHIFT
-    | 1 << flags::EXPONENT_RADIX_SHIFT;
+const ONE_IN_EACH_RADIX: u128 =
+    1 << flags::MANTISSA_RADIX_SHIFT | 1 << flags::EXPONENT_BASE_SHIFT | 1 << flags::EXPONENT_RADIX_SHIFT;
 
 // The index of each byte in a builder.
 const DIGIT_SEPARATOR: usize = 0;
@@ -91,10 +90,7 @@ impl NumberFormatBuilder {
     /// exponent radix are absent. The flags `required_exponent_digits` and `required_mantissa_digits` are true, and all
     /// other flags are false.
     pub const fn new() -> Self {
-        NumberFormatBuilder {
-            flags: NEW_FLAGS as u32,
-            bytes: [0, 0, 0, 10, 0, 0],
-        }
+        NumberFormatBuilder { flags: NEW_FLAGS as u32, bytes: [0, 0, 0, 10, 0, 0] }
     }
 
     /// Returns the format word for binary numbers, which is [`from_radix(2)`][Self::from_radix].
@@ -261,8 +257,7 @@ const fn builder_flags(format: u128) -> u32 {
 
 // Returns the flags of a builder, each at its bit in a format word.
 const fn word_flags(flags: u32) -> u128 {
-    (flags & LOW_FLAGS) as u128
-        | ((flags as u128) << (32 - FIRST_SEPARATOR)) & flags::DIGIT_SEPARATOR_FLAG_MASK
+    (flags & LOW_FLAGS) as u128 | ((flags as u128) << (32 - FIRST_SEPARATOR)) & flags::DIGIT_SEPARATOR_FLAG_MASK
 }
 
 // Returns `bits` with all bits in `mask` set to `value`.

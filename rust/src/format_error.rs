@@ -27,8 +27,7 @@ pub struct FormatError {
 }
 
 /// The text for options of which one is 0, since both or neither are absent.
-pub(crate) const ONE_OPTION: &str =
-    "only one of the exponent character and the decimal point is absent";
+pub(crate) const ONE_OPTION: &str = "only one of the exponent character and the decimal point is absent";
 
 /// What is rejected.
 #[derive(Clone, Copy, PartialEq, Eq, Hash)]
@@ -98,9 +97,7 @@ impl FormatError {
     #[must_use]
     pub const fn text(&self) -> ShortText {
         match (self.first_reason(), self.cause, self.code.index()) {
-            (_, Cause::Options(_, 0, 1..) | Cause::Options(_, 1.., 0), _) => {
-                ShortText::of(ONE_OPTION)
-            }
+            (_, Cause::Options(_, 0, 1..) | Cause::Options(_, 1.., 0), _) => ShortText::of(ONE_OPTION),
             (Some(reason), ..) => reason.text(),
             (None, Cause::Bytes, _) => ShortText::of("options are two bytes, such as 'e' or 101"),
             (None, _, Some(0 | 1)) => ShortText::of("a format word begins with `0x`"),

@@ -15,9 +15,9 @@ mod rule;
 
 #[doc(no_inline)]
 pub use crate::format_flags::checks::{
-    check, format_error_impl, is_clean, is_digit_of_either_radix, is_separator_allowed,
-    is_valid_base_prefix, is_valid_base_suffix, is_valid_digit_separator, is_valid_exponent_flags,
-    is_valid_punctuation, is_valid_radix, radix_error_impl, roles_disjoint,
+    check, format_error_impl, is_clean, is_digit_of_either_radix, is_separator_allowed, is_valid_base_prefix,
+    is_valid_base_suffix, is_valid_digit_separator, is_valid_exponent_flags, is_valid_punctuation, is_valid_radix,
+    radix_error_impl, roles_disjoint,
 };
 #[doc(no_inline)]
 pub use crate::format_flags::options::{is_valid_options_punctuation, options_error};

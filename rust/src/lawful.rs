@@ -51,9 +51,7 @@ impl Format {
     pub const fn new(word: u128) -> Result<Self, FormatError> {
         // All other functions that return a format call this one.
         match check(word) {
-            Ok(word) => Ok(Format {
-                view: FormatView::new(word),
-            }),
+            Ok(word) => Ok(Format { view: FormatView::new(word) }),
             Err(error) => Err(FormatError::new(error, Cause::Word(word))),
         }
     }

@@ -67,11 +67,7 @@ pub mod ascii;
 mod debug;
 #[allow(clippy::redundant_pattern_matching, reason = "as it is proved")]
 pub mod digit;
-#[allow(
-    clippy::redundant_pattern_matching,
-    clippy::manual_find,
-    reason = "as it is proved"
-)]
+#[allow(clippy::redundant_pattern_matching, clippy::manual_find, reason = "as it is proved")]
 pub mod edits;
 pub mod error;
 pub mod feature_format;

@@ -40,11 +40,7 @@ impl FormatView {
     /// let reasons: Vec<String> = view.options_reasons(b'e', b'.').map(|reason| reason.to_string()).collect();
     /// assert_eq!(reasons, ["the exponent character 'e' is a digit in radix 16"]);
     /// ```
-    pub fn options_reasons(
-        &self,
-        exponent: u8,
-        decimal_point: u8,
-    ) -> impl Iterator<Item = Reason> + Clone {
+    pub fn options_reasons(&self, exponent: u8, decimal_point: u8) -> impl Iterator<Item = Reason> + Clone {
         let reasons = options_reasons(self.word(), exponent, decimal_point);
         reasons.into_iter().flatten()
     }

@@ -138,11 +138,7 @@ struct Characters {
 /// that a reason blames.
 #[must_use]
 pub const fn reasons(format: u128) -> [Option<Reason>; MAX_REASONS] {
-    let word = Characters {
-        format,
-        exponent: 0,
-        point: 0,
-    };
+    let word = Characters { format, exponent: 0, point: 0 };
     // If the word satisfies all rules of a group, its slots stay `None`. Most words do, and their tests take less time.
     let mut slots = [None; MAX_REASONS];
     macro_rules! fill {
@@ -183,16 +179,8 @@ pub const fn reasons(format: u128) -> [Option<Reason>; MAX_REASONS] {
 /// lawful word, `Syntax::new` of `lexical_literal` (in plain Rust, `literal::Syntax::new`) accepts more: it checks the
 /// normal form, in which a digit separator that no flag allows is absent.
 #[must_use]
-pub const fn options_reasons(
-    format: u128,
-    exponent: u8,
-    decimal_point: u8,
-) -> [Option<Reason>; MAX_OPTIONS_REASONS] {
-    let options = Characters {
-        format,
-        exponent,
-        point: decimal_point,
-    };
+pub const fn options_reasons(format: u128, exponent: u8, decimal_point: u8) -> [Option<Reason>; MAX_OPTIONS_REASONS] {
+    let options = Characters { format, exponent, point: decimal_point };
     macro_rules! slots {
         ($($cause:ident($($argument:expr),*);)*) => {
             [$(options.slot(None, options.$cause($($argument),*)),)*]
@@ -217,12 +205,7 @@ impl Characters {
     #[inline(always)]
     const fn slot(&self, rule: Option<Rule>, cause: Option<Cause>) -> Option<Reason> {
         match cause {
-            Some(cause) => Some(Reason {
-                rule,
-                followers: self.followers(rule),
-                cause,
-                mask: self.mask(&cause),
-            }),
+            Some(cause) => Some(Reason { rule, followers: self.followers(rule), cause, mask: self.mask(&cause) }),
             None => None,
         }
     }
@@ -232,14 +215,8 @@ impl Characters {
     const fn followers(&self, rule: Option<Rule>) -> (Option<Rule>, Option<Rule>) {
         match rule {
             Some(Rule::MantissaRadixInRange) => (
-                some_if(
-                    raw_exponent_base(self.format) == 0,
-                    Rule::ExponentBaseInRange,
-                ),
-                some_if(
-                    raw_exponent_radix(self.format) == 0,
-                    Rule::ExponentRadixInRange,
-                ),
+                some_if(raw_exponent_base(self.format) == 0, Rule::ExponentBaseInRange),
+                some_if(raw_exponent_radix(self.format) == 0, Rule::ExponentRadixInRange),
             ),
             _ => (None, None),
         }
@@ -316,12 +293,7 @@ impl Characters {
     #[inline(always)]
     const fn clash(&self, first: Byte, second: Byte) -> Option<Cause> {
         let (a, b) = (self.named(first), self.named(second));
-        if roles_disjoint(
-            a.value,
-            self.is_cased(first),
-            b.value,
-            self.is_cased(second),
-        ) {
+        if roles_disjoint(a.value, self.is_cased(first), b.value, self.is_cased(second)) {
             None
         } else {
             Some(self.clash_cause(a, b))
@@ -345,18 +317,14 @@ impl Characters {
     // Returns the cause for two flags that are both set, if they are.
     #[inline(always)]
     const fn both_set(&self, a: FlagSetter, b: FlagSetter) -> Option<Cause> {
-        some_if(
-            a.is_set(self.format) & b.is_set(self.format),
-            Cause::BothSet(a, b),
-        )
+        some_if(a.is_set(self.format) & b.is_set(self.format), Cause::BothSet(a, b))
     }
 
     // Returns the cause for consecutive digit separators in a part that has no position for one, if there is none.
     #[inline(always)]
     const fn needs_position(&self, part: Part) -> Option<Cause> {
         let allowed = FormatView::new(self.format).separators(part);
-        let is_lonely =
-            allowed.consecutive & !(allowed.internal | allowed.leading | allowed.trailing);
+        let is_lonely = allowed.consecutive & !(allowed.internal | allowed.leading | allowed.trailing);
         some_if(is_lonely, Cause::NeedsPosition(part))
     }
 
@@ -382,14 +350,8 @@ const fn case_flag(byte: Byte) -> Option<FlagSetter> {
 const fn digit_cause(format: u128, byte: NamedByte) -> Option<Cause> {
     let mantissa = flags::mantissa_radix(format);
     let exponent = raw_exponent_radix(format);
-    let radixes = match (
-        char_is_digit(byte.value, mantissa),
-        char_is_digit(byte.value, exponent as u32),
-    ) {
-        (true, true) => Radixes::Both {
-            mantissa: mantissa as u8,
-            exponent,
-        },
+    let radixes = match (char_is_digit(byte.value, mantissa), char_is_digit(byte.value, exponent as u32)) {
+        (true, true) => Radixes::Both { mantissa: mantissa as u8, exponent },
         (true, false) => Radixes::Mantissa(mantissa as u8),
         (false, true) => Radixes::Exponent(exponent),
         (false, false) => return None,

@@ -163,10 +163,7 @@ impl Settings {
 
     /// Adds a setting, and moves the settings that it overrides completely.
     fn push(&mut self, new: Setting) {
-        let old = self.live.into_iter().flatten().map(|old| Setting {
-            mask: old.mask & !new.mask,
-            ..old
-        });
+        let old = self.live.into_iter().flatten().map(|old| Setting { mask: old.mask & !new.mask, ..old });
         let gone = old.clone().filter(|old| old.mask == 0);
         let gone = gone.map(|old| (old, new.index));
         self.overridden = filled(self.overridden.into_iter().flatten().chain(gone));
@@ -251,13 +248,7 @@ fn parse(index: usize, text: &[u8]) -> Result<(Option<usize>, Edit), SettingsErr
         let (error, length, mut piece) = (SettingError(fault), refused.len(), [0; SHOWN]);
         let pairs = piece.iter_mut().zip(refused);
         pairs.for_each(|(to, byte)| *to = *byte);
-        SettingsError {
-            index,
-            error,
-            option,
-            piece,
-            length,
-        }
+        SettingsError { index, error, option, piece, length }
     };
     let equals = text.iter().position(|byte| *byte == b'=');
     let equals = equals.ok_or_else(|| refuse(Fault::NoEquals, None, text))?;
@@ -293,9 +284,7 @@ fn options_of(cause: Cause) -> u128 {
     match cause {
         _ if is_one_option(cause) => EXPONENT | POINT,
         Cause::NotText(byte) | Cause::IsSign(byte) | Cause::IsDigit(byte, _) => mask(byte),
-        Cause::Same(first, second) | Cause::DifferInCase { first, second, .. } => {
-            mask(first) | mask(second)
-        }
+        Cause::Same(first, second) | Cause::DifferInCase { first, second, .. } => mask(first) | mask(second),
         _ => 0,
     }
 }
@@ -329,11 +318,7 @@ impl Finding {
             *slot = index;
             count += 1;
         }
-        Finding {
-            kind,
-            indexes,
-            count,
-        }
+        Finding { kind, indexes, count }
     }
 
     /// Returns the kind.

@@ -19,10 +19,7 @@ impl ShortText {
     /// Returns a text that begins with `words`.
     #[must_use]
     pub const fn of(words: &str) -> ShortText {
-        let mut text = ShortText {
-            bytes: [0; CAPACITY],
-            length: 0,
-        };
+        let mut text = ShortText { bytes: [0; CAPACITY], length: 0 };
         text.put(words);
         text
     }

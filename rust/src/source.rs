@@ -41,11 +41,7 @@ impl fmt::Display for BuilderExpression {
                 write!(f, ".{}({})", edit.name(), argument(edit).as_str())?;
             }
         }
-        f.write_str(if format_is_valid(self.0) {
-            ".build_or_panic()"
-        } else {
-            ".build_unchecked()"
-        })
+        f.write_str(if format_is_valid(self.0) { ".build_or_panic()" } else { ".build_unchecked()" })
     }
 }
 
@@ -62,8 +58,6 @@ fn argument(edit: &Edit) -> ShortText {
         {
             ShortText::of("NonZeroU8::new(b").quoted(byte).and(")")
         }
-        _ => ShortText::of("NonZeroU8::new(")
-            .decimal(byte as usize)
-            .and(")"),
+        _ => ShortText::of("NonZeroU8::new(").decimal(byte as usize).and(")"),
     }
 }

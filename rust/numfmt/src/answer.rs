@@ -125,19 +125,12 @@ fn print_fields<W: Write>(word: u128, out: &mut W) -> io::Result<()> {
 fn print_source<W: Write>(word: u128, out: &mut W) -> io::Result<()> {
     let bits = word & Rule::ReservedBitsAreZero.mask();
     if bits != 0 {
-        writeln!(
-            out,
-            "// This code makes another word, without the reserved bits {bits:#X}"
-        )?;
+        writeln!(out, "// This code makes another word, without the reserved bits {bits:#X}")?;
     }
     let separator = flags::digit_separator(word);
     if separator != 0 && !flags::is_separator_allowed(word) {
         let name = ShortText::of("the digit separator ").quoted(separator);
-        writeln!(
-            out,
-            "// This code makes another word, without {}: no flag allows one",
-            name.as_str()
-        )?;
+        writeln!(out, "// This code makes another word, without {}: no flag allows one", name.as_str())?;
     }
     writeln!(out, "{}", BuilderExpression(word))
 }

@@ -38,11 +38,7 @@ const fn few_pass<const LETTERS: bool>(bytes: &[u8]) -> bool {
     let (mut all, mut index) = (true, 0);
     while index < bytes.len() {
         let byte = bytes[index];
-        all &= if LETTERS {
-            is_valid_letter(byte)
-        } else {
-            is_valid_ascii(byte)
-        };
+        all &= if LETTERS { is_valid_letter(byte) } else { is_valid_ascii(byte) };
         index += 1;
     }
     all

@@ -73,9 +73,7 @@ const fn taken(setter: Setter) -> &'static str {
             "a character such as '_', a number from 0 to 255, or `none`"
         }
         Setter::MantissaRadix | Setter::Radix => "a number, 2 to 36 in a lawful format",
-        Setter::ExponentBase | Setter::ExponentRadix => {
-            "a number, 2 to 36 in a lawful format, or `none`"
-        }
+        Setter::ExponentBase | Setter::ExponentRadix => "a number, 2 to 36 in a lawful format, or `none`",
     }
 }
 

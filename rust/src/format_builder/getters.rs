@@ -3,8 +3,8 @@
 //! The getters of a builder.
 
 use super::{
-    NonZeroU8, NumberFormatBuilder, OptionU8, BASE_PREFIX, BASE_SUFFIX, DIGIT_SEPARATOR,
-    EXPONENT_BASE, EXPONENT_RADIX, MANTISSA_RADIX,
+    NonZeroU8, NumberFormatBuilder, OptionU8, BASE_PREFIX, BASE_SUFFIX, DIGIT_SEPARATOR, EXPONENT_BASE, EXPONENT_RADIX,
+    MANTISSA_RADIX,
 };
 use crate::format_flags as flags;
 

@@ -3,8 +3,8 @@
 //! The setters of a builder. Each takes the builder and returns it with one or more fields changed.
 
 use super::{
-    byte_or_zero, NumberFormatBuilder, OptionU8, BASE_PREFIX, BASE_SUFFIX, DIGIT_SEPARATOR,
-    EXPONENT_BASE, EXPONENT_RADIX, MANTISSA_RADIX,
+    byte_or_zero, NumberFormatBuilder, OptionU8, BASE_PREFIX, BASE_SUFFIX, DIGIT_SEPARATOR, EXPONENT_BASE,
+    EXPONENT_RADIX, MANTISSA_RADIX,
 };
 use crate::format_flags as flags;
 

@@ -92,12 +92,7 @@ pub const fn roles_disjoint(a: u8, a_case_sensitive: bool, b: u8, b_case_sensiti
 // Returns the same result as `roles_disjoint`, but with a single comparison if the two bytes differ in a
 // bit other than 0x20, as most pairs of bytes do.
 #[inline]
-pub(crate) const fn roles_disjoint_fast(
-    a: u8,
-    a_case_sensitive: bool,
-    b: u8,
-    b_case_sensitive: bool,
-) -> bool {
+pub(crate) const fn roles_disjoint_fast(a: u8, a_case_sensitive: bool, b: u8, b_case_sensitive: bool) -> bool {
     (a | 0x20) != (b | 0x20) || roles_disjoint(a, a_case_sensitive, b, b_case_sensitive)
 }
 
@@ -197,8 +192,7 @@ pub const fn is_valid_punctuation(format: u128) -> bool {
     let suffix = base_suffix(format);
     let prefix_case = prefix_is_case_sensitive(format);
     let suffix_case = suffix_is_case_sensitive(format);
-    let is_near =
-        may_clash(separator, prefix) | may_clash(separator, suffix) | may_clash(prefix, suffix);
+    let is_near = may_clash(separator, prefix) | may_clash(separator, suffix) | may_clash(prefix, suffix);
     !is_near
         || (roles_disjoint(separator, true, prefix, prefix_case)
             && roles_disjoint(separator, true, suffix, suffix_case)

@@ -135,11 +135,7 @@ impl Rule {
             Rule::BasePrefixIsPunctuation => BASE_PREFIX | DIGIT_RADIXES,
             Rule::BaseSuffixIsPunctuation => BASE_SUFFIX | DIGIT_RADIXES,
             Rule::PunctuationDiffers => {
-                DIGIT_SEPARATOR
-                    | BASE_PREFIX
-                    | BASE_SUFFIX
-                    | CASE_SENSITIVE_BASE_PREFIX
-                    | CASE_SENSITIVE_BASE_SUFFIX
+                DIGIT_SEPARATOR | BASE_PREFIX | BASE_SUFFIX | CASE_SENSITIVE_BASE_PREFIX | CASE_SENSITIVE_BASE_SUFFIX
             }
             Rule::ExponentFlagsAgree => NO_EXPONENT_NOTATION | REQUIRED_EXPONENT_NOTATION,
             Rule::MantissaSignFlagsAgree => NO_POSITIVE_MANTISSA_SIGN | REQUIRED_MANTISSA_SIGN,

@@ -4,8 +4,8 @@
 
 use crate::error::Error;
 use crate::literal::steps::{
-    self, class_of, has_digit, in_part, is_digit, is_exponent_character, is_point, needs_exponent,
-    Class, Stage, Summary,
+    self, class_of, has_digit, in_part, is_digit, is_exponent_character, is_point, needs_exponent, Class, Stage,
+    Summary,
 };
 use crate::literal::syntax::Grammar;
 use crate::word as masks;
@@ -124,10 +124,7 @@ struct Stop {
 impl Stop {
     // Returns whether the text could go on if the flags of the format were `mask`.
     const fn allows(self, mask: u128) -> bool {
-        let other = Grammar {
-            word: mask,
-            options: self.grammar.options,
-        };
+        let other = Grammar { word: mask, options: self.grammar.options };
         match self.next {
             None => steps::is_complete(other, self.read),
             Some(class) => matches!(steps::step(other, self.read, class), Some(_)),
@@ -162,9 +159,7 @@ impl Stop {
         let Summary { part, stage, .. } = self.read;
         let is_sign = matches!(role, Some(Role::Sign));
         match (number, part) {
-            (0, Part::Integer) | (1, Part::Fraction) | (2, Part::Exponent) => {
-                ends_part(role) && !has_digit(stage)
-            }
+            (0, Part::Integer) | (1, Part::Fraction) | (2, Part::Exponent) => ends_part(role) && !has_digit(stage),
             (3, Part::Integer) => matches!(role, Some(Role::Exponent)) && !has_digit(stage),
             (3, Part::Fraction) => ends_part(role) && matches!(stage, Stage::Lone),
             (4, Part::Integer | Part::Fraction) | (7, Part::Exponent) => {
@@ -175,9 +170,7 @@ impl Stop {
             }
             (6, _) | (9, Part::Integer) => matches!(role, Some(Role::Exponent)),
             (12, _) => self.leads(role),
-            (13, Part::Integer) => {
-                matches!(role, Some(Role::Point | Role::Exponent)) && matches!(stage, Stage::Led)
-            }
+            (13, Part::Integer) => matches!(role, Some(Role::Point | Role::Exponent)) && matches!(stage, Stage::Led),
             (14, Part::Integer | Part::Fraction) => {
                 matches!(role, Some(Role::Suffix)) && matches!(self.grammar.options, Some(_))
             }
@@ -193,9 +186,7 @@ impl Stop {
         let zero = matches!(stage, Stage::Bare | Stage::Zero);
         match role {
             Some(Role::Digit) => integers && zero,
-            Some(Role::Separator) => {
-                integers && zero && !self.grammar.view().separators(part).trailing
-            }
+            Some(Role::Separator) => integers && zero && !self.grammar.view().separators(part).trailing,
             Some(Role::Suffix) => matches!(stage, Stage::Led) && matches!(part, Part::Integer),
             _ => false,
         }
@@ -260,8 +251,7 @@ impl Stop {
 
     // Returns where a separator is not allowed.
     const fn place(self) -> Place {
-        let is_consecutive =
-            self.read.gap && !self.grammar.view().separators(self.read.part).consecutive;
+        let is_consecutive = self.read.gap && !self.grammar.view().separators(self.read.part).consecutive;
         if is_consecutive && matches!(self.role(), Some(Role::Separator)) {
             Place::Consecutive
         } else if has_digit(self.read.stage) {
@@ -281,11 +271,7 @@ impl Stop {
         if mask == 0 {
             return 0;
         }
-        let stop = Stop {
-            grammar: self.grammar,
-            read: self.read,
-            next: Some(class_of(self.grammar, other)),
-        };
+        let stop = Stop { grammar: self.grammar, read: self.read, next: Some(class_of(self.grammar, other)) };
         flag_if(stop.allows(self.bare()), mask)
     }
 
@@ -293,10 +279,7 @@ impl Stop {
     const fn wrong(self, byte: u8) -> Blame {
         let separators = self.separators();
         if separators != 0 {
-            return Blame {
-                cause: Cause::Separator(self.read.part, self.place()),
-                mask: separators,
-            };
+            return Blame { cause: Cause::Separator(self.read.part, self.place()), mask: separators };
         }
         let mask = self.case_flag(byte);
         let cause = if mask == 0 { Cause::Byte } else { Cause::Case };
@@ -306,16 +289,10 @@ impl Stop {
     // Returns the cause.
     const fn blame(self, next: Option<u8>) -> Blame {
         if self.allows(self.bare()) {
-            return Blame {
-                cause: Cause::Requirement,
-                mask: self.requirements(),
-            };
+            return Blame { cause: Cause::Requirement, mask: self.requirements() };
         }
         match next {
-            None => Blame {
-                cause: Cause::Missing(self.read.part),
-                mask: 0,
-            },
+            None => Blame { cause: Cause::Missing(self.read.part), mask: 0 },
             Some(byte) => self.wrong(byte),
         }
     }
@@ -347,16 +324,9 @@ const fn flag_if(is_set: bool, flag: u128) -> u128 {
 
 // Returns the flags by which the case of `byte` counts.
 const fn case_mask(grammar: Grammar, byte: u8) -> u128 {
-    flag_if(
-        is_exponent_character(grammar, byte),
-        masks::CASE_SENSITIVE_EXPONENT,
-    ) | flag_if(
-        grammar.view().is_base_prefix(byte),
-        masks::CASE_SENSITIVE_BASE_PREFIX,
-    ) | flag_if(
-        grammar.view().is_base_suffix(byte),
-        masks::CASE_SENSITIVE_BASE_SUFFIX,
-    )
+    flag_if(is_exponent_character(grammar, byte), masks::CASE_SENSITIVE_EXPONENT)
+        | flag_if(grammar.view().is_base_prefix(byte), masks::CASE_SENSITIVE_BASE_PREFIX)
+        | flag_if(grammar.view().is_base_suffix(byte), masks::CASE_SENSITIVE_BASE_SUFFIX)
 }
 
 // Returns the other case of a letter, or the byte itself if it is not a letter.
@@ -424,40 +394,25 @@ struct Limits {
 }
 
 // Returns the first index and the end of the bytes to show for the flag with the number `number`.
-const fn requirement_span(
-    grammar: Grammar,
-    text: &[u8],
-    limits: Limits,
-    number: u32,
-) -> (usize, usize) {
+const fn requirement_span(grammar: Grammar, text: &[u8], limits: Limits, number: u32) -> (usize, usize) {
     let Limits { size, end } = limits;
     match number {
         2 => (behind(grammar, Kind::ExponentCharacter, text, size), size),
-        12 | 13 => (
-            first(grammar, Kind::Digit, text, end),
-            behind(grammar, Kind::Digit, text, end),
-        ),
+        12 | 13 => (first(grammar, Kind::Digit, text, end), behind(grammar, Kind::Digit, text, end)),
         4 | 6 | 7 | 9 => (size, size + 1),
         _ => (size, size),
     }
 }
 
 // Returns the first index and the end of the bytes to show for a cause and its lowest flag.
-const fn span(
-    grammar: Grammar,
-    text: &[u8],
-    limits: Limits,
-    cause: Cause,
-    number: u32,
-) -> (usize, usize) {
+const fn span(grammar: Grammar, text: &[u8], limits: Limits, cause: Cause, number: u32) -> (usize, usize) {
     let Limits { size, end } = limits;
     match cause {
         Cause::Requirement => requirement_span(grammar, text, limits, number),
         Cause::Separator(_, Place::Consecutive) | Cause::Case | Cause::Byte => (size, size + 1),
-        Cause::Separator(_, _) => (
-            behind(grammar, Kind::NotSeparator, text, size),
-            behind(grammar, Kind::Separator, text, end),
-        ),
+        Cause::Separator(_, _) => {
+            (behind(grammar, Kind::NotSeparator, text, size), behind(grammar, Kind::Separator, text, end))
+        }
         Cause::Missing(_) => (size, size),
     }
 }
@@ -484,14 +439,7 @@ const fn requirement_error(grammar: Grammar, number: u32, start: usize, size: us
 }
 
 // Returns the error for a cause and its lowest flag, where the bytes to show begin at `start`.
-const fn error(
-    grammar: Grammar,
-    text: &[u8],
-    size: usize,
-    cause: Cause,
-    number: u32,
-    start: usize,
-) -> Error {
+const fn error(grammar: Grammar, text: &[u8], size: usize, cause: Cause, number: u32, start: usize) -> Error {
     match cause {
         Cause::Requirement => requirement_error(grammar, number, start, size),
         Cause::Missing(_) if behind(grammar, Kind::Mark, text, size) == 0 => Error::Empty(start),
@@ -519,11 +467,7 @@ pub(crate) const fn refusal(
     next: Option<Class>,
 ) -> ReadError {
     let byte = byte_at(text, size);
-    let stop = Stop {
-        grammar,
-        read,
-        next,
-    };
+    let stop = Stop { grammar, read, next };
     let Blame { cause, mask } = stop.blame(byte);
     let number = mask.trailing_zeros();
     let end = if size < text.len() { size + 1 } else { size };

@@ -42,10 +42,7 @@ impl Syntax {
     /// If `text` does not begin with a literal, returns the error of [`read`][Self::read]. For a wrong byte, the text
     /// before it may have an error that states what is missing, as above. A text such as `1e;` begins with the literal
     /// `1`. To refuse it, the example `tokenizer` first finds the end of the token, and reads all of it.
-    pub const fn read_prefix<'a>(
-        &self,
-        text: &'a [u8],
-    ) -> Result<(Literal<'a>, &'a [u8]), ReadError> {
+    pub const fn read_prefix<'a>(&self, text: &'a [u8]) -> Result<(Literal<'a>, &'a [u8]), ReadError> {
         front(self.grammar(), text, self.read_front(text))
     }
 
@@ -90,10 +87,7 @@ impl Reader {
     /// # Errors
     ///
     /// If `text` does not begin with a literal, returns the error of [`read`][Self::read].
-    pub const fn read_prefix<'a>(
-        &self,
-        text: &'a [u8],
-    ) -> Result<(Literal<'a>, &'a [u8]), ReadError> {
+    pub const fn read_prefix<'a>(&self, text: &'a [u8]) -> Result<(Literal<'a>, &'a [u8]), ReadError> {
         front(self.grammar, text, self.read_front(text))
     }
 }

@@ -5,9 +5,7 @@
 use crate::literal::cause::{refusal, ReadError};
 use crate::literal::steps::{class_of, Class};
 use crate::literal::syntax::{Grammar, Syntax};
-use crate::literal::tables::{
-    is_complete, piece_number, step_from, summary_at, Step, Tables, START,
-};
+use crate::literal::tables::{is_complete, piece_number, step_from, summary_at, Step, Tables, START};
 
 /// The parts of a literal, in the order of the text. An absent part has no bytes.
 #[derive(Debug, Clone, Copy, PartialEq, Eq, Hash)]
@@ -78,10 +76,7 @@ impl Reader {
     #[must_use]
     pub const fn new(syntax: Syntax) -> Reader {
         let grammar = syntax.grammar();
-        Reader {
-            grammar,
-            tables: Tables::new(grammar),
-        }
+        Reader { grammar, tables: Tables::new(grammar) }
     }
 
     /// Returns the parts of the literal `text`, as [`Syntax::read`] does.
@@ -118,11 +113,7 @@ struct Scanned {
 
 // Returns the parts of the literal `text`, or how far it is right.
 #[inline(always)]
-const fn read<'a>(
-    grammar: Grammar,
-    tables: Option<&Tables>,
-    text: &'a [u8],
-) -> Result<Parts<'a>, ReadError> {
+const fn read<'a>(grammar: Grammar, tables: Option<&Tables>, text: &'a [u8]) -> Result<Parts<'a>, ReadError> {
     let scanned = scan(grammar, tables, text);
     match scanned.literal {
         Some(size) if size == text.len() => Ok(cut(text, scanned.counts)),
@@ -132,21 +123,14 @@ const fn read<'a>(
 
 // Returns the longest front of `text` that is a literal, or how far it is right.
 #[inline(always)]
-const fn read_prefix<'a>(
-    grammar: Grammar,
-    tables: Option<&Tables>,
-    text: &'a [u8],
-) -> Result<Front<'a>, ReadError> {
+const fn read_prefix<'a>(grammar: Grammar, tables: Option<&Tables>, text: &'a [u8]) -> Result<Front<'a>, ReadError> {
     let scanned = scan(grammar, tables, text);
     let Some(size) = scanned.literal else {
         return Err(refuse(grammar, tables, text, scanned));
     };
     let front = front_of(text, size);
     if size == scanned.valid_up_to {
-        return Ok(Front {
-            parts: cut(front, scanned.counts),
-            size,
-        });
+        return Ok(Front { parts: cut(front, scanned.counts), size });
     }
     match read(grammar, tables, front) {
         Ok(parts) => Ok(Front { parts, size }),
@@ -156,12 +140,7 @@ const fn read_prefix<'a>(
 
 // Returns why `text` is not a literal.
 #[inline(always)]
-const fn refuse(
-    grammar: Grammar,
-    tables: Option<&Tables>,
-    text: &[u8],
-    scanned: Scanned,
-) -> ReadError {
+const fn refuse(grammar: Grammar, tables: Option<&Tables>, text: &[u8], scanned: Scanned) -> ReadError {
     let size = scanned.valid_up_to;
     let next = class_at(grammar, tables, text, size);
     refusal(grammar, text, size, summary_at(scanned.row), next)
@@ -169,12 +148,7 @@ const fn refuse(
 
 // Returns the class of the byte behind the first `size`, if there is one, by the tables if there are any.
 #[inline(always)]
-const fn class_at(
-    grammar: Grammar,
-    tables: Option<&Tables>,
-    text: &[u8],
-    size: usize,
-) -> Option<Class> {
+const fn class_at(grammar: Grammar, tables: Option<&Tables>, text: &[u8], size: usize) -> Option<Class> {
     if size >= text.len() {
         return None;
     }
@@ -207,17 +181,7 @@ const fn cut<'a>(text: &'a [u8], counts: [usize; 9]) -> Parts<'a> {
     let (exponent_character, after_character) = split_front(after_fraction, counts[5]);
     let (exponent_sign, after_exponent_sign) = split_front(after_character, counts[6]);
     let (exponent, suffix) = split_front(after_exponent_sign, counts[7]);
-    Parts {
-        sign,
-        prefix,
-        integer,
-        point,
-        fraction,
-        exponent_character,
-        exponent_sign,
-        exponent,
-        suffix,
-    }
+    Parts { sign, prefix, integer, point, fraction, exponent_character, exponent_sign, exponent, suffix }
 }
 
 // Reads `text` until no literal begins with what has been read.
@@ -229,12 +193,7 @@ const fn scan(grammar: Grammar, tables: Option<&Tables>, text: &[u8]) -> Scanned
     let mut index = 0;
     while index < text.len() {
         let Some(next) = step_by(grammar, tables, row, text[index]) else {
-            return Scanned {
-                valid_up_to: index,
-                row,
-                literal,
-                counts,
-            };
+            return Scanned { valid_up_to: index, row, literal, counts };
         };
         row = next.row;
         counts[piece_number(next.piece)] += 1;
@@ -243,12 +202,7 @@ const fn scan(grammar: Grammar, tables: Option<&Tables>, text: &[u8]) -> Scanned
         }
         index += 1;
     }
-    Scanned {
-        valid_up_to: index,
-        row,
-        literal,
-        counts,
-    }
+    Scanned { valid_up_to: index, row, literal, counts }
 }
 
 // Returns what `byte` makes of a row, by the tables if there are any.

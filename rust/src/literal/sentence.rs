@@ -39,17 +39,13 @@ impl ReadError {
     /// ```
     pub fn settings(&self) -> impl Iterator<Item = Edit> + Clone {
         let is_separator = matches!(self.cause(), Cause::Separator(..));
-        self.blamed()
-            .map(move |flag| Edit::Flag(flag, is_separator))
+        self.blamed().map(move |flag| Edit::Flag(flag, is_separator))
     }
 
     /// Returns the flags to blame.
     fn blamed(&self) -> impl Iterator<Item = FlagSetter> + Clone {
         let mask = self.mask();
-        FlagSetter::FLAGS
-            .iter()
-            .copied()
-            .filter(move |flag| flag.is_set(mask))
+        FlagSetter::FLAGS.iter().copied().filter(move |flag| flag.is_set(mask))
     }
 }
 

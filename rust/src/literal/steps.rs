@@ -151,10 +151,7 @@ const fn piece_of(part: Part, role: Role) -> Piece {
 
 // Returns whether the part has a digit.
 pub(crate) const fn has_digit(stage: Stage) -> bool {
-    matches!(
-        stage,
-        Stage::Bare | Stage::Zero | Stage::Led | Stage::Digits
-    )
+    matches!(stage, Stage::Bare | Stage::Zero | Stage::Led | Stage::Digits)
 }
 
 // Returns whether a separator may be at a place in `part` with digits before it, or not, and after it, or not.
@@ -243,11 +240,7 @@ const fn takes(grammar: Grammar, read: Summary, plus: bool, role: Role) -> bool 
     let Summary { part, stage, .. } = read;
     let digit = has_digit(stage);
     match role {
-        Role::Digit => {
-            is_signed(grammar, part, stage)
-                && gap_fits(grammar, read, true)
-                && may_follow(grammar, stage)
-        }
+        Role::Digit => is_signed(grammar, part, stage) && gap_fits(grammar, read, true) && may_follow(grammar, stage),
         Role::Separator => {
             is_signed(grammar, part, stage)
                 && (!read.gap || format.separators(part).consecutive)
@@ -288,12 +281,7 @@ const fn after(read: Summary, zero: bool, role: Role) -> Summary {
         Role::Sign | Role::Suffix => read.gap,
         _ => false,
     };
-    Summary {
-        part,
-        stage,
-        gap,
-        ended: read.ended || matches!(role, Role::Suffix),
-    }
+    Summary { part, stage, gap, ended: read.ended || matches!(role, Role::Suffix) }
 }
 
 // Returns what a byte of `class` makes of what has been read, or `None` if no literal begins so.
@@ -301,10 +289,9 @@ pub(crate) const fn step(grammar: Grammar, read: Summary, class: Class) -> Optio
     let plus = matches!(class, Class::Plus);
     let zero = matches!(class, Class::Zero);
     match in_part(read.part, class) {
-        Some(role) if !read.ended && takes(grammar, read, plus, role) => Some(Move {
-            summary: after(read, zero, role),
-            piece: piece_of(read.part, role),
-        }),
+        Some(role) if !read.ended && takes(grammar, read, plus, role) => {
+            Some(Move { summary: after(read, zero, role), piece: piece_of(read.part, role) })
+        }
         _ => None,
     }
 }

@@ -66,12 +66,7 @@ impl Syntax {
     pub const fn integers_of_word(word: u128) -> Result<Syntax, Error> {
         match check(word) {
             Err(error) => Err(error),
-            Ok(_) => Ok(Syntax {
-                grammar: Grammar {
-                    word: normal_form(word),
-                    options: None,
-                },
-            }),
+            Ok(_) => Ok(Syntax { grammar: Grammar { word: normal_form(word), options: None } }),
         }
     }
 
@@ -104,12 +99,7 @@ impl Syntax {
 const fn with_options(normal: u128, exponent: u8, point: u8) -> Result<Syntax, Error> {
     let error = options_error(normal, exponent, point);
     if error.is_success() {
-        Ok(Syntax {
-            grammar: Grammar {
-                word: normal,
-                options: Some(Options { exponent, point }),
-            },
-        })
+        Ok(Syntax { grammar: Grammar { word: normal, options: Some(Options { exponent, point }) } })
     } else {
         Err(error)
     }

@@ -96,22 +96,14 @@ const fn row_number(read: Summary) -> u8 {
 // Returns the summary of a row.
 pub(crate) const fn summary_at(row: u8) -> Summary {
     let row = row as usize;
-    Summary {
-        part: PARTS[row / 36],
-        stage: STAGES[row / 4 % 9],
-        gap: row / 2 % 2 == 1,
-        ended: row % 2 == 1,
-    }
+    Summary { part: PARTS[row / 36], stage: STAGES[row / 4 % 9], gap: row / 2 % 2 == 1, ended: row % 2 == 1 }
 }
 
 // Returns what a byte of `class` makes of a row, or `None` if no literal begins so.
 pub(crate) const fn step_from(grammar: Grammar, from: u8, class: Class) -> Option<Step> {
     match steps::step(grammar, summary_at(from), class) {
         None => None,
-        Some(next) => Some(Step {
-            row: row_number(next.summary),
-            piece: next.piece,
-        }),
+        Some(next) => Some(Step { row: row_number(next.summary), piece: next.piece }),
     }
 }
 
@@ -139,10 +131,7 @@ const fn row_of(grammar: Grammar, from: u8) -> Row {
         steps[column] = step_from(grammar, from, CLASSES[column]);
         column += 1;
     }
-    Row {
-        steps,
-        is_complete: is_complete(grammar, from),
-    }
+    Row { steps, is_complete: is_complete(grammar, from) }
 }
 
 // Returns all rows.
@@ -159,10 +148,7 @@ const fn rows_of(grammar: Grammar) -> [Row; ROWS] {
 impl Tables {
     // Returns the tables of a grammar.
     pub(crate) const fn new(grammar: Grammar) -> Tables {
-        Tables {
-            classes: classes_of(grammar),
-            rows: rows_of(grammar),
-        }
+        Tables { classes: classes_of(grammar), rows: rows_of(grammar) }
     }
 
     // Returns the class of `byte`.

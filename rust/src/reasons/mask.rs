@@ -44,9 +44,7 @@ impl Reason {
     /// explains at most one broken rule.
     #[must_use]
     pub const fn breaks(&self, rule: Rule) -> bool {
-        is_rule(self.rule, rule)
-            || is_rule(self.followers.0, rule)
-            || is_rule(self.followers.1, rule)
+        is_rule(self.rule, rule) || is_rule(self.followers.0, rule) || is_rule(self.followers.1, rule)
     }
 
     /// Returns the mask of the bits that the reason blames. Every format word that has the same values in these bits
@@ -79,16 +77,8 @@ impl Characters {
                 byte.name.mask() | flags::MANTISSA_RADIX | flags::EXPONENT_RADIX
             }
             Cause::Same(first, second) => first.name.mask() | second.name.mask(),
-            Cause::DifferInCase {
-                first,
-                first_flag,
-                second,
-                second_flag,
-            } => {
-                first.name.mask()
-                    | second.name.mask()
-                    | flag_mask(*first_flag)
-                    | flag_mask(*second_flag)
+            Cause::DifferInCase { first, first_flag, second, second_flag } => {
+                first.name.mask() | second.name.mask() | flag_mask(*first_flag) | flag_mask(*second_flag)
             }
             Cause::BothSet(first, second) => mask_of(*first) as u128 | mask_of(*second) as u128,
             Cause::NeedsPosition(Part::Integer) => flags::INTEGER_DIGIT_SEPARATOR_FLAG_MASK,
@@ -101,9 +91,7 @@ impl Characters {
     // Returns the mask of the absent exponent bytes if `name` is the mantissa radix, and 0 otherwise.
     const fn followers_mask(&self, name: Byte) -> u128 {
         match name {
-            Byte::MantissaRadix => {
-                self.absent_mask(Byte::ExponentBase) | self.absent_mask(Byte::ExponentRadix)
-            }
+            Byte::MantissaRadix => self.absent_mask(Byte::ExponentBase) | self.absent_mask(Byte::ExponentRadix),
             _ => 0,
         }
     }

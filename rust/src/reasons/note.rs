@@ -54,10 +54,7 @@ pub const fn notes(format: u128) -> [Option<Note>; MAX_NOTES] {
 
 /// Returns the notes on a format word for which [`reasons`] returns `reasons`, as [`notes`] does.
 #[must_use]
-pub const fn notes_beside_reasons(
-    format: u128,
-    reasons: &[Option<Reason>],
-) -> [Option<Note>; MAX_NOTES] {
+pub const fn notes_beside_reasons(format: u128, reasons: &[Option<Reason>]) -> [Option<Note>; MAX_NOTES] {
     notes_beside(blamed(reasons), format, flags::digit_separator(format))
 }
 
@@ -76,16 +73,8 @@ pub const fn notes_of_fields(builder: &NumberFormatBuilder) -> [Option<Note>; MA
 
 // Returns the notes on a word in which the digit separator is replaced by `separator`, except those on `blamed` bits.
 const fn notes_beside(blamed: u128, format: u128, separator: u8) -> [Option<Note>; MAX_NOTES] {
-    let prefix = case_note(
-        format,
-        FlagSetter::CaseSensitiveBasePrefix,
-        Byte::BasePrefix,
-    );
-    let suffix = case_note(
-        format,
-        FlagSetter::CaseSensitiveBaseSuffix,
-        Byte::BaseSuffix,
-    );
+    let prefix = case_note(format, FlagSetter::CaseSensitiveBasePrefix, Byte::BasePrefix);
+    let suffix = case_note(format, FlagSetter::CaseSensitiveBaseSuffix, Byte::BaseSuffix);
     [
         unless_blamed(blamed, separator_note(format, separator)),
         unless_blamed(blamed, prefix),
@@ -95,10 +84,7 @@ const fn notes_beside(blamed: u128, format: u128, separator: u8) -> [Option<Note
 
 // Returns the note on a digit separator and its flags, if any.
 const fn separator_note(format: u128, separator: u8) -> Option<Note> {
-    let byte = NamedByte {
-        name: Byte::DigitSeparator,
-        value: separator,
-    };
+    let byte = NamedByte { name: Byte::DigitSeparator, value: separator };
     if flags::is_separator_allowed(format) {
         some_if(separator == 0, Note::FlagsWithoutSeparator)
     } else {
@@ -109,17 +95,10 @@ const fn separator_note(format: u128, separator: u8) -> Option<Note> {
 // Returns the note on the case flag of a byte, if any.
 #[inline(always)]
 const fn case_note(format: u128, flag: FlagSetter, byte: Byte) -> Option<Note> {
-    let word = Characters {
-        format,
-        exponent: 0,
-        point: 0,
-    };
+    let word = Characters { format, exponent: 0, point: 0 };
     let named = word.named(byte);
-    let note = if named.value == 0 {
-        Note::CaseFlagWithoutByte(flag, byte)
-    } else {
-        Note::CaseFlagOfNonLetter(flag, named)
-    };
+    let note =
+        if named.value == 0 { Note::CaseFlagWithoutByte(flag, byte) } else { Note::CaseFlagOfNonLetter(flag, named) };
     some_if(word.is_cased(byte) & has_no_case(named.value), note)
 }
 

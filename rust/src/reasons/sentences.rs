@@ -17,31 +17,22 @@ impl Reason {
                 .and(" ")
                 .decimal(byte.value as usize)
                 .and(" is not between 2 and 36"),
-            Cause::NotText(byte) => {
-                quoted(ShortText::of(""), byte).and(" is not an allowed ASCII character")
-            }
+            Cause::NotText(byte) => quoted(ShortText::of(""), byte).and(" is not an allowed ASCII character"),
             Cause::IsSign(byte) => quoted(ShortText::of(""), byte).and(" is a sign (+ or -)"),
             Cause::IsDigit(byte, radixes) => digit_text(byte, *radixes),
             Cause::Same(first, second) => both(first, second).and(" are the same"),
-            Cause::DifferInCase {
-                first,
-                first_flag,
-                second,
-                second_flag,
-            } => {
+            Cause::DifferInCase { first, first_flag, second, second_flag } => {
                 let (end, flag) = case_text(*first_flag, *second_flag);
                 both(first, second).and(end).and(flag)
             }
-            Cause::BothSet(first, second) => ShortText::of(first.name())
-                .and(" and ")
-                .and(second.name())
-                .and(" cannot both be set"),
-            Cause::NeedsPosition(part) => ShortText::of(consecutive_flag(*part).name()).and(
-                " requires an internal, leading or trailing flag for the same part of the number",
-            ),
-            Cause::ReservedBits(bits) => ShortText::of("reserved bits are set: ")
-                .hexadecimal(*bits)
-                .and(", which any edit clears"),
+            Cause::BothSet(first, second) => {
+                ShortText::of(first.name()).and(" and ").and(second.name()).and(" cannot both be set")
+            }
+            Cause::NeedsPosition(part) => ShortText::of(consecutive_flag(*part).name())
+                .and(" requires an internal, leading or trailing flag for the same part of the number"),
+            Cause::ReservedBits(bits) => {
+                ShortText::of("reserved bits are set: ").hexadecimal(*bits).and(", which any edit clears")
+            }
         }
     }
 }
@@ -54,9 +45,9 @@ impl Note {
             Note::FlagsWithoutSeparator => {
                 ShortText::of("digit separator flags are set, but there is no digit separator")
             }
-            Note::CaseFlagWithoutByte(flag, byte) => ShortText::of(flag.name())
-                .and(" is set, but there is no ")
-                .and(byte.label()),
+            Note::CaseFlagWithoutByte(flag, byte) => {
+                ShortText::of(flag.name()).and(" is set, but there is no ").and(byte.label())
+            }
             Note::CaseFlagOfNonLetter(flag, byte) => {
                 let start = ShortText::of(flag.name()).and(" is set, but ");
                 quoted(start, byte).and(" is not a letter")
@@ -95,10 +86,7 @@ impl Byte {
 
 // Appends the name of a byte, and its value in quotes.
 const fn quoted(text: ShortText, byte: &NamedByte) -> ShortText {
-    text.and("the ")
-        .and(byte.name.label())
-        .and(" ")
-        .quoted(byte.value)
+    text.and("the ").and(byte.name.label()).and(" ").quoted(byte.value)
 }
 
 // Returns a text that begins with two bytes joined by `and`.
@@ -110,9 +98,7 @@ const fn both(first: &NamedByte, second: &NamedByte) -> ShortText {
 const fn digit_text(byte: &NamedByte, radixes: Radixes) -> ShortText {
     let text = quoted(ShortText::of(""), byte).and(" is a digit in ");
     match radixes {
-        Radixes::Mantissa(radix) | Radixes::Exponent(radix) => {
-            text.and("radix ").decimal(radix as usize)
-        }
+        Radixes::Mantissa(radix) | Radixes::Exponent(radix) => text.and("radix ").decimal(radix as usize),
         Radixes::Both { mantissa, exponent } => text
             .and("the mantissa radix ")
             .decimal(mantissa as usize)
@@ -122,15 +108,10 @@ const fn digit_text(byte: &NamedByte, radixes: Radixes) -> ShortText {
 }
 
 // Returns the end of the sentence for two bytes that differ in case, of which these case flags are not set.
-const fn case_text(
-    first: Option<FlagSetter>,
-    second: Option<FlagSetter>,
-) -> (&'static str, &'static str) {
+const fn case_text(first: Option<FlagSetter>, second: Option<FlagSetter>) -> (&'static str, &'static str) {
     match (first, second) {
         (Some(_), Some(_)) => (" differ only in case, and neither is case-sensitive", ""),
-        (Some(flag), None) | (None, Some(flag)) => {
-            (" differ only in case, which requires ", flag.name())
-        }
+        (Some(flag), None) | (None, Some(flag)) => (" differ only in case, which requires ", flag.name()),
         (None, None) => (" differ only in case", ""),
     }
 }

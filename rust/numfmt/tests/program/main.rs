@@ -67,9 +67,7 @@ fn ends_with_status_3_if_only_a_part_is_written() {
     // The file takes one block, of at most 1,024 bytes. A write beyond it fails.
     let mut shell = Command::new("sh");
     shell.args(["-c", "trap '' XFSZ; ulimit -f 1; exec \"$@\"", "sh"]);
-    shell
-        .arg(numfmt().get_program())
-        .args(["explain", "0xFFFFFFFFFFFFFFFFFFFFFFFFFFFFFFFF"]);
+    shell.arg(numfmt().get_program()).args(["explain", "0xFFFFFFFFFFFFFFFFFFFFFFFFFFFFFFFF"]);
     let path = concat!(env!("CARGO_TARGET_TMPDIR"), "/numfmt");
     let status = shell.stdout(File::create(path).unwrap()).status().unwrap();
     assert_eq!(status.code(), Some(3));

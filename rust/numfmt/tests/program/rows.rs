@@ -27,14 +27,12 @@ const EACH_BYTE_SET: &str = "NumberFormatBuilder::new().required_integer_digits(
 .exponent_radix(NonZeroU8::new(6)).build_unchecked()
 ";
 
-const BOTH_LOST: &str =
-    "// This code makes another word, without the reserved bits 0xFFFF000000000000000000
+const BOTH_LOST: &str = "// This code makes another word, without the reserved bits 0xFFFF000000000000000000
 // This code makes another word, without the digit separator 10: no flag allows one
 NumberFormatBuilder::new().build_unchecked()
 ";
 
-const LAWFUL_AND_LOST: &str =
-    "// This code makes another word, without the digit separator '_': no flag allows one
+const LAWFUL_AND_LOST: &str = "// This code makes another word, without the digit separator '_': no flag allows one
 NumberFormatBuilder::new().build_or_panic()
 ";
 
