@@ -1,6 +1,7 @@
 //! What the page offers for a number that is not as expected: states near the shown one in which it is.
 
 use core::cmp::Reverse;
+use core::mem::discriminant;
 
 use peltzivar::format::{
     BASE_PREFIX, BASE_SUFFIX, CONSECUTIVE_DIGIT_SEPARATOR, DIGIT_SEPARATOR, DIGIT_SEPARATOR_FLAG_MASK, EXPONENT_BASE,
@@ -61,16 +62,16 @@ impl State {
         self.exact().or_else(|| others.into_iter().find_map(Self::exact))
     }
 
-    /// Returns the state with a fitting exponent character, if the word is lawful and the decimal point fits.
+    /// Returns the state with an exponent character and a decimal point that fit, if the word is lawful.
     fn fitting(self) -> Option<Self> {
-        let characters = [self.exponent].into_iter().chain(EXPONENTS);
-        let mut states = characters.map(|exponent| Self { exponent, ..self });
-        states.find(|it| it.exact().is_some())
+        let of_point = |point| [self.exponent].into_iter().chain(EXPONENTS).map(move |it| (it, point));
+        let mut options = [self.point, b'.', b','].into_iter().flat_map(of_point);
+        options.find_map(|(exponent, point)| Some(Self { exponent, point, ..self }).filter(|it| it.exact().is_some()))
     }
 
-    /// Returns the state with a byte in a field of the word.
+    /// Returns the state with a byte in a field of the word. The reserved bits are cleared, as by any edit.
     fn with(self, field: u128, byte: u8) -> Self {
-        Self { word: self.word & !field | u128::from(byte) << field.trailing_zeros(), ..self }
+        Self { word: self.word & !(field | RESERVED) | u128::from(byte) << field.trailing_zeros(), ..self }
     }
 
     /// Returns the state with another mantissa radix. If the exponent character is a digit in it, hexadecimal floats are
@@ -196,8 +197,9 @@ fn refusing(state: State, text: &[u8], found: &mut Found<'_>) {
         let other = State { word: state.word ^ flag, ..state };
         // Consecutive separators need another flag of their part.
         let single = State { word: other.word & !CONSECUTIVE_DIGIT_SEPARATOR, ..other };
-        let other = other.exact().map_or(single, |_| other);
-        if other.exact().is_some_and(|it| read(&it, text).is_err()) {
+        let other = other.syntax().map_or(single, |_| other);
+        let is_refused = other.syntax().is_some_and(|it| read(&it, text).is_err());
+        if is_refused && problems(other).count() <= problems(state).count() {
             found.push(other);
         }
     }
@@ -332,27 +334,39 @@ pub fn problems(state: State) -> impl Iterator<Item = Reason> {
     view.reasons().chain(options)
 }
 
+/// Returns the one or two bytes that are the cause of a reason.
+fn bytes_of(reason: Reason) -> Option<[Byte; 2]> {
+    match reason.cause() {
+        Problem::OutOfRange(byte) | Problem::NotText(byte) | Problem::IsSign(byte) | Problem::IsDigit(byte, _) => {
+            Some([byte.name; 2])
+        }
+        Problem::Same(first, second) | Problem::DifferInCase { first, second, .. } => Some([first.name, second.name]),
+        _ => None,
+    }
+}
+
 /// Returns whether a reason blames the exponent character, and whether it blames the decimal point.
 pub fn blamed_options(reason: Reason) -> [bool; 2] {
-    let (first, second) = match reason.cause() {
-        Problem::NotText(byte) | Problem::IsSign(byte) | Problem::IsDigit(byte, _) => (byte, byte),
-        Problem::Same(first, second) | Problem::DifferInCase { first, second, .. } => (first, second),
-        _ => return [false; 2],
-    };
-    [Byte::ExponentCharacter, Byte::DecimalPoint].map(|it| first.name == it || second.name == it)
+    [Byte::ExponentCharacter, Byte::DecimalPoint].map(|it| bytes_of(reason).is_some_and(|bytes| bytes.contains(&it)))
+}
+
+/// Returns whether two reasons are the same, or blame the same bytes for the same kind of cause.
+fn is_alike(first: Reason, second: Reason) -> bool {
+    let [a, b] = [first, second].map(|it| bytes_of(it).map(|bytes| (bytes, discriminant(&it.cause()))));
+    first == second || a.is_some() && a == b
 }
 
 /// Returns the states in which one field that a reason blames is absent or cleared, or one option is another character.
-/// In each, there are fewer problems, and this reason is not among them.
+/// In each, there are fewer problems, and none of them blames the same bytes for the same kind of cause.
 pub fn repairs(state: State, reason: Reason) -> impl Iterator<Item = State> {
     let [exponents, points] = blamed_options(reason);
-    let flags =
-        bits_of(reason.mask() & state.word & FLAG_MASK).map(move |flag| State { word: state.word & !flag, ..state });
+    let flags = bits_of(reason.mask() & state.word & FLAG_MASK).map(move |flag| state.with(flag, 0));
     let bytes = [DIGIT_SEPARATOR, BASE_PREFIX, BASE_SUFFIX, EXPONENT_BASE, EXPONENT_RADIX].map(|field| (field, 0));
     let fields = bytes.into_iter().chain([(MANTISSA_RADIX, 10), (RESERVED, 0)]);
     let fields = fields.filter(move |it| reason.mask() & it.0 != 0).map(move |(field, byte)| state.with(field, byte));
-    let is_better =
-        move |it: &State| problems(*it).count() < problems(state).count() && problems(*it).all(|it| it != reason);
+    let is_better = move |it: &State| {
+        problems(*it).count() < problems(state).count() && !problems(*it).any(|it| is_alike(it, reason))
+    };
     let exponents = exponents.then_some(EXPONENTS).into_iter().flatten();
     let exponent = exponents.map(move |exponent| State { exponent, ..state }).filter(is_better).take(1);
     let points = points.then_some([b'.', b',']).into_iter().flatten();
