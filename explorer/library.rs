@@ -125,17 +125,9 @@ fn put_line(out: &mut Answer, state: State, syntax: &Syntax, lines: &[u8], line:
     out.write_str("}")
 }
 
-/// Writes the parts of a text, and why and where it is refused.
+/// Writes the parts of a text, or of its longest front that is a number, and then why and where it is refused.
 fn put_reading(out: &mut Answer, syntax: &Syntax, text: &[u8]) -> fmt::Result {
     out.write_str(r#""parts":"#)?;
-    put_parts(out, syntax, text)?;
-    let Err(error) = read(syntax, text) else { return Ok(()) };
-    let (mask, Range { start, end }) = (Word(error.mask()), error.span());
-    write!(out, r#","error":{},"mask":{mask},"start":{start},"end":{end}"#, Quoted(error))
-}
-
-/// Writes the parts of a text, or of its longest front that is a number.
-fn put_parts(out: &mut Answer, syntax: &Syntax, text: &[u8]) -> fmt::Result {
     let put = |out: &mut Answer, (kind, bytes): (&str, &[u8])| {
         let size = bytes.len();
         write!(out, r#"{{"kind":"{kind}","size":{size}}}"#)
@@ -145,9 +137,12 @@ fn put_parts(out: &mut Answer, syntax: &Syntax, text: &[u8]) -> fmt::Result {
         return list(out, [("sign", sign), ("special", rest)].into_iter().filter(|(_, bytes)| !bytes.is_empty()), put);
     }
     match syntax.read_prefix(text) {
-        Ok((literal, _)) => list(out, literal.parts(), put),
-        Err(_) => out.write_str("[]"),
+        Ok((literal, _)) => list(out, literal.parts(), put)?,
+        Err(_) => out.write_str("[]")?,
     }
+    let Err(error) = syntax.read(text) else { return Ok(()) };
+    let (mask, Range { start, end }) = (Word(error.mask()), error.span());
+    write!(out, r#","error":{},"mask":{mask},"start":{start},"end":{end}"#, Quoted(error))
 }
 
 /// Writes an array, each item by a function.

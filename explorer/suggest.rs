@@ -1,7 +1,6 @@
 //! What the page offers for a number that is not as expected: states near the shown one in which it is.
 
 use core::cmp::Reverse;
-use core::mem::discriminant;
 
 use peltzivar::format::{
     BASE_PREFIX, BASE_SUFFIX, CONSECUTIVE_DIGIT_SEPARATOR, DIGIT_SEPARATOR, DIGIT_SEPARATOR_FLAG_MASK, EXPONENT_BASE,
@@ -334,39 +333,29 @@ pub fn problems(state: State) -> impl Iterator<Item = Reason> {
     view.reasons().chain(options)
 }
 
-/// Returns the one or two bytes that are the cause of a reason.
-fn bytes_of(reason: Reason) -> Option<[Byte; 2]> {
-    match reason.cause() {
-        Problem::OutOfRange(byte) | Problem::NotText(byte) | Problem::IsSign(byte) | Problem::IsDigit(byte, _) => {
-            Some([byte.name; 2])
-        }
-        Problem::Same(first, second) | Problem::DifferInCase { first, second, .. } => Some([first.name, second.name]),
-        _ => None,
-    }
-}
-
 /// Returns whether a reason blames the exponent character, and whether it blames the decimal point.
 pub fn blamed_options(reason: Reason) -> [bool; 2] {
-    [Byte::ExponentCharacter, Byte::DecimalPoint].map(|it| bytes_of(reason).is_some_and(|bytes| bytes.contains(&it)))
-}
-
-/// Returns whether two reasons are the same, or blame the same bytes for the same kind of cause.
-fn is_alike(first: Reason, second: Reason) -> bool {
-    let [a, b] = [first, second].map(|it| bytes_of(it).map(|bytes| (bytes, discriminant(&it.cause()))));
-    first == second || a.is_some() && a == b
+    let (first, second) = match reason.cause() {
+        Problem::NotText(byte) | Problem::IsSign(byte) | Problem::IsDigit(byte, _) => (byte, byte),
+        Problem::Same(first, second) | Problem::DifferInCase { first, second, .. } => (first, second),
+        _ => return [false; 2],
+    };
+    [Byte::ExponentCharacter, Byte::DecimalPoint].map(|it| first.name == it || second.name == it)
 }
 
 /// Returns the states in which one field that a reason blames is absent or cleared, or one option is another character.
-/// In each, there are fewer problems, and none of them blames the same bytes for the same kind of cause.
+/// In each, there are fewer problems, and none of them has the same cause, nor is the same byte a digit in other radixes.
 pub fn repairs(state: State, reason: Reason) -> impl Iterator<Item = State> {
     let [exponents, points] = blamed_options(reason);
     let flags = bits_of(reason.mask() & state.word & FLAG_MASK).map(move |flag| state.with(flag, 0));
     let bytes = [DIGIT_SEPARATOR, BASE_PREFIX, BASE_SUFFIX, EXPONENT_BASE, EXPONENT_RADIX].map(|field| (field, 0));
     let fields = bytes.into_iter().chain([(MANTISSA_RADIX, 10), (RESERVED, 0)]);
     let fields = fields.filter(move |it| reason.mask() & it.0 != 0).map(move |(field, byte)| state.with(field, byte));
-    let is_better = move |it: &State| {
-        problems(*it).count() < problems(state).count() && !problems(*it).any(|it| is_alike(it, reason))
+    let is_alike = move |it: Reason| match (it.cause(), reason.cause()) {
+        (Problem::IsDigit(byte, _), Problem::IsDigit(other, _)) => byte.name == other.name,
+        (cause, other) => cause == other,
     };
+    let is_better = move |it: &State| problems(*it).count() < problems(state).count() && !problems(*it).any(is_alike);
     let exponents = exponents.then_some(EXPONENTS).into_iter().flatten();
     let exponent = exponents.map(move |exponent| State { exponent, ..state }).filter(is_better).take(1);
     let points = points.then_some([b'.', b',']).into_iter().flatten();

@@ -61,7 +61,6 @@ fn numbers_of_many_forms_lead_to_their_formats() {
     let separators = state(flags, b'e', b'.');
     let none = State { word: separators.word & !DIGIT_SEPARATOR_FLAG_MASK, ..separators };
     assert_eq!(offered(separators, "!1_0\n10").first(), Some(&none));
-    // The exponent character is a digit.
     let unfit = State { word: 0x0A0A_1000_0000_005F_0000_0007_0000_000C, exponent: b'e', point: b'.' };
     assert!(offered(unfit, "!2").contains(&State { word: unfit.word | REQUIRED_MANTISSA_SIGN, ..unfit }));
 }
