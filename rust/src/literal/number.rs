@@ -311,6 +311,10 @@ impl Iterator for Digits<'_> {
         let bytes = self.bytes.len();
         (if self.separator == 0 { bytes } else { 0 }, Some(bytes))
     }
+
+    fn count(self) -> usize {
+        self.bytes.filter(|&&byte| byte != self.separator).count()
+    }
 }
 
 impl DoubleEndedIterator for Digits<'_> {
