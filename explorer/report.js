@@ -101,7 +101,7 @@ class Report {
     show(state, { error, reasons, options, notes, normal }) {
         this.state = state;
         const all = [...reasons, ...options];
-        const lawful = options.length ? "An option does not fit the lawful word" : "Lawful";
+        const lawful = options.length ? "An option does not fit" : "Lawful";
         setText(find("verdict"), error ? `Not lawful: ${all.length} reason${all.length > 1 ? "s" : ""}` : lawful);
         find("verdict").className = all.length ? "bad" : "good";
         find("reasons").replaceChildren(...all.map((reason) => this.reason(reason)));

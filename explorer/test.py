@@ -200,7 +200,7 @@ class Walk(unittest.TestCase):
         self.type("#base_prefix", "x")
         self.type("#mantissa_radix", "16")
         self.assertEqual(self.value(), "0x0000100078000000000000000000000C")
-        self.assertEqual(self.text("#verdict"), "An option does not fit the lawful word")
+        self.assertEqual(self.text("#verdict"), "An option does not fit")
         self.assertEqual(self.texts(".reason strong"), ["the exponent character 'e' is a digit in radix 16"])
         self.assertEqual(self.texts(".reason .link"), ["exponent character", "mantissa_radix", "exponent_radix"])
         self.type("#exponent", "p")
@@ -313,7 +313,7 @@ class Walk(unittest.TestCase):
     def test_numbers_are_read_if_only_an_option_does_not_fit(self):
         self.load("#word=0x0000100000000000000000000000000C")
         self.type("#literal", "1F.8\n1p3")
-        self.assertEqual((self.text("#verdict"), self.text("#count")), ("An option does not fit the lawful word", "1 of 2 as expected"))
+        self.assertEqual((self.text("#verdict"), self.text("#count")), ("An option does not fit", "1 of 2 as expected"))
         self.assertEqual(self.texts(".reason .use"), ["exponent='p'", "mantissa_radix=10"])
         self.click(".reason .use", "exponent='p'")
         self.assertEqual(self.text("#count"), "2 of 2 as expected")
