@@ -24,6 +24,7 @@ class Library {
         /* The fields in the order of their bits, and all that has a setter by its name. */
         this.fields = [...this.flags, ...this.bytes];
         this.named = new Map([...this.fields, ...this.groups].map((field) => [field.name, field]));
+        this.known = this.fields.reduce((all, { mask }) => all | mask, 0n);
         this.standard = this.build([]).word;
     }
 
@@ -78,11 +79,11 @@ class Library {
         return isByte ? Number((word & mask) >> BigInt(bit)) : Number((word & mask) === mask);
     }
 
-    /* Returns the word in which only the bits of this field or group change. */
+    /* Returns the word with another value of this field or group. The reserved bits are cleared, as by any edit. */
     put(word, name, value) {
         const { mask, bit, isByte } = this.named.get(name);
-        if (isByte) return (word & ~mask) | (BigInt(value) << BigInt(bit));
-        return value ? word | mask : word & ~mask;
+        const set = isByte ? BigInt(value) << BigInt(bit) : value ? mask : 0n;
+        return (word & this.known & ~mask) | set;
     }
 
     /* Returns the byte, or the mantissa radix in place of an absent exponent byte. */
@@ -119,8 +120,7 @@ class Library {
         const hasAll = (mask & group.mask) === group.mask;
         const rest = hasAll ? mask & ~group.mask : mask;
         const names = this.fields.filter((field) => field.mask & rest).map(({ name }) => name);
-        const known = this.fields.reduce((all, field) => all | field.mask, 0n);
-        return [...(hasAll ? [group.name] : []), ...names, ...(mask & ~known ? ["reserved"] : [])];
+        return [...(hasAll ? [group.name] : []), ...names, ...(mask & ~this.known ? ["reserved"] : [])];
     }
 
     /* Returns a field and its value as a setting. */

@@ -99,7 +99,7 @@ fn put_state(out: &mut Answer, State { word, exponent, point }: State) -> fmt::R
 
 /// Returns an object for each of the lines: the parts of its number, or of the longest front of a refused text that is a
 /// number; why and where it is refused, with the flags to blame and the bytes to mark; and, if it is not as expected, the
-/// states that are offered, each with the parts of the number in it and how many lines are as expected then. If the word
+/// states that are offered, each with the same for the number in it and how many lines are as expected then. If the word
 /// is not lawful, returns an empty array.
 #[unsafe(no_mangle)]
 pub extern "C" fn numbers(low: u64, high: u64, exponent: u8, point: u8, length: usize) -> usize {
@@ -111,26 +111,23 @@ pub extern "C" fn numbers(low: u64, high: u64, exponent: u8, point: u8, length: 
 }
 
 fn put_line(out: &mut Answer, state: State, syntax: &Syntax, lines: &[u8], line: Line<'_>) -> fmt::Result {
-    out.write_str(r#"{"parts":"#)?;
-    put_parts(out, syntax, line.text)?;
-    let result = read(syntax, line.text);
-    if let Err(error) = result {
-        let (mask, Range { start, end }) = (Word(error.mask()), error.span());
-        write!(out, r#","error":{},"mask":{mask},"start":{start},"end":{end}"#, Quoted(error))?;
-    }
+    out.write_str("{")?;
+    put_reading(out, syntax, line.text)?;
     out.write_str(r#","offers":"#)?;
-    let found = if result.is_err() == line.is_refused { Found::new(lines) } else { offers(state, lines, line) };
+    let is_expected = read(syntax, line.text).is_err() == line.is_refused;
+    let found = if is_expected { Found::new(lines) } else { offers(state, lines, line) };
     list(out, found.best(), |out, (state, expected)| {
         put_state(out, state)?;
-        write!(out, r#","expected":{expected},"parts":"#)?;
-        state.syntax().map_or(Ok(()), |it| put_parts(out, &it, line.text))?;
+        write!(out, r#","expected":{expected},"#)?;
+        state.syntax().map_or(Ok(()), |it| put_reading(out, &it, line.text))?;
         out.write_str("}")
     })?;
     out.write_str("}")
 }
 
-/// Writes the parts of a text, or of its longest front that is a number.
-fn put_parts(out: &mut Answer, syntax: &Syntax, text: &[u8]) -> fmt::Result {
+/// Writes the parts of a text, or of its longest front that is a number, and then why and where it is refused.
+fn put_reading(out: &mut Answer, syntax: &Syntax, text: &[u8]) -> fmt::Result {
+    out.write_str(r#""parts":"#)?;
     let put = |out: &mut Answer, (kind, bytes): (&str, &[u8])| {
         let size = bytes.len();
         write!(out, r#"{{"kind":"{kind}","size":{size}}}"#)
@@ -140,9 +137,12 @@ fn put_parts(out: &mut Answer, syntax: &Syntax, text: &[u8]) -> fmt::Result {
         return list(out, [("sign", sign), ("special", rest)].into_iter().filter(|(_, bytes)| !bytes.is_empty()), put);
     }
     match syntax.read_prefix(text) {
-        Ok((literal, _)) => list(out, literal.parts(), put),
-        Err(_) => out.write_str("[]"),
+        Ok((literal, _)) => list(out, literal.parts(), put)?,
+        Err(_) => out.write_str("[]")?,
     }
+    let Err(error) = syntax.read(text) else { return Ok(()) };
+    let (mask, Range { start, end }) = (Word(error.mask()), error.span());
+    write!(out, r#","error":{},"mask":{mask},"start":{start},"end":{end}"#, Quoted(error))
 }
 
 /// Writes an array, each item by a function.

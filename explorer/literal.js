@@ -61,10 +61,10 @@ class Trial {
             const worded = offers.map((offer) => {
                 const differences = this.library.differences(offer, this.state);
                 const changes = differences.sort((a, b) => Number(!a.isByte) - Number(!b.isByte));
-                const then = isRefused ? "refused" : this.reading(offer, text, offer.parts);
-                const count = answers.length > 1 ? `, then ${offer.expected} of ${answers.length} as expected` : "";
+                const count = answers.length > 1 ? `; ${offer.expected} of ${answers.length} as expected` : "";
                 const label = `set ${changes.map((it) => it.text).join(", ")}`;
-                return { ...offer, changes, label, then: `${text}: ${then}${count}` };
+                const told = this.told({ ...offer, text, isRefused }, offer);
+                return { ...offer, changes, label, then: `then ${text} is ${told}${count}` };
             });
             const isExpected = isRefused === Boolean(answer.error);
             return { ...answer, text, place: lines[index].place, isRefused, isExpected, offers: worded };
@@ -112,10 +112,10 @@ class Trial {
         );
     }
 
-    /* Returns what is told of a number. */
-    told({ text, error, start, parts, isRefused }) {
+    /* Returns what is told of a number in a state. */
+    told({ text, error, start, parts, isRefused }, state = this.state) {
         const where = start < text.length ? `at index ${start}` : "at the end";
-        const what = error ? `${where}: ${error}` : this.reading(this.state, text, parts);
+        const what = error ? `${where}: ${error}` : this.reading(state, text, parts);
         if (isRefused) return error ? `refused: ${what}` : `accepted as ${what}, but it must be refused`;
         return error ? what : `accepted: ${what}`;
     }

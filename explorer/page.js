@@ -4,8 +4,8 @@
 const LANGUAGES = ["rust", "c", "python", "settings"];
 /* After how many milliseconds without an edit the fragment is written. */
 const PAUSE = 400;
-const TOLD = "Copied is the part from # on, since others cannot open a file of this machine. It belongs behind the address "
-    + "of their page, or into the field of its format word.";
+/* What is told for a while of a link that is copied from a file, which others cannot open. */
+const [TOLD, TOLD_FOR] = ["Copied from # on: paste it behind the address of the page.", 8000];
 
 /* Returns the place and the meaning of each field by its name. */
 function meaningsOf({ flags, groups, bytes }) {
@@ -35,6 +35,7 @@ class Page {
         this.cells = makeBits(library, (name) => this.controls.boxes.get(name).click());
         this.code = new Code(library);
         this.meanings = meaningsOf(library);
+        this.hint = find("hint").textContent;
         setText(find("version"), data.version);
         this.listen();
         this.listenToWord();
@@ -61,6 +62,7 @@ class Page {
             this.save();
             const isFile = location.protocol === "file:";
             setText(find("copied"), isFile ? TOLD : "");
+            setTimeout(() => setText(find("copied"), ""), TOLD_FOR);
             copy(event.target, isFile ? location.hash : location.href);
         });
         click("verdict", () => find("report-title").focus());
@@ -71,9 +73,9 @@ class Page {
             if (target.id !== this.key) this.key = "";
             this.mark(marked(target));
         });
-        document.addEventListener("pointerover", ({ target }) => {
-            this.mark(marked(target) ?? marked(document.activeElement));
-        });
+        const point = ({ target }) => this.mark(marked(target) ?? marked(document.activeElement));
+        document.addEventListener("pointerover", point);
+        document.documentElement.addEventListener("pointerleave", (it) => it.pointerType === "mouse" && point(it));
     }
 
     /* Takes Ctrl+Z, Ctrl+Y and Ctrl+Shift+Z, except in the fields for texts. */
@@ -163,6 +165,7 @@ class Page {
             history.replaceState(null, "", link[0]);
             return this.read();
         }
+        if (link || (text.startsWith("#") && !isWhole)) return this.tell("Press Enter to take this link.", false);
         const { word, options, notes = [], error } = this.library.read(text);
         if (error) {
             const forms = "A word is `0x` and up to 32 hexadecimal digits, a decimal number, or settings such as `radix=16`.";
@@ -309,7 +312,7 @@ class Page {
             const isMarked = other.dataset.field.split(" ").some((name) => names.includes(name));
             other.classList.toggle("marked", isMarked);
         }
-        if (!names.length) return;
+        if (!names.length) return setText(find("hint"), this.hint);
         const [where, meaning] = this.meanings.get(names[0]) ?? ["", ""];
         find("hint").replaceChildren(element("code", {}, names[0]), ` ${where}: `, ...withCode(meaning));
     }

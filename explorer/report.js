@@ -57,13 +57,13 @@ class Report {
         this.compare();
     }
 
-    /* Returns the state to compare with, or {error}. */
+    /* Returns the state to compare with, or {error}, which is empty if there is no text. */
     other() {
         const name = find("compare").value;
         const standard = { ...STANDARD_OPTIONS, word: this.library.standard };
         if (name !== "another") return this.data.languages.find((it) => it.name === name) ?? standard;
         const { word, options, error } = this.library.read(find("other").value);
-        return error ? { error } : { ...STANDARD_OPTIONS, word, ...options };
+        return error ? { error: find("other").value.trim() && error } : { ...STANDARD_OPTIONS, word, ...options };
     }
 
     /* Shows each field and option that differs from the other format, with a button that takes it back. */
@@ -72,13 +72,14 @@ class Report {
         const other = this.other();
         find("other-line").hidden = find("compare").value !== "another";
         const hadFocus = [...find("changes").querySelectorAll("button")].indexOf(document.activeElement);
-        const changes = other.error ? [] : library.differences(state, other);
-        const isSame = () => {
-            const isOption = ({ name }) => name in STANDARD_OPTIONS;
-            return !changes.some(isOption) && library.explain(other).normal === library.explain(state).normal;
-        };
-        const same = changes.length ? "Same format: the other word only stores it differently." : "Same format.";
-        setText(find("same"), other.error ?? (isSame() ? same : "Not the same format. What differs:"));
+        const isState = !("error" in other);
+        const changes = isState ? library.differences(state, other) : [];
+        const { error, normal } = isState ? library.explain(other) : other;
+        const isSame = normal === library.explain(state).normal && !changes.some(({ name }) => name in STANDARD_OPTIONS);
+        const same = changes.length ? "Same format, stored differently." : "Same format.";
+        const told = error ? "The other word is not lawful." : isSame ? same : "Not the same format.";
+        const where = changes.length ? " Where they differ, the word above has:" : "";
+        setText(find("same"), isState ? told + where : error);
         const chips = changes.map(({ name, text, before, value, isByte }) => {
             const title = `back to ${before}`;
             const back = button("back", "\u00d7", () => this.edit(name, value), { title, "aria-label": title });
@@ -99,11 +100,10 @@ class Report {
     /* Shows all of this for a state and what explains it, and returns the reasons. */
     show(state, { error, reasons, options, notes, normal }) {
         this.state = state;
-        const count = (number) => (number === 1 ? "1 reason" : `${number} reasons`);
-        const lawful = options.length ? "Lawful, but an option does not fit" : "Lawful";
-        setText(find("verdict"), error ? `Not lawful: ${count(reasons.length)}` : lawful);
-        find("verdict").className = error || options.length ? "bad" : "good";
         const all = [...reasons, ...options];
+        const lawful = options.length ? "An option does not fit" : "Lawful";
+        setText(find("verdict"), error ? `Not lawful: ${all.length} reason${all.length > 1 ? "s" : ""}` : lawful);
+        find("verdict").className = all.length ? "bad" : "good";
         find("reasons").replaceChildren(...all.map((reason) => this.reason(reason)));
         find("notes").replaceChildren(...notes.map((note) => this.note(note)));
         this.compare();

@@ -61,16 +61,16 @@ impl State {
         self.exact().or_else(|| others.into_iter().find_map(Self::exact))
     }
 
-    /// Returns the state with a fitting exponent character, if the word is lawful and the decimal point fits.
+    /// Returns the state with an exponent character and a decimal point that fit, if the word is lawful.
     fn fitting(self) -> Option<Self> {
-        let characters = [self.exponent].into_iter().chain(EXPONENTS);
-        let mut states = characters.map(|exponent| Self { exponent, ..self });
-        states.find(|it| it.exact().is_some())
+        let of_point = |point| [self.exponent].into_iter().chain(EXPONENTS).map(move |it| (it, point));
+        let mut options = [self.point, b'.', b','].into_iter().flat_map(of_point);
+        options.find_map(|(exponent, point)| Some(Self { exponent, point, ..self }).filter(|it| it.exact().is_some()))
     }
 
-    /// Returns the state with a byte in a field of the word.
+    /// Returns the state with a byte in a field of the word. The reserved bits are cleared, as by any edit.
     fn with(self, field: u128, byte: u8) -> Self {
-        Self { word: self.word & !field | u128::from(byte) << field.trailing_zeros(), ..self }
+        Self { word: self.word & !(field | RESERVED) | u128::from(byte) << field.trailing_zeros(), ..self }
     }
 
     /// Returns the state with another mantissa radix. If the exponent character is a digit in it, hexadecimal floats are
@@ -196,8 +196,9 @@ fn refusing(state: State, text: &[u8], found: &mut Found<'_>) {
         let other = State { word: state.word ^ flag, ..state };
         // Consecutive separators need another flag of their part.
         let single = State { word: other.word & !CONSECUTIVE_DIGIT_SEPARATOR, ..other };
-        let other = other.exact().map_or(single, |_| other);
-        if other.exact().is_some_and(|it| read(&it, text).is_err()) {
+        let other = other.syntax().map_or(single, |_| other);
+        let is_refused = other.syntax().is_some_and(|it| read(&it, text).is_err());
+        if is_refused && problems(other).count() <= problems(state).count() {
             found.push(other);
         }
     }
@@ -343,16 +344,18 @@ pub fn blamed_options(reason: Reason) -> [bool; 2] {
 }
 
 /// Returns the states in which one field that a reason blames is absent or cleared, or one option is another character.
-/// In each, there are fewer problems, and this reason is not among them.
+/// In each, there are fewer problems, and none of them has the same cause, nor is the same byte a digit in other radixes.
 pub fn repairs(state: State, reason: Reason) -> impl Iterator<Item = State> {
     let [exponents, points] = blamed_options(reason);
-    let flags =
-        bits_of(reason.mask() & state.word & FLAG_MASK).map(move |flag| State { word: state.word & !flag, ..state });
+    let flags = bits_of(reason.mask() & state.word & FLAG_MASK).map(move |flag| state.with(flag, 0));
     let bytes = [DIGIT_SEPARATOR, BASE_PREFIX, BASE_SUFFIX, EXPONENT_BASE, EXPONENT_RADIX].map(|field| (field, 0));
     let fields = bytes.into_iter().chain([(MANTISSA_RADIX, 10), (RESERVED, 0)]);
     let fields = fields.filter(move |it| reason.mask() & it.0 != 0).map(move |(field, byte)| state.with(field, byte));
-    let is_better =
-        move |it: &State| problems(*it).count() < problems(state).count() && problems(*it).all(|it| it != reason);
+    let is_alike = move |it: Reason| match (it.cause(), reason.cause()) {
+        (Problem::IsDigit(byte, _), Problem::IsDigit(other, _)) => byte.name == other.name,
+        (cause, other) => cause == other,
+    };
+    let is_better = move |it: &State| problems(*it).count() < problems(state).count() && !problems(*it).any(is_alike);
     let exponents = exponents.then_some(EXPONENTS).into_iter().flatten();
     let exponent = exponents.map(move |exponent| State { exponent, ..state }).filter(is_better).take(1);
     let points = points.then_some([b'.', b',']).into_iter().flatten();

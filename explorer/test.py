@@ -200,7 +200,7 @@ class Walk(unittest.TestCase):
         self.type("#base_prefix", "x")
         self.type("#mantissa_radix", "16")
         self.assertEqual(self.value(), "0x0000100078000000000000000000000C")
-        self.assertEqual(self.text("#verdict"), "Lawful, but an option does not fit")
+        self.assertEqual(self.text("#verdict"), "An option does not fit")
         self.assertEqual(self.texts(".reason strong"), ["the exponent character 'e' is a digit in radix 16"])
         self.assertEqual(self.texts(".reason .link"), ["exponent character", "mantissa_radix", "exponent_radix"])
         self.type("#exponent", "p")
@@ -258,7 +258,8 @@ class Walk(unittest.TestCase):
         def shown():
             return self.text("#same"), self.texts("#changes code")
 
-        differ = "Not the same format. What differs:"
+        where = "Where they differ, the word above has:"
+        differ = f"Not the same format. {where}"
         self.assertEqual(shown(), ("Same format.", []))
         self.click("#keep")
         self.type("#exponent", "p")
@@ -266,11 +267,14 @@ class Walk(unittest.TestCase):
         self.click("#changes button")
         self.assertEqual((shown(), self.value("#exponent")), (("Same format.", []), "e"))
         self.type("#other", "0x0A0A0A0000000000000000000000000C")
-        self.assertEqual(shown(), ("Same format: the other word only stores it differently.", ["exponent_base=none", "exponent_radix=none"]))
+        self.assertEqual(shown(), (f"Same format, stored differently. {where}", ["exponent_base=none", "exponent_radix=none"]))
         self.type("#other", "radix=16 exponent='^'")
         self.assertEqual(shown(), (differ, ["mantissa_radix=10", "exponent='e'"]))
-        self.type("#other", "nonsense")
-        self.assertEqual(shown(), ("This is neither a word nor a list of settings.", []))
+        for text, wanted in {"nonsense": "This is neither a word nor a list of settings.", " ": ""}.items():
+            self.type("#other", text)
+            self.assertEqual(shown(), (wanted, []))
+        self.type("#other", "0xC")
+        self.assertEqual(shown(), (f"The other word is not lawful. {where}", ["mantissa_radix=10"]))
         Select(self.find("#compare")).select_by_value("TOML")
         self.assertEqual(self.texts("#changes code")[0], "required_integer_digits=false")
         Select(self.find("#language")).select_by_value("TOML")
@@ -309,7 +313,7 @@ class Walk(unittest.TestCase):
     def test_numbers_are_read_if_only_an_option_does_not_fit(self):
         self.load("#word=0x0000100000000000000000000000000C")
         self.type("#literal", "1F.8\n1p3")
-        self.assertEqual((self.text("#verdict"), self.text("#count")), ("Lawful, but an option does not fit", "1 of 2 as expected"))
+        self.assertEqual((self.text("#verdict"), self.text("#count")), ("An option does not fit", "1 of 2 as expected"))
         self.assertEqual(self.texts(".reason .use"), ["exponent='p'", "mantissa_radix=10"])
         self.click(".reason .use", "exponent='p'")
         self.assertEqual(self.text("#count"), "2 of 2 as expected")
@@ -374,6 +378,7 @@ class Walk(unittest.TestCase):
         self.type("#word", "nonsense")
         self.type("#base_prefix", "xyz")
         self.type("#literal", "1_000")
+        self.click("#copy-link")
         self.assertEqual(self.run_script(place), before)
 
     def test_the_normal_form_is_used(self):
@@ -424,7 +429,9 @@ class Walk(unittest.TestCase):
         self.run_script("navigator.clipboard.writeText = async (text) => { window.copied = text; }")
         self.click("#copy-link")
         self.wait(lambda: self.run_script("return window.copied") == f"#word={STANDARD}&exponent=112&point=46")
-        self.assertIn("Copied is the part from # on", self.text("#copied"))
+        self.assertIn("Copied from # on", self.text("#copied"))
+        self.type("#word", "#wo")
+        self.assertEqual(self.find("#word").get_attribute("aria-invalid"), "false")
         self.type("#word", "index.html#word=0xC&numbers=7" + Keys.ENTER)
         self.assertEqual((self.value("#literal"), self.text("#verdict")), ("7", "Not lawful: 1 reason"))
         self.load("#word=nonsense&exponent=300&point=")
@@ -470,7 +477,7 @@ class Walk(unittest.TestCase):
         self.type("#literal", "0x1F\n0x1_0.8p3\n!0x.8\n0x1h")
         self.assertEqual(self.texts("#read ul li")[0],
             "set base_prefix='x', mantissa_radix=16, exponent_base=2, exponent_radix=10, exponent='p'\n"
-            "0x1F: integer = 31, then 1 of 4 as expected")
+            "then 0x1F is accepted: integer = 31; 1 of 4 as expected")
         for _ in range(4):
             self.find("#read .use").send_keys(Keys.ENTER)
         self.assertEqual((self.focused(), self.text("#count")), ("literal", "4 of 4 as expected"))
@@ -496,7 +503,7 @@ class Walk(unittest.TestCase):
         self.find("#base_prefix").send_keys(Keys.CONTROL, "a")
         before = self.run_script(place)
         self.find("#base_prefix").send_keys("5")
-        self.assertEqual(self.text("#verdict"), "Not lawful: 1 reason")
+        self.assertEqual(self.text("#verdict"), "Not lawful: 2 reasons")
         self.assertAlmostEqual(self.run_script(place), before, delta=2)
         self.assertEqual(self.run_script("return document.querySelector('.bar').getBoundingClientRect().top"), 0)
 
