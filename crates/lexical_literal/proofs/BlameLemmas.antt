@@ -1,7 +1,9 @@
 -- The flags that are found are to blame.
-use Rattle.std.proofs.Common.{ℕ, ◌≡◌, ◌<◌, ◌≤◌, ◌/◌, ◌%◌, ◌^◌, ◌↔◌, min, Bool, true, false, not, ◌==◌, ◌&&◌, ◌||◌, inl, inr, IsTrue, bit_and, if◌then◌else◌, nat_lt, List}
+use Rattle.std.proofs.Common.{ℕ, ◌≡◌, ◌<◌, ◌≤◌, ◌/◌, ◌%◌, ◌^◌, ◌↔◌, min, Bool, true, false, not, ◌==◌, ◌&&◌}
+use Rattle.std.proofs.Common.{◌||◌, inl, inr, IsTrue, bit_and, if◌then◌else◌, nat_lt, List}
 use Rattle.std.proofs.Common.{Option, Some, refl, sym, ap, subst, ◌∙◌, arith}
-use Rattle.std.proofs.lemmas.Bool.{false≢true, and_parts, and_from, or_left, or_right, cases_Bool, cases_lt, eq-eqb, eqb-true, false_from_ne_true, lt-ltb, agree_below}
+use Rattle.std.proofs.lemmas.Bool.{false≢true, and_parts, and_from, or_left, or_right, cases_Bool, cases_lt}
+use Rattle.std.proofs.lemmas.Bool.{eq-eqb, eqb-true, false_from_ne_true, lt-ltb, agree_below}
 use Rattle.std.proofs.lemmas.Bool.{agree_below_at}
 use Rattle.std.proofs.lemmas.Bool.Decides.{nat_tests}
 use Rattle.std.proofs.lemmas.Nat.Bits.{bit_at_and}

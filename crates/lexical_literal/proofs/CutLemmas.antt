@@ -9,7 +9,8 @@ use Rattle.lexical_util.specs.declared.format_flags.Part.{Part}
 use Rattle.lexical_util.specs.declared.format_flags.Part.TheVariants as parts
 use Rattle.lexical_literal.specs.Notation.{Notation, role_set}
 use Rattle.lexical_literal.specs.Literal.{Literal, is_none_or_one}
-use Rattle.lexical_literal.specs.Additions.Summary.{implies, has_digit, is_fresh, is_bare, after_digit, after_mark, after_point, is_open, may_follow, is_signed, forbids_plus, gap_fits, digits_suffice, ends, continues, may_float, takes, after}
+use Rattle.lexical_literal.specs.Additions.Summary.{implies, has_digit, is_fresh, is_bare, after_digit, after_mark, after_point, is_open, may_follow}
+use Rattle.lexical_literal.specs.Additions.Summary.{is_signed, forbids_plus, gap_fits, digits_suffice, ends, continues, may_float, takes, after}
 use Rattle.lexical_literal.specs.declared.steps.Stage.{Stage}
 use Rattle.lexical_literal.specs.declared.steps.Stage.TheVariants as stages
 use Rattle.lexical_literal.specs.declared.steps.Summary.{Summary}

@@ -1,5 +1,6 @@
 -- What has been read without an error can be completed to a literal.
-use Rattle.std.proofs.Common.{ℕ, ◌≡◌, Bool, true, false, not, ◌==◌, ◌&&◌, ◌||◌, ◌⊎◌, inl, inr, List, [], ◌∷◌, ◌++◌, Some, None, refl, sym, ap, subst, ◌∙◌, arith}
+use Rattle.std.proofs.Common.{ℕ, ◌≡◌, Bool, true, false, not, ◌==◌, ◌&&◌, ◌||◌, ◌⊎◌, inl, inr, List}
+use Rattle.std.proofs.Common.{[], ◌∷◌, ◌++◌, Some, None, refl, sym, ap, subst, ◌∙◌, arith}
 use Rattle.std.proofs.lemmas.Bool.{false≢true, and_from, cases_Bool}
 use Rattle.lexical_util.specs.Layout as layout
 use Rattle.lexical_util.specs.declared.feature_format.roles.Role.{Role}
@@ -8,7 +9,8 @@ use Rattle.lexical_util.specs.declared.format_flags.Part.{Part}
 use Rattle.lexical_util.specs.declared.format_flags.Part.TheVariants as parts
 use Rattle.lexical_literal.specs.Notation.{Notation}
 use Rattle.lexical_literal.specs.Front.{IsFront}
-use Rattle.lexical_literal.specs.Additions.Summary.{implies, has_digit, is_fresh, is_led, after_digit, after_mark, after_point, may_lead, needs_exponent, may_follow, gap_fits, ends, is_open, is_signed, takes, after, scan, is_accepted, start, no_cuts}
+use Rattle.lexical_literal.specs.Additions.Summary.{implies, has_digit, is_fresh, is_led, after_digit, after_mark, after_point, may_lead, needs_exponent}
+use Rattle.lexical_literal.specs.Additions.Summary.{may_follow, gap_fits, ends, is_open, is_signed, takes, after, scan, is_accepted, start, no_cuts}
 use Rattle.lexical_literal.specs.declared.steps.Stage.{Stage}
 use Rattle.lexical_literal.specs.declared.steps.Stage.TheVariants as stages
 use Rattle.lexical_literal.specs.declared.steps.Summary.{Summary}

@@ -1,5 +1,6 @@
 -- The texts that are accepted are the literals.
-use Rattle.std.proofs.Common.{ℕ, ◌≡◌, Bool, true, false, not, ◌==◌, ◌&&◌, ◌||◌, inl, inr, if◌then◌else◌, List, [], ◌∷◌, ◌++◌, Some, refl, sym, subst, ◌∙◌, arith}
+use Rattle.std.proofs.Common.{ℕ, ◌≡◌, Bool, true, false, not, ◌==◌, ◌&&◌, ◌||◌, inl, inr, if◌then◌else◌}
+use Rattle.std.proofs.Common.{List, [], ◌∷◌, ◌++◌, Some, refl, sym, subst, ◌∙◌, arith}
 use Rattle.std.proofs.lemmas.Bool.{false≢true, and_parts, and_from, and_right, cases_Bool, or_left, or_right, eqb-true}
 use Rattle.std.specs.List.{list_any}
 use Rattle.lexical_util.specs.Ascii.{ByteSet}
@@ -12,13 +13,15 @@ use Rattle.lexical_util.specs.declared.format_flags.Part.TheVariants as parts
 use Rattle.lexical_literal.specs.Notation.{Notation}
 use Rattle.lexical_literal.specs.Run.{is_run}
 use Rattle.lexical_literal.specs.Literal.{Literal, IsLiteral, Reads, text_of, is_present, is_absent, is_plus, is_none_or_one, is_none_or_prefix, is_zero_led}
-use Rattle.lexical_literal.specs.Additions.Summary.{Cuts, implies, has_digit, is_lone, is_led, after_digit, after_mark, after_point, may_follow, may_lead, is_signed, forbids_plus, gap_fits, digits_suffice, ends, continues, may_float, add, digits_piece, piece_of, start, no_cuts}
+use Rattle.lexical_literal.specs.Additions.Summary.{Cuts, implies, has_digit, is_lone, is_led, after_digit, after_mark, after_point, may_follow, may_lead, is_signed}
+use Rattle.lexical_literal.specs.Additions.Summary.{forbids_plus, gap_fits, digits_suffice, ends, continues, may_float, add, digits_piece, piece_of, start, no_cuts}
 use Rattle.lexical_literal.specs.declared.steps.Piece.TheVariants as pieces
 use Rattle.lexical_literal.specs.declared.steps.Stage.{Stage}
 use Rattle.lexical_literal.specs.declared.steps.Stage.TheVariants as stages
 use Rattle.lexical_literal.proofs.RunLemmas.{is_rest, rest_of_none, digits_present, opens}
 use Rattle.lexical_literal.proofs.ScanLemmas.{HasRoles, Accepts, Arrives, add_all, arrives_byte, digit_role, is_role}
-use Rattle.lexical_literal.proofs.StepLemmas.{reading, led_after, stage_after, after_byte, passed, stage_at, sign_fits, prefix_fits, digits_fit, ends_exponent, ends_mantissa, fraction_fits, stops, scales, ends_part, text_after}
+use Rattle.lexical_literal.proofs.StepLemmas.{reading, led_after, stage_after, after_byte, passed, stage_at, sign_fits, prefix_fits, digits_fit}
+use Rattle.lexical_literal.proofs.StepLemmas.{ends_exponent, ends_mantissa, fraction_fits, stops, scales, ends_part, text_after}
 use Rattle.lexical_literal.proofs.CutLemmas.{cut_of}
 
 -- `is_tail bytes` has all of `bytes` but the first.

@@ -8,7 +8,8 @@ use Rattle.lexical_util.specs.declared.format_flags.Part.{Part}
 use Rattle.lexical_util.specs.declared.format_flags.Part.TheVariants as parts
 use Rattle.lexical_literal.specs.Notation.{Notation}
 use Rattle.lexical_literal.specs.Literal.{Literal, is_absent, is_plus, is_none_or_one, is_none_or_prefix, has_leading_zero}
-use Rattle.lexical_literal.specs.Additions.Summary.{implies, has_digit, is_fresh, is_lone, is_led, is_bare, after_digit, after_mark, after_point, is_signed, forbids_plus, digits_suffice, continues, may_float}
+use Rattle.lexical_literal.specs.Additions.Summary.{implies, has_digit, is_fresh, is_lone, is_led, is_bare, after_digit, after_mark}
+use Rattle.lexical_literal.specs.Additions.Summary.{after_point, is_signed, forbids_plus, digits_suffice, continues, may_float}
 use Rattle.lexical_literal.specs.declared.steps.Stage.{Stage}
 use Rattle.lexical_literal.specs.declared.steps.Stage.TheVariants as stages
 use Rattle.lexical_literal.specs.declared.steps.Summary.{Summary}

@@ -1,11 +1,13 @@
 //! Why a text is not a literal.
 
-ghost use Rattle.std.specs.Prelude.{◌≡◌, ◌≢◌, ◌↔◌, IsTrue, List, Option, Some, if◌then◌else◌, ◌<◌, ◌^◌, ◌≤◌, ◌&&◌, ◌||◌, ◌==◌, ℕ, true, false, length, take, slice_get};
+ghost use Rattle.std.specs.Prelude.{◌≡◌, ◌≢◌, ◌↔◌, IsTrue, List, Option, Some, if◌then◌else◌, ◌<◌, ◌^◌};
+ghost use Rattle.std.specs.Prelude.{◌≤◌, ◌&&◌, ◌||◌, ◌==◌, ℕ, true, false, length, take, slice_get};
 ghost use Rattle.std.specs.Bool.{beq};
 ghost use Rattle.lexical_util.specs.Layout.{Flag, bit, part, separators_in};
 ghost use Rattle.lexical_util.specs.Record.{raw};
 ghost use Rattle.lexical_util.specs.Roles.{other_case};
-ghost use Rattle.lexical_literal.specs.Additions.Causes.{Decides, IsReadOf, allows, class_of_next, ends_part, is_own, is_plus_next, is_role, kind_set, leads, place_of, refuses, role_of_next};
+ghost use Rattle.lexical_literal.specs.Additions.Causes.{Decides, IsReadOf, allows, class_of_next, ends_part, is_own, is_plus_next};
+ghost use Rattle.lexical_literal.specs.Additions.Causes.{is_role, kind_set, leads, place_of, refuses, role_of_next};
 ghost use Rattle.lexical_literal.specs.Cause.{IsCause, IsRefusal, IsRequirement, SomeFlag, adding, bare, case_set, behind, binds, error_of};
 ghost use Rattle.lexical_literal.specs.Cause.{first_in, is_one_of, requirement_error, requirement_flags, requirement_span, span_of, with_flags};
 ghost use Rattle.lexical_literal.specs.Additions.Summary.{class_of, scan, start};

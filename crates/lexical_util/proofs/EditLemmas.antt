@@ -7,7 +7,8 @@ use Rattle.std.proofs.lemmas.List.Elements.{All-append, All-same}
 use Rattle.lexical_flags.specs.Layout.{IsClean}
 use Rattle.lexical_flags.specs.Record.{Record, raw, fill, trim, pack, HasBytes}
 use Rattle.lexical_builder.specs.Writes.{Write, IsLegal, after, SameWrites}
-use Rattle.lexical_util.proofs.Lower.{raw-pack, pack-clean, pack-lt, raw-injective, HasBytes-raw, HasBytes-fill, after_none, after-append, after-same, HasBytes-after}
+use Rattle.lexical_util.proofs.Lower.{raw-pack, pack-clean, pack-lt, raw-injective, HasBytes-raw, HasBytes-fill}
+use Rattle.lexical_util.proofs.Lower.{after_none, after-append, after-same, HasBytes-after}
 use Rattle.lexical_util.specs.Edits.{all_writes, writes_of, edited}
 use Rattle.lexical_util.specs.declared.edits.setters.Edit.{Edit}
 

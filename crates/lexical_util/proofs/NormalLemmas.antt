@@ -37,7 +37,9 @@ trim-same_format R S s = λ i. record { flag = λ f. s.flags f i; byte = λ b. o
   on_byte : (b : Byte) → (trim (fill R)).byte b ≡ (trim (fill S)).byte b
   on_byte b =
       let allowed = list_any_same R.flag S.flag digit_separator_flags s.flags in
-      let used = use_same (separator_allowed R) (separator_allowed S) (R.byte layout.digit_separator) (S.byte layout.digit_separator) allowed s.digit_separator in
+      let r = R.byte layout.digit_separator in
+      let t = S.byte layout.digit_separator in
+      let used = use_same (separator_allowed R) (separator_allowed S) r t allowed s.digit_separator in
       grind arith
 
 -- If two records are equal after they are filled and trimmed, then they are equivalent.

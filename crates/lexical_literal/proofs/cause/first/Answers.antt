@@ -1,5 +1,6 @@
 -- No byte was found before.
-use Rattle.std.proofs.Common.{ℕ, ◌≡◌, ◌<◌, ◌≤◌, ◌+◌, if◌then◌else◌, List, length, take, drop, drop-cons, get_or, get_or-take, add-one, refl, sym, ap, ◌∙◌, arith}
+use Rattle.std.proofs.Common.{ℕ, ◌≡◌, ◌<◌, ◌≤◌, ◌+◌, if◌then◌else◌, List, length, take, drop, drop-cons}
+use Rattle.std.proofs.Common.{get_or, get_or-take, add-one, refl, sym, ap, ◌∙◌, arith}
 use Rattle.std.proofs.lemmas.List.{length-take-le}
 use Rattle.std.proofs.Math.ListN.{drop_of_length-le}
 use Rattle.lexical_util.specs.Ascii.{ByteSet}
