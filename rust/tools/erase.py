@@ -37,8 +37,8 @@ PLACES = {
 }
 
 # Files whose counterpart is written by hand, because plain Rust does the same in another way: by loops that the compiler
-# turns into vectors, by derives, by absent bytes that are `None`, and by a type of core.
-BY_HAND = {"ascii/slices.rt", "error/traits.rt", "feature_format/bytes.rt", "format_builder/non_zero.rt"}
+# turns into vectors, by derives, by absent bytes that are `None`, by a type of core, and by literals with digits.
+BY_HAND = {"ascii/slices.rt", "error/traits.rt", "feature_format/bytes.rt", "format_builder/non_zero.rt", "number.rt"}
 
 # Roots and tests, which are written by hand too, laws and examples.
 LEFT_OUT = re.compile(r"(lib|main)\.rt|(laws|examples|tests)(\.rt|/.*)")
@@ -75,10 +75,9 @@ REPLACED = [
     ("short_text.rt", "pub fn as_str(", "pub const fn as_str("),
     # Rattle's `split_at` is not const.
     ("read.rt", "\nfn split_front<", "\nconst fn split_front<"),
-    ("read.rt", "\nfn front_of<", "\nconst fn front_of<"),
-    ("read.rt", "\nfn cut<", "\nconst fn cut<"),
-    ("read.rt", "\nfn read<", "\nconst fn read<"),
-    ("read.rt", "\nfn read_prefix<", "\nconst fn read_prefix<"),
+    ("read.rt", "pub(crate) fn front_of<", "pub(crate) const fn front_of<"),
+    ("read.rt", "pub(crate) fn cut<", "pub(crate) const fn cut<"),
+    ("read.rt", "\nfn find_front(", "\nconst fn find_front("),
     # Calls with these names are written by hand: they take or return a `Format`, a `Literal` or a range.
     ("read.rt", "Reader {\n    grammar: Grammar,\n    tables", "Reader {\n    pub(crate) grammar: Grammar,\n    tables"),
     ("syntax.rt", "Syntax {\n    grammar: Grammar,", "Syntax {\n    pub(crate) grammar: Grammar,"),
@@ -93,8 +92,7 @@ REPLACED = [
 EVERYWHERE = [
     ("fn fmt<W: fmt::Write>(&self, f: &mut fmt::Formatter<W>)", "fn fmt(&self, f: &mut fmt::Formatter<'_>)"),
     ("rattlefmt::skip", "rustfmt::skip"),
-    ("pub fn read<'a>(", "#[inline(always)] pub(crate) const fn read_parts<'a>("),
-    ("pub fn read_prefix<'a>(", "#[inline(always)] pub(crate) const fn read_front<'a>("),
+    ("pub(crate) fn find_front(&self", "pub(crate) const fn find_front(&self"),
 ]
 
 # Types that may grow. In plain Rust, a match outside the crate has to have an arm for what they lack today.

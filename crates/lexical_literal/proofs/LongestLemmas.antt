@@ -1,20 +1,19 @@
 -- Fronts of a text, and where the loop is left.
-use Rattle.std.proofs.Common.{ℕ, Bool, Option, if◌then◌else◌, ◌≡◌, ◌==◌, ◌<◌, ◌≤◌, ◌+◌, inl, inr, true, false, List, [], ◌∷◌, ◌++◌}
-use Rattle.std.proofs.Common.{length, get_or, take, drop, Some, None, Ok, refl, sym, ap, subst, append_assoc, append-nil, take-append-drop, ◌∙◌, arith}
+use Rattle.std.proofs.Common.{ℕ, Bool, IsTrue, ◌&&◌, Option, if◌then◌else◌, ◌≡◌, ◌==◌, ◌<◌, ◌≤◌, ◌+◌, inl, inr, true, false, List, [], ◌∷◌, ◌++◌}
+use Rattle.std.proofs.Common.{length, get_or, take, drop, Some, None, refl, sym, ap, subst, append_assoc, append-nil, take-append-drop, ◌∙◌, arith}
 use Rattle.std.specs.Prelude.{slice_get}
 use Rattle.std.proofs.lemmas.Bool.{false≢true, false_from_ne_true, cases_lt}
+use Rattle.std.proofs.lemmas.Option.{slice_get_past}
 use Rattle.std.proofs.lemmas.Bool.Decides.{nat_tests}
 use Rattle.std.proofs.lemmas.List.{take-take, take_more, take_all}
 use Rattle.lexical_literal.specs.Notation.{Notation}
 use Rattle.lexical_literal.specs.Literal.{Literal, IsLiteral, Reads, is_none_or_prefix}
 use Rattle.lexical_literal.specs.Additions.Summary.{Cuts, class_of, in_part, scan, step, is_accepted, is_complete}
 use Rattle.lexical_literal.specs.Additions.Summary.{tally, count, add, piece_number, start, no_cuts, HasLengths}
-use Rattle.lexical_literal.specs.Front.{IsFront, IsValidUpTo, NoLiteral}
+use Rattle.lexical_literal.specs.Front.{IsFront, IsValidUpTo, NoLiteral, ReadsFront}
 use Rattle.lexical_literal.specs.Additions.Longest.{IsLongest, IsScanned}
 use Rattle.lexical_literal.specs.Additions.Causes.{allows, class_of_next}
 use Rattle.lexical_literal.specs.Additions.Tables as tables
-use Rattle.lexical_literal.specs.Parts.{IsReadPrefix, literal_of}
-use Rattle.lexical_literal.specs.declared.read.Parts.{Parts}
 use Rattle.lexical_literal.specs.declared.read.Scanned.{Scanned}
 use Rattle.lexical_literal.specs.declared.steps.Piece.{Piece}
 use Rattle.lexical_literal.specs.declared.steps.Summary.{Summary}
@@ -53,13 +52,13 @@ has_lengths m h l is = let twice = prefix l.prefix is.prefix in record {
   prefix x one = grind arith
 
 -- `HasRead m text i s c longest` holds if the first `i` bytes of `text` have the summary `s` and parts with the lengths `c`,
--- and if `longest` is their longest front that is a literal.
-pub record HasRead (m : Notation) (text : List ℕ) (i : ℕ) (s : Summary) (c : Cuts) (longest : Option ℕ) : Type 0 where
+-- and if `longest` is their longest front that is a literal, provided that `seeks` is true.
+pub record HasRead (m : Notation) (seeks : Bool) (text : List ℕ) (i : ℕ) (s : Summary) (c : Cuts) (longest : Option ℕ) : Type 0 where
   pub ready : IsReady m
   pub within : i ≤ length text
   pub read : scan m (Some start) (take i text) ≡ Some s
   pub counted : tally m (Some start) no_cuts (take i text) ≡ c
-  pub longest_is : IsLongest m text i longest
+  pub longest_is : IsTrue seeks → IsLongest m text i longest
 
 module _ (m : Notation) (text : List ℕ) where
   -- A literal is no longer than the longest front that some literal begins with.
@@ -73,39 +72,59 @@ module _ (m : Notation) (text : List ℕ) where
     | inr below ↦ below
   ]
 
-  -- Where the longest literal is shorter, the front is none.
-  none_at : (n : ℕ) (longest : Option ℕ) → IsLongest m text n longest → (longest ≡ Some n → ⊥) → NoLiteral m (take n text)
-  none_at n longest is other = grind arith
+  module _ (seeks : Bool) (scanned : Scanned) (is : IsScanned m seeks text scanned) where
+    -- If the front that was read is all of the text and a literal, then its parts have been counted.
+    pub whole_literal : scanned.valid_up_to ≡ length text → is_complete m (tables.summary_at scanned.row) ≡ true → (l : Literal) × Reads m l text
+    whole_literal all complete = let l = is.complete complete in (l.0, subst (Reads m l.0) (take_all scanned.valid_up_to text (omega (arith, all))) l.1)
 
-  module _ (scanned : Scanned) (is : IsScanned m text scanned) where
-    -- Where a literal ends at the first wrong byte, its parts have been counted.
-    pub right_front : (size : ℕ) → scanned.literal ≡ Some size → size ≡ scanned.valid_up_to
-        → (l : Literal) × Reads m l (take size text) × HasLengths l (tables.cuts_of scanned.counts)
-    right_front size found right = let l = is.longest.found size found in (l.1, l.2, is.counted l.1 (subst (λ n. Reads m l.1 (take n text)) right l.2))
+    all_right : (l : Literal) → Reads m l text → length text ≤ scanned.valid_up_to
+    all_right l reads = no_longer_than scanned.valid_up_to is.error (length text) (omega arith) l
+        (subst (Reads m l) (sym (take_all (length text) text (omega arith))) reads)
 
-    pub prefix_read : (size : ℕ) → scanned.literal ≡ Some size → (parts : Parts) → Reads m (literal_of parts) (take size text)
-        → IsReadPrefix m text (Ok (record { parts = parts; size = size }))
-    prefix_read size found parts reads = record {
-      found = record {
-        within = (is.longest.found size found).0;
-        reads = reads;
-        no_longer = λ more past below. is.longest.no_longer more below (λ other same. let equal : size ≡ other = cc in subst (λ n. n < more) equal past);
-      };
-      none = λ err. absurd (false≢true err);
-      error = tt;
-    }
-
-    pub whole_literal : (size : ℕ) → scanned.literal ≡ Some size → length text ≤ size → (l : Literal) × Reads m l text
-    whole_literal size found all = let l = is.longest.found size found in (l.1, subst (Reads m l.1) (take_all size text all) l.2)
+    whole_front : (l : Literal) → Reads m l text → Reads m l (take scanned.valid_up_to text)
+    whole_front l reads = subst (Reads m l) (sym (take_all scanned.valid_up_to text (all_right l reads))) reads
 
     pub whole_counted : (l : Literal) → Reads m l text → HasLengths l (tables.cuts_of scanned.counts)
-    whole_counted l reads = is.counted l (subst (Reads m l) (sym (take_all scanned.valid_up_to text all)) reads) where
-      all : length text ≤ scanned.valid_up_to
-      all = no_longer_than scanned.valid_up_to is.error (length text) (omega arith) l
-          (subst (Reads m l) (sym (take_all (length text) text (omega arith))) reads)
+    whole_counted l reads = is.counted l (whole_front l reads)
 
-    pub none_whole : (scanned.literal ≡ Some (length text) → ⊥) → NoLiteral m text
-    none_whole other = subst (NoLiteral m) (take_all (length text) text (omega arith)) (none_at (length text) scanned.literal is.longest other)
+    allows_end : length text ≤ scanned.valid_up_to
+        → allows m (tables.summary_at scanned.row) (class_of_next m (slice_get text scanned.valid_up_to)) ≡ is_complete m (tables.summary_at scanned.row)
+    allows_end long = ap (λ next. allows m (tables.summary_at scanned.row) (class_of_next m next)) (slice_get_past text scanned.valid_up_to long)
+
+    -- A front that is not all of the text, or not a literal, does not allow what follows.
+    pub refused_there : (scanned.valid_up_to ≡ length text → is_complete m (tables.summary_at scanned.row) ≡ false)
+        → allows m (tables.summary_at scanned.row) (class_of_next m (slice_get text scanned.valid_up_to)) ≡ false
+    refused_there partial = elim (cases_lt scanned.valid_up_to (length text)) [
+      | inl short ↦ is.refused short
+      | inr long ↦ allows_end long ∙ partial (omega (arith, is.error.within))
+    ]
+
+    -- If the front does not allow what follows, then the text is not a literal.
+    pub none_whole : allows m (tables.summary_at scanned.row) (class_of_next m (slice_get text scanned.valid_up_to)) ≡ false → NoLiteral m text
+    none_whole refused l reads = is.incomplete (sym (allows_end (all_right l reads)) ∙ refused) l (whole_front l reads)
+
+  module _ (scanned : Scanned) (is : IsScanned m true text scanned) where
+    -- The longest front that is a literal, and its parts, which have been counted if it is all that was read.
+    pub front_literal : (size : ℕ) → scanned.literal ≡ Some size → (l : Literal) × ReadsFront m l text size
+    front_literal size found = let l = (is.longest refl).found size found in (
+      l.1,
+      record {
+        within = l.0;
+        reads = l.2;
+        no_longer = λ more past below. (is.longest refl).no_longer more below (λ other same. let equal : size ≡ other = cc in subst (λ n. n < more) equal past);
+      },
+    )
+
+    pub front_counted : (size : ℕ) → size ≡ scanned.valid_up_to → (l : Literal) → Reads m l (take size text) → HasLengths l (tables.cuts_of scanned.counts)
+    front_counted size right l reads = is.counted l (subst (λ n. Reads m l (take n text)) right reads)
+
+    module _ (none : (size : ℕ) → scanned.literal ≡ Some size → ⊥) where
+      -- If none was found, no front is a literal.
+      pub no_front : (size : ℕ) → size ≤ length text → NoLiteral m (take size text)
+      no_front size below = (is.longest refl).no_longer size below (λ other same. absurd (none other same))
+
+      pub not_whole : scanned.valid_up_to ≡ length text → is_complete m (tables.summary_at scanned.row) ≡ false
+      not_whole all = false_from_ne_true _ (λ complete. let l = is.complete complete in no_front scanned.valid_up_to is.error.within l.0 l.1)
 
 module _ (m : Notation) (ready : IsReady m) (text : List ℕ) where
   accepted : (n : ℕ) (l : Literal) → Reads m l (take n text) → is_accepted m (scan m (Some start) (take n text)) ≡ true
@@ -114,16 +133,16 @@ module _ (m : Notation) (ready : IsReady m) (text : List ℕ) where
   none_complete : is_complete m start ≡ true → ⊥
   none_complete is = grind arith
 
-  pub read_nothing : HasRead m text 0 start no_cuts None
-  read_nothing = grind arith
+  pub read_nothing : (seeks : Bool) → HasRead m seeks text 0 start no_cuts None
+  read_nothing seeks = grind arith
 
-  module _ (i : ℕ) (s : Summary) (c : Cuts) (longest : Option ℕ) (has : HasRead m text i s c longest) where
+  module _ (seeks : Bool) (i : ℕ) (s : Summary) (c : Cuts) (longest : Option ℕ) (has : HasRead m seeks text i s c longest) where
     next_scan : i < length text → scan m (Some start) (take (i + 1) text) ≡ step m s (class_of m (get_or text i 0))
     next_scan inside = rw (take_more text i 0 inside, scan_append m (Some start) (take i text) (get_or text i 0 ∷ []), has.read) refl
 
-    next_longest : (t : Summary) → scan m (Some start) (take (i + 1) text) ≡ Some t
-        → IsLongest m text (i + 1) (if is_complete m t then Some (i + 1) else longest)
-    next_longest t read = go (is_complete m t) refl where
+    next_longest : (t : Summary) → scan m (Some start) (take (i + 1) text) ≡ Some t → IsTrue seeks
+        → IsLongest m text (i + 1) (if seeks && is_complete m t then Some (i + 1) else longest)
+    next_longest t read sought = rw (sought) (go (is_complete m t) refl) where
       go : (is : Bool) → is_complete m t ≡ is → IsLongest m text (i + 1) (if is then Some (i + 1) else longest)
       go true complete = record {
         found = λ size is. let same : i + 1 ≡ size = cc in
@@ -131,17 +150,17 @@ module _ (m : Notation) (ready : IsReady m) (text : List ℕ) where
         no_longer = λ more over past. absurd (let low : i + 1 < more = past (i + 1) refl in omega arith);
       }
       go false incomplete = record {
-        found = λ size is. let old = has.longest_is.found size is in (omega (arith, old.0), old.1, old.2);
+        found = λ size is. let old = (has.longest_is sought).found size is in (omega (arith, old.0), old.1, old.2);
         no_longer = λ more over past l reads. elim (cases_lt i more) [
           | inl new ↦ let same : more ≡ i + 1 = omega arith in
               false≢true (sym incomplete ∙ ap (is_accepted m) (sym read) ∙ accepted (i + 1) l (subst (λ n. Reads m l (take n text)) same reads))
-          | inr old ↦ has.longest_is.no_longer more old past l reads
+          | inr old ↦ (has.longest_is sought).no_longer more old past l reads
         ];
       }
 
     -- One more byte.
     pub read_more : (t : Summary) (d : Cuts) → i < length text → step m s (class_of m (get_or text i 0)) ≡ Some t
-        → count s.part (in_part s.part (class_of m (get_or text i 0))) c ≡ d → HasRead m text (i + 1) t d (if is_complete m t then Some (i + 1) else longest)
+        → count s.part (in_part s.part (class_of m (get_or text i 0))) c ≡ d → HasRead m seeks text (i + 1) t d (if seeks && is_complete m t then Some (i + 1) else longest)
     read_more t d inside taken counted = record {
       ready = ready;
       within = omega arith;
@@ -166,34 +185,35 @@ module _ (m : Notation) (ready : IsReady m) (text : List ℕ) where
       no_longer = λ more over within is. absurd (omega arith);
     }
 
-    pub not_complete : length text ≤ i → (longest ≡ Some (length text) → ⊥) → is_complete m s ≡ false
-    not_complete end other = false_from_ne_true _ (λ complete.
-        let l = literal_from m ready.roles (take i text) (ap (is_accepted m) has.read ∙ complete) in
-        let all : i ≡ length text = omega (arith, has.within) in
-        none_at m text i longest has.longest_is (λ found. other (found ∙ ap Some all)) l.0 l.1)
+    complete_from : is_complete m s ≡ true → (l : Literal) × Reads m l (take i text)
+    complete_from complete = let l = literal_from m ready.roles (take i text) (ap (is_accepted m) has.read ∙ complete) in (l.0, l.1)
 
-    longest_from : IsValidUpTo m text i → IsLongest m text (length text) longest
-    longest_from wrong = record {
-      found = λ size is. let old = has.longest_is.found size is in (omega (arith, old.0, has.within), old.1, old.2);
-      no_longer = λ more within past l reads. has.longest_is.no_longer more (no_longer_than m text i wrong more within l reads) past l reads;
+    incomplete_from : is_complete m s ≡ false → NoLiteral m (take i text)
+    incomplete_from incomplete l reads = false≢true (sym incomplete ∙ ap (is_accepted m) (sym has.read) ∙ accepted i l reads)
+
+    longest_from : IsValidUpTo m text i → IsTrue seeks → IsLongest m text (length text) longest
+    longest_from wrong sought = record {
+      found = λ size is. let old = (has.longest_is sought).found size is in (omega (arith, old.0, has.within), old.1, old.2);
+      no_longer = λ more within past l reads. (has.longest_is sought).no_longer more (no_longer_than m text i wrong more within l reads) past l reads;
     }
 
     counted_from : (l : Literal) → Reads m l (take i text) → HasLengths l c
     counted_from l reads = rw (← has.counted, reads.whole, (literal_arrives m ready.roles l reads.literal).1) (has_lengths m ready.roles l reads.literal)
 
-  -- What the loop has found where it is left.
-  pub is_scanned : (i row : ℕ) (counts : List ℕ) (longest : Option ℕ) → row < 108
-      → HasRead m text i (tables.summary_at row) (tables.cuts_of counts) longest → IsValidUpTo m text i
-      → ((longest ≡ Some (length text) → ⊥) → allows m (tables.summary_at row) (class_of_next m (slice_get text i)) ≡ false)
-      → IsScanned m text (record { valid_up_to = i; row = row; literal = longest; counts = counts })
-  is_scanned i row counts longest small has wrong refused = record {
-    error = wrong;
-    row = small;
-    read = has.read;
-    refused = refused;
-    longest = longest_from i (tables.summary_at row) (tables.cuts_of counts) longest has wrong;
-    counted = counted_from i (tables.summary_at row) (tables.cuts_of counts) longest has;
-  }
+    -- What the loop has found where it is left.
+    pub is_scanned : (row : ℕ) (counts : List ℕ) → row < 108 → s ≡ tables.summary_at row → c ≡ tables.cuts_of counts → IsValidUpTo m text i
+        → (i < length text → allows m (tables.summary_at row) (class_of_next m (slice_get text i)) ≡ false)
+        → IsScanned m seeks text (record { valid_up_to = i; row = row; literal = longest; counts = counts })
+    is_scanned row counts small at lengths wrong refused = record {
+      error = wrong;
+      row = small;
+      read = has.read ∙ ap Some at;
+      refused = refused;
+      complete = λ complete. complete_from (ap (is_complete m) at ∙ complete);
+      incomplete = λ incomplete. incomplete_from (ap (is_complete m) at ∙ incomplete);
+      longest = longest_from wrong;
+      counted = λ l reads. subst (HasLengths l) lengths (counted_from l reads);
+    }
 
   -- A text has one reading.
   pub one_reading : (l k : Literal) → Reads m l text → Reads m k text → l ≡ k

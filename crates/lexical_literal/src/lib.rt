@@ -7,6 +7,7 @@
 
 pub mod cause;
 pub mod laws;
+pub mod number;
 pub mod read;
 pub mod specials;
 mod steps;

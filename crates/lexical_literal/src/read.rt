@@ -1,15 +1,16 @@
-//! Calls that read literals, and the parts that they find.
+//! How literals are found, and the lengths of their parts.
 
-ghost use Rattle.std.specs.Prelude.{◌≡◌, ◌≢◌, ◌++◌, ◌<◌, ◌≤◌, ℕ, List, Some, length, slice_get, take};
-ghost use Rattle.lexical_literal.specs.Additions.Causes.{class_of_next};
+ghost use Rattle.std.specs.Prelude.{◌≡◌, ◌++◌, ◌&&◌, ◌<◌, ◌≤◌, Bool, ℕ, List, false, length, slice_get, take};
+ghost use Rattle.lexical_literal.specs.Additions.Causes.{allows, class_of_next};
 ghost use Rattle.lexical_literal.specs.Additions.Summary.{HasLengths, class_of, is_complete};
 ghost use Rattle.lexical_literal.specs.Additions.Tables.{HasTables, IsStep, cuts_of, summary_at};
 ghost use Rattle.std.specs.Option.{ForSome};
-ghost use Rattle.lexical_literal.specs.Additions.Longest.{IsScanned};
+ghost use Rattle.lexical_literal.specs.Additions.Longest.{IsFound, IsFoundFront, IsScanned};
+ghost use Rattle.lexical_literal.specs.Front.{NoLiteral};
 ghost use Rattle.lexical_literal.specs.Literal.{Literal, text_of};
 ghost use Rattle.lexical_literal.specs.Cause.{IsRefusal};
 ghost use Rattle.lexical_literal.specs.Notation.{notation_of};
-ghost use Rattle.lexical_literal.specs.Parts.{IsRead, IsReadPrefix, literal_of};
+ghost use Rattle.lexical_literal.specs.Parts.{literal_of};
 ghost use Rattle.lexical_literal.specs.Syntax.{IsSyntax};
 
 use crate::cause::{ReadError, refusal};
@@ -42,37 +43,28 @@ pub struct Parts<'a> {
     pub suffix: &'a [u8],
 }
 
-/// A leading piece of a text that is a literal.
-#[derive(Debug, Clone, Copy, PartialEq, Eq, Hash)]
-pub struct Front<'a> {
-    /// The parts of the literal.
-    pub parts: Parts<'a>,
-    /// The number of bytes of the literal.
-    pub size: usize,
+// A leading piece of a text that is a literal: the number of its bytes, and the lengths of its parts.
+#[derive(Clone, Copy)]
+pub(crate) struct Found {
+    pub(crate) size: usize,
+    pub(crate) counts: [usize; 9],
 }
 
 impl Syntax {
-    /// Returns the parts of the literal `text`.
-    ///
-    /// # Errors
-    ///
-    /// If `text` is not a literal, returns why, and how far it is right.
-    pub fn read<'a>(&self, text: &'a [u8]) -> Result<Parts<'a>, ReadError>
-        ensures { IsRead (notation_of self.now) text.now result }
+    // Returns the lengths of the parts of the literal `text`, or why it is not one.
+    #[inline(always)]
+    pub(crate) const fn find(&self, text: &[u8]) -> Result<[usize; 9], ReadError>
+        ensures { IsFound (notation_of self.now) text.now result }
     {
-        read(self.grammar(), None, text)
+        find(self.grammar(), None, text)
     }
 
-    /// Returns the longest front of `text` that is a literal. What follows it may be anything. No byte behind the first
-    /// that no literal can have is looked at.
-    ///
-    /// # Errors
-    ///
-    /// If no front of `text` is a literal, returns the error of [`read`][Self::read].
-    pub fn read_prefix<'a>(&self, text: &'a [u8]) -> Result<Front<'a>, ReadError>
-        ensures { IsReadPrefix (notation_of self.now) text.now result }
+    // Returns the longest front of `text` that is a literal, or why there is none.
+    #[inline(always)]
+    pub(crate) fn find_front(&self, text: &[u8]) -> Result<Found, ReadError>
+        ensures { IsFoundFront (notation_of self.now) text.now result }
     {
-        read_prefix(self.grammar(), None, text)
+        find_front(self.grammar(), None, text)
     }
 }
 
@@ -112,32 +104,25 @@ impl Reader {
         }
     }
 
-    /// Returns the parts of the literal `text`, as [`Syntax::read`] does.
-    ///
-    /// # Errors
-    ///
-    /// If `text` is not a literal, returns why, and how far it is right.
-    pub fn read<'a>(&self, text: &'a [u8]) -> Result<Parts<'a>, ReadError>
-        ensures { IsRead (notation_of self.now) text.now result }
+    // Returns the lengths of the parts of the literal `text`, or why it is not one.
+    #[inline(always)]
+    pub(crate) const fn find(&self, text: &[u8]) -> Result<[usize; 9], ReadError>
+        ensures { IsFound (notation_of self.now) text.now result }
     {
-        read(self.grammar, Some(&self.tables), text)
+        find(self.grammar, Some(&self.tables), text)
     }
 
-    /// Returns the longest front of `text` that is a literal. What follows it may be anything. No byte behind the first
-    /// that no literal can have is looked at.
-    ///
-    /// # Errors
-    ///
-    /// If no front of `text` is a literal, returns the error of [`read`][Self::read].
-    pub fn read_prefix<'a>(&self, text: &'a [u8]) -> Result<Front<'a>, ReadError>
-        ensures { IsReadPrefix (notation_of self.now) text.now result }
+    // Returns the longest front of `text` that is a literal, or why there is none.
+    #[inline(always)]
+    pub(crate) fn find_front(&self, text: &[u8]) -> Result<Found, ReadError>
+        ensures { IsFoundFront (notation_of self.now) text.now result }
     {
-        read_prefix(self.grammar, Some(&self.tables), text)
+        find_front(self.grammar, Some(&self.tables), text)
     }
 }
 
 // The length of the longest front of a text that some literal begins with, its row, the length of the longest front that is
-// a literal, and the lengths of the parts of what has been read.
+// a literal, if it was sought, and the lengths of the parts of what has been read.
 #[derive(Clone, Copy)]
 struct Scanned {
     valid_up_to: usize,
@@ -146,48 +131,42 @@ struct Scanned {
     counts: [usize; 9],
 }
 
-// Returns the parts of the literal `text`, or how far it is right.
+// Returns the lengths of the parts of the literal `text`, or why it is not one.
 #[inline(always)]
-fn read<'a>(
+const fn find(
     grammar: Grammar,
     tables: Option<&Tables>,
-    text: &'a [u8],
-) -> Result<Parts<'a>, ReadError>
+    text: &[u8],
+) -> Result<[usize; 9], ReadError>
     requires syntax { IsSyntax grammar }
     requires tables { ForSome tables (λ tables. HasTables (notation_of grammar) tables.now) }
-    ensures { IsRead (notation_of grammar) text.now result }
+    ensures { IsFound (notation_of grammar) text.now result }
 {
-    let scanned = scan(grammar, tables, text);
-    match scanned.literal {
-        Some(size) if size == text.len() => Ok(cut(text, scanned.counts)),
-        _ => Err(refuse(grammar, tables, text, scanned)),
+    let scanned = scan(grammar, tables, text, false);
+    if scanned.valid_up_to == text.len() && is_complete_by(grammar, tables, scanned.row) {
+        Ok(scanned.counts)
+    } else {
+        Err(refuse(grammar, tables, text, scanned))
     }
 }
 
-// Returns the longest front of `text` that is a literal, or how far it is right.
+// Returns the longest front of `text` that is a literal, or why there is none.
 #[inline(always)]
-fn read_prefix<'a>(
-    grammar: Grammar,
-    tables: Option<&Tables>,
-    text: &'a [u8],
-) -> Result<Front<'a>, ReadError>
+fn find_front(grammar: Grammar, tables: Option<&Tables>, text: &[u8]) -> Result<Found, ReadError>
     requires syntax { IsSyntax grammar }
     requires tables { ForSome tables (λ tables. HasTables (notation_of grammar) tables.now) }
-    ensures { IsReadPrefix (notation_of grammar) text.now result }
+    ensures { IsFoundFront (notation_of grammar) text.now result }
 {
-    let scanned = scan(grammar, tables, text);
+    let scanned = scan(grammar, tables, text, true);
     let Some(size) = scanned.literal else {
         return Err(refuse(grammar, tables, text, scanned));
     };
-    let front = front_of(text, size);
     if size == scanned.valid_up_to {
-        return Ok(Front {
-            parts: cut(front, scanned.counts),
-            size,
-        });
+        let counts = scanned.counts;
+        return Ok(Found { size, counts });
     }
-    match read(grammar, tables, front) {
-        Ok(parts) => Ok(Front { parts, size }),
+    match find(grammar, tables, front_of(text, size)) {
+        Ok(counts) => Ok(Found { size, counts }),
         Err(error) => Err(error),
     }
 }
@@ -202,9 +181,11 @@ const fn refuse(
 ) -> ReadError
     requires syntax { IsSyntax grammar }
     requires tables { ForSome tables (λ tables. HasTables (notation_of grammar) tables.now) }
-    requires scanned { IsScanned (notation_of grammar) text.now scanned }
-    requires refused { scanned.literal ≢ Some (length text.now) }
-    ensures { IsRefusal (notation_of grammar) text.now result }
+    requires scanned { (seeks : Bool) × IsScanned (notation_of grammar) seeks text.now scanned }
+    requires refused { allows (notation_of grammar) (summary_at scanned.row)
+        (class_of_next (notation_of grammar) (slice_get text.now scanned.valid_up_to)) ≡ false }
+    ensures refusal { IsRefusal (notation_of grammar) text.now result }
+    ensures none { NoLiteral (notation_of grammar) text.now }
 {
     let size = scanned.valid_up_to;
     let next = class_at(grammar, tables, text, size);
@@ -233,7 +214,7 @@ const fn class_at(
 
 // Returns the first `size` bytes.
 #[inline(always)]
-fn front_of<'a>(text: &'a [u8], size: usize) -> &'a [u8]
+pub(crate) fn front_of<'a>(text: &'a [u8], size: usize) -> &'a [u8]
     requires { size ≤ length text.now }
     ensures { result.now ≡ take size text.now }
 {
@@ -252,7 +233,7 @@ fn split_front<'a>(text: &'a [u8], size: usize) -> (&'a [u8], &'a [u8])
 
 // Splits `text` into parts with the lengths `counts`. The zero of a prefix is counted as a digit of the integer.
 #[inline(always)]
-fn cut<'a>(text: &'a [u8], counts: [usize; 9]) -> Parts<'a>
+pub(crate) fn cut<'a>(text: &'a [u8], counts: [usize; 9]) -> Parts<'a>
     requires { (l : Literal) × (text.now ≡ text_of l) × HasLengths l (cuts_of counts) }
     ensures { (l : Literal) → text.now ≡ text_of l → HasLengths l (cuts_of counts) → literal_of result ≡ l }
 {
@@ -277,12 +258,12 @@ fn cut<'a>(text: &'a [u8], counts: [usize; 9]) -> Parts<'a>
     }
 }
 
-// Reads `text` until no literal begins with what has been read.
+// Reads `text` until no literal begins with what has been read. Seeks the longest front that is a literal if `seeks` is true.
 #[inline(always)]
-const fn scan(grammar: Grammar, tables: Option<&Tables>, text: &[u8]) -> Scanned
+const fn scan(grammar: Grammar, tables: Option<&Tables>, text: &[u8], seeks: bool) -> Scanned
     requires syntax { IsSyntax grammar }
     requires tables { ForSome tables (λ tables. HasTables (notation_of grammar) tables.now) }
-    ensures { IsScanned (notation_of grammar) text.now result }
+    ensures { IsScanned (notation_of grammar) seeks text.now result }
 {
     role_facts();
     let mut row = START;
@@ -300,7 +281,7 @@ const fn scan(grammar: Grammar, tables: Option<&Tables>, text: &[u8]) -> Scanned
         };
         row = next.row;
         counts[piece_number(next.piece)] += 1;
-        if is_complete_by(grammar, tables, row) {
+        if is_sought(grammar, tables, row, seeks) {
             literal = Some(index + 1);
         }
         index += 1;
@@ -311,6 +292,16 @@ const fn scan(grammar: Grammar, tables: Option<&Tables>, text: &[u8]) -> Scanned
         literal,
         counts,
     }
+}
+
+// Returns whether `seeks` is true and a row is that of a literal.
+#[inline(always)]
+const fn is_sought(grammar: Grammar, tables: Option<&Tables>, row: u8, seeks: bool) -> bool
+    requires row { row < 108 }
+    requires tables { ForSome tables (λ tables. HasTables (notation_of grammar) tables.now) }
+    ensures { result ≡ (seeks && is_complete (notation_of grammar) (summary_at row)) }
+{
+    seeks && is_complete_by(grammar, tables, row)
 }
 
 // Returns what `byte` makes of a row, by the tables if there are any.

@@ -4,7 +4,7 @@ use core::{fmt, iter::FusedIterator, slice};
 
 use crate::digit::char_to_valid_digit_const;
 use crate::format_flags::Part;
-use crate::literal::read::{Front, Parts};
+use crate::literal::read::{cut, Found};
 use crate::literal::syntax::Grammar;
 use crate::literal::{ReadError, Reader, Syntax};
 use crate::view::FormatView;
@@ -16,7 +16,7 @@ impl Syntax {
     ///
     /// If `text` is not a literal, returns why, and how far it is right.
     pub const fn read<'a>(&self, text: &'a [u8]) -> Result<Literal<'a>, ReadError> {
-        literal(self.grammar(), text, self.read_parts(text))
+        literal(self.grammar(), text, self.find(text))
     }
 
     /// Returns the longest literal that `text` begins with, and the rest of `text`, which may be anything. It looks at
@@ -43,7 +43,7 @@ impl Syntax {
     /// before it may have an error that states what is missing, as above. A text such as `1e;` begins with the literal
     /// `1`. To refuse it, the example `tokenizer` first finds the end of the token, and reads all of it.
     pub const fn read_prefix<'a>(&self, text: &'a [u8]) -> Result<(Literal<'a>, &'a [u8]), ReadError> {
-        front(self.grammar(), text, self.read_front(text))
+        front(self.grammar(), text, self.find_front(text))
     }
 
     /// Returns the exponent character, or `None` if literals are integers.
@@ -79,7 +79,7 @@ impl Reader {
     ///
     /// If `text` is not a literal, returns why, and how far it is right.
     pub const fn read<'a>(&self, text: &'a [u8]) -> Result<Literal<'a>, ReadError> {
-        literal(self.grammar, text, self.read_parts(text))
+        literal(self.grammar, text, self.find(text))
     }
 
     /// Returns the longest literal that `text` begins with, and the rest of `text`, as [`Syntax::read_prefix`] does.
@@ -88,7 +88,7 @@ impl Reader {
     ///
     /// If `text` does not begin with a literal, returns the error of [`read`][Self::read].
     pub const fn read_prefix<'a>(&self, text: &'a [u8]) -> Result<(Literal<'a>, &'a [u8]), ReadError> {
-        front(self.grammar, text, self.read_front(text))
+        front(self.grammar, text, self.find_front(text))
     }
 }
 
@@ -96,12 +96,12 @@ impl Reader {
 const fn literal<'a>(
     grammar: Grammar,
     text: &'a [u8],
-    parts: Result<Parts<'a>, ReadError>,
+    found: Result<[usize; 9], ReadError>,
 ) -> Result<Literal<'a>, ReadError> {
     let view = grammar.view();
-    match parts {
+    match found {
         Err(error) => Err(error),
-        Ok(parts) => Ok(Literal { text, parts, view }),
+        Ok(counts) => Ok(Literal { text, counts, view }),
     }
 }
 
@@ -109,14 +109,14 @@ const fn literal<'a>(
 const fn front<'a>(
     grammar: Grammar,
     text: &'a [u8],
-    front: Result<Front<'a>, ReadError>,
+    found: Result<Found, ReadError>,
 ) -> Result<(Literal<'a>, &'a [u8]), ReadError> {
-    match front {
+    match found {
         Err(error) => Err(error),
-        Ok(Front { parts, size }) => {
+        Ok(Found { size, counts }) => {
             let (text, rest) = text.split_at(size);
             let view = grammar.view();
-            Ok((Literal { text, parts, view }, rest))
+            Ok((Literal { text, counts, view }, rest))
         }
     }
 }
@@ -158,7 +158,8 @@ const fn front<'a>(
 #[derive(Clone, Copy, PartialEq, Eq, Hash)]
 pub struct Literal<'a> {
     text: &'a [u8],
-    parts: Parts<'a>,
+    /// The lengths of the parts, as [`cut`] takes them. Whoever asks for a part pays for it.
+    counts: [usize; 9],
     /// The format, in normal form.
     view: FormatView,
 }
@@ -220,15 +221,17 @@ macro_rules! parts {
             $(
                 $(#[$doc])*
                 #[must_use]
+                #[inline]
                 pub const fn $name(&self) -> &'a [u8] {
-                    self.parts.$name
+                    cut(self.text, self.counts).$name
                 }
             )*
 
             /// Returns the name and the bytes of each part that is present, in the order of the text. The name is that
             /// of the call that returns the part, such as `integer`.
             pub fn parts(&self) -> impl Iterator<Item = (&'static str, &'a [u8])> + Clone {
-                let all = [$((stringify!($name), self.$name())),*];
+                let parts = cut(self.text, self.counts);
+                let all = [$((stringify!($name), parts.$name)),*];
                 all.into_iter().filter(|(_, bytes)| !bytes.is_empty())
             }
         }

@@ -1,6 +1,6 @@
 // Made by rust/tools/erase.py from crates/lexical_literal/src/read.rt: change that file.
 
-//! Calls that read literals, and the parts that they find.
+//! How literals are found, and the lengths of their parts.
 
 use crate::literal::cause::{refusal, ReadError};
 use crate::literal::steps::{class_of, Class};
@@ -30,35 +30,24 @@ pub struct Parts<'a> {
     pub suffix: &'a [u8],
 }
 
-/// A leading piece of a text that is a literal.
-#[derive(Debug, Clone, Copy, PartialEq, Eq, Hash)]
-pub struct Front<'a> {
-    /// The parts of the literal.
-    pub parts: Parts<'a>,
-    /// The number of bytes of the literal.
-    pub size: usize,
+// A leading piece of a text that is a literal: the number of its bytes, and the lengths of its parts.
+#[derive(Clone, Copy)]
+pub(crate) struct Found {
+    pub(crate) size: usize,
+    pub(crate) counts: [usize; 9],
 }
 
 impl Syntax {
-    /// Returns the parts of the literal `text`.
-    ///
-    /// # Errors
-    ///
-    /// If `text` is not a literal, returns why, and how far it is right.
+    // Returns the lengths of the parts of the literal `text`, or why it is not one.
     #[inline(always)]
-    pub(crate) const fn read_parts<'a>(&self, text: &'a [u8]) -> Result<Parts<'a>, ReadError> {
-        read(self.grammar(), None, text)
+    pub(crate) const fn find(&self, text: &[u8]) -> Result<[usize; 9], ReadError> {
+        find(self.grammar(), None, text)
     }
 
-    /// Returns the longest front of `text` that is a literal. What follows it may be anything. No byte behind the first
-    /// that no literal can have is looked at.
-    ///
-    /// # Errors
-    ///
-    /// If no front of `text` is a literal, returns the error of [`read`][Self::read].
+    // Returns the longest front of `text` that is a literal, or why there is none.
     #[inline(always)]
-    pub(crate) const fn read_front<'a>(&self, text: &'a [u8]) -> Result<Front<'a>, ReadError> {
-        read_prefix(self.grammar(), None, text)
+    pub(crate) const fn find_front(&self, text: &[u8]) -> Result<Found, ReadError> {
+        find_front(self.grammar(), None, text)
     }
 }
 
@@ -79,30 +68,21 @@ impl Reader {
         Reader { grammar, tables: Tables::new(grammar) }
     }
 
-    /// Returns the parts of the literal `text`, as [`Syntax::read`] does.
-    ///
-    /// # Errors
-    ///
-    /// If `text` is not a literal, returns why, and how far it is right.
+    // Returns the lengths of the parts of the literal `text`, or why it is not one.
     #[inline(always)]
-    pub(crate) const fn read_parts<'a>(&self, text: &'a [u8]) -> Result<Parts<'a>, ReadError> {
-        read(self.grammar, Some(&self.tables), text)
+    pub(crate) const fn find(&self, text: &[u8]) -> Result<[usize; 9], ReadError> {
+        find(self.grammar, Some(&self.tables), text)
     }
 
-    /// Returns the longest front of `text` that is a literal. What follows it may be anything. No byte behind the first
-    /// that no literal can have is looked at.
-    ///
-    /// # Errors
-    ///
-    /// If no front of `text` is a literal, returns the error of [`read`][Self::read].
+    // Returns the longest front of `text` that is a literal, or why there is none.
     #[inline(always)]
-    pub(crate) const fn read_front<'a>(&self, text: &'a [u8]) -> Result<Front<'a>, ReadError> {
-        read_prefix(self.grammar, Some(&self.tables), text)
+    pub(crate) const fn find_front(&self, text: &[u8]) -> Result<Found, ReadError> {
+        find_front(self.grammar, Some(&self.tables), text)
     }
 }
 
 // The length of the longest front of a text that some literal begins with, its row, the length of the longest front that is
-// a literal, and the lengths of the parts of what has been read.
+// a literal, if it was sought, and the lengths of the parts of what has been read.
 #[derive(Clone, Copy)]
 struct Scanned {
     valid_up_to: usize,
@@ -111,29 +91,30 @@ struct Scanned {
     counts: [usize; 9],
 }
 
-// Returns the parts of the literal `text`, or how far it is right.
+// Returns the lengths of the parts of the literal `text`, or why it is not one.
 #[inline(always)]
-const fn read<'a>(grammar: Grammar, tables: Option<&Tables>, text: &'a [u8]) -> Result<Parts<'a>, ReadError> {
-    let scanned = scan(grammar, tables, text);
-    match scanned.literal {
-        Some(size) if size == text.len() => Ok(cut(text, scanned.counts)),
-        _ => Err(refuse(grammar, tables, text, scanned)),
+const fn find(grammar: Grammar, tables: Option<&Tables>, text: &[u8]) -> Result<[usize; 9], ReadError> {
+    let scanned = scan(grammar, tables, text, false);
+    if scanned.valid_up_to == text.len() && is_complete_by(grammar, tables, scanned.row) {
+        Ok(scanned.counts)
+    } else {
+        Err(refuse(grammar, tables, text, scanned))
     }
 }
 
-// Returns the longest front of `text` that is a literal, or how far it is right.
+// Returns the longest front of `text` that is a literal, or why there is none.
 #[inline(always)]
-const fn read_prefix<'a>(grammar: Grammar, tables: Option<&Tables>, text: &'a [u8]) -> Result<Front<'a>, ReadError> {
-    let scanned = scan(grammar, tables, text);
+const fn find_front(grammar: Grammar, tables: Option<&Tables>, text: &[u8]) -> Result<Found, ReadError> {
+    let scanned = scan(grammar, tables, text, true);
     let Some(size) = scanned.literal else {
         return Err(refuse(grammar, tables, text, scanned));
     };
-    let front = front_of(text, size);
     if size == scanned.valid_up_to {
-        return Ok(Front { parts: cut(front, scanned.counts), size });
+        let counts = scanned.counts;
+        return Ok(Found { size, counts });
     }
-    match read(grammar, tables, front) {
-        Ok(parts) => Ok(Front { parts, size }),
+    match find(grammar, tables, front_of(text, size)) {
+        Ok(counts) => Ok(Found { size, counts }),
         Err(error) => Err(error),
     }
 }
@@ -160,7 +141,7 @@ const fn class_at(grammar: Grammar, tables: Option<&Tables>, text: &[u8], size: 
 
 // Returns the first `size` bytes.
 #[inline(always)]
-const fn front_of<'a>(text: &'a [u8], size: usize) -> &'a [u8] {
+pub(crate) const fn front_of<'a>(text: &'a [u8], size: usize) -> &'a [u8] {
     text.split_at(size).0
 }
 
@@ -172,7 +153,7 @@ const fn split_front<'a>(text: &'a [u8], size: usize) -> (&'a [u8], &'a [u8]) {
 
 // Splits `text` into parts with the lengths `counts`. The zero of a prefix is counted as a digit of the integer.
 #[inline(always)]
-const fn cut<'a>(text: &'a [u8], counts: [usize; 9]) -> Parts<'a> {
+pub(crate) const fn cut<'a>(text: &'a [u8], counts: [usize; 9]) -> Parts<'a> {
     let (sign, after_sign) = split_front(text, counts[0]);
     let (prefix, after_prefix) = split_front(after_sign, counts[1] + counts[1]);
     let (integer, after_integer) = split_front(after_prefix, counts[2] - counts[1]);
@@ -184,9 +165,9 @@ const fn cut<'a>(text: &'a [u8], counts: [usize; 9]) -> Parts<'a> {
     Parts { sign, prefix, integer, point, fraction, exponent_character, exponent_sign, exponent, suffix }
 }
 
-// Reads `text` until no literal begins with what has been read.
+// Reads `text` until no literal begins with what has been read. Seeks the longest front that is a literal if `seeks` is true.
 #[inline(always)]
-const fn scan(grammar: Grammar, tables: Option<&Tables>, text: &[u8]) -> Scanned {
+const fn scan(grammar: Grammar, tables: Option<&Tables>, text: &[u8], seeks: bool) -> Scanned {
     let mut row = START;
     let mut counts = [0; 9];
     let mut literal = None;
@@ -197,12 +178,18 @@ const fn scan(grammar: Grammar, tables: Option<&Tables>, text: &[u8]) -> Scanned
         };
         row = next.row;
         counts[piece_number(next.piece)] += 1;
-        if is_complete_by(grammar, tables, row) {
+        if is_sought(grammar, tables, row, seeks) {
             literal = Some(index + 1);
         }
         index += 1;
     }
     Scanned { valid_up_to: index, row, literal, counts }
+}
+
+// Returns whether `seeks` is true and a row is that of a literal.
+#[inline(always)]
+const fn is_sought(grammar: Grammar, tables: Option<&Tables>, row: u8, seeks: bool) -> bool {
+    seeks && is_complete_by(grammar, tables, row)
 }
 
 // Returns what `byte` makes of a row, by the tables if there are any.

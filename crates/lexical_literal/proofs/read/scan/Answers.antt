@@ -1,15 +1,15 @@
 -- The loop reads the text, and is left at the first wrong byte.
 use Rattle.std.proofs.Common.{◌<◌, ◌+◌, length, length-set, get_or, set, Some, if◌then◌else◌, refl, sym, ap, ◌∙◌, arith, rules, subst}
-use Rattle.std.proofs.lemmas.Option.{slice_get-get_or, slice_get_past}
+use Rattle.std.proofs.lemmas.Option.{slice_get-get_or}
 use Rattle.std.specs.Prelude.{is_some}
 use Rattle.lexical_literal.specs.Additions.Causes.{allows, class_of_next}
 use Rattle.lexical_literal.specs.Notation.{notation_of}
 use Rattle.lexical_literal.specs.Additions.Tables.{summary_at, cuts_of}
 use Rattle.lexical_literal.proofs.RoleLemmas.{ready}
 use Rattle.lexical_literal.proofs.TableLemmas.{no_counts, count_one, small_more}
-use Rattle.lexical_literal.proofs.LongestLemmas.{HasRead, read_nothing, read_more, wrong_at, wrong_at_end, not_complete, is_scanned}
+use Rattle.lexical_literal.proofs.LongestLemmas.{HasRead, read_nothing, read_more, wrong_at, wrong_at_end, is_scanned}
 use Rattle.lexical_literal.proofs.read.scan.Goals as goal
-use Rattle.lexical_literal.proofs.read.scan.Goals.{then-is_complete_by, else-is_complete_by}
+use Rattle.lexical_literal.proofs.read.scan.Goals.{then-is_sought, else-is_sought}
 
 pub step_by-requires-clause-row : goal.step_by-requires-clause-row
 step_by-requires-clause-row c = c.loop-index.invariant.is_row
@@ -18,7 +18,7 @@ pub loop-index-init : goal.loop-index-init
 loop-index-init c =
     let m = notation_of c.args.grammar in
     let is_ready = ready c.role_facts.ensures.disjoint c.role_facts.ensures.five c.role_facts.ensures.lawful c.args.grammar c.requires.syntax in
-    record { is_row = omega arith; size = refl; small = search rules; has = rw (← no_counts) (read_nothing m is_ready c.args.text.now) }
+    record { is_row = omega arith; size = refl; small = search rules; has = rw (← no_counts) (read_nothing m is_ready c.args.text.now c.args.seeks) }
 
 pub loop-index-preserved : goal.loop-index-preserved
 loop-index-preserved c =
@@ -34,12 +34,12 @@ loop-index-preserved c =
       is_row = next.1;
       size = length-set counts c.piece_number.result (get_or counts c.piece_number.result 0 + 1) ∙ now.size;
       small = small_more counts i c.piece_number.result inside now.small;
-      has = subst (HasRead m c.args.text.now (i + 1) t (cuts_of (set counts c.piece_number.result (get_or counts c.piece_number.result 0 + 1))))
-          (elim c.if-is_complete_by.branch [
-            | then-is_complete_by w ↦ sym (w.literal-is ∙ ap (λ b. if b then Some (i + 1) else old) (sym w.if-is_complete_by.true ∙ c.is_complete_by.ensures))
-            | else-is_complete_by w ↦ sym (w.literal-is ∙ ap (λ b. if b then Some (i + 1) else old) (sym w.if-is_complete_by.false ∙ c.is_complete_by.ensures))
+      has = subst (HasRead m c.args.seeks c.args.text.now (i + 1) t (cuts_of (set counts c.piece_number.result (get_or counts c.piece_number.result 0 + 1))))
+          (elim c.if-is_sought.branch [
+            | then-is_sought w ↦ sym (w.literal-is ∙ ap (λ b. if b then Some (i + 1) else old) (sym w.if-is_sought.true ∙ c.is_sought.ensures))
+            | else-is_sought w ↦ sym (w.literal-is ∙ ap (λ b. if b then Some (i + 1) else old) (sym w.if-is_sought.false ∙ c.is_sought.ensures))
           ])
-          (read_more m now.has.ready c.args.text.now i (summary_at c.loop-index.row) (cuts_of counts) old now.has t _ c.loop-index-test.true next.0
+          (read_more m now.has.ready c.args.text.now c.args.seeks i (summary_at c.loop-index.row) (cuts_of counts) old now.has t _ c.loop-index-test.true next.0
           (next.2 (cuts_of counts) ∙ count_one counts now.size c.in-Some.next.piece
           ∙ ap (λ k. cuts_of (set counts k (get_or counts k 0 + 1))) (sym c.piece_number.ensures.value)));
     }
@@ -47,13 +47,13 @@ loop-index-preserved c =
 pub returns-in_default : goal.returns-in_default
 returns-in_default c =
     let has = c.loop-index.invariant.has in
-    is_scanned _ has.ready _ _ _ _ _ c.loop-index.invariant.is_row has (wrong_at _ has.ready _ _ _ _ _ has c.loop-index-test.true c.in_default.ensures)
-    (λ other. ap (λ next. allows (notation_of c.args.grammar) (summary_at c.loop-index.row) (class_of_next (notation_of c.args.grammar) next))
+    is_scanned _ has.ready _ _ _ _ _ _ has _ _ c.loop-index.invariant.is_row refl refl
+    (wrong_at _ has.ready _ _ _ _ _ _ has c.loop-index-test.true c.in_default.ensures)
+    (λ inside. ap (λ next. allows (notation_of c.args.grammar) (summary_at c.loop-index.row) (class_of_next (notation_of c.args.grammar) next))
     (slice_get-get_or c.args.text.now c.loop-index.index 0 c.loop-index-test.true) ∙ ap is_some c.in_default.ensures)
 
 pub returns : goal.returns
 returns c =
     let has = c.loop-index.invariant.has in
-    is_scanned _ has.ready _ _ _ _ _ c.loop-index.invariant.is_row has (wrong_at_end _ has.ready _ _ _ _ _ has c.loop-index-test.false)
-    (λ other. ap (λ next. allows (notation_of c.args.grammar) (summary_at c.loop-index.row) (class_of_next (notation_of c.args.grammar) next))
-    (slice_get_past c.args.text.now c.loop-index.index c.loop-index-test.false) ∙ not_complete _ has.ready _ _ _ _ _ has c.loop-index-test.false other)
+    is_scanned _ has.ready _ _ _ _ _ _ has _ _ c.loop-index.invariant.is_row refl refl
+    (wrong_at_end _ has.ready _ _ _ _ _ _ has c.loop-index-test.false) (λ inside. absurd (omega (arith, c.loop-index-test.false)))

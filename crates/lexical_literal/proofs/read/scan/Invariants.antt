@@ -9,7 +9,7 @@ invariant-loop-index l = record {
   is_row : l.row < 108;
   size : length l.counts ≡ 9;
   small : (k : ℕ) → get_or l.counts k 0 ≤ l.index;
-  has : HasRead (notation_of l.grammar) l.text l.index (summary_at l.row) (cuts_of l.counts) l.literal;
+  has : HasRead (notation_of l.grammar) l.seeks l.text l.index (summary_at l.row) (cuts_of l.counts) l.literal;
 }
 
 abbrev pub decreases-loop-index : goal.decreases-loop-index

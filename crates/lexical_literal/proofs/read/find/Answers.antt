@@ -1,0 +1,27 @@
+-- The lengths that were counted are those of the parts.
+use Rattle.std.proofs.Common.{sym, ◌∙◌}
+use Rattle.lexical_literal.proofs.LongestLemmas.{whole_literal, whole_counted, refused_there}
+use Rattle.lexical_literal.proofs.read.find.Goals as goal
+use Rattle.lexical_literal.proofs.read.find.Goals.{else-scanned-text-via-then-scanned-text+else-is_complete_by, else-scanned-text-via-else-scanned-text}
+
+pub refuse-requires-clause-refused : goal.refuse-requires-clause-refused
+refuse-requires-clause-refused c = refused_there _ _ _ _ c.scan-scanned.ensures (λ all. elim c.else-scanned-text.branch [
+  | else-scanned-text-via-then-scanned-text+else-is_complete_by w ↦ sym w.is_complete_by.ensures ∙ w.if-is_complete_by.false
+  | else-scanned-text-via-else-scanned-text w ↦ absurd (w.if-scanned-text.false all)
+])
+
+pub returns-then-is_complete_by : goal.returns-then-is_complete_by
+returns-then-is_complete_by c =
+    let is = c.scan-scanned.ensures in
+    record {
+      found = whole_literal _ _ _ _ is c.if-scanned-text.true (sym c.is_complete_by.ensures ∙ c.if-is_complete_by.true);
+      counted = whole_counted _ _ _ _ is;
+      error = tt;
+    }
+
+pub returns-else-scanned-text : goal.returns-else-scanned-text
+returns-else-scanned-text c = record {
+  found = tt;
+  counted = λ l reads. absurd (c.refuse.ensures.none l reads);
+  error = c.refuse.ensures.refusal;
+}
