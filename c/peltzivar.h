@@ -34,10 +34,9 @@
  * No function allocates memory, retains a pointer or sets errno. Several threads may call these functions at the same
  * time, provided that no call writes memory that another call reads or writes.
  *
- * From 0.9 on, setters, rules, roles, parts, causes, spellings and errors keep their numbers. The SONAME of the shared
- * library contains the major version and, before 1.0, the minor version. It changes if a function, a structure or a
- * documented result changes, so a program never loads a library that does not fit it. It does not change if a function
- * is added. The wording of sentences is not part of this promise. */
+ * From 1.0 on, functions, structures, numbers and documented results do not change until 2.0, but others may be added.
+ * The section `Until 2.0` of CHANGELOG.md in the repository lists what this promise leaves out, such as the wording of
+ * sentences. */
 #ifndef PELTZIVAR_H
 #define PELTZIVAR_H
 #include <stdbool.h>
@@ -45,8 +44,8 @@
 #include <stdint.h>
 
 /* The version of this header. PELTZIVAR_VERSION_NUMBER is (major << 16) | (minor << 8) | patch. */
-#define PELTZIVAR_VERSION "0.9.0"
-#define PELTZIVAR_VERSION_NUMBER 0x000900
+#define PELTZIVAR_VERSION "1.0.0"
+#define PELTZIVAR_VERSION_NUMBER 0x010000
 
 /* PELTZIVAR_MUST_USE marks functions whose result states whether they wrote their output. */
 #ifndef PELTZIVAR_MUST_USE

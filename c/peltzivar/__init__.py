@@ -41,8 +41,8 @@ class _Named(Enum):
 
 
 # Made by make_python.py: constants
-__version__ = "0.9.0"
-_VERSION = 0x000900
+__version__ = "1.0.0"
+_VERSION = 0x010000
 STANDARD = 0x00000A0000000000000000000000000C
 _NEW_FIELDS = (0xC, 0, 0, 0, 10, 0, 0)
 _FIELD_COUNT = 37
@@ -386,8 +386,7 @@ def _candidates() -> Iterable[str]:
     folders above it and where a checkout builds it, and then the names that the system's loader looks for."""
     if given := os.environ.get("PELTZIVAR_LIBRARY"):
         return [os.path.abspath(given)]
-    major, minor, _ = __version__.split(".")
-    names = (f"libpeltzivar_c.so.{major if int(major) else f'0.{minor}'}", "libpeltzivar_c.so")
+    names = (f"libpeltzivar_c.so.{_VERSION >> 16}", "libpeltzivar_c.so")
     folders = list(Path(__file__).resolve().parents)[:4]
     folders += [top / built for top in folders[2:3] for built in ("rust/target/make/release", "target/release")]
     return [*(str(it) for folder in folders for name in names if (it := folder / name).exists()), *names]
@@ -409,8 +408,7 @@ def _load() -> Any:
             "`make -C c`, or run a program outside c/, which hides an installed package"
         )
     version = getattr(library, "peltzivar_version", lambda: 0)()
-    unchanged = 16 if _VERSION >> 16 else 8
-    if version >> unchanged != _VERSION >> unchanged or version < _VERSION:
+    if version >> 16 != _VERSION >> 16 or version < _VERSION:
         found = ".".join(map(str, (version & 0xFFFFFF).to_bytes(3, "big")))
         raise ImportError(f"{path} has version {found}, and this file {__version__}")
     calls = SimpleNamespace(path=path)

@@ -177,7 +177,7 @@ class Header(unittest.TestCase):
         self.assertIn(f'#define PELTZIVAR_VERSION "{version}"\n#define PELTZIVAR_VERSION_NUMBER 0x{number:06x}\n', HEADER)
         self.assertIn(f'version = "{version}"\n', (C / "pyproject.toml").read_text())
         self.assertIn(f"_VERSION = 0x{number:06x}\n", (C / "peltzivar/__init__.py").read_text())
-        self.assertIn(f"libpeltzivar_c.so.{version.rpartition('.')[0]}]", run("readelf", "-d", SHARED)[0])
+        self.assertIn(f"libpeltzivar_c.so.{number >> 16}]", run("readelf", "-d", SHARED)[0])
         self.assertRegex((TOP / "CHANGELOG.md").read_text(), rf"\A# Changelog\n\n## {re.escape(version)}\b")
 
 

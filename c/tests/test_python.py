@@ -393,7 +393,7 @@ class Loading(unittest.TestCase):
         self.assertEqual(self.run_copy(PELTZIVAR_LIBRARY=library).stdout, f"{library}\n")
         beside = shutil.copy(library, self.folder.resolve() / "libpeltzivar_c.so")
         self.assertEqual(self.run_copy().stdout, f"{beside}\n")
-        versioned = "libpeltzivar_c.so." + re.match(r"0\.\d+|\d+", peltzivar.__version__)[0]
+        versioned = "libpeltzivar_c.so." + peltzivar.__version__.split(".")[0]
         (self.folder / "lib").mkdir()
         os.rename(beside, self.folder / "lib" / versioned)
         self.assertEqual(self.run_copy(LD_LIBRARY_PATH=str(self.folder / "lib")).stdout, f"{versioned}\n")
@@ -402,7 +402,7 @@ class Loading(unittest.TestCase):
     def test_another_library_is_refused(self):
         for code, version in [("", "0.0.0"), ("unsigned peltzivar_version(void) { return 0x7F0203; }", "127.2.3")]:
             subprocess.run(["cc", "-shared", "-x", "c", "-", "-o", "other.so"], cwd=self.folder, input=code, text=True, check=True)
-            self.assertRegex(self.run_copy(PELTZIVAR_LIBRARY="other.so").stderr, f"other.so has version {version}, and this file 0")
+            self.assertRegex(self.run_copy(PELTZIVAR_LIBRARY="other.so").stderr, f"other.so has version {version}, and this file 1")
 
 
 if __name__ == "__main__":

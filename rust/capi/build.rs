@@ -1,16 +1,13 @@
-//! Gives the shared library a name with the major version and, before 1.0, the minor version. A program that was built for
-//! another one must not find this library, since functions and structs of the header may differ.
+//! Gives the shared library a name with the major version. A program that was built for another one must not find this
+//! library, since functions and structs of the header may differ.
 
 use std::env;
 
 fn main() {
     println!("cargo::rerun-if-changed=build.rs");
     if env::var("CARGO_CFG_TARGET_OS").as_deref() == Ok("linux") {
-        let name = match (env!("CARGO_PKG_VERSION_MAJOR"), env!("CARGO_PKG_VERSION_MINOR")) {
-            ("0", minor) => format!("libpeltzivar_c.so.0.{minor}"),
-            (major, _) => format!("libpeltzivar_c.so.{major}"),
-        };
-        println!("cargo::rustc-cdylib-link-arg=-Wl,-soname,{name}");
+        let major = env!("CARGO_PKG_VERSION_MAJOR");
+        println!("cargo::rustc-cdylib-link-arg=-Wl,-soname,libpeltzivar_c.so.{major}");
         // The shared library needs `memcpy` of the C library, which rustc does not link without `std`.
         println!("cargo::rustc-cdylib-link-arg=-lc");
     }
