@@ -4,7 +4,7 @@ use peltzivar::format::{CASE_SENSITIVE_SPECIAL, DIGIT_SEPARATOR_FLAG_MASK, NO_SP
 use peltzivar::literal::{
     Cause, Language, Literal, Number, ReadError, Reader, Sign, Special, Specials, Spelling, Syntax,
 };
-use peltzivar::{Edit, FlagSetter, NumberFormatBuilder, Part};
+use peltzivar::{Edit, FlagSetter, Format, NumberFormatBuilder, Part};
 
 const PAGE: &str = include_str!("../../docs/FORMAT.md");
 
@@ -128,7 +128,10 @@ fn flags_accept_and_reject_the_texts_of_the_page() {
 fn questions_have_the_answers_of_the_page() {
     for row in table("How a reader applies the flags") {
         let [.., settings, accepted, rejected] = row[..] else { panic!("{row:?}") };
-        let syntax = syntax(word(settings));
+        let syntax = match settings.strip_suffix("`, no options") {
+            Some(settings) => Syntax::integers(Format::new(word(settings)).unwrap()),
+            None => syntax(word(settings)),
+        };
         let reader = Reader::new(syntax);
         for text in texts(accepted) {
             assert!(read(&reader, syntax, text.as_bytes()).is_ok(), "{settings}: {text}");
@@ -158,7 +161,7 @@ fn causes_are_those_of_the_page() {
     }
 }
 
-/// The parts of the number in the picture of the page, and of the longest front that is a literal.
+/// The parts of the number at the top of the page, and of the longest front that is a literal.
 #[test]
 fn parts_are_known() {
     #[rustfmt::skip]
