@@ -118,6 +118,7 @@ static void test_options(void) {
     CHECK(peltzivar_options_reason_roles(hexadecimal, 'e', '+', 0) == exponent);
     CHECK(peltzivar_options_reason_roles(hexadecimal, 'e', '+', 1) == point);
     CHECK(peltzivar_options_reason_roles(hexadecimal, 'p', 'p', 0) == (exponent | point));
+    CHECK(peltzivar_role_of(RESERVED, 'e', '.', 255) == PELTZIVAR_ROLE_NONE && !peltzivar_separators_of(RESERVED, 255).internal);
 }
 
 static void test_texts(void) {

@@ -1,7 +1,6 @@
 //! What a caller relies on beyond results: the view whose word is a const argument, the format and the constants have
 //! what the view at run time has, the types have their traits, and a panic names its caller.
 
-use peltzivar::edits::edits_of;
 use peltzivar::format::{self, NumberFormatBuilder, STANDARD};
 use peltzivar::literal::{
     Cause, Digits, Language, Literal, Number, Place, ReadError, Reader, Special, Specials, Syntax,
@@ -62,38 +61,6 @@ fn each_setter_has_its_constant() {
     }
 }
 
-/// No list has the getters of a builder.
-#[test]
-fn a_builder_has_a_getter_for_each_field() {
-    let getters = include_str!("../src/format_builder/getters.rs");
-    for edit in edits_of(STANDARD).0 {
-        assert!(getters.contains(&format!(" get_{}(&self)", edit.name())), "{edit}");
-    }
-}
-
-/// Compares the bytes of both views and of the format with the edits of the word. An absent byte of one view is 0.
-fn bytes_are_same<const W: u128>() {
-    let (constant, view) = (NumberFormat::<W>::new(), FormatView::new(W));
-    let both = |byte: Option<NonZeroU8>| (byte, byte.map_or(0, NonZeroU8::get));
-    let effective = |byte: Option<NonZeroU8>| byte.map_or(view.mantissa_radix(), |byte| byte.get().into());
-    for edit in edits_of(W).0 {
-        match edit {
-            Edit::Flag(..) => {}
-            Edit::DigitSeparator(byte) => assert_eq!((view.digit_separator(), constant.digit_separator()), both(byte)),
-            Edit::BasePrefix(byte) => assert_eq!((view.base_prefix(), constant.base_prefix()), both(byte)),
-            Edit::BaseSuffix(byte) => assert_eq!((view.base_suffix(), constant.base_suffix()), both(byte)),
-            Edit::MantissaRadix(radix) => assert_eq!(view.mantissa_radix(), radix.into()),
-            Edit::ExponentBase(byte) => assert_eq!(view.exponent_base(), effective(byte)),
-            Edit::ExponentRadix(byte) => assert_eq!(view.exponent_radix(), effective(byte)),
-            _ => panic!("{edit} is not compared"),
-        }
-    }
-    if let Ok(it) = Format::new(W) {
-        let bytes = [it.digit_separator(), it.base_prefix(), it.base_suffix()];
-        assert_eq!(bytes, [view.digit_separator(), view.base_prefix(), view.base_suffix()]);
-    }
-}
-
 /// Compares both views of a word, and its format if it is lawful.
 #[rustfmt::skip]
 fn views_are_same<const W: u128>() {
@@ -122,7 +89,12 @@ fn views_are_same<const W: u128>() {
         };
     }
     with_setters!(setters());
-    bytes_are_same::<W>();
+    let bytes = [view.digit_separator(), view.base_prefix(), view.base_suffix()];
+    // An absent byte of the view with a const argument is 0.
+    let numbers = [constant.digit_separator(), constant.base_prefix(), constant.base_suffix()];
+    assert_eq!(bytes.map(|byte| byte.map_or(0, NonZeroU8::get)), numbers, "{W:#034X}");
+    let of_format = format.map_or(bytes, |it| [it.digit_separator(), it.base_prefix(), it.base_suffix()]);
+    assert_eq!(of_format, bytes, "{W:#034X}");
     same! { mantissa_radix() radix() radix2() radix4() radix8() exponent_base() exponent_radix() }
     same! { has_digit_separator() has_base_prefix() has_base_suffix() flags() interface_flags() exponent_flags() }
     constants! {
