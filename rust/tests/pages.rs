@@ -1,7 +1,6 @@
 //! The commands in the pages of the repository print what the pages show. `c/tests/test_python.py` tests the tables of
 //! FORMAT.
 
-use peltzivar::{Part, Role, Rule};
 use std::path::Path;
 use std::process::{Command, Output};
 
@@ -37,15 +36,6 @@ fn commands_print_what_pages_show() {
         }
         assert!(count > 0, "{name}");
     }
-}
-
-#[test]
-fn rules_print_the_conditions_of_format() {
-    let page = include_str!("../../docs/FORMAT.md");
-    for (number, rule) in (1..).zip(Rule::ALL) {
-        assert!(page.contains(&format!("\n| {number} | {rule} | `Invalid")), "{rule}");
-    }
-    assert_eq!([Part::Integer.to_string(), Role::Sign.to_string()], ["integer", "sign"]);
 }
 
 #[test]
