@@ -106,6 +106,7 @@ fn calls_are_same<const W: u128>() {
     assert_eq!((constant.view(), FormatView::from(constant), FormatView::from(W)), (view, view, view));
     assert_eq!((view.word(), u128::from(view), NumberFormat::<W>::rebuild()), (W, W, view.rebuild()));
     assert_eq!((constant.is_valid(), constant.error()), (view.is_valid(), view.error()));
+    assert_eq!((format::format_is_valid::<W>(), format::format_error::<W>()), (view.is_valid(), view.error()));
     assert_eq!((constant.is_valid_radix(), constant.error_radix()), (view.is_valid_radix(), view.error_radix()));
     same! { W mantissa_radix() radix() radix2() radix4() radix8() exponent_base() exponent_radix() }
     same! { W has_digit_separator() has_base_prefix() has_base_suffix() flags() interface_flags() exponent_flags() }
