@@ -9,7 +9,7 @@ type Values = [Option<u32>; 2];
 // A word, a byte, its values as a digit of the mantissa and of the exponent, and whether it is the digit separator, the
 // base prefix, the base suffix, and the exponent character `e`.
 #[rustfmt::skip]
-const BYTES: [(u128, u8, Values, [bool; 4]); 8] = [
+const BYTES: [(u128, u8, Values, [bool; 4]); 9] = [
     (0x0A020200_00000000_00000000_0000000C, b'9', [None, Some(9)], [false; 4]),
     (0x0A0A1000_00000000_00000000_0000000C, b'f', [Some(15), None], [false; 4]),
     (0xFFFFFFFF_FFFFFFFF_FFFFFFFF_FFFFFFFF, b'z', [Some(35), Some(35)], [false; 4]),
@@ -18,6 +18,7 @@ const BYTES: [(u128, u8, Values, [bool; 4]); 8] = [
     (0x00000A00_00000000_00001FFF_0000000C, 0, [None; 2], [false; 4]),
     (0x00000A68_78000000_00000000_0002000C, b'X', [None; 2], [false, true, false, false]),
     (0x00000A68_78000000_00000000_0002000C, b'H', [None; 2], [false; 4]),
+    (0x00000A00_00000000_00000000_0000000C, b'E', [None; 2], [false, false, false, true]),
 ];
 
 // A byte, and its role in numbers of radix 16 with `_` between digits of the integer, the prefix `x`, the suffix `h` in
