@@ -4,6 +4,7 @@ use Rattle.std.specs.Prelude.{slice_get, Option, Some, None}
 use Rattle.std.specs.Int.{w128, trailing_zeros}
 use Rattle.std.specs.List.{list_any}
 use Rattle.lexical_util.specs.Ascii.{ByteSet}
+use Rattle.lexical_util.specs.Groups.{bits_of}
 use Rattle.lexical_util.specs.declared.error.Error.{Error}
 use Rattle.lexical_util.specs.declared.error.Error.TheVariants as errors
 use Rattle.lexical_util.specs.Layout as layout
@@ -238,6 +239,8 @@ pub record IsRefusal (m : Notation) (text : List ℕ) (error : ReadError) : Type
   pub valid_up_to : IsValidUpTo m text error.valid_up_to
   pub byte : error.byte ≡ slice_get text error.valid_up_to
   pub cause : IsCause m (take error.valid_up_to text) (slice_get text error.valid_up_to) error.cause (raw error.mask).flag
+  -- No bit of the mask is set but those of flags.
+  pub mask : error.mask ≡ bits_of error.mask layout.flags
   pub span : (error.start, error.end)
       ≡ span_of m (take error.valid_up_to text) (take (error.valid_up_to + 1) text) error.cause (lowest error.mask)
   pub code : error.code ≡ error_of m (take error.valid_up_to text) error.cause (lowest error.mask) error.start
