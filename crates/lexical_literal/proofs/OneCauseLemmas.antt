@@ -1,6 +1,7 @@
 -- A refusal has one cause, and a text has one refusal.
-use Rattle.std.proofs.Common.{ℕ, ◌≡◌, ◌↔◌, ◌+◌, ◌^◌, Bool, true, false, if◌then◌else◌, inl, inr, List, Option, Some, None, sum_by, take}
+use Rattle.std.proofs.Common.{ℕ, ◌≡◌, ◌≤◌, ◌↔◌, ◌+◌, ◌^◌, Bool, true, false, if◌then◌else◌, inl, inr, List, Option, Some, None, sum_by, take}
 use Rattle.std.proofs.Common.{refl, sym, ap, subst, ◌∙◌, arith}
+use Rattle.std.proofs.Math.Nat.{le_antisymm}
 use Rattle.std.specs.Prelude.{slice_get}
 use Rattle.std.proofs.lemmas.Bool.{false≢true, false_from_ne_true, cases_lt}
 use Rattle.std.proofs.lemmas.Bool.Decides.{nat_tests}
@@ -67,19 +68,16 @@ unfolding bits_of
 one_mask a b one two same = one ∙ (λ j. sum_by (λ f. if same f j then 2 ^ bit f else 0) flags) ∙ sym two
 
 module _ (m : Notation) (text : List ℕ) where
-  -- A text is right up to one index.
-  one_end : (i k : ℕ) → IsValidUpTo m text i → IsValidUpTo m text k → i ≡ k
-  one_end i k one two = elim (cases_lt i k) [
+  no_longer : (i k : ℕ) → IsValidUpTo m text i → IsValidUpTo m text k → k ≤ i
+  no_longer i k one two = elim (cases_lt i k) [
     | inl below ↦ absurd (one.no_longer k below two.within two.front)
-    | inr above ↦ elim (cases_lt k i) [
-      | inl below ↦ absurd (two.no_longer i below one.within one.front)
-      | inr same ↦ omega (arith, above, same)
-    ]
+    | inr above ↦ above
   ]
 
   pub one_refusal : (a b : ReadError) → IsRefusal m text a → IsRefusal m text b → a ≡ b
   one_refusal a b one two =
-      let size = one_end a.valid_up_to b.valid_up_to one.valid_up_to two.valid_up_to in
+      let size = le_antisymm (no_longer b.valid_up_to a.valid_up_to two.valid_up_to one.valid_up_to)
+      (no_longer a.valid_up_to b.valid_up_to one.valid_up_to two.valid_up_to) in
       let other = subst (λ n. IsCause m (take n text) (slice_get text n) b.cause (raw b.mask).flag) (sym size) two.cause in
       let same = one_cause m _ _ _ (slice_get text a.valid_up_to) a.cause b.cause one.cause other in
       let mask = one_mask a.mask b.mask one.mask two.mask same.flags in
@@ -88,10 +86,10 @@ module _ (m : Notation) (text : List ℕ) where
       let byte = one.byte ∙ ap (slice_get text) size ∙ sym two.byte in
       λ j. record {
         valid_up_to = size j;
+        byte = byte j;
         cause = same.cause j;
         mask = mask j;
         start = (span j).0;
         end = (span j).1;
         code = code j;
-        byte = byte j;
       }
