@@ -9,12 +9,12 @@ use Rattle.std.proofs.lemmas.Bool.Decides.{nat_tests}
 use Rattle.std.proofs.lemmas.Nat.Bits.{bit_at_and}
 use Rattle.std.proofs.Math.Nat.{div-eq_of_lt, pow-le-pow_right}
 use Rattle.lexical_util.specs.Layout as layout
-use Rattle.lexical_util.specs.Layout.{Flag, bit, flags, part}
+use Rattle.lexical_util.specs.Layout.{Flag, bit, part}
 use Rattle.lexical_util.specs.Record.{raw}
 use Rattle.lexical_util.specs.declared.feature_format.roles.Role.TheVariants as roles
 use Rattle.lexical_literal.specs.Notation.{Notation}
 use Rattle.lexical_literal.specs.Cause.{IsLowest, IsRequirement, Permits, RefusesAlone, Releases, SomeFlag, adding, bare, binds, is_one_of}
-use Rattle.lexical_literal.specs.Cause.{is_at, requirement_flags, separator_flags, with_flags, without}
+use Rattle.lexical_literal.specs.Cause.{flag_at, is_at, requirement_flags, separator_flags, with_flags, without}
 use Rattle.lexical_literal.specs.Additions.Causes.{Decides, IsWeaker, allows, is_own, is_role, place_of}
 use Rattle.lexical_util.specs.declared.format_flags.Part.{Part}
 use Rattle.lexical_util.specs.declared.format_flags.Part.TheVariants as parts
@@ -25,18 +25,18 @@ use Rattle.lexical_literal.specs.declared.steps.Class.{Class}
 use Rattle.lexical_literal.specs.declared.steps.Summary.{Summary}
 use Rattle.lexical_literal.proofs.CauseLemmas.{bit_small, flag_pow}
 use Rattle.lexical_literal.proofs.JointLemmas.{Alone, at_next, going, is_lower, joint, lower, zeros_bind}
-use Rattle.lexical_literal.proofs.RefusalLemmas.{apart, at, same_flag}
+use Rattle.lexical_literal.proofs.RefusalLemmas.{apart, same_flag}
 
 -- THE FLAGS OF A MASK
 
 -- Each bit of a mask of flags is one of them.
-pub mask_flag : (mask : ℕ) → mask < 2 ^ 44 → agree_below (λ k. (part mask k 1 == 1) && not (bit (at flags k) == k)) (λ k. false) 44 ≡ true
+pub mask_flag : (mask : ℕ) → mask < 2 ^ 44 → agree_below (λ k. (part mask k 1 == 1) && not (bit (flag_at k) == k)) (λ k. false) 44 ≡ true
     → (k : ℕ) → part mask k 1 ≡ 1 → (f : Flag) × (bit f ≡ k)
 mask_flag mask small agree k one = elim (cases_lt k 44) [
   | inl below ↦ (
-    at flags k,
-    eqb-true (bit (at flags k)) k (owned _ _ (eq-eqb (part mask k 1) 1 one)
-        (agree_below_at (λ k. (part mask k 1 == 1) && not (bit (at flags k) == k)) (λ k. false) 44 k agree below)),
+    flag_at k,
+    eqb-true (bit (flag_at k)) k (owned _ _ (eq-eqb (part mask k 1) 1 one)
+        (agree_below_at (λ k. (part mask k 1 == 1) && not (bit (flag_at k) == k)) (λ k. false) 44 k agree below)),
   )
   | inr high ↦
       let wide : 2 ^ 44 ≤ 2 ^ k = pow-le-pow_right {n = 2} (omega arith) high in

@@ -1,6 +1,6 @@
 -- The flags of masks, and the bytes to show.
 use Rattle.std.proofs.Common.{ℕ, ◌≡◌, ◌≢◌, ◌<◌, ◌+◌, ◌*◌, ◌%◌, ◌^◌, ◌==◌, ◌&&◌, ◌||◌, not, Bool, true, false, if◌then◌else◌}
-use Rattle.std.proofs.Common.{bit_and, bit_or, inl, inr, List, [], ◌∷◌, ◌++◌, length, refl, ap, ◌∙◌, arith}
+use Rattle.std.proofs.Common.{bit_and, bit_or, inl, inr, List, [], ◌∷◌, ◌++◌, length, sum_by, refl, ap, ◌∙◌, arith}
 use Rattle.std.proofs.lemmas.Bool.Decides.{nat_tests}
 use Rattle.std.proofs.lemmas.List.Folds.{list_any-append}
 use Rattle.std.proofs.lemmas.Nat.Bits.{and_pow, bit_at_and, bit_at_or, bit_at_not, bit_at-zero, bit_at-pow_same, bit_at-pow_other, bit_at-trailing_zeros}
@@ -10,9 +10,11 @@ use Rattle.std.proofs.lemmas.Nat.{one_shl}
 use Rattle.std.specs.Int.Bits.{or_zero_l}
 use Rattle.std.specs.Int.{w128, bit_not, trailing_zeros}
 use Rattle.lexical_util.specs.Ascii.{ByteSet}
+use Rattle.lexical_util.specs.Groups.{bits_of}
 use Rattle.lexical_util.specs.Layout as layout
 use Rattle.lexical_util.specs.Layout.{Flag, bit, part}
 use Rattle.lexical_util.specs.Record.{raw}
+use Rattle.lexical_util.proofs.ViewLemmas.{bits_by_mask}
 use Rattle.lexical_literal.specs.Cause.{behind, is_one_of, requirement_flags}
 
 -- THE FLAGS OF MASKS
@@ -55,6 +57,19 @@ all_bind _ = refl
 -- The flags of a word without requirements.
 pub bare_flags : (word : ℕ) (f : Flag) → (raw (bit_and word (bit_not w128 0x73FF))).flag f ≡ ((raw word).flag f && not (is_one_of requirement_flags f))
 bare_flags word f = flag_and f word (bit_not w128 0x73FF) ∙ ap (λ t. (raw word).flag f && t) (flag_not f 0x73FF (omega arith) ∙ ap not (requirement_mask f))
+
+flag_mask : (f : Flag) → (raw 0x1FFF0003FFFF).flag f ≡ true
+flag_mask layout.required_integer_digits = refl
+flag_mask _ = refl
+
+-- The flags of a mask without the bits that are not those of flags.
+pub kept_flags : (mask : ℕ) (f : Flag) → (raw mask).flag f ≡ (raw (bit_and mask 0x1FFF0003FFFF)).flag f
+kept_flags mask f = let both = flag_and f mask 0x1FFF0003FFFF in let all = flag_mask f in grind arith
+
+pub only_flags : (mask : ℕ) → bit_and mask 0x1FFF0003FFFF ≡ bits_of (bit_and mask 0x1FFF0003FFFF) layout.flags
+unfolding bits_of
+only_flags mask = bits_by_mask mask 0x1FFF0003FFFF layout.flags refl refl
+    ∙ (λ j. sum_by (λ f. if kept_flags mask f j then 2 ^ bit f else 0) layout.flags)
 
 -- A bit that a mask has, or has not.
 pub is_unset : (n k : ℕ) → bit_and n (2 ^ k) ≡ 0 → part n k 1 ≡ 0

@@ -1,14 +1,21 @@
--- A refusal has one cause.
-use Rattle.std.proofs.Common.{ℕ, ◌≡◌, ◌↔◌, Bool, true, false, List, Option, Some, None, refl, sym, ap, ◌∙◌, arith}
-use Rattle.std.proofs.lemmas.Bool.{false≢true, false_from_ne_true}
+-- A refusal has one cause, and a text has one refusal.
+use Rattle.std.proofs.Common.{ℕ, ◌≡◌, ◌≤◌, ◌↔◌, ◌+◌, ◌^◌, Bool, true, false, if◌then◌else◌, inl, inr, List, Option, Some, None, sum_by, take}
+use Rattle.std.proofs.Common.{refl, sym, ap, subst, ◌∙◌, arith}
+use Rattle.std.proofs.Math.Nat.{le_antisymm}
+use Rattle.std.specs.Prelude.{slice_get}
+use Rattle.std.proofs.lemmas.Bool.{false≢true, false_from_ne_true, cases_lt}
 use Rattle.std.proofs.lemmas.Bool.Decides.{nat_tests}
-use Rattle.lexical_util.specs.Layout.{Flag}
+use Rattle.lexical_util.specs.Groups.{bits_of}
+use Rattle.lexical_util.specs.Layout.{Flag, bit, flags}
+use Rattle.lexical_util.specs.Record.{raw}
 use Rattle.lexical_util.specs.declared.format_flags.Part.{Part}
 use Rattle.lexical_literal.specs.Notation.{Notation}
-use Rattle.lexical_literal.specs.Cause.{IsCause, IsSeparator, SameBlame, is_at}
+use Rattle.lexical_literal.specs.Cause.{IsCause, IsRefusal, IsSeparator, SameBlame, error_of, is_at, lowest, span_of}
+use Rattle.lexical_literal.specs.Front.{IsValidUpTo}
 use Rattle.lexical_literal.specs.declared.cause.Cause.{Cause}
 use Rattle.lexical_literal.specs.declared.cause.Cause.TheVariants as causes
 use Rattle.lexical_literal.specs.declared.cause.Place.{Place}
+use Rattle.lexical_literal.specs.declared.cause.ReadError.{ReadError}
 
 -- A flag allows separators at one place of one part.
 same_place : (x y : Place) (p q : Part) (f : Flag) → is_at x p f ≡ true → is_at y q f ≡ true → x ≡ y
@@ -54,3 +61,35 @@ module _ (m : Notation) (front : List ℕ) (a b : Flag → Bool) where
   one_cause None causes.Requirement other one two = absurd two
   one_cause None (causes.Missing p) other one two = absurd two
   one_cause None kind other one two = absurd one
+
+-- Two masks of flags alone are the same if they have the same flags.
+one_mask : (a b : ℕ) → a ≡ bits_of a flags → b ≡ bits_of b flags → ((f : Flag) → (raw a).flag f ≡ (raw b).flag f) → a ≡ b
+unfolding bits_of
+one_mask a b one two same = one ∙ (λ j. sum_by (λ f. if same f j then 2 ^ bit f else 0) flags) ∙ sym two
+
+module _ (m : Notation) (text : List ℕ) where
+  no_longer : (i k : ℕ) → IsValidUpTo m text i → IsValidUpTo m text k → k ≤ i
+  no_longer i k one two = elim (cases_lt i k) [
+    | inl below ↦ absurd (one.no_longer k below two.within two.front)
+    | inr above ↦ above
+  ]
+
+  pub one_refusal : (a b : ReadError) → IsRefusal m text a → IsRefusal m text b → a ≡ b
+  one_refusal a b one two =
+      let size = le_antisymm (no_longer b.valid_up_to a.valid_up_to two.valid_up_to one.valid_up_to)
+      (no_longer a.valid_up_to b.valid_up_to one.valid_up_to two.valid_up_to) in
+      let other = subst (λ n. IsCause m (take n text) (slice_get text n) b.cause (raw b.mask).flag) (sym size) two.cause in
+      let same = one_cause m _ _ _ (slice_get text a.valid_up_to) a.cause b.cause one.cause other in
+      let mask = one_mask a.mask b.mask one.mask two.mask same.flags in
+      let span = one.span ∙ (λ j. span_of m (take (size j) text) (take (size j + 1) text) (same.cause j) (lowest (mask j))) ∙ sym two.span in
+      let code = one.code ∙ (λ j. error_of m (take (size j) text) (same.cause j) (lowest (mask j)) (span j).0) ∙ sym two.code in
+      let byte = one.byte ∙ ap (slice_get text) size ∙ sym two.byte in
+      λ j. record {
+        valid_up_to = size j;
+        byte = byte j;
+        cause = same.cause j;
+        mask = mask j;
+        start = (span j).0;
+        end = (span j).1;
+        code = code j;
+      }

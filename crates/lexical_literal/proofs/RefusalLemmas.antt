@@ -1,10 +1,10 @@
 -- What has been read decides what a notation allows, with other flags too.
-use Rattle.std.proofs.Common.{ℕ, ◌≡◌, ◌↔◌, Bool, true, false, not, ◌==◌, ◌&&◌, ◌||◌, if◌then◌else◌, IsTrue, List, [], ◌∷◌, ◌++◌}
+use Rattle.std.proofs.Common.{ℕ, ◌≡◌, ◌↔◌, Bool, true, false, not, ◌==◌, ◌&&◌, ◌||◌, IsTrue, List, [], ◌∷◌, ◌++◌}
 use Rattle.std.proofs.Common.{Option, Some, None, refl, sym, ap, subst, ◌∙◌, arith}
 use Rattle.std.proofs.lemmas.Bool.{false≢true, and_parts, and_from}
 use Rattle.std.specs.Prelude.{is_some}
 use Rattle.lexical_util.specs.Layout as layout
-use Rattle.lexical_util.specs.Layout.{Flag, bit, flags, separators_in}
+use Rattle.lexical_util.specs.Layout.{Flag, bit, separators_in}
 use Rattle.lexical_util.specs.declared.feature_format.roles.Role.{Role}
 use Rattle.lexical_util.specs.declared.format_flags.Part.{Part}
 use Rattle.lexical_util.specs.declared.format_flags.Part.TheVariants as parts
@@ -12,7 +12,7 @@ use Rattle.lexical_literal.specs.Notation.{Notation, role_set}
 use Rattle.lexical_literal.specs.Run.{is_place, is_fit, are_fit}
 use Rattle.lexical_literal.specs.Literal.{Literal, IsLiteral, requirement}
 use Rattle.lexical_literal.specs.Front.{IsFront}
-use Rattle.lexical_literal.specs.Cause.{Allows, is_one_of, requirement_flags, separator_flags, with_flags}
+use Rattle.lexical_literal.specs.Cause.{Allows, flag_at, is_one_of, requirement_flags, separator_flags, with_flags}
 use Rattle.lexical_literal.specs.Additions.Causes.{class_of_next, IsWeaker, allows}
 use Rattle.lexical_literal.specs.Additions.Summary.{after, scan, class_of, step, is_accepted, start}
 use Rattle.lexical_literal.specs.declared.steps.Summary.{Summary}
@@ -23,18 +23,13 @@ use Rattle.lexical_literal.proofs.PartOfLemmas.{none_after}
 
 -- FLAGS
 
--- `at fs k` is the flag of `fs` with the bit `k`.
-abbrev pub at : List Flag → ℕ → Flag
-at [] k = layout.special_digit_separator
-at (g ∷ gs) k = if bit g == k then g else at gs k
-
-at_bit : (f : Flag) → at flags (bit f) ≡ f
-at_bit layout.required_integer_digits = refl
-at_bit _ = refl
+flag_at_bit : (f : Flag) → flag_at (bit f) ≡ f
+flag_at_bit layout.required_integer_digits = refl
+flag_at_bit _ = refl
 
 -- Two flags with the same bit are one.
 pub same_flag : (g f : Flag) → bit g ≡ bit f → g ≡ f
-same_flag g f same = sym (at_bit g) ∙ ap (at flags) same ∙ at_bit f
+same_flag g f same = sym (flag_at_bit g) ∙ ap flag_at same ∙ flag_at_bit f
 
 -- A flag that requires something allows no separator.
 pub apart : (f : Flag) → (is_one_of requirement_flags f && is_one_of separator_flags f) ≡ false

@@ -2,8 +2,10 @@
 use Rattle.std.specs.Prelude.{ℕ, ◌≡◌, ◌+◌, ◌<◌, ◌==◌, ◌&&◌, ◌↔◌, ◌⊎◌, ◌||◌, not, Bool, false, if◌then◌else◌, IsTrue, List, [], ◌∷◌, ◌++◌, length, take}
 use Rattle.std.specs.Prelude.{slice_get, Option, Some, None}
 use Rattle.std.specs.Int.{w128, trailing_zeros}
-use Rattle.std.specs.List.{list_any}
+use Rattle.std.specs.List.{find, list_any}
+use Rattle.std.specs.Option.{unwrap_or}
 use Rattle.lexical_util.specs.Ascii.{ByteSet}
+use Rattle.lexical_util.specs.Groups.{bits_of}
 use Rattle.lexical_util.specs.declared.error.Error.{Error}
 use Rattle.lexical_util.specs.declared.error.Error.TheVariants as errors
 use Rattle.lexical_util.specs.Layout as layout
@@ -75,7 +77,7 @@ SomeFlag flag = (f : Flag) × IsTrue (flag f)
 abbrev pub binds : Notation → Flag → Bool
 binds m f =
     m.flag f && (is_one_of requirement_flags f
-    && not ((bit f == 12) && (m.flag layout.required_exponent_notation && not m.integers_only)))
+    && not ((bit f == bit layout.no_integer_leading_zeros) && (m.flag layout.required_exponent_notation && not m.integers_only)))
 
 -- A text `front` is right, and the byte `next` cannot follow it; or `next` is `None`, and `front` is not a literal.
 module _ (m : Notation) (front : List ℕ) (next : Option ℕ) where
@@ -180,57 +182,64 @@ abbrev pub first_in : ByteSet → List ℕ → ℕ
 first_in A [] = 0
 first_in A (byte ∷ text) = if A byte then 0 else 1 + first_in A text
 
--- `lowest mask` is the number of the lowest flag of `mask`.
-abbrev pub lowest : ℕ → ℕ
-lowest mask = trailing_zeros w128 mask
+-- `flag_at number` is the flag with the bit `number`, or `special_digit_separator` if there is none.
+abbrev pub flag_at : ℕ → Flag
+flag_at number = unwrap_or (find (λ f. bit f == number) layout.flags) layout.special_digit_separator
 
--- `requirement_span m front stop number` has the first index and the end of the bytes to show for the flag with the number
--- `number`: the exponent without digits, the integer digits, the sign or the exponent character, or none.
-abbrev pub requirement_span : Notation → List ℕ → List ℕ → ℕ → ℕ × ℕ
-requirement_span m front stop number =
-    if number == 2 then (behind m.exponent_character front, length front)
-    else (if (number == 12) || (number == 13) then (
-      first_in (m.digit parts.Integer) stop,
-      behind (m.digit parts.Integer) stop,
-    )
-    else (if (number == 4) || ((number == 6) || ((number == 7) || (number == 9))) then (length front, length front + 1)
-    else (length front, length front)))
+-- `lowest mask` is the lowest flag of a `mask` of flags. If `mask` is 0, it is `special_digit_separator`.
+abbrev pub lowest : ℕ → Flag
+lowest mask = flag_at (trailing_zeros w128 mask)
 
--- `span_of m front stop cause number` has the first index and the end of the bytes to show for `cause` and its lowest flag.
-abbrev pub span_of : Notation → List ℕ → List ℕ → Cause → ℕ → ℕ × ℕ
-span_of m front stop causes.Requirement number = requirement_span m front stop number
-span_of m front stop (causes.Separator part places.Consecutive) number = (length front, length front + 1)
-span_of m front stop (causes.Separator part place) number =
-    (behind (λ byte. not (m.separator byte)) front, behind m.separator stop)
-span_of m front stop (causes.Missing part) number = (length front, length front)
-span_of m front stop _ number = (length front, length front + 1)
+-- `requirement_span f m front stop` has the first index and the end of the bytes to show for the flag `f`: the exponent
+-- without digits, the integer digits, the sign or the exponent character, or none.
+abbrev pub requirement_span : Flag → Notation → List ℕ → List ℕ → ℕ × ℕ
+requirement_span layout.required_exponent_digits m front stop = (behind m.exponent_character front, length front)
+requirement_span layout.no_integer_leading_zeros m front stop = (first_in (m.digit parts.Integer) stop, behind (m.digit parts.Integer) stop)
+requirement_span layout.no_float_leading_zeros m front stop = (first_in (m.digit parts.Integer) stop, behind (m.digit parts.Integer) stop)
+requirement_span layout.no_positive_mantissa_sign m front stop = (length front, length front + 1)
+requirement_span layout.no_exponent_notation m front stop = (length front, length front + 1)
+requirement_span layout.no_positive_exponent_sign m front stop = (length front, length front + 1)
+requirement_span layout.no_exponent_without_fraction m front stop = (length front, length front + 1)
+requirement_span _ m front stop = (length front, length front)
 
--- `requirement_error m number start size` is the error for the flag with the number `number`.
-abbrev pub requirement_error : Notation → ℕ → ℕ → ℕ → Error
-requirement_error m number start size =
-    if number == 0 then errors.EmptyInteger start
-    else (if number == 1 then errors.EmptyFraction start
-    else (if number == 2 then errors.EmptyExponent size
-    else (if number == 3 then errors.EmptyMantissa start
-    else (if number == 4 then (if m.integers_only then errors.InvalidPositiveSign start else errors.InvalidPositiveMantissaSign start)
-    else (if number == 5 then (if m.integers_only then errors.MissingSign start else errors.MissingMantissaSign start)
-    else (if number == 6 then errors.InvalidExponent start
-    else (if number == 7 then errors.InvalidPositiveExponentSign start
-    else (if number == 8 then errors.MissingExponentSign start
-    else (if number == 9 then errors.ExponentWithoutFraction start
-    else (if number == 14 then errors.MissingExponent start
-    else errors.InvalidLeadingZeros start))))))))))
+-- `span_of m front stop cause f` has the first index and the end of the bytes to show for `cause` and its lowest flag `f`.
+abbrev pub span_of : Notation → List ℕ → List ℕ → Cause → Flag → ℕ × ℕ
+span_of m front stop causes.Requirement f = requirement_span f m front stop
+span_of m front stop (causes.Separator part places.Consecutive) f = (length front, length front + 1)
+span_of m front stop (causes.Separator part place) f = (behind (λ byte. not (m.separator byte)) front, behind m.separator stop)
+span_of m front stop (causes.Missing part) f = (length front, length front)
+span_of m front stop _ f = (length front, length front + 1)
+
+-- `sign_error f m start` is the error for the flag `f` if it is on signs, and otherwise that for leading zeros.
+abbrev pub sign_error : Flag → Notation → ℕ → Error
+sign_error layout.no_positive_mantissa_sign m start =
+    if m.integers_only then errors.InvalidPositiveSign start else errors.InvalidPositiveMantissaSign start
+sign_error layout.required_mantissa_sign m start = if m.integers_only then errors.MissingSign start else errors.MissingMantissaSign start
+sign_error layout.no_positive_exponent_sign m start = errors.InvalidPositiveExponentSign start
+sign_error layout.required_exponent_sign m start = errors.MissingExponentSign start
+sign_error _ m start = errors.InvalidLeadingZeros start
+
+-- `requirement_error f m start size` is the error for the flag `f`.
+abbrev pub requirement_error : Flag → Notation → ℕ → ℕ → Error
+requirement_error layout.required_integer_digits m start size = errors.EmptyInteger start
+requirement_error layout.required_fraction_digits m start size = errors.EmptyFraction start
+requirement_error layout.required_exponent_digits m start size = errors.EmptyExponent size
+requirement_error layout.required_mantissa_digits m start size = errors.EmptyMantissa start
+requirement_error layout.no_exponent_notation m start size = errors.InvalidExponent start
+requirement_error layout.no_exponent_without_fraction m start size = errors.ExponentWithoutFraction start
+requirement_error layout.required_exponent_notation m start size = errors.MissingExponent start
+requirement_error f m start size = sign_error f m start
 
 -- `is_mark m` is the set of the separator, the point and the exponent character.
 abbrev pub is_mark : Notation → ByteSet
 is_mark m byte = m.separator byte || (m.point byte || m.exponent_character byte)
 
--- `error_of m front cause number start` is the error for `cause` and its lowest flag, where the bytes to show begin at `start`.
-abbrev pub error_of : Notation → List ℕ → Cause → ℕ → ℕ → Error
-error_of m front causes.Requirement number start = requirement_error m number start (length front)
-error_of m front (causes.Missing part) number start =
+-- `error_of m front cause f start` is the error for `cause` and its lowest flag `f`, where the bytes to show begin at `start`.
+abbrev pub error_of : Notation → List ℕ → Cause → Flag → ℕ → Error
+error_of m front causes.Requirement f start = requirement_error f m start (length front)
+error_of m front (causes.Missing part) f start =
     if list_any (is_mark m) front then errors.InvalidDigit start else errors.Empty start
-error_of m front _ number start = errors.InvalidDigit start
+error_of m front _ f start = errors.InvalidDigit start
 
 -- `IsRefusal m text error` holds if `error` says how far `text` is right, which byte cannot follow, why `text` is not a
 -- literal, which bytes to show, and which error `lexical-util` has for this.
@@ -238,6 +247,8 @@ pub record IsRefusal (m : Notation) (text : List ℕ) (error : ReadError) : Type
   pub valid_up_to : IsValidUpTo m text error.valid_up_to
   pub byte : error.byte ≡ slice_get text error.valid_up_to
   pub cause : IsCause m (take error.valid_up_to text) (slice_get text error.valid_up_to) error.cause (raw error.mask).flag
+  -- No bit of the mask is set but those of flags.
+  pub mask : error.mask ≡ bits_of error.mask layout.flags
   pub span : (error.start, error.end)
       ≡ span_of m (take error.valid_up_to text) (take (error.valid_up_to + 1) text) error.cause (lowest error.mask)
   pub code : error.code ≡ error_of m (take error.valid_up_to text) error.cause (lowest error.mask) error.start

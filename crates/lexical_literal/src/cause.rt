@@ -9,7 +9,7 @@ ghost use Rattle.lexical_util.specs.Roles.{other_case};
 ghost use Rattle.lexical_literal.specs.Additions.Causes.{Decides, IsReadOf, allows, class_of_next, ends_part, is_own, is_plus_next};
 ghost use Rattle.lexical_literal.specs.Additions.Causes.{is_role, kind_set, leads, place_of, refuses, role_of_next};
 ghost use Rattle.lexical_literal.specs.Cause.{IsCause, IsRefusal, IsRequirement, SomeFlag, adding, bare, case_set, behind, binds, error_of};
-ghost use Rattle.lexical_literal.specs.Cause.{first_in, is_one_of, requirement_error, requirement_flags, requirement_span, span_of, with_flags};
+ghost use Rattle.lexical_literal.specs.Cause.{first_in, flag_at, is_one_of, requirement_error, requirement_flags, requirement_span, span_of, with_flags};
 ghost use Rattle.lexical_literal.specs.Additions.Summary.{class_of, scan, start};
 ghost use Rattle.lexical_literal.specs.Front.{IsValidUpTo};
 ghost use Rattle.lexical_literal.specs.Notation.{notation_of};
@@ -526,7 +526,7 @@ const fn requirement_span(
 ) -> (usize, usize)
     requires size { limits.size ≤ length text.now }
     requires end { limits.end ≤ length text.now }
-    ensures { result ≡ requirement_span (notation_of grammar) (take limits.size text.now) (take limits.end text.now) number }
+    ensures { result ≡ requirement_span (flag_at number) (notation_of grammar) (take limits.size text.now) (take limits.end text.now) }
 {
     let Limits { size, end } = limits;
     match number {
@@ -550,7 +550,7 @@ const fn span(
 ) -> (usize, usize)
     requires size { limits.size ≤ length text.now }
     requires end { limits.end ≤ length text.now }
-    ensures { result ≡ span_of (notation_of grammar) (take limits.size text.now) (take limits.end text.now) cause number }
+    ensures { result ≡ span_of (notation_of grammar) (take limits.size text.now) (take limits.end text.now) cause (flag_at number) }
 {
     let Limits { size, end } = limits;
     match cause {
@@ -566,7 +566,7 @@ const fn span(
 
 // Returns the error for the flag with the number `number`.
 const fn requirement_error(grammar: Grammar, number: u32, start: usize, size: usize) -> Error
-    ensures { result ≡ requirement_error (notation_of grammar) number start size }
+    ensures { result ≡ requirement_error (flag_at number) (notation_of grammar) start size }
 {
     let integers = matches!(grammar.options, None);
     match number {
@@ -597,7 +597,7 @@ const fn error(
     start: usize,
 ) -> Error
     requires { size ≤ length text.now }
-    ensures { result ≡ error_of (notation_of grammar) (take size text.now) cause number start }
+    ensures { result ≡ error_of (notation_of grammar) (take size text.now) cause (flag_at number) start }
 {
     match cause {
         Cause::Requirement => { requirement_error(grammar, number, start, size) }
@@ -641,7 +641,9 @@ pub(crate) const fn refusal(
         read,
         next,
     };
-    let Blame { cause, mask } = stop.blame(byte);
+    let Blame { cause, mask: bits } = stop.blame(byte);
+    // No bit of the mask is set but those of flags.
+    let mask = bits & masks::FLAG_MASK;
     let number = mask.trailing_zeros();
     let end = if size < text.len() { size + 1 } else { size };
     let (start, end) = span(grammar, text, Limits { size, end }, cause, number);

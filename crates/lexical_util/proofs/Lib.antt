@@ -1,7 +1,7 @@
 mod Lower
 mod EditLemmas
 mod NormalLemmas
-mod ViewLemmas
+pub mod ViewLemmas
 pub mod ByteRoleLemmas
 pub mod ListingLemmas
 mod ChangeLemmas

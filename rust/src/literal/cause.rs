@@ -468,7 +468,9 @@ pub(crate) const fn refusal(
 ) -> ReadError {
     let byte = byte_at(text, size);
     let stop = Stop { grammar, read, next };
-    let Blame { cause, mask } = stop.blame(byte);
+    let Blame { cause, mask: bits } = stop.blame(byte);
+    // No bit of the mask is set but those of flags.
+    let mask = bits & masks::FLAG_MASK;
     let number = mask.trailing_zeros();
     let end = if size < text.len() { size + 1 } else { size };
     let (start, end) = span(grammar, text, Limits { size, end }, cause, number);

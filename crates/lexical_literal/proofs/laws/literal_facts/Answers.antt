@@ -3,7 +3,7 @@ use Rattle.std.proofs.Common.{subst}
 use Rattle.lexical_literal.specs.Notation.{Notation, notation_of}
 use Rattle.lexical_literal.specs.Literal.{Reads}
 use Rattle.lexical_literal.proofs.LongestLemmas.{one_reading}
-use Rattle.lexical_literal.proofs.OneCauseLemmas.{one_cause}
+use Rattle.lexical_literal.proofs.OneCauseLemmas.{one_cause, one_refusal}
 use Rattle.lexical_literal.proofs.PartLemmas.{parts_have_roles}
 use Rattle.lexical_literal.proofs.RoleLemmas.{ready}
 use Rattle.lexical_literal.proofs.SameLemmas.{same_notation}
@@ -23,6 +23,9 @@ returns-clause-roles c g l text reads = parts_have_roles (notation_of g) l reads
 
 pub returns-clause-one_cause : goal.returns-clause-one_cause
 returns-clause-one_cause c m front next cause other a b = one_cause m front a b next cause other
+
+pub returns-clause-one_refusal : goal.returns-clause-one_refusal
+returns-clause-one_refusal c = one_refusal
 
 pub returns-clause-requirements : goal.returns-clause-requirements
 returns-clause-requirements c g l text reads = reads.literal.requirements
