@@ -60,6 +60,7 @@ mod number;
 #[allow(clippy::needless_lifetimes, reason = "as it is proved")]
 mod read;
 mod sentence;
+mod span;
 #[allow(
     clippy::exhaustive_enums,
     clippy::exhaustive_structs,

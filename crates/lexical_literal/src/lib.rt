@@ -9,6 +9,7 @@ pub mod cause;
 pub mod laws;
 pub mod number;
 pub mod read;
+mod span;
 pub mod specials;
 mod steps;
 pub mod syntax;

@@ -9,8 +9,8 @@ use Rattle.lexical_util.specs.declared.format_flags.Part.TheVariants as parts
 use Rattle.lexical_literal.specs.Cause.{Allows, is_at, is_mark, is_one_of, last_part, requirement_flags, with_flags}
 use Rattle.lexical_literal.specs.Notation.{Notation}
 use Rattle.lexical_literal.specs.Additions.Summary.{class_of, has_digit, in_part, is_complete, is_fresh, is_led, is_lone, is_plus, step}
-use Rattle.lexical_literal.specs.declared.cause.Kind.{Kind}
-use Rattle.lexical_literal.specs.declared.cause.Kind.TheVariants as kinds
+use Rattle.lexical_literal.specs.declared.span.Kind.{Kind}
+use Rattle.lexical_literal.specs.declared.span.Kind.TheVariants as kinds
 use Rattle.lexical_literal.specs.declared.cause.Place.{Place}
 use Rattle.lexical_literal.specs.declared.cause.Place.TheVariants as places
 use Rattle.lexical_literal.specs.declared.steps.Class.{Class}

@@ -5,8 +5,8 @@ use Rattle.lexical_literal.specs.Additions.Causes.{kind_set}
 use Rattle.lexical_literal.specs.Cause.{behind}
 use Rattle.lexical_literal.specs.Notation.{notation_of}
 use Rattle.lexical_literal.proofs.CauseLemmas.{behind_more}
-use Rattle.lexical_literal.proofs.cause.behind.Goals as goal
-use Rattle.lexical_literal.proofs.cause.behind.Goals.{then-is_kind, else-is_kind}
+use Rattle.lexical_literal.proofs.span.behind.Goals as goal
+use Rattle.lexical_literal.proofs.span.behind.Goals.{then-is_kind, else-is_kind}
 
 pub loop-index-preserved : goal.loop-index-preserved
 loop-index-preserved c =

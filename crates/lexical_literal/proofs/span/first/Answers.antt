@@ -7,7 +7,7 @@ use Rattle.lexical_util.specs.Ascii.{ByteSet}
 use Rattle.lexical_literal.specs.Additions.Causes.{kind_set}
 use Rattle.lexical_literal.specs.Cause.{first_in}
 use Rattle.lexical_literal.specs.Notation.{notation_of}
-use Rattle.lexical_literal.proofs.cause.first.Goals as goal
+use Rattle.lexical_literal.proofs.span.first.Goals as goal
 
 step : (A : ByteSet) (text : List ℕ) (end i : ℕ) → i < end → end ≤ length text
     → first_in A (drop i (take end text)) ≡ (if A (get_or text i 0) then 0 else 1 + first_in A (drop (i + 1) (take end text)))

@@ -2,7 +2,7 @@ use Rattle.std.proofs.Common.{◌-◌, ◌+◌, ◌≡◌, ◌≤◌, take, drop
 use Rattle.lexical_literal.specs.Additions.Causes.{kind_set}
 use Rattle.lexical_literal.specs.Cause.{first_in}
 use Rattle.lexical_literal.specs.Notation.{notation_of}
-use Rattle.lexical_literal.proofs.cause.first.Given as goal
+use Rattle.lexical_literal.proofs.span.first.Given as goal
 
 abbrev pub invariant-loop-index : goal.invariant-loop-index
 invariant-loop-index l = record {
