@@ -60,6 +60,7 @@ mod number;
 #[allow(clippy::needless_lifetimes, reason = "as it is proved")]
 mod read;
 mod sentence;
+#[allow(clippy::redundant_pattern_matching, reason = "as it is proved")]
 mod span;
 #[allow(
     clippy::exhaustive_enums,
