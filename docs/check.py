@@ -4,7 +4,8 @@
 - Each link in a page leads to a file, and to a heading of this file if the link names one.
 - Each page of docs/ is linked from another page.
 - Each block of code is a part of a file. `..` replaces lines that are left out.
-- Each name with a `_` or `::`, and each path of a source, is in the repository, except for those in the changelog.
+- Each name with a `_` or `::`, and each path of a source or folder, is in the repository, except for those in the
+  changelog.
 """
 import pathlib
 import re
@@ -18,8 +19,8 @@ PATHS = sorted(str(it.relative_to(TOP)) for it in FILES if not BUILT & set(it.re
 PAGES = [TOP / path for path in PATHS if path.endswith(".md")]
 SOURCE = re.compile(r"\.(rt|antt|rs|toml|[ch]|cpp|py|js|sh|edit)$|Makefile$|(^|/)(run|build)$|crates\.txt$")
 LANGUAGES = ["rust", "antt", "c", "python", "toml"]
-# Names that only lexical-util has, and the endings of paths that a reader writes.
-NOT_HERE = ["format::JSON"]
+# Names and paths of lexical-util and of what is installed, and the endings of paths that a reader writes.
+NOT_HERE = ["format::JSON", "sources/vendor/lexical-util", "share/doc/peltzivar"]
 OWN = re.compile(r"\byour_crate\b|\b[A-Z]{2,}/")
 FENCED = re.compile(r"^```(\w*)\n(.*?)^```", re.M | re.S)
 
@@ -70,10 +71,11 @@ def unknown_names(text, words):
 
 
 def unknown_paths(text):
-    """Yields the paths of sources in backquotes that are the end of no path."""
-    for path in re.findall(r"`([\w/.-]+\.(?:antt|rt|rs|py|sh|js|[ch]))`", FENCED.sub("", text)):
-        if not OWN.search(path) and not any(f"/{it}".endswith(f"/{path.lstrip('./')}") for it in PATHS):
-            yield f"no such source: {path}"
+    """Yields the paths in backquotes, of sources or with a `/`, that are in no path but for an extension."""
+    for path in re.findall(r"`([\w.-]+/[\w/.-]*|[\w.-]+\.(?:antt|rt|rs|py|sh|js|[ch]))`", FENCED.sub("", text)):
+        found = re.compile(rf"(^|/){re.escape(path.rstrip('/'))}($|[/.])")
+        if not OWN.search(path) and path.rstrip("/") not in [*BUILT, *NOT_HERE] and not any(map(found.search, PATHS)):
+            yield f"no such path: {path}"
 
 
 def main():

@@ -2,13 +2,14 @@
 """Prints the definitions to be believed for headline calls, in reading order, and then the contracts of the calls.
 
     docs/check_definitions.py edit_word    prints what the contract of `edit_word` cites, directly or by definitions
-    docs/check_definitions.py              names the calls, each with the number of lines that this prints
+    docs/check_definitions.py              names the calls, each with the number of lines and the files that this prints
     docs/check_definitions.py --unaided    names the public functions that are proved without a folder in proofs/
 
 A contract cites the definitions that the `use` lines of its file bring, and a definition also those of its own file. A
 definition is found by its name and that of its file. `Specials::read` is the call of this type, and `read` that of all
-other types. The status is 1 if a call reaches a constant of the program, or an addition: a definition in a folder of
-specs/ or in Private.antt. Such definitions serve other calls.
+other types. For the type of a call, `impl Model` states what `now` of a value is. This and the contracts of the calls
+that make a value are printed last, without what they cite. The status is 1 if a call reaches a constant of the program,
+or an addition: a definition in a folder of specs/ or in Private.antt. Such definitions serve other calls.
 """
 import graphlib
 import itertools
@@ -17,12 +18,12 @@ import re
 import sys
 
 CALLS = """edit_word normal_form format_error check build_strict is_built edits_of is_valid_options_punctuation
-options_error migrate same_format apply read read_prefix Specials::read""".split()
+options_error migrate same_format apply Syntax::new Syntax::integers read read_prefix Specials::read""".split()
 CRATES = ["lexical_base", "lexical_flags", "lexical_builder", "lexical_util", "lexical_literal"]
 TOP = pathlib.Path(__file__).resolve().parent.parent
 USE = re.compile(r"^ *(?:ghost )?(?:unfoldable )?(?:pub )?use Rattle\.([\w.]+?)(?: as (\w+)|\.\{(.*)\})?;?$", re.M)
 DEFINES = re.compile(r"(?:abbrev |unfoldable )?(?:pub )?(?:data |record )?(\S+)(?: \(.*?\))* :(?= |$)")
-FUNCTION = re.compile(r"^ *pub (?:const )?fn (\w+)(.*?)(?: |\n *)\{\}?$", re.M | re.S)
+FUNCTION = re.compile(r"^ *pub (?:const )?fn (\w+)(.*?)(?:(?<!record) |\n *)\{\}?$", re.M | re.S)
 LEFT_OUT = re.compile(r'"[^"\n]*"|(?:--|//).*|^ *ghost use .*|\b(?:ensures|requires) \w+(?= \{)', re.M)
 WORD = re.compile(r"[^\W\d][\w'-]*×?(?:\.\w+)*")
 
@@ -112,26 +113,36 @@ def owner(source, found):
 
 
 def contracts(call):
-    """Yields the path, the signature with the clauses, and the clauses of each public function that is this call."""
+    """Yields the path, the type, the text and the clauses of the contract of each public function that is this call."""
     for path, source in SOURCES.items():
         for found in FUNCTION.finditer(source):
-            name, text = found.groups()
-            typed = f"{owner(source, found)}::{name}"
-            if call == (typed if typed in CALLS else name):
-                yield path, f"fn {name}{text}", re.split(r"^ *(?=requires|ensures)", text, maxsplit=1, flags=re.M)[-1]
+            (name, text), kind = found.groups(), owner(source, found)
+            if call == (f"{kind}::{name}" if f"{kind}::{name}" in CALLS else name):
+                yield path, kind, f"fn {name}{text}", re.split(r"^ *(?=requires|ensures)", text, maxsplit=1, flags=re.M)[-1]
+
+
+def model(kind):
+    """Yields what contracts take a value of a type for, and the contracts of the calls that make such a value."""
+    for path, source in SOURCES.items():
+        if found := re.search(rf"^impl Model for {kind} {{\n.*?ghost Value = {{ (\w+) }}.*?^}}", source, re.M | re.S):
+            texts = [found[0], *re.findall(rf"^pub struct {found[1]} {{.*?^}}", source, re.M | re.S)]
+            makers = [it for it in FUNCTION.finditer(source) if owner(source, it) == kind and "self" not in it[2]]
+            texts += [f"fn {it[1]}{it[2]}" for it in makers if re.search(rf"-> .*\b(Self|{kind})\b", it[2])]
+            yield from "\n".join([f"==== {path}: what {kind} is", *texts]).splitlines()
 
 
 def text_of(call):
     """Returns the lines to read for a call, and why its contract is unfit."""
     found = list(contracts(call))
-    reached = reached_from([it for path, _, clauses in found for it in cited(clauses, imports(SOURCES[path]))])
+    reached = reached_from([it for path, *_, clauses in found for it in cited(clauses, imports(SOURCES[path]))])
     lines = []
     for file in reading_order():
         names = [name for name in file.lines if f"{file.path.stem}.{name}" in reached]
         lines += [f"==== {file.path}", *file.header] if names else []
         for module, inner in itertools.groupby(names, file.module.get):
             lines += [*module, *(line for name in inner for line in ["", *file.lines[name]])]
-    lines += [line for path, text, _ in found for line in [f"==== {path}", *text.splitlines()]]
+    for path, kind, text, _ in found:
+        lines += [f"==== {path}{kind and f': impl {kind}'}", *text.splitlines(), *model(kind)]
     unfit = [f"it reaches {name} by {above}" for name, above in reached.items()
              if name not in FILE_OF or FILE_OF[name].is_addition]
     return lines, unfit if found else ["no public function"]
@@ -155,7 +166,8 @@ def main(calls):
         sys.exit(f"not a headline call: {', '.join(unknown)}; they are {', '.join(CALLS)}")
     texts = {call: text_of(call) for call in calls or CALLS}
     for call, (lines, _) in texts.items():
-        print(*lines if calls else [f"{call}: {len(lines)} lines"], sep="\n")
+        files = [path.rpartition("/")[2][:-5] for path in lines if path.startswith("==== ") and path.endswith(".antt")]
+        print(*lines if calls else [f"{call}: {len(lines)} lines, with {' '.join(files)}"], sep="\n")
     sys.exit("\n".join(f"{call}: {why}" for call, (_, found) in texts.items() for why in found) or 0)
 
 

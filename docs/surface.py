@@ -28,7 +28,7 @@ def text_of(markup):
 
 
 def rust():
-    """Yields a line for each item, method, constant and trait of the crate."""
+    """Yields a line for each item, method, constant, trait and re-export of the crate."""
     output("cargo", "doc", "--quiet", "--no-deps", "--package", "peltzivar")
     folder = pathlib.Path(os.environ.get("CARGO_TARGET_DIR", TOP / "target")) / "doc/peltzivar"
     index = (folder / "all.html").read_text(encoding="utf8").split('id="main-content"')[1]
@@ -43,6 +43,9 @@ def rust():
         for markup in re.findall(r'<section id="impl-[^"]*"[^>]*>.*?<h3 class="code-header">(.*?)</h3>', traits, re.S):
             if "StructuralPartialEq" not in markup:
                 yield f"{name}: " + text_of(markup)
+    for path in folder.rglob("index.html"):
+        for markup in re.findall(r'id="reexport\.[^"]*"[^>]*><code>(.*?)</code>', path.read_text(encoding="utf8")):
+            yield f"{path.parent.name}: " + text_of(markup)
 
 
 def c():

@@ -302,14 +302,6 @@ class Walk(unittest.TestCase):
         self.click(".reason .use", "base_prefix=none")
         self.assertEqual((self.focused(), self.text("#verdict")), ("verdict", "Lawful"))
 
-    def test_a_word_is_repaired_reason_by_reason(self):
-        self.load("#word=0xFFFF02FFFF0000FF00001E0080034DB0&exponent=e&point=e")
-        steps = 0
-        while self.text("#verdict") != "Lawful":
-            self.find(".reason .use").send_keys(Keys.ENTER)
-            steps += 1
-        self.assertLessEqual(steps, 16)
-
     def test_numbers_are_read_if_only_an_option_does_not_fit(self):
         self.load("#word=0x0000100000000000000000000000000C")
         self.type("#literal", "1F.8\n1p3")

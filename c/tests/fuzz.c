@@ -59,14 +59,6 @@ static peltzivar_word draw_word(void) {
     return word;
 }
 
-/* Returns a word that has the bits of `word` in a mask. */
-static peltzivar_word mixed(peltzivar_word word, peltzivar_word mask) {
-    const peltzivar_word rest = draw_word();
-    word.low = (word.low & mask.low) | (rest.low & ~mask.low);
-    word.high = (word.high & mask.high) | (rest.high & ~mask.high);
-    return word;
-}
-
 static void test_word(peltzivar_word word) {
     const peltzivar_word normal = peltzivar_normal_form(word);
     const peltzivar_fields filled = peltzivar_fields_of(word);
@@ -90,12 +82,12 @@ static void test_word(peltzivar_word word) {
     free(edits);
 }
 
-/* Each word with the bits of a reason breaks a rule. A lawful word has no reason. */
+/* A word has a reason if and only if it is not lawful. */
 static void test_reasons(peltzivar_word word) {
     size_t count = 0;
     WRITE(peltzivar_reason_text, word, count);
     while (*text) {
-        CHECK(peltzivar_check(mixed(word, peltzivar_reason_mask(word, count))) && peltzivar_reason_rules(word, count) >> 1);
+        CHECK(peltzivar_reason_rules(word, count) >> 1 && !is_same(peltzivar_reason_mask(word, count), NONE));
         count++;
         WRITE(peltzivar_reason_text, word, count);
     }
@@ -111,33 +103,16 @@ static void test_reasons(peltzivar_word word) {
     }
 }
 
-/* The options fit a word, and each word with the same bits, if and only if there is no reason why they do not. */
+/* The options fit a word if and only if there is no reason why they do not. */
 static void test_options(peltzivar_word word) {
     const uint8_t exponent = draw_edit().value, point = draw_edit().value;
     WRITE(peltzivar_options_reason_text, word, exponent, point, 0);
-    const peltzivar_word mask = peltzivar_options_reason_mask(word, exponent, point, 0);
     CHECK(!*text == !peltzivar_check_options(word, exponent, point));
-    CHECK(!*text || peltzivar_check_options(mixed(word, mask), exponent, point));
     CHECK(!*text == !peltzivar_options_reason_roles(word, exponent, point, 0));
     const size_t behind = 9 + (size_t)draw() % (SIZE_MAX - 9);
     WRITE(peltzivar_options_reason_text, word, exponent, point, behind);
     CHECK(!*text && !peltzivar_options_reason_roles(word, exponent, point, behind));
     CHECK(is_same(peltzivar_options_reason_mask(word, exponent, point, behind), NONE));
-}
-
-/* The role of a byte agrees with the other calls. */
-static void test_roles(peltzivar_word word) {
-    const uint8_t exponent = draw_edit().value, point = draw_edit().value, byte = draw_edit().value;
-    const peltzivar_role role = peltzivar_role_of(word, exponent, point, byte);
-    const bool is_digit = peltzivar_mantissa_digit(word, byte) < 36 || peltzivar_exponent_digit(word, byte) < 36;
-    CHECK(role <= PELTZIVAR_ROLE_POINT && is_digit == (role == PELTZIVAR_ROLE_DIGIT));
-    const peltzivar_separators allowed = peltzivar_separators_of(word, byte);
-    CHECK(byte < 3 || !(allowed.internal || allowed.leading || allowed.trailing || allowed.consecutive));
-    if (peltzivar_check(word) || peltzivar_check_options(word, exponent, point)) return;
-    CHECK(peltzivar_is_separator(word, byte) == (role == PELTZIVAR_ROLE_SEPARATOR));
-    CHECK(peltzivar_is_base_prefix(word, byte) == (role == PELTZIVAR_ROLE_PREFIX));
-    CHECK(peltzivar_is_base_suffix(word, byte) == (role == PELTZIVAR_ROLE_SUFFIX));
-    CHECK((byte == point) == (role == PELTZIVAR_ROLE_POINT) && (byte != exponent || role == PELTZIVAR_ROLE_EXPONENT));
 }
 
 /* Returns the first `len` bytes of `text` in memory of this size. */
@@ -273,7 +248,7 @@ int main(int argc, char **argv) {
     const unsigned long cases = argc > 1 ? strtoul(argv[1], NULL, 10) : 1000;
     for (number = 0; number < cases; number++) {
         const peltzivar_word word = draw_word();
-        test_word(word), test_reasons(word), test_options(word), test_roles(word);
+        test_word(word), test_reasons(word), test_options(word);
         test_literals(word), test_special_values(word), test_lines(), test_settings();
     }
     return 0;

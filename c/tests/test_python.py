@@ -1,7 +1,6 @@
-"""Tests the Python module: `make -C c check`. The expected values are the recorded results of lexical-util, the tables of
-docs/FORMAT.md, and known words and sentences."""
+"""Tests the Python module: `make -C c check`. The expected values are the tables of docs/FORMAT.md, and known words and
+sentences."""
 import copy
-import ctypes
 import doctest
 import inspect
 import os
@@ -24,7 +23,6 @@ import peltzivar
 from peltzivar import Cause, Edit, Error, Format, FormatError, FormatView, Language, LiteralError, OptionsError, Part, Role
 from peltzivar import Rule, Setter, SettingsError, Special, Specials, Spelling, Syntax, notes_of
 
-LINES = (TOP / "crates/recorded/data/results.txt").read_text().splitlines()
 PAGE = (TOP / "docs/FORMAT.md").read_text()
 FLAGS = re.findall(r"^\| (\d+) \| `(\w+)` \| (?:true|false) \|", PAGE, re.M)
 GROUPS = re.findall(r"^\| `(\w+)` \| (\d[\d ]*) \|", PAGE, re.M)
@@ -32,56 +30,6 @@ BYTES = re.findall(r"^\| (\d+) to \d+ \| `(\w+)` \|", PAGE, re.M)
 RULES = re.findall(r"^\| (\d+) \| (.*) \| `(Invalid\w+)` \| `+('.*')`+ \| `(\w+)` \| (.*) \|$", PAGE, re.M)
 CAUSES = re.findall(r"^\| (?:`(.*)` )?\| `(.*)` \| (\w+) ?(.*?) \| (\d+) \| (\d+)\.\.(\d+) \|$", PAGE, re.M)
 CALLS = peltzivar._library
-ERROR_TEXT = ctypes.CDLL(CALLS.path).peltzivar_error_text
-ERROR_TEXT.argtypes = [ctypes.c_uint32, ctypes.c_size_t, ctypes.c_char_p, ctypes.c_size_t]
-
-
-def error_of(name):
-    return Error[re.sub(r"(?<=[a-z])(?=[A-Z])", "_", name).upper()]
-
-
-def byte_of(value):
-    return ord(value) if isinstance(value, str) else value or 0
-
-
-def returned(kind, parts):
-    """Returns what the module returns for the parts of a recorded line, and what was recorded."""
-    if kind == "printed":
-        index, name, text = parts
-        return peltzivar._text(ERROR_TEXT, error_of(name).value, int(index)), text
-    word = int(parts[0], 16)
-    if kind == "build":
-        _, name, *settings = parts
-        view = FormatView.of(*settings)
-        return (int(view), view.error()), (word, error_of(name))
-    view = FormatView(word)
-    if kind == "fields":
-        flags = sum(1 << int(bit) for bit, name in FLAGS if getattr(view, name))
-        numbers = [byte_of(getattr(view, name)) for _, name in BYTES]
-        return (flags, numbers), (int(parts[1], 16), [int(it) for it in parts[2:]])
-    if kind == "check":
-        return (view.error(), not view.reasons()), (error_of(parts[1]), parts[1] == "Success")
-    if kind == "options":
-        _, exponent, point, wanted = parts
-        return not view.options_reasons(int(exponent), int(point)), wanted == "true"
-    return int(view.edit(*parts[2:])), int(parts[1], 16)
-
-
-class Recorded(unittest.TestCase):
-    def test_recorded_results_are_kept(self):
-        self.assertGreater(len(LINES), 0)
-        for line in LINES:
-            kind, rest = line.partition(" crate: ")[0].split(" ", 1)
-            if kind in ("byte", "digit"):
-                continue
-            got, wanted = returned(kind, rest.split(" ", 2 if kind == "printed" else -1))
-            self.assertEqual(got, wanted, line)
-
-    def test_recorded_words_are_read_back(self):
-        for line in LINES:
-            if line.startswith(("check ", "build ")):
-                view = FormatView(int(line.split()[1], 16))
-                self.assertEqual((eval(repr(view)), FormatView.parse(str(view))), (view, view), line)
 
 
 class Words(unittest.TestCase):
@@ -141,8 +89,10 @@ class Words(unittest.TestCase):
             view = FormatView.parse(word)
             rules = tuple(Rule)[:3] if number == "1" else (Rule(int(number)),)
             self.assertEqual([(it.text, it.rules) for it in view.reasons()], [(sentence, rules)])
-            self.assertEqual((view.error(), view.error().description), (error_of(error), description))
+            found = view.error()
+            self.assertEqual((found.name.replace("_", "").lower(), found.description), (error.lower(), description))
             self.assertEqual(rules[0].condition, condition)
+            self.assertEqual((eval(repr(view)), FormatView.parse(str(view))), (view, view))
 
     def test_notes(self):
         self.assertEqual([it.mask for it in notes_of("digit_separator=95")], [0x1FFF << 32 | 0xFF << 64])

@@ -1,7 +1,7 @@
 //! Formats, iterators, text and conversions, which are written by hand over the proved calls, are compared with these
 //! calls on many words, and with known texts on a few.
 
-use peltzivar::edits::{apply_all, edits_of, same_format};
+use peltzivar::edits::{edits_of, same_format};
 use peltzivar::format::{NumberFormatBuilder, BASE_PREFIX_SHIFT, BASE_SUFFIX_SHIFT, STANDARD};
 use peltzivar::format_flags::options_error;
 use peltzivar::literal::Syntax;
@@ -112,13 +112,11 @@ fn edits_make_the_fields_of_their_word() {
         let (edits, count) = edits_of(word);
         assert!(view.edits().eq(edits[..count].iter().copied()));
         let builder: NumberFormatBuilder = view.edits().collect();
-        assert_eq!(builder, apply_all(NumberFormatBuilder::new(), &edits));
         assert_eq!(builder, NumberFormatBuilder::from_word(word));
         // Each edit is of another field, so their order does not matter.
-        assert_eq!(builder, edits.iter().rev().collect());
-        let mut other = NumberFormatBuilder::new();
-        other.extend(&edits[..2]);
-        other.extend(edits[2..].iter().copied());
+        let mut other: NumberFormatBuilder = edits[2..].iter().collect();
+        other.extend(&edits[..1]);
+        other.extend(edits[1..2].iter().copied());
         assert_eq!((other, other.view().word()), (builder, builder.build_unchecked()));
     }
 }
@@ -187,11 +185,8 @@ fn words_are_parsed() {
         ("0x000000000000000000000000000000000", Err(Error::Overflow(34))),
         ("", Err(Error::Empty(0))),
         ("0x", Err(Error::Empty(2))),
-        ("0", Err(Error::Empty(1))),
         ("0X1", Err(Error::InvalidDigit(1))),
-        ("C", Err(Error::InvalidDigit(0))),
         (" 0xC", Err(Error::InvalidDigit(0))),
-        ("0xC\n", Err(Error::InvalidDigit(3))),
         ("0x1g", Err(Error::InvalidDigit(3))),
     ];
     for (text, word) in rows {

@@ -1,7 +1,6 @@
 //! What a caller relies on beyond results: the view whose word is a const argument, the format and the constants have
 //! what the view at run time has, the types have their traits, and a panic names its caller.
 
-use peltzivar::edits::edits_of;
 use peltzivar::format::{self, NumberFormatBuilder, STANDARD};
 use peltzivar::literal::{
     Cause, Digits, Language, Literal, Number, Place, ReadError, Reader, Special, Specials, Syntax,
@@ -62,52 +61,18 @@ fn each_setter_has_its_constant() {
     }
 }
 
-/// No list has the getters of a builder.
-#[test]
-fn a_builder_has_a_getter_for_each_field() {
-    let getters = include_str!("../src/format_builder/getters.rs");
-    for edit in edits_of(STANDARD).0 {
-        assert!(getters.contains(&format!(" get_{}(&self)", edit.name())), "{edit}");
-    }
+/// Compares what both views of a word return, and its format if it is lawful.
+macro_rules! same {
+    ($word:ident $($get:ident($($argument:expr),*))*) => {$(
+        let value = FormatView::new($word).$get($($argument),*);
+        let of_constant = NumberFormat::<$word>::new().$get($($argument),*);
+        let of_format = Format::new($word).map_or(value, |it| it.$get($($argument),*));
+        assert_eq!((of_constant, of_format), (value, value), "{} of {:#034X}", stringify!($get), $word);
+    )*};
 }
 
-/// Compares the bytes of both views and of the format with the edits of the word. An absent byte of one view is 0.
-fn bytes_are_same<const W: u128>() {
-    let (constant, view) = (NumberFormat::<W>::new(), FormatView::new(W));
-    let both = |byte: Option<NonZeroU8>| (byte, byte.map_or(0, NonZeroU8::get));
-    let effective = |byte: Option<NonZeroU8>| byte.map_or(view.mantissa_radix(), |byte| byte.get().into());
-    for edit in edits_of(W).0 {
-        match edit {
-            Edit::Flag(..) => {}
-            Edit::DigitSeparator(byte) => assert_eq!((view.digit_separator(), constant.digit_separator()), both(byte)),
-            Edit::BasePrefix(byte) => assert_eq!((view.base_prefix(), constant.base_prefix()), both(byte)),
-            Edit::BaseSuffix(byte) => assert_eq!((view.base_suffix(), constant.base_suffix()), both(byte)),
-            Edit::MantissaRadix(radix) => assert_eq!(view.mantissa_radix(), radix.into()),
-            Edit::ExponentBase(byte) => assert_eq!(view.exponent_base(), effective(byte)),
-            Edit::ExponentRadix(byte) => assert_eq!(view.exponent_radix(), effective(byte)),
-            _ => panic!("{edit} is not compared"),
-        }
-    }
-    if let Ok(it) = Format::new(W) {
-        let bytes = [it.digit_separator(), it.base_prefix(), it.base_suffix()];
-        assert_eq!(bytes, [view.digit_separator(), view.base_prefix(), view.base_suffix()]);
-    }
-}
-
-/// Compares both views of a word, and its format if it is lawful.
-#[rustfmt::skip]
-fn views_are_same<const W: u128>() {
+fn fields_are_same<const W: u128>() {
     let (constant, view, format) = (NumberFormat::<W>::new(), FormatView::new(W), Format::new(W).ok());
-    assert_eq!((constant.view(), FormatView::from(constant), FormatView::from(W)), (view, view, view));
-    assert_eq!((view.word(), u128::from(view)), (W, W));
-    assert_eq!(NumberFormat::<W>::rebuild(), view.rebuild());
-    macro_rules! same {
-        ($($get:ident($($argument:expr),*))*) => {$(
-            let value = view.$get($($argument),*);
-            assert_eq!(constant.$get($($argument),*), value, "{} of {W:#034X}", stringify!($get));
-            assert_eq!(format.map_or(value, |it| it.$get($($argument),*)), value, "{} of {W:#034X}", stringify!($get));
-        )*};
-    }
     macro_rules! constants {
         ($($NAME:ident $get:ident)*) => {
             $(assert_eq!(NumberFormat::<W>::$NAME, constant.$get(), "{} of {W:#034X}", stringify!($NAME));)*
@@ -115,16 +80,13 @@ fn views_are_same<const W: u128>() {
     }
     macro_rules! setters {
         (() { $($Flag:ident $flag:ident $FLAG:ident;)* } { $($Group:ident $group:ident $GROUP:ident;)* }) => {
-            same! { $($flag())* $($group())* }
+            same! { W $($flag())* $($group())* }
             constants! { $($FLAG $flag)* }
             $(assert_eq!(view.$flag(), FlagSetter::$Flag.is_set(W), "{W:#034X}");)*
             $(assert_eq!(view.$group() != Default::default(), FlagSetter::$Group.is_set(W), "{W:#034X}");)*
         };
     }
     with_setters!(setters());
-    bytes_are_same::<W>();
-    same! { mantissa_radix() radix() radix2() radix4() radix8() exponent_base() exponent_radix() }
-    same! { has_digit_separator() has_base_prefix() has_base_suffix() flags() interface_flags() exponent_flags() }
     constants! {
         REQUIRED_DIGITS required_digits INTERNAL_DIGIT_SEPARATOR internal_digit_separator
         LEADING_DIGIT_SEPARATOR leading_digit_separator TRAILING_DIGIT_SEPARATOR trailing_digit_separator
@@ -132,14 +94,28 @@ fn views_are_same<const W: u128>() {
         BASE_SUFFIX base_suffix MANTISSA_RADIX mantissa_radix RADIX radix EXPONENT_BASE exponent_base
         EXPONENT_RADIX exponent_radix
     }
+    let bytes = [view.digit_separator(), view.base_prefix(), view.base_suffix()];
+    let of_format = format.map_or(bytes, |it| [it.digit_separator(), it.base_prefix(), it.base_suffix()]);
+    // An absent byte of the view with a const argument is 0.
+    let numbers = [constant.digit_separator(), constant.base_prefix(), constant.base_suffix()];
+    assert_eq!((bytes.map(|byte| byte.map_or(0, NonZeroU8::get)), of_format), (numbers, bytes), "{W:#034X}");
+}
+
+fn calls_are_same<const W: u128>() {
+    let (constant, view) = (NumberFormat::<W>::new(), FormatView::new(W));
+    assert_eq!((constant.view(), FormatView::from(constant), FormatView::from(W)), (view, view, view));
+    assert_eq!((view.word(), u128::from(view), NumberFormat::<W>::rebuild()), (W, W, view.rebuild()));
     assert_eq!((constant.is_valid(), constant.error()), (view.is_valid(), view.error()));
+    assert_eq!((format::format_is_valid::<W>(), format::format_error::<W>()), (view.is_valid(), view.error()));
     assert_eq!((constant.is_valid_radix(), constant.error_radix()), (view.is_valid_radix(), view.error_radix()));
+    same! { W mantissa_radix() radix() radix2() radix4() radix8() exponent_base() exponent_radix() }
+    same! { W has_digit_separator() has_base_prefix() has_base_suffix() flags() interface_flags() exponent_flags() }
     for byte in 0..=255 {
-        same! { is_separator(byte) is_base_prefix(byte) is_base_suffix(byte) is_exponent_character(b'e', byte) }
-        same! { mantissa_digit(byte) exponent_digit(byte) role_of(b'e', b'.', byte) }
+        same! { W is_separator(byte) is_base_prefix(byte) is_base_suffix(byte) is_exponent_character(b'e', byte) }
+        same! { W mantissa_digit(byte) exponent_digit(byte) role_of(b'e', b'.', byte) }
     }
     for part in [Part::Integer, Part::Fraction, Part::Exponent] {
-        same! { separators(part) }
+        same! { W separators(part) }
     }
 }
 
@@ -148,7 +124,7 @@ fn views_are_same<const W: u128>() {
 fn both_views_are_the_same() {
     const ALL: u128 = u128::MAX;
     macro_rules! words {
-        ($($word:expr,)*) => { $(views_are_same::<{ $word }>();)* };
+        ($($word:expr,)*) => { $(fields_are_same::<{ $word }>(); calls_are_same::<{ $word }>();)* };
     }
     words! {
         0x000A1000_7800005F_00000249_0002001C, STANDARD, 0, ALL, ALL / 3, ALL / 3 * 2, ALL / 5, ALL / 5 * 4, ALL / 17,

@@ -123,56 +123,6 @@ pub fn radix_from_flags(word: u128, mask: u128, shift: i32) -> Results<1> {
     results! { radix_from_flags: flags::radix_from_flags(word, mask, shift), }
 }
 
-/// The getters of a view, which is of another type on each side.
-macro_rules! view_of {
-    (
-        ($view:ident $($flag:ident $FLAG:ident)*)
-        { $($truth:ident $T:ident;)* } { $($byte:ident $B:ident;)* } { $($radix:ident $R:ident;)* } { $($mask:ident $M:ident;)* }
-    ) => {
-        results! {
-            $($flag: $view.$flag(),)* $($truth: $view.$truth(),)* $($byte: $view.$byte(),)* $($radix: $view.$radix(),)*
-            $($mask: $view.$mask(),)* has_digit_separator: $view.has_digit_separator(),
-            has_base_prefix: $view.has_base_prefix(), has_base_suffix: $view.has_base_suffix(), radix: $view.radix(),
-            radix2: $view.radix2(), radix4: $view.radix4(), radix8: $view.radix8(),
-        }
-    };
-}
-
-/// The rules of a word by the calls that take it as a const argument, and the fields.
-pub fn const_word<const WORD: u128>() -> Results<19> {
-    let (view, error) = (known::NumberFormat::<WORD>::new(), known::format_error::<WORD>());
-    let are_valid = [known::format_is_valid::<WORD>(), view.is_valid()];
-    word_of(WORD, [error, error, view.error()], are_valid, [view.error_radix(); 2], view.is_valid_radix())
-}
-
-/// The getters of the view that has the word as a const argument.
-pub fn const_view<const WORD: u128>() -> Results<56> {
-    let view = known::NumberFormat::<WORD>::new();
-    with_setters!(flag_getters(view_of view))
-}
-
-pub fn const_rebuild<const WORD: u128>() -> Results<FIELDS> {
-    fields(&known::NumberFormat::<WORD>::rebuild())
-}
-
-macro_rules! constants_of {
-    (
-        ($WORD:ident $($flag:ident $FLAG:ident)*)
-        { $($truth:ident $T:ident;)* } { $($byte:ident $B:ident;)* } { $($radix:ident $R:ident;)* } $masks:tt
-    ) => {
-        results! {
-            $($flag: known::NumberFormat::<$WORD>::$FLAG,)* $($truth: known::NumberFormat::<$WORD>::$T,)*
-            $($byte: known::NumberFormat::<$WORD>::$B,)* $($radix: known::NumberFormat::<$WORD>::$R,)*
-            radix: known::NumberFormat::<$WORD>::RADIX,
-        }
-    };
-}
-
-/// The associated constants of that view.
-pub fn associated<const WORD: u128>() -> Results<43> {
-    with_setters!(flag_getters(constants_of WORD))
-}
-
 macro_rules! constants {
     ($($name:ident)*) => {
         /// The constants of the layout, and the standard format.

@@ -144,14 +144,3 @@ pub fn bits_turned(base: u128) -> impl Iterator<Item = u128> {
     let pairs = (0..128).flat_map(|i| (i..128).map(move |j| (i, j)));
     pairs.map(move |(i, j)| base ^ (1 << i) ^ if i == j { 0 } else { 1 << j })
 }
-
-/// A word that is known when this is compiled: the standard format with a bit flipped, or mixed bits with any radixes or
-/// with lawful ones.
-pub const fn known_word(index: usize) -> u128 {
-    let mixed = (index as u128 + 1).wrapping_mul(0x9E37_79B9_7F4A_7C15_F39C_C060_5CED_C835);
-    match index {
-        0..128 => BASES[2] ^ 1 << index,
-        128..192 => mixed ^ mixed >> 61,
-        _ => mixed >> 24 | 0x10_0A_24 << 104,
-    }
-}

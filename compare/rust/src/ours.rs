@@ -5,7 +5,7 @@ use peltzivar::digit::*;
 use peltzivar::edits::{apply, apply_all, edit_word, edits_of, is_built, migrate, normal_form, same_format};
 use peltzivar::edits::{Edit, Setter};
 use peltzivar::error::Error;
-use peltzivar::format::{self as known, STANDARD};
+use peltzivar::format::{NumberFormat, STANDARD};
 use peltzivar::format_builder::NumberFormatBuilder;
 use peltzivar::format_flags as flags;
 use peltzivar::word::{format_error, format_is_valid, FormatView};
@@ -19,6 +19,21 @@ pub fn word(word: u128) -> Results<19> {
     word_of(word, errors, [format_is_valid(word), view.is_valid()], radixes, view.is_valid_radix())
 }
 
+/// The getters of a view.
+macro_rules! view_of {
+    (
+        ($view:ident $($flag:ident $FLAG:ident)*)
+        { $($truth:ident $T:ident;)* } { $($byte:ident $B:ident;)* } { $($radix:ident $R:ident;)* } { $($mask:ident $M:ident;)* }
+    ) => {
+        results! {
+            $($flag: $view.$flag(),)* $($truth: $view.$truth(),)* $($byte: $view.$byte(),)* $($radix: $view.$radix(),)*
+            $($mask: $view.$mask(),)* has_digit_separator: $view.has_digit_separator(),
+            has_base_prefix: $view.has_base_prefix(), has_base_suffix: $view.has_base_suffix(), radix: $view.radix(),
+            radix2: $view.radix2(), radix4: $view.radix4(), radix8: $view.radix8(),
+        }
+    };
+}
+
 pub fn view(word: u128) -> Results<56> {
     let view = FormatView::new(word);
     with_setters!(flag_getters(view_of view))
@@ -29,7 +44,7 @@ pub fn rebuild(word: u128) -> Results<FIELDS> {
 }
 
 fn builders_of_views() -> [NumberFormatBuilder; 2] {
-    [known::NumberFormat::<0>::builder(), FormatView::default().rebuild()]
+    [NumberFormat::<0>::builder(), FormatView::default().rebuild()]
 }
 
 /// The word and the position of `Success`, or 0 and the position of the error.
@@ -48,12 +63,6 @@ fn panicking(builder: &NumberFormatBuilder) -> (u128, u128) {
 /// Whether a byte is a digit of one of the radixes of a word, and its value in each radix.
 pub fn digits(word: u128, byte: u8) -> Results<3> {
     let (either, view) = (flags::is_digit_of_either_radix(word, byte), FormatView::new(word));
-    results! { either: either, mantissa: view.mantissa_digit(byte), exponent: view.exponent_digit(byte), }
-}
-
-/// The same by the view that has the word as a const argument.
-pub fn const_digits<const WORD: u128>(byte: u8) -> Results<3> {
-    let (either, view) = (flags::is_digit_of_either_radix(WORD, byte), known::NumberFormat::<WORD>::new());
     results! { either: either, mantissa: view.mantissa_digit(byte), exponent: view.exponent_digit(byte), }
 }
 

@@ -1,6 +1,6 @@
 //! The comparisons, by their inputs. Each is cut into tasks that can run in parallel.
 
-use crate::inputs::{bits_turned, known_word, single_calls, SetterCall, BASES};
+use crate::inputs::{bits_turned, single_calls, SetterCall, BASES};
 use crate::random::Random;
 use crate::results::{results, Number, Results};
 use crate::tally::Tally;
@@ -31,7 +31,6 @@ pub fn tasks(seed: u64, scale: u64) -> Vec<Task> {
     add("bytes and digits", Box::new(bytes_and_digits));
     add("outcomes", Box::new(outcomes));
     add("constants and standard formats", Box::new(constants));
-    add("words known when compiled", Box::new(known_words));
     for base in BASES {
         let run = move |tally: &mut Tally| bits_turned(base).for_each(|word| whole_word(tally, word, base));
         add("single bits and pairs of bits", Box::new(run));
@@ -114,39 +113,6 @@ fn constants(tally: &mut Tally) {
     same!(tally, standards());
     for radix in 0..=255 {
         same!(tally, from_radix(radix));
-    }
-}
-
-/// Compares the calls that have their word as a const argument, sixteen words a row.
-macro_rules! known_words {
-    ($tally:ident, $($row:literal)*) => {
-        $(known_words!($tally $row, 0 1 2 3 4 5 6 7 8 9 10 11 12 13 14 15);)*
-    };
-    ($tally:ident $row:literal, $($column:literal)*) => {
-        $(known::<{ known_word(16 * $row + $column) }>($tally);)*
-    };
-}
-
-fn known_words(tally: &mut Tally) {
-    known_words!(tally, 0 1 2 3 4 5 6 7 8 9 10 11 12 13 14 15);
-}
-
-fn known<const WORD: u128>(tally: &mut Tally) {
-    let (input, theirs) = (("word", WORD), theirs::const_word::<WORD>());
-    for ours in [ours::const_word::<WORD>(), ours::word(WORD)] {
-        tally.expect(input, [ours, rules::word(WORD, theirs), theirs]);
-    }
-    for ours in [ours::const_view::<WORD>(), ours::view(WORD)] {
-        tally.same(input, ours, theirs::const_view::<WORD>());
-    }
-    for ours in [ours::const_rebuild::<WORD>(), ours::rebuild(WORD)] {
-        tally.same(input, ours, theirs::const_rebuild::<WORD>());
-    }
-    tally.same(input, ours::associated::<WORD>(), theirs::associated::<WORD>());
-    for byte in 0..=255 {
-        for ours in [ours::const_digits::<WORD>(byte), ours::digits(WORD, byte)] {
-            tally.same((input, byte), ours, theirs::digits(WORD, byte));
-        }
     }
 }
 

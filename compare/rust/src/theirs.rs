@@ -7,7 +7,7 @@ use upstream::checks;
 use upstream::digit::*;
 use upstream::error::Error;
 use upstream::feature_format::NumberFormat;
-use upstream::format::{self as known, STANDARD};
+use upstream::format::STANDARD;
 use upstream::format_builder::NumberFormatBuilder;
 use upstream::format_flags as flags;
 

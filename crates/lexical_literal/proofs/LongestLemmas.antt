@@ -130,9 +130,6 @@ module _ (m : Notation) (ready : IsReady m) (text : List ℕ) where
   accepted : (n : ℕ) (l : Literal) → Reads m l (take n text) → is_accepted m (scan m (Some start) (take n text)) ≡ true
   accepted n l reads = rw (reads.whole) (literal_arrives m ready.roles l reads.literal).0
 
-  none_complete : is_complete m start ≡ true → ⊥
-  none_complete is = grind arith
-
   pub read_nothing : (seeks : Bool) → HasRead m seeks text 0 start no_cuts None
   read_nothing seeks = grind arith
 

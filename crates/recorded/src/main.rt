@@ -9,7 +9,7 @@
 mod fact;
 mod reading;
 
-use reading::Parts;
+use reading::Line;
 use std::alloc::{AllocError, Global};
 use std::process::ExitCode;
 use std::{fs, io};
@@ -45,7 +45,7 @@ fn replay(results: &str, rt: &HostRuntime) -> io::Result<bool> {
 
 // Returns whether a line can be read and the library returns its result.
 fn matches_definitions(line: &str, alloc: Global) -> Result<bool, AllocError> {
-    let mut parts = Parts::of(line);
+    let mut parts = Line::of(line);
     let fact = parts.fact(alloc)?;
     if parts.are_read() {
         fact.matches_definitions(alloc)

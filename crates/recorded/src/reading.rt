@@ -1,4 +1,4 @@
-//! The type [`Parts`], which reads recorded results from lines of text.
+//! The type [`Line`], which reads recorded results from lines of text.
 //!
 //! A line has one result. It consists of a kind and parts, separated by single spaces:
 //!
@@ -29,19 +29,19 @@ use std::str::FromStr;
 /// If a part is missing or malformed, a call that reads it returns an arbitrary value. At the end, [`Self::are_read`]
 /// returns whether every part could be read.
 #[derive(Drop)]
-pub struct Parts<'a> {
+pub struct Line<'a> {
     rest: Option<&'a str>,
     is_read: bool,
 }
 
-impl<'a> Parts<'a> {
+impl<'a> Line<'a> {
     /// Returns the parts of a line, without the result of `lexical-util`.
-    pub fn of(line: &'a str) -> Parts<'a> {
+    pub fn of(line: &'a str) -> Line<'a> {
         let fact = match line.split_once(" crate: ") {
             Some((fact, _)) => fact,
             None => line,
         };
-        Parts {
+        Line {
             rest: Some(fact),
             is_read: true,
         }

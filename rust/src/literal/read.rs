@@ -51,9 +51,9 @@ impl Syntax {
     }
 }
 
-/// A syntax with tables of all its steps. It reads literals in less time than [`Syntax::read`]. It takes about 5 to 15
-/// microseconds to make, as long as [`Syntax::read`] takes for some 30 texts of 18 bytes. For a `static`, as in the
-/// first example of this module, the compiler makes it.
+/// A syntax with tables of all its steps. It reads literals in less time than [`Syntax::read`], which takes for some 30
+/// texts as long as it takes to make a reader. For a `static`, as in the first example of this module, the compiler
+/// makes it.
 #[derive(Clone)]
 pub struct Reader {
     pub(crate) grammar: Grammar,

@@ -4,43 +4,25 @@
 
 use peltzivar::word::{FormatView, Part, Role};
 
-// A word, a byte, and its values as a digit of the mantissa and of the exponent.
+type Values = [Option<u32>; 2];
+
+// A word, a byte, its values as a digit of the mantissa and of the exponent, and whether it is the digit separator, the
+// base prefix, the base suffix, and the exponent character `e`.
 #[rustfmt::skip]
-const DIGITS: [(u128, u8, Option<u32>, Option<u32>); 6] = [
-    (0x0A020200_00000000_00000000_0000000C, b'1', Some(1), Some(1)),
-    (0x0A020200_00000000_00000000_0000000C, b'9', None, Some(9)),
-    (0x0A0A1000_00000000_00000000_0000000C, b'f', Some(15), None),
-    (0x00001000_00000000_00000000_0000000C, b'F', Some(15), Some(15)),
-    (0xFFFFFFFF_FFFFFFFF_FFFFFFFF_FFFFFFFF, b'z', Some(35), Some(35)),
-    (0xFFFFFFFF_FFFFFFFF_FFFFFFFF_FFFFFFFF, b'_', None, None),
+const BYTES: [(u128, u8, Values, [bool; 4]); 9] = [
+    (0x0A020200_00000000_00000000_0000000C, b'9', [None, Some(9)], [false; 4]),
+    (0x0A0A1000_00000000_00000000_0000000C, b'f', [Some(15), None], [false; 4]),
+    (0xFFFFFFFF_FFFFFFFF_FFFFFFFF_FFFFFFFF, b'z', [Some(35), Some(35)], [false; 4]),
+    (0x00000A00_0000005F_00000002_0000000C, b'_', [None; 2], [true, false, false, false]),
+    (0x00000A00_0000005F_00000000_0000000C, b'_', [None; 2], [false; 4]),
+    (0x00000A00_00000000_00001FFF_0000000C, 0, [None; 2], [false; 4]),
+    (0x00000A68_78000000_00000000_0002000C, b'X', [None; 2], [false, true, false, false]),
+    (0x00000A68_78000000_00000000_0002000C, b'H', [None; 2], [false; 4]),
+    (0x00000A00_00000000_00000000_0000000C, b'E', [None; 2], [false, false, false, true]),
 ];
 
-// A word, a byte, and whether the byte is the digit separator, the base prefix, the base suffix, and the exponent
-// character `e`.
-#[rustfmt::skip]
-const BYTES: [(u128, u8, [bool; 4]); 8] = [
-    (0x00000A00_0000005F_00000002_0000000C, b'_', [true, false, false, false]),
-    (0x00000A00_0000005F_00000000_0000000C, b'_', [false, false, false, false]),
-    (0x00000A00_00000000_00001FFF_0000000C, 0, [false, false, false, false]),
-    (0x00000A68_78000000_00000000_0000000C, b'X', [false, true, false, false]),
-    (0x00000A68_78000000_00000000_0001000C, b'X', [false, false, false, false]),
-    (0x00000A68_78000000_00000000_0002000C, b'H', [false, false, false, false]),
-    (0x00000A68_78000000_00000000_0001000C, b'H', [false, false, true, false]),
-    (0x00000A00_00000000_00000000_0000000C, b'E', [false, false, false, true]),
-];
-
-const PARTS: [Part; 3] = [Part::Integer, Part::Fraction, Part::Exponent];
-
-// A word, and whether separators may be internal, leading, trailing and consecutive in each part.
-#[rustfmt::skip]
-const SEPARATORS: [(u128, [[bool; 4]; 3]); 3] = [
-    (0x00000A00_0000005F_00000002_0000000C, [[false; 4], [true, false, false, false], [false; 4]]),
-    (0x00000A00_0000005F_00000849_0000000C, [[true, true, true, false], [false; 4], [false, false, false, true]]),
-    (0x00000A00_0000005F_00001000_0000000C, [[false; 4], [false; 4], [false; 4]]),
-];
-
-// A byte, and its role in numbers of radix 16 with `_` between digits, the prefix `x`, the suffix `h` in lowercase, the
-// exponent character `p` and the decimal point `.`.
+// A byte, and its role in numbers of radix 16 with `_` between digits of the integer, the prefix `x`, the suffix `h` in
+// lowercase, the exponent character `p` and the decimal point `.`.
 const ROLES: [(u8, Option<Role>); 10] = [
     (b'f', Some(Role::Digit)),
     (b'-', Some(Role::Sign)),
@@ -55,21 +37,14 @@ const ROLES: [(u8, Option<Role>); 10] = [
 ];
 
 // The word of [`ROLES`].
-const AFFIXED: u128 = 0x10101068_7800005F_00000007_0002000C;
-
-#[test]
-fn a_digit_counts_in_its_own_radix() {
-    for (word, byte, mantissa, exponent) in &DIGITS {
-        let view = FormatView::new(*word);
-        let digits = [view.mantissa_digit(*byte), view.exponent_digit(*byte)];
-        assert!(digits == [*mantissa, *exponent], "{word:#034X} {byte}");
-    }
-}
+const AFFIXED: u128 = 0x10101068_7800005F_00000001_0002000C;
 
 #[test]
 fn an_absent_byte_matches_nothing() {
-    for (word, byte, is) in &BYTES {
+    for (word, byte, digits, is) in &BYTES {
         let view = FormatView::new(*word);
+        let values = [view.mantissa_digit(*byte), view.exponent_digit(*byte)];
+        assert!(values == *digits, "{word:#034X} {byte}");
         let read = [
             view.is_separator(*byte),
             view.is_base_prefix(*byte),
@@ -81,20 +56,13 @@ fn an_absent_byte_matches_nothing() {
 }
 
 #[test]
-fn each_part_has_its_own_separators() {
-    for (word, parts) in &SEPARATORS {
-        for (part, allowed) in PARTS.iter().zip(parts) {
-            let read = FormatView::new(*word).separators(*part);
-            let read = [read.internal, read.leading, read.trailing, read.consecutive];
-            assert!(read == *allowed, "{word:#034X}");
-        }
-    }
-}
-
-#[test]
 fn each_byte_has_one_role_or_none() {
+    let view = FormatView::new(AFFIXED);
     for (byte, role) in &ROLES {
-        let read = FormatView::new(AFFIXED).role_of(b'p', b'.', *byte);
+        let read = view.role_of(b'p', b'.', *byte);
         assert!(read == *role, "{byte}");
     }
+    assert!(view.separators(Part::Integer).internal);
+    assert!(!view.separators(Part::Integer).leading);
+    assert!(!view.separators(Part::Exponent).internal);
 }

@@ -1,7 +1,6 @@
-//! The tests of slices and the digits of numbers, which plain Rust has by hand.
+//! The tests of slices, which plain Rust has by hand.
 
 use peltzivar::ascii::{is_valid_ascii, is_valid_ascii_slice, is_valid_letter, is_valid_letter_slice};
-use peltzivar::Error;
 
 /// As in `lexical-util`, a constant can call the tests.
 const _: () = assert!(is_valid_ascii_slice(&[b'~'; 99]) && !is_valid_letter_slice(b"a0"));
@@ -20,15 +19,5 @@ fn each_byte_is_tested_in_each_lane() {
         let tests = [is_valid_ascii(byte), is_valid_letter(byte)];
         assert_eq!(tests, wanted, "{byte}");
         (text[index], letters[index]) = (b'0', b'a');
-    }
-}
-
-#[test]
-fn each_index_is_printed_in_decimal() {
-    let powers = (0..20).map(|exponent| 10_usize.pow(exponent));
-    let near_powers = powers.flat_map(|power| [power - 1, power, power + 1]);
-    for index in (0..10_000).chain(near_powers).chain([usize::MAX]) {
-        let text = format!("lexical parse error: 'invalid digit found' at index {index}");
-        assert_eq!(Error::InvalidDigit(index).to_string(), text);
     }
 }

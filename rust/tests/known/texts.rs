@@ -2,7 +2,7 @@
 
 use peltzivar::format::{NonZeroU8, NumberFormat, NumberFormatBuilder};
 use peltzivar::source::BuilderExpression;
-use peltzivar::{Edit, Format, FormatView};
+use peltzivar::{Format, FormatView};
 use std::fmt::Debug;
 
 const WORD: u128 = 0x22231068_7800005F_00000001_8A000408;
@@ -39,22 +39,6 @@ fn a_word_and_its_fields_are_printed() {
     }
 }
 
-/// Returns the builder that makes the calls of an expression, or `None` if it is not one.
-fn builder_of(code: &str) -> Option<NumberFormatBuilder> {
-    let calls = code.strip_prefix("NumberFormatBuilder::new()")?;
-    let calls = calls.strip_suffix(".build_unchecked()").or(calls.strip_suffix(".build_or_panic()"))?;
-    let edit = |call: &str| {
-        let (name, value) = call.strip_suffix(')')?.split_once('(')?;
-        let value = match value.strip_prefix("NonZeroU8::new(") {
-            Some(byte) => byte.strip_suffix(')')?.trim_start_matches('b'),
-            None if value == "None" => "none",
-            None => value,
-        };
-        Edit::from_setting(name, value).ok()
-    };
-    calls.split('.').skip(1).map(edit).collect()
-}
-
 /// The word that code builds, and the code without spaces.
 macro_rules! built {
     ($code:expr) => {
@@ -62,9 +46,9 @@ macro_rules! built {
     };
 }
 
-/// Expressions that are compiled here, and those of words in which a bit is flipped, or all bits but one.
+/// Expressions that are compiled here.
 #[test]
-fn an_expression_is_read_back() {
+fn an_expression_builds_its_word() {
     for (word, code) in [
         built!(NumberFormatBuilder::new()
             .integer_internal_digit_separator(true)
@@ -76,10 +60,5 @@ fn an_expression_is_read_back() {
         built!(NumberFormatBuilder::new().no_special(true).mantissa_radix(0).build_unchecked()),
     ] {
         assert_eq!(format!("{:->400.3}", BuilderExpression(word)), code);
-    }
-    for word in (0..128).map(|bit| 0xC ^ 1 << bit).flat_map(|word| [word, !word]) {
-        let code = BuilderExpression(word).to_string();
-        let word = NumberFormatBuilder::from_word(word).build_unchecked();
-        assert_eq!(builder_of(&code).map(|builder| builder.build_unchecked()), Some(word), "{code}");
     }
 }

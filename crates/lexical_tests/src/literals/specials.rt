@@ -7,79 +7,36 @@ const PLUS: Option<Sign> = Some(Sign::Plus);
 
 const MINUS: Option<Sign> = Some(Sign::Minus);
 
-const DECIMAL: u128 = 0x00000A00_00000000_00000000_0000000C;
-
-const NO_PLUS: u128 = 0x00000A00_00000000_00000000_0000001C;
-
-const SIGNED: u128 = 0x00000A00_00000000_00000000_0000002C;
-
-const NO_SPECIAL: u128 = 0x00000A00_00000000_00000000_0000040C;
-
-const CASED: u128 = 0x00000A00_00000000_00000000_0000080C;
-
-// The separator `_` in integers, and in special values.
-const IN_INTEGERS: u128 = 0x00000A00_0000005F_00000001_0000000C;
-
-const UNDERSCORE: u128 = 0x00000A00_0000005F_00001000_0000000C;
-
-// Separators that are letters.
-const LETTER_I: u128 = 0x00000A00_00000069_00001000_0000000C;
-
-const CASED_I: u128 = 0x00000A00_00000069_00001000_0000080C;
-
-const LETTER_N: u128 = 0x00000A00_0000006E_00001000_0000000C;
-
-const RADIX_36: u128 = 0x00002400_00000000_00000000_0000000C;
-
-// A word, a text, and the special value that the text is, if any.
+// A word, a sign, a spelling, and texts that are this special value, or none if there is no spelling.
 #[rattlefmt::skip]
-const ROWS: [(u128, &str, Option<Special>); 46] = [
-    (DECIMAL, "NaN", Some(Special { sign: None, spelling: Spelling::Nan })),
-    (DECIMAL, "nan", Some(Special { sign: None, spelling: Spelling::Nan })),
-    (DECIMAL, "+inf", Some(Special { sign: PLUS, spelling: Spelling::Inf })),
-    (DECIMAL, "-INFINITY", Some(Special { sign: MINUS, spelling: Spelling::Infinity })),
-    (DECIMAL, "infi", None),
-    (DECIMAL, "na", None),
-    (DECIMAL, "", None),
-    (DECIMAL, "-", None),
-    (DECIMAL, "+-inf", None),
-    (DECIMAL, "N__a_N_", None),
-    (NO_PLUS, "+nan", None),
-    (NO_PLUS, "-nan", Some(Special { sign: MINUS, spelling: Spelling::Nan })),
-    (NO_PLUS, "nan", Some(Special { sign: None, spelling: Spelling::Nan })),
-    (SIGNED, "nan", None),
-    (SIGNED, "+nan", Some(Special { sign: PLUS, spelling: Spelling::Nan })),
-    (NO_SPECIAL, "NaN", None),
-    (NO_SPECIAL, "inf", None),
-    (CASED, "NaN", Some(Special { sign: None, spelling: Spelling::Nan })),
-    (CASED, "nan", None),
-    (IN_INTEGERS, "N_aN", None),
-    (UNDERSCORE, "N__a_N_", Some(Special { sign: None, spelling: Spelling::Nan })),
-    (UNDERSCORE, "+__inf", Some(Special { sign: PLUS, spelling: Spelling::Inf })),
-    (UNDERSCORE, "_+inf", None),
-    (UNDERSCORE, "___", None),
-    (LETTER_I, "inf", Some(Special { sign: None, spelling: Spelling::Inf })),
-    (LETTER_I, "INF", Some(Special { sign: None, spelling: Spelling::Inf })),
-    (LETTER_I, "iNF", Some(Special { sign: None, spelling: Spelling::Inf })),
-    (LETTER_I, "iinf", Some(Special { sign: None, spelling: Spelling::Inf })),
-    (LETTER_I, "iINF", Some(Special { sign: None, spelling: Spelling::Inf })),
-    (LETTER_I, "iINiFi", Some(Special { sign: None, spelling: Spelling::Inf })),
-    (LETTER_I, "IINF", None),
-    (LETTER_I, "nf", None),
-    (LETTER_I, "iNfiiInItiy", Some(Special { sign: None, spelling: Spelling::Infinity })),
-    (LETTER_I, "infnity", None),
-    (CASED_I, "iinf", Some(Special { sign: None, spelling: Spelling::Inf })),
-    (CASED_I, "iNF", None),
-    (LETTER_N, "nan", Some(Special { sign: None, spelling: Spelling::Nan })),
-    (LETTER_N, "nNaN", Some(Special { sign: None, spelling: Spelling::Nan })),
-    (LETTER_N, "nannN", Some(Special { sign: None, spelling: Spelling::Nan })),
-    (LETTER_N, "NNan", None),
-    (LETTER_N, "a", None),
-    (LETTER_N, "inFnN", None),
-    (LETTER_N, "iNnfn", Some(Special { sign: None, spelling: Spelling::Inf })),
-    (LETTER_N, "inf", Some(Special { sign: None, spelling: Spelling::Inf })),
-    (LETTER_N, "if", None),
-    (RADIX_36, "inf", Some(Special { sign: None, spelling: Spelling::Inf })),
+const ROWS: [(u128, Option<Sign>, Option<Spelling>, &[&str]); 24] = [
+    (0x00000A00_00000000_00000000_0000000C, None, Some(Spelling::Nan), &["NaN", "nan"]),
+    (0x00000A00_00000000_00000000_0000000C, PLUS, Some(Spelling::Inf), &["+inf"]),
+    (0x00000A00_00000000_00000000_0000000C, MINUS, Some(Spelling::Infinity), &["-INFINITY"]),
+    (0x00000A00_00000000_00000000_0000000C, None, None, &["infi", "na", "", "-", "+-inf", "N__a_N_"]),
+    // no_positive_mantissa_sign, required_mantissa_sign, no_special, case_sensitive_special.
+    (0x00000A00_00000000_00000000_0000001C, MINUS, Some(Spelling::Nan), &["-nan"]),
+    (0x00000A00_00000000_00000000_0000001C, None, None, &["+nan"]),
+    (0x00000A00_00000000_00000000_0000002C, PLUS, Some(Spelling::Nan), &["+nan"]),
+    (0x00000A00_00000000_00000000_0000002C, None, None, &["nan"]),
+    (0x00000A00_00000000_00000000_0000040C, None, None, &["NaN", "inf"]),
+    (0x00000A00_00000000_00000000_0000080C, None, Some(Spelling::Nan), &["NaN"]),
+    (0x00000A00_00000000_00000000_0000080C, None, None, &["nan"]),
+    // The separator `_` in integers, and in special values.
+    (0x00000A00_0000005F_00000001_0000000C, None, None, &["N_aN"]),
+    (0x00000A00_0000005F_00001000_0000000C, None, Some(Spelling::Nan), &["N__a_N_"]),
+    (0x00000A00_0000005F_00001000_0000000C, PLUS, Some(Spelling::Inf), &["+__inf"]),
+    (0x00000A00_0000005F_00001000_0000000C, None, None, &["_+inf", "___"]),
+    // The separator `i`, also if the case of a special value counts, and the separator `n`.
+    (0x00000A00_00000069_00001000_0000000C, None, Some(Spelling::Inf), &["inf", "INF", "iNF", "iinf", "iINF", "iINiFi"]),
+    (0x00000A00_00000069_00001000_0000000C, None, Some(Spelling::Infinity), &["iNfiiInItiy"]),
+    (0x00000A00_00000069_00001000_0000000C, None, None, &["IINF", "nf", "infnity"]),
+    (0x00000A00_00000069_00001000_0000080C, None, Some(Spelling::Inf), &["iinf"]),
+    (0x00000A00_00000069_00001000_0000080C, None, None, &["iNF"]),
+    (0x00000A00_0000006E_00001000_0000000C, None, Some(Spelling::Nan), &["nan", "nNaN", "nannN"]),
+    (0x00000A00_0000006E_00001000_0000000C, None, Some(Spelling::Inf), &["iNnfn", "inf"]),
+    (0x00000A00_0000006E_00001000_0000000C, None, None, &["NNan", "a", "inFnN", "if"]),
+    (0x00002400_00000000_00000000_0000000C, None, Some(Spelling::Inf), &["inf"]),
 ];
 
 #[test]
@@ -89,18 +46,22 @@ fn a_special_value_is_a_sign_and_a_spelling(rt: HostRuntime) {
         inf: Some(b"inf"),
         infinity: Some(b"infinity"),
     };
-    for (word, text, want) in &ROWS {
+    for (word, sign, spelling, texts) in &ROWS {
         let Ok(syntax) = Syntax::integers(*word) else {
             assert!(rt; false, "{word:#034X}");
             return;
         };
-        assert!(rt; specials.read(&syntax, text.as_bytes()) == *want, "{text}");
+        let sign = *sign;
+        let want = spelling.map(|spelling| Special { sign, spelling });
+        for text in *texts {
+            assert!(rt; specials.read(&syntax, text.as_bytes()) == want, "{text}");
+        }
     }
 }
 
 #[test]
 fn the_first_spelling_that_is_not_empty_matches(rt: HostRuntime) {
-    let Ok(syntax) = Syntax::integers(DECIMAL) else {
+    let Ok(syntax) = Syntax::integers(ROWS[0].0) else {
         assert!(rt; false);
         return;
     };
@@ -109,15 +70,12 @@ fn the_first_spelling_that_is_not_empty_matches(rt: HostRuntime) {
         inf: Some(b""),
         infinity: Some(b"+oo"),
     };
-    let mut want = Special {
-        sign: PLUS,
-        spelling: Spelling::Infinity,
-    };
-    assert!(rt; specials.read(&syntax, b"").is_none());
-    assert!(rt; specials.read(&syntax, b"+").is_none());
-    assert!(rt; specials.read(&syntax, b"+oo").is_none());
-    assert!(rt; specials.read(&syntax, b"++oo") == Some(want));
+    for text in ["", "+", "+oo"] {
+        assert!(rt; specials.read(&syntax, text.as_bytes()).is_none(), "{text}");
+    }
+    let read = specials.read(&syntax, b"++oo");
+    assert!(rt; matches!(read, Some(it) if it.sign == PLUS && it.spelling == Spelling::Infinity));
     specials.inf = Some(b"+oo");
-    want.spelling = Spelling::Inf;
-    assert!(rt; specials.read(&syntax, b"++oo") == Some(want));
+    let read = specials.read(&syntax, b"++oo");
+    assert!(rt; matches!(read, Some(it) if it.sign == PLUS && it.spelling == Spelling::Inf));
 }

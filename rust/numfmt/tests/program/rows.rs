@@ -107,19 +107,15 @@ pub const ANSWERS: [(&[&str], &str, u8); 31] = [
 
 /// Lists of arguments that are refused, the text that states why, and the exit status.
 #[rustfmt::skip]
-pub const REFUSALS: [(&[&str], &str, u8); 44] = [
+pub const REFUSALS: [(&[&str], &str, u8); 36] = [
     (&[""], "numfmt: unknown command\n", 2),
-    (&["shows", "0x"], "numfmt: unknown command\n", 2),
     (&["show 0xC"], "numfmt: unknown command\n", 2),
-    (&[" show", "0xC"], "numfmt: unknown command\n", 2),
     (&["show"], "numfmt: wrong number of arguments\n", 2),
     (&["show", "0x", "0x"], "numfmt: wrong number of arguments\n", 2),
     (&["edit"], "numfmt: wrong number of arguments\n", 2),
     (&["check", "0x00000A0000000000000000000000000C", "0x00000A0000000000000000000000000C"], "numfmt: wrong number of arguments\n", 2),
     (&["same", "0x00000A0000000000000000000000000C"], "numfmt: wrong number of arguments\n", 2),
-    (&["same", "0x", "0x", "0x"], "numfmt: wrong number of arguments\n", 2),
     (&["options", "0x00000A0000000000000000000000000C", "101"], "numfmt: wrong number of arguments\n", 2),
-    (&["options", "0x", "101", "46", "46"], "numfmt: wrong number of arguments\n", 2),
     (&["migrate"], "numfmt: wrong number of arguments\n", 2),
     (&["source"], "numfmt: wrong number of arguments\n", 2),
     (&["explain", "0xC", "0xC"], "numfmt: wrong number of arguments\n", 2),
@@ -133,9 +129,7 @@ pub const REFUSALS: [(&[&str], &str, u8); 44] = [
     (&["same", "0x", "0x1"], "numfmt: bad word\n", 2),
     (&["options", "0x", "1", "2"], "numfmt: bad word\n", 2),
     (&["options", "0x", "256", "2"], "numfmt: bad word\n", 2),
-    (&["show", "0xC\r"], "numfmt: bad word\n", 2),
     (&["check", " 0xC"], "numfmt: bad word\n", 2),
-    (&["same", "0xC", "0xC "], "numfmt: bad word\n", 2),
     (&["migrate", "0x C"], "numfmt: bad word\n", 2),
     (&["source", ""], "numfmt: bad word\n", 2),
     (&["explain", "C"], "numfmt: bad word\n", 2),
@@ -143,13 +137,11 @@ pub const REFUSALS: [(&[&str], &str, u8); 44] = [
     (&["edit", "0xC", "radix=16", "radix"], "numfmt: bad edit\n", 2),
     (&["edit", "0x00000A0000000000000000000000000C", "base_prefix='x'"], "numfmt: bad edit\n", 2),
     (&["edit", "0x00000A0000000000000000000000000C", "base_prefix=0x78"], "numfmt: bad edit\n", 2),
-    (&["edit", "0xC", "radix=16\r"], "numfmt: bad edit\n", 2),
     (&["edit", "0xC", "radix = 16"], "numfmt: bad edit\n", 2),
     (&["edit", "0xC", "radix=16 radix=10"], "numfmt: bad edit\n", 2),
     (&["options", "0x00000A0000000000000000000000000C", "256", "46"], "numfmt: bad byte\n", 2),
     (&["options", "0x00000A0000000000000000000000000C", "e", "46"], "numfmt: bad byte\n", 2),
     (&["options", "0x00000A0000000000000000000000000C", "101", "none"], "numfmt: bad byte\n", 2),
     (&["options", "0x00000A0000000000000000000000000C", "101", ""], "numfmt: bad byte\n", 2),
-    (&["options", "0xC", " 101", "46"], "numfmt: bad byte\n", 2),
     (&["options", "0xC", "101", "46\n"], "numfmt: bad byte\n", 2),
 ];
