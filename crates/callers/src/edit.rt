@@ -1,10 +1,12 @@
-//! Callers of `edits`: the fields that an edit writes and keeps, and the setters that set several flags.
+//! Callers of `edits`: the fields that an edit writes and keeps, the order of edits, and the setters that set several
+//! flags.
 
-ghost use Rattle.std.specs.Prelude.{◌≡◌, ◌≢◌, true, length, nat_lt};
-ghost use Rattle.lexical_util.specs.Edits.{flags_of};
+ghost use Rattle.std.specs.Prelude.{◌≡◌, ◌≢◌, ◌⊎◌, ◌∷◌, [], None, true, length, nat_lt};
+ghost use Rattle.lexical_util.specs.Edits.{all_writes, edited, flags_of, writes_of};
 ghost use Rattle.lexical_util.specs.Layout as layout;
-ghost use Rattle.lexical_util.specs.Layout.{Flag, bit};
+ghost use Rattle.lexical_util.specs.Layout.{Byte, Flag, bit};
 ghost use Rattle.lexical_util.specs.Record.{raw};
+ghost use Rattle.lexical_util.specs.Writes.{last_byte, last_flag};
 
 use lexical_util::edits::{Edit, FlagSetter, edit_word};
 use lexical_util::format::NonZeroU8;
@@ -23,6 +25,17 @@ pub fn with_prefix(format: u128, prefix: NonZeroU8) -> u128
     write_facts();
     let case_matters = Edit::Flag(FlagSetter::CaseSensitiveBasePrefix, true);
     edit_word(format, &[Edit::BasePrefix(Some(prefix)), case_matters])
+}
+
+/// Returns `format`, which may be any word, after two edits that write different fields. Their order does not matter.
+pub fn edit_both(format: u128, first: Edit, second: Edit) -> u128
+    requires flags { (f : Flag) → (last_flag (writes_of first) f ≡ None) ⊎ (last_flag (writes_of second) f ≡ None) }
+    requires bytes { (b : Byte) → (last_byte (writes_of first) b ≡ None) ⊎ (last_byte (writes_of second) b ≡ None) }
+    ensures order { result ≡ edited format (all_writes (first ∷ second ∷ [])) }
+    ensures other_order { result ≡ edited format (all_writes (second ∷ first ∷ [])) }
+{
+    write_facts();
+    edit_word(format, &[first, second])
 }
 
 /// Returns whether `setter` sets several flags. No arm is `_`: the rows of `with_setters` are all variants.

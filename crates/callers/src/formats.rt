@@ -4,7 +4,7 @@
 //! is lawful. After a call to the law, you can pass the constant where a lawful format is required. Nothing is tested
 //! at run time.
 
-ghost use Rattle.std.specs.Prelude.{◌≡◌, ◌<◌, ◌^◌, [], ◌∷◌, None, true, false};
+ghost use Rattle.std.specs.Prelude.{◌≡◌, ◌↔◌, ◌<◌, ◌^◌, [], ◌∷◌, IsNone, IsTrue, None, true, false};
 ghost use Rattle.std.specs.Option.{SomeIff};
 ghost use Rattle.lexical_util.specs.Layout as layout;
 ghost use Rattle.lexical_util.specs.Record.{raw};
@@ -13,6 +13,7 @@ ghost use Rattle.lexical_util.specs.Options.{OptionsFit};
 ghost use Rattle.lexical_util.specs.Writes.{write_byte, write_flags};
 ghost use Rattle.lexical_util.specs.Edits.{edited};
 ghost use Rattle.lexical_util.specs.NormalForm.{normal_form_of};
+ghost use Rattle.lexical_literal.specs.Front.{NoLiteral};
 ghost use Rattle.lexical_literal.specs.Literal.{Literal, Reads};
 ghost use Rattle.lexical_literal.specs.Notation.{notation_of};
 ghost use Rattle.callers.specs.Magnitude.{magnitude};
@@ -59,15 +60,33 @@ pub fn octal_facts()
     ensures options { OptionsFit OCTAL EXPONENT POINT }
 {}
 
-/// Returns the number that the integer `text` represents in the format [`DECIMAL`], without its sign, or `None` if
-/// `text` is not such an integer, or if the number is 2^64 or more. It may have `_` between digits, as in `1_000`.
-pub fn read_decimal(text: &[u8]) -> Option<u64>
-    ensures { (l : Literal) → Reads (notation_of (record { word = DECIMAL; options = None })) l text.now
-        → SomeIff result (magnitude (raw DECIMAL) l.integer < 2 ^ 64) (magnitude (raw DECIMAL) l.integer) }
+/// Returns the syntax of the integers of [`DECIMAL`].
+pub fn decimal() -> Syntax
+    ensures { result ≡ record { word = DECIMAL; options = None } }
 {
     decimal_facts();
     match Syntax::integers(DECIMAL) {
-        Ok(syntax) => magnitude(&syntax, text),
-        Err(_) => None,
+        Ok(syntax) => syntax,
+        Err(_) => unreachable!(),
     }
+}
+
+/// Returns whether `text` is a literal of `syntax`.
+pub fn is_literal(syntax: &Syntax, text: &[u8]) -> bool
+    ensures { IsTrue result ↔ ((l : Literal) × Reads (notation_of syntax.now) l text.now) }
+{
+    match syntax.read(text) {
+        Ok(_) => true,
+        Err(_) => false,
+    }
+}
+
+/// Returns the number that the integer `text` represents in the format [`DECIMAL`], without its sign, or `None` if
+/// `text` is not such an integer, or if the number is 2^64 or more. It may have `_` between digits, as in `1_000`.
+pub fn read_decimal(text: &[u8]) -> Option<u64>
+    ensures literal { (l : Literal) → Reads (notation_of (record { word = DECIMAL; options = None })) l text.now
+        → SomeIff result (magnitude (raw DECIMAL) l.integer < 2 ^ 64) (magnitude (raw DECIMAL) l.integer) }
+    ensures other { NoLiteral (notation_of (record { word = DECIMAL; options = None })) text.now → IsNone result }
+{
+    magnitude(&decimal(), text)
 }

@@ -1,6 +1,6 @@
 -- Lemmas on the record after writes. Two lists of writes one after another have the effect of one joined list.
 use Rattle.std.proofs.Common.{◌≡◌, ℕ, ◌<◌, ◌==◌, List, [], ◌∷◌, ◌++◌, Option, Some, None, unwrap_or, filter_map, refl}
-use Rattle.std.proofs.Common.{sym, ap, subst, ◌∙◌, arith, All}
+use Rattle.std.proofs.Common.{sym, ap, subst, ◌∙◌, arith, All, ◌⊎◌, inl, inr}
 use Rattle.std.proofs.lemmas.Bool.Decides.{nat_tests}
 use Rattle.std.proofs.lemmas.List.Elements.{All-head, All-tail}
 use Rattle.std.proofs.Common.{Bool, true, false, ◌&&◌, ◌||◌, if◌then◌else◌, filter}
@@ -12,7 +12,7 @@ use Rattle.lexical_flags.specs.Record.{Record, HasBytes}
 use Rattle.lexical_flags.proofs.RecordLemmas.{record_same}
 use Rattle.lexical_builder.specs.Writes.{Write, write_flag, write_byte, IsLegal, new_record, flag_written, byte_written}
 use Rattle.lexical_builder.specs.Writes.{after}
-use Rattle.lexical_builder.specs.Writes.{SameWrites, flags_with, write_flags, last_byte}
+use Rattle.lexical_builder.specs.Writes.{SameWrites, flags_with, write_flags, last_flag, last_byte}
 use Rattle.lexical_builder.specs.BuilderBits.{byte_index, builder_record_of_parts}
 
 -- `left_by h writes d` is the value of a field after `writes`, if the value was `d` and `h` is the value that one write
@@ -41,6 +41,21 @@ left_by-append h [] second d = refl
 left_by-append h (x ∷ first) second d =
     left_by-cons h x (first ++ second) d ∙ left_by-append h first second (unwrap_or (h x) d)
     ∙ ap (left_by h second) (sym (left_by-cons h x first d))
+
+-- If the first of two lists of writes does not write a field, then the field has the same value after the lists in either
+-- order.
+left_by-swap : {T : Type 0} (h : Write → Option T) (first second : List Write) (d : T)
+    → last_or None (filter_map h first) ≡ None → left_by h (first ++ second) d ≡ left_by h (second ++ first) d
+left_by-swap h first second d none =
+    left_by-append h first second d ∙ ap (λ o. left_by h second (unwrap_or o d)) none
+    ∙ sym (left_by-append h second first d ∙ ap (λ o. unwrap_or o (left_by h second d)) none)
+
+-- If one of two lists of writes does not write a field, then the field has the same value after the lists in either order.
+left_by-order : {T : Type 0} (h : Write → Option T) (first second : List Write) (d : T)
+    → (last_or None (filter_map h first) ≡ None) ⊎ (last_or None (filter_map h second) ≡ None)
+    → left_by h (first ++ second) d ≡ left_by h (second ++ first) d
+left_by-order h first second d (inl none) = left_by-swap h first second d none
+left_by-order h first second d (inr none) = sym (left_by-swap h second first d none)
 
 -- If the flags that pass a test are written, a flag has the new value if it is one of them, and is unchanged otherwise.
 written : (p : Flag → Bool) (value : Bool) (f : Flag) (d : Bool) (fs : List Flag)
@@ -117,6 +132,16 @@ unfolding after
 after-append r first second = record_same _ _
     (λ f. sym (left_by-append (λ x. flag_written x f) first second (r.flag f)))
     (λ b. sym (left_by-append (λ x. byte_written x b) first second (r.byte b)))
+
+-- If no field is written by both of two lists of writes, then they can be in either order.
+pub after-order : (r : Record) (first second : List Write)
+    → ((f : Flag) → (last_flag first f ≡ None) ⊎ (last_flag second f ≡ None))
+    → ((b : Byte) → (last_byte first b ≡ None) ⊎ (last_byte second b ≡ None))
+    → after r (first ++ second) ≡ after r (second ++ first)
+unfolding after
+after-order r first second flags bytes = record_same _ _
+    (λ f. left_by-order (λ x. flag_written x f) first second (r.flag f) (flags f))
+    (λ b. left_by-order (λ x. byte_written x b) first second (r.byte b) (bytes b))
 
 -- If two lists write the same fields, each with the same last value, then they have the same effect.
 pub after-same : (r : Record) (writes others : List Write) → SameWrites writes others → after r writes ≡ after r others

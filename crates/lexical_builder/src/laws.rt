@@ -1,6 +1,6 @@
 //! Theorems on writes to the fields of a builder. Each is a clause of a function with an empty body.
 
-ghost use Rattle.std.specs.Prelude.{◌≡◌, ◌≤◌, ◌==◌, ℕ, List, [], ◌∷◌, ◌++◌, None, IsTrue, IsFalse, unwrap_or};
+ghost use Rattle.std.specs.Prelude.{◌≡◌, ◌≤◌, ◌==◌, ℕ, List, [], ◌∷◌, ◌++◌, ◌⊎◌, None, IsTrue, IsFalse, unwrap_or};
 ghost use Rattle.lexical_base.specs.Digits.{byte_value};
 ghost use Rattle.lexical_flags.specs.Layout as layout;
 ghost use Rattle.lexical_flags.specs.Layout.{Flag, Byte, shift};
@@ -12,7 +12,8 @@ ghost use Rattle.lexical_builder.specs.Writes.{Write, write_byte, after, last_fl
 use lexical_flags::laws::rule_facts;
 
 /// States the fields of a record after writes, that an empty list of writes changes nothing, that applying two lists in
-/// turn is equivalent to applying both as one list, and that a field that no write writes keeps its value.
+/// turn is equivalent to applying both as one list, that a field that no write writes keeps its value, and that writes of
+/// different fields can be in any order.
 pub fn write_facts()
     ensures flag { (r : Record) → (writes : List Write) → (f : Flag)
         → (after r writes).flag f ≡ unwrap_or (last_flag writes f) (r.flag f) }
@@ -25,6 +26,12 @@ pub fn write_facts()
         → (after r writes).flag f ≡ r.flag f }
     ensures kept_byte { (r : Record) → (writes : List Write) → (b : Byte) → last_byte writes b ≡ None
         → (after r writes).byte b ≡ r.byte b }
+
+    // If no field is written by both lists, they have the same effect in either order.
+    ensures order { (r : Record) → (first second : List Write)
+        → ((f : Flag) → (last_flag first f ≡ None) ⊎ (last_flag second f ≡ None))
+        → ((b : Byte) → (last_byte first b ≡ None) ⊎ (last_byte second b ≡ None))
+        → after r (first ++ second) ≡ after r (second ++ first) }
 {}
 
 /// States the fields of the word that a builder packs one by one: they are the fields of the builder.

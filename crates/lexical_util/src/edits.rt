@@ -124,8 +124,8 @@ pub const fn edit_word(format: u128, edits: &[Edit]) -> u128
     ensures unique { (other : ℕ) → other < 2 ^ 128 → IsClean other
         → raw other ≡ trim (after (fill (raw format)) (all_writes edits.now)) → other ≡ result }
 
-    // Only the last write to each field matters. So edits of different fields can be in any order, and a group edit is
-    // equivalent to the edits of its flags in any order.
+    // Only the last write to each field matters. So a group edit is equivalent to the edits of its flags in any order. By
+    // `order` of the law `write_facts`, edits of different fields can be in any order.
     ensures same_writes { (writes : List Write) → All IsLegal writes
         → SameWrites writes (all_writes edits.now) → edited format writes ≡ result }
 
