@@ -32,7 +32,6 @@ SECTIONS = [
     ("Exponent", "exponent", r"\w+_exponent_notation|no_exponent_without_fraction|case_sensitive_exponent"),
     ("NaN and infinity", "special", r"\w*special"),
     ("Base prefix and suffix", "base", r"case_sensitive_base_\w+"),
-    ("Others", "other", r"\w+"),
 ]
 BYTE_PARTS = {"digit_separator": "separator", "base_prefix": "base", "base_suffix": "base", "mantissa_radix": "digits"}
 
@@ -80,10 +79,11 @@ def fields():
     separators = next(group["bits"] for group in groups if group["name"] == "digit_separator_flags")
     flags, numbers = [], []
     for bit, name, accepted, rejected in rows(r"^\| (\d+) \| `(\w+)` \| \w+ \|[^|]*\| (`[^|]*`) \| (`[^|]*`) \|$"):
-        title, part = next(row[:2] for row in SECTIONS if re.fullmatch(row[2], name))
+        found = next((row[:2] for row in SECTIONS if re.fullmatch(row[2], name)), None)
         meaning = f"rejects {rejected} but accepts {accepted}".replace("` `", "`, `")
         if int(bit) in separators:
-            title, part, meaning = "", "separator", f"accepts {accepted}".replace("` `", "`, `")
+            found, meaning = ("", "separator"), f"accepts {accepted}".replace("` `", "`, `")
+        title, part = found or sys.exit(f"explorer/build.py: no section of {name}")
         flags.append({"bit": int(bit), "name": name, "meaning": meaning, "section": title, "part": part})
     for low, name, meaning in rows(r"^\| (\d+) to \d+ \| `(\w+)` \| \d+ \| (.*) \|$"):
         meaning += "; 0 means the mantissa radix" if name.startswith("exponent_") else ""

@@ -1,6 +1,7 @@
+#!/usr/bin/env python3
 """Tests the page:
 
-    python3 explorer/test.py
+    explorer/test.py
 
 `build --check` compares index.html with its sources. In Chromium, the WebAssembly of the page returns the recorded
 results, the code that the page shows builds its word, and one walk through the page takes the steps of a user. A test is

@@ -95,14 +95,18 @@ fn settings_end_the_cause(error: ReadError, syntax: Syntax, text: &[u8]) {
     }
 }
 
-/// Each flag, by the texts in its row: with the flag, without it, and that an error blames the flag. A flag that allows
-/// digit separators changes the texts that it accepts, and any other flag those that it rejects. The flags of special values
-/// are not to blame, and neither is one without which no flag allows the separator.
+/// Each flag, by the texts in its row: with the flag, without it, and that an error blames the flag, as a requirement
+/// if the page lists it as one. A flag that allows digit separators changes the texts that it accepts, and any other
+/// flag those that it rejects. The flags of special values are not to blame, and neither is one without which no flag
+/// allows the separator.
 #[test]
 fn flags_accept_and_reject_the_texts_of_the_page() {
+    let (mut flags, mut requirements) = (FlagSetter::FLAGS.iter(), vec![]);
     for row in table("The flags") {
-        let [_, name, _, with, accepted, rejected] = row[..] else { panic!("{row:?}") };
-        let mask = Edit::Flag(name.parse::<FlagSetter>().unwrap(), true).mask();
+        let [bit, name, _, with, accepted, rejected] = row[..] else { panic!("{row:?}") };
+        let flag = name.parse::<FlagSetter>().unwrap();
+        let mask = Edit::Flag(flag, true).mask();
+        assert_eq!((Some(&flag), bit), (flags.next(), mask.ilog2().to_string().as_str()));
         let set = word(&format!("{with} {name}=true"));
         let texts = texts(accepted).map(|text| (text, true)).chain(texts(rejected).map(|text| (text, false)));
         for (text, is_accepted) in texts {
@@ -119,9 +123,19 @@ fn flags_accept_and_reject_the_texts_of_the_page() {
                 let blames = |error: ReadError| error.mask() & mask != 0 && error.to_string().contains(name);
                 let is_blamed = result.map_or_else(blames, |_| true);
                 assert!(is_blamed || wanted || !changes || !can_be_blamed, "{word:#034X}: {text}: {result:?}");
+                let is_requirement = |error: ReadError| error.cause() == Cause::Requirement && error.mask() & mask != 0;
+                requirements.extend(result.is_err_and(is_requirement).then_some(mask.ilog2()));
             }
         }
     }
+    assert_eq!(flags.next(), None);
+    requirements.dedup();
+    let runs = requirements.chunk_by(|flag, next| flag + 1 == *next).map(|run| match run {
+        [flag] => flag.to_string(),
+        _ => format!("{} to {}", run[0], run[run.len() - 1]),
+    });
+    let sentence = format!("Flags {} are *requirements*", Vec::from_iter(runs).join(" and "));
+    assert!(PAGE.contains(&sentence), "{sentence}");
 }
 
 #[test]
@@ -225,7 +239,7 @@ fn each_setting_of_a_language_has_a_row() {
             let is_number = |text| without.read(text).is_ok() || specials.read(&without, text).is_some();
             let mut rows = rows().filter(|row| row.0 == *language);
             let has_row = rows.any(|(_, text, is_accepted)| is_number(text.as_bytes()) != is_accepted);
-            assert!(has_row || without == syntax, "{language}: {edit}");
+            assert!(has_row || without == syntax, "rust/tests/literals.txt: no row of {language} needs {edit}");
         }
     }
 }

@@ -231,7 +231,7 @@ fn below(state: &mut u64, bound: u64) -> u64 {
 /// Returns a pseudo-random word, which is seldom lawful.
 fn random_word(state: &mut u64) -> u128 {
     let sparseness = 2 + 2 * below(state, 2);
-    let flags = mask(0..45, |_| below(state, sparseness) == 0) & FLAG_MASK;
+    let flags = mask(0..64, |_| below(state, sparseness) == 0) & FLAG_MASK;
     let [separator, prefix, other] = [(); 3].map(|()| below(state, 3).min(1) * below(state, 127));
     let suffix = if below(state, 8) == 0 { prefix ^ 0x20 } else { other };
     let [radix, base, exponent_radix] = [(); 3].map(|()| below(state, 37));

@@ -10,8 +10,8 @@ use core::{fmt, hash, num::NonZeroU8};
 ///
 /// The documentation of each language names the section of the grammar that it follows, and what a format cannot
 /// express. No format rejects `-`, and no format requires its base prefix or suffix, or a decimal point, so
-/// [`C_FLOAT`][Self::C_FLOAT] reads `1` and `08`. A language whose name ends in `HEX_INTEGER` has integers alone. To
-/// copy a format, print its setter calls with [`source`][crate::source].
+/// [`C_FLOAT`][Self::C_FLOAT] reads `1` and `08`. A language whose name ends in `_INTEGER` has integers alone. To copy
+/// a format, print its setter calls with [`source`][crate::source].
 ///
 /// For a [`Syntax`] of your own with [`Specials`], keep a [`Reader`] and the spellings. Where `reader.read(text)`
 /// fails, call `specials.read(&reader.syntax(), text)`, as [`read`][Self::read] does.
@@ -137,9 +137,27 @@ fn reader<T: Grammar>() -> &'static Reader {
     const { &Reader::new(T::SYNTAX) }
 }
 
+/// Returns whether `left` is before `right` in the order of their bytes.
+const fn is_before(left: &[u8], right: &[u8]) -> bool {
+    match (left, right) {
+        ([first, left @ ..], [second, right @ ..]) if *first == *second => is_before(left, right),
+        ([first, ..], [second, ..]) => *first < *second,
+        _ => left.len() < right.len(),
+    }
+}
+
 /// Defines the constants: the documentation, the name, the syntax and the special values, if there are any, of each.
 macro_rules! languages {
     ($($(#[$about:meta])+ $name:ident = $syntax:expr $(, $specials:expr)?;)+) => {
+        const _: () = {
+            let names = [$(stringify!($name).as_bytes()),+];
+            let mut at = 1;
+            while at < names.len() {
+                assert!(is_before(names[at - 1], names[at]), "a language is not in alphabetical order");
+                at += 1;
+            }
+        };
+
         impl Language {
             /// All languages, in alphabetical order.
             pub const ALL: &'static [Language] = &[$(Language::$name),+];

@@ -90,7 +90,7 @@ fn separator(place: Place) -> &'static str {
     }
 }
 
-/// Returns what a flag requires or forbids.
+/// Returns what a flag requires or forbids. If a flag has no text here, its name without the first word is true, too.
 fn requirement(flag: FlagSetter) -> &'static str {
     match flag {
         FlagSetter::RequiredIntegerDigits => "expected a digit of the integer",
@@ -107,6 +107,7 @@ fn requirement(flag: FlagSetter) -> &'static str {
         FlagSetter::CaseSensitiveExponent => "the other case of the exponent character",
         FlagSetter::CaseSensitiveBasePrefix => "the other case of the base prefix",
         FlagSetter::CaseSensitiveBaseSuffix => "the other case of the base suffix",
-        _ => "a leading zero",
+        FlagSetter::NoIntegerLeadingZeros | FlagSetter::NoFloatLeadingZeros => "a leading zero",
+        _ => flag.name().split_once('_').map_or("", |(_, what)| what),
     }
 }
