@@ -137,9 +137,9 @@ PELTZIVAR_MUST_USE peltzivar_error peltzivar_migrate(peltzivar_word format, pelt
  * digit separator flags is set unless its digit separator is 0. */
 bool peltzivar_is_built(peltzivar_word format);
 
-/* Returns the number of fields of a word that differ from PELTZIVAR_NEW_FIELDS, at most PELTZIVAR_FIELD_COUNT, and
- * writes an edit for each to an array of len edits, as far as they fit. Applying all of these edits to a copy of
- * PELTZIVAR_NEW_FIELDS yields the fields of the word, in which an absent exponent byte is 0. */
+/* Returns the number of fields of a word that differ from PELTZIVAR_NEW_FIELDS, at most PELTZIVAR_FIELD_COUNT of the
+ * library's version, and writes an edit for each to an array of len edits, as far as they fit. Applying all of these
+ * edits to a copy of PELTZIVAR_NEW_FIELDS yields the fields of the word, in which an absent exponent byte is 0. */
 size_t peltzivar_edits_of(peltzivar_word format, peltzivar_edit *edits, size_t len);
 
 /* Returns whether a flag, or at least one flag of a group, is set in a word. For any other setter, returns false. */
@@ -535,7 +535,8 @@ enum {
     PELTZIVAR_RULE_RESERVED_BITS_ARE_ZERO = 16 /* All reserved bits are 0. */
 };
 
-/* The errors: 1 to 19 are parse errors, 20 to 36 are format errors, and 37 to 48 are option errors. A parse error is
+/* The errors: 1 to 19 are parse errors, 20 to 36 are format errors, and 37 to 48 are option errors. A later version may
+ * add numbers from 49 on, of any kind. A parse error is
  * found in a string, a format error in a syntax, and an option error in other options of a parser or writer. The
  * functions above return only PELTZIVAR_SUCCESS, parse errors and format errors. The other errors are for parsers and
  * writers that use this library. Two rules share PELTZIVAR_INVALID_SPECIAL. */

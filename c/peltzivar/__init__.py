@@ -408,7 +408,7 @@ def _load() -> Any:
             "`make -C c`, or run a program outside c/, which hides an installed package"
         )
     version = getattr(library, "peltzivar_version", lambda: 0)()
-    if version >> 16 != _VERSION >> 16 or version < _VERSION:
+    if version >> 8 != _VERSION >> 8 or version < _VERSION:
         found = ".".join(map(str, (version & 0xFFFFFF).to_bytes(3, "big")))
         raise ImportError(f"{path} has version {found}, and this file {__version__}")
     calls = SimpleNamespace(path=path)

@@ -312,7 +312,9 @@ def made_files():
             text = re.sub(r"format!\(in rt\.alloc\(\); ([^)]*)\)\?", r"format!(\1)", text)
             files[RUST.joinpath(folder, path.stem).with_suffix(".rs")] = laid_out(renamed(text, "peltzivar", "crate", "std"), folder)
     # The page that the package has. Cargo packs only files below rust/, and rt takes no links.
-    files[RUST / "FORMAT.txt"] = (RUST.parent / "docs/FORMAT.md").read_text()
+    # Links to other files lead nowhere outside the repository.
+    page = (RUST.parent / "docs/FORMAT.md").read_text()
+    files[RUST / "FORMAT.txt"] = re.sub(r"\[([^][]*)\]\([^)#][^)]*\)", r"\1", page)
     unused = [old for file, old, _ in REPLACED + ATTRIBUTES if not any(path.match(file) for path in read)]
     unused += [old for old, _ in EVERYWHERE if old not in sources]
     if unused:

@@ -51,8 +51,8 @@ impl Syntax {
     }
 }
 
-/// A syntax with tables of all its steps. It reads literals in less time than [`Syntax::read`], which takes for some 30
-/// texts as long as it takes to make a reader. For a `static`, as in the first example of this module, the compiler
+/// A syntax with tables of all its steps. It reads literals in less time than [`Syntax::read`]. Making one takes as long
+/// as [`Syntax::read`] takes for some 30 texts. For a `static`, as in the first example of this module, the compiler
 /// makes it.
 #[derive(Clone)]
 pub struct Reader {

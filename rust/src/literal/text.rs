@@ -1,6 +1,6 @@
 //! Syntaxes of a [`Format`], and the text of syntaxes, which are written by hand.
 
-use crate::{edits::Setter, format_error::Cause, literal::Syntax};
+use crate::{edits::Setter, format_error::Cause, literal::Syntax, short_text::ShortText, word_text::word_text};
 use crate::{Error, Format, FormatError};
 use core::{fmt, str::FromStr};
 
@@ -61,11 +61,12 @@ impl Syntax {
 /// in decimal, such as `0x0A0A0A0000000000000000000000000C 101 46`. [`FromStr`] parses this text into the same syntax.
 impl fmt::Display for Syntax {
     fn fmt(&self, f: &mut fmt::Formatter<'_>) -> fmt::Result {
-        write!(f, "{}", self.view())?;
-        match (self.exponent(), self.point()) {
-            (Some(exponent), Some(point)) => write!(f, " {exponent} {point}"),
-            _ => Ok(()),
+        let word = word_text(self.view().word());
+        let mut text = ShortText::of(core::str::from_utf8(&word).unwrap_or_default());
+        if let (Some(exponent), Some(point)) = (self.exponent(), self.point()) {
+            text = text.and(" ").decimal(exponent.into()).and(" ").decimal(point.into());
         }
+        f.pad(text.as_str())
     }
 }
 
