@@ -1,5 +1,5 @@
 -- The flags that are found are to blame.
-use Rattle.std.proofs.Common.{ℕ, ◌≡◌, ◌<◌, ◌≤◌, ◌/◌, ◌%◌, ◌^◌, ◌↔◌, min, Bool, true, false, not, ◌==◌, ◌&&◌}
+use Rattle.std.proofs.Common.{ℕ, ◌≡◌, ◌<◌, ◌≤◌, ◌/◌, ◌%◌, ◌^◌, ◌↔◌, Bool, true, false, not, ◌==◌, ◌&&◌}
 use Rattle.std.proofs.Common.{◌||◌, inl, inr, IsTrue, bit_and, if◌then◌else◌, nat_lt, List}
 use Rattle.std.proofs.Common.{Option, Some, refl, sym, ap, subst, ◌∙◌, arith}
 use Rattle.std.proofs.lemmas.Bool.{false≢true, and_parts, and_from, or_left, or_right, cases_Bool, cases_lt}
@@ -17,10 +17,8 @@ use Rattle.lexical_literal.specs.Cause.{IsLowest, IsRequirement, Permits, Refuse
 use Rattle.lexical_literal.specs.Cause.{flag_at, is_at, requirement_flags, separator_flags, with_flags, without}
 use Rattle.lexical_literal.specs.Additions.Causes.{Decides, IsWeaker, allows, is_own, is_role, place_of}
 use Rattle.lexical_util.specs.declared.format_flags.Part.{Part}
-use Rattle.lexical_util.specs.declared.format_flags.Part.TheVariants as parts
 use Rattle.lexical_literal.specs.Additions.Summary.{in_part}
 use Rattle.lexical_literal.specs.declared.cause.Place.{Place}
-use Rattle.lexical_literal.specs.declared.cause.Place.TheVariants as places
 use Rattle.lexical_literal.specs.declared.steps.Class.{Class}
 use Rattle.lexical_literal.specs.declared.steps.Summary.{Summary}
 use Rattle.lexical_literal.proofs.CauseLemmas.{bit_small, flag_pow}
@@ -35,34 +33,22 @@ pub mask_flag : (mask : ℕ) → mask < 2 ^ 44 → agree_below (λ k. (part mask
 mask_flag mask small agree k one = elim (cases_lt k 44) [
   | inl below ↦ (
     flag_at k,
-    eqb-true (bit (flag_at k)) k (owned _ _ (eq-eqb (part mask k 1) 1 one)
-        (agree_below_at (λ k. (part mask k 1 == 1) && not (bit (flag_at k) == k)) (λ k. false) 44 k agree below)),
+    let none = agree_below_at (λ k. (part mask k 1 == 1) && not (bit (flag_at k) == k)) (λ k. false) 44 k agree below in grind (arith, nat_tests),
   )
   | inr high ↦
       let wide : 2 ^ 44 ≤ 2 ^ k = pow-le-pow_right {n = 2} (omega arith) high in
       let none : mask / 2 ^ k ≡ 0 = div-eq_of_lt (omega (arith, wide)) in
       absurd (omega (arith, one, ap (λ n. n % 2) none))
-] where
-  owned : (x y : Bool) → x ≡ true → (x && not y) ≡ false → y ≡ true
-  owned x y is none = grind arith
-
-both_bits : (a b : ℕ) → min a b ≡ 1 → b < 2 → b ≡ 1
-both_bits a b is small = omega arith
+]
 
 pub of_mask : (word mask k : ℕ) → part (bit_and word mask) k 1 ≡ 1 → part mask k 1 ≡ 1
-of_mask word mask k one = both_bits _ _ (sym (bit_at_and word mask k) ∙ one) (bit_small mask k)
+of_mask word mask k one = omega (arith, one, bit_at_and word mask k, bit_small mask k)
 
 -- FEWER REQUIREMENTS
 
 module _ (m : Notation) where
-  weak_without : (x e r : Bool) → ((x && not e) && r) ≡ true → x ≡ true
-  weak_without x e r is = grind arith
-
-  kept_adding : (e x r : Bool) → x ≡ true → ((e || (x && not r)) || r) ≡ true
-  kept_adding e x r is = grind arith
-
   pub bare_weaker : IsWeaker m (bare m).flag
-  bare_weaker = record { no_more = λ f is. weak_without (m.flag f) _ _ is; no_less = λ f is. kept_adding false (m.flag f) _ is }
+  bare_weaker = record { no_more = λ f is. grind arith; no_less = λ f is. grind arith }
 
   weak_adding : (e x r : Bool) → ((e || (x && not r)) && r) ≡ true → e ≡ true
   weak_adding e x r is = grind arith
@@ -73,12 +59,12 @@ module _ (m : Notation) where
     no_more = λ g is.
         let same = same_flag g f (eqb-true (bit g) (bit f) (weak_adding _ (m.flag g) (is_one_of requirement_flags g) is)) in
         ap m.flag same ∙ set (ap (is_one_of requirement_flags) (sym same) ∙ (and_parts ((bit g == bit f) || (bare m).flag g) _ is).1);
-    no_less = λ g is. kept_adding (bit g == bit f) (m.flag g) (is_one_of requirement_flags g) is;
+    no_less = λ g is. grind arith;
   }
 
   pub without_weaker : (f : Flag) → is_one_of requirement_flags f ≡ true → IsWeaker m (without f m).flag
   without_weaker f requires = record {
-    no_more = λ g is. weak_without (m.flag g) (bit g == bit f) _ is;
+    no_more = λ g is. (and_parts (m.flag g) _ (and_parts ((without f m).flag g) _ is).0).0;
     no_less = λ g is. elim (cases_Bool (bit g == bit f)) [
       | inl same ↦ or_right ((without f m).flag g) _ (ap (is_one_of requirement_flags) (same_flag g f (eqb-true (bit g) (bit f) same)) ∙ requires)
       | inr other ↦ or_left _ _ (and_from _ _ is (ap not other))
@@ -162,9 +148,6 @@ module _ (m : Notation) where
       met : (b a : Bool) → (b && not a) ≡ false → b ≡ true → a ≡ true
       met b a none is = grind arith
 
-      needs : (t n : Bool) → (t && not n) ≡ false → t ≡ true → n ≡ true
-      needs t n none is = grind arith
-
       -- Two flags on leading zeros refuse together.
       module _ (refused : allows m s class ≡ false) where
         each_free : Alone m (λ n. allows n s class)
@@ -191,18 +174,16 @@ module _ (m : Notation) where
               | inr same ↦
                   let twelve : bit g ≡ 12 = omega arith in
                   let on = ap m.flag (sym (same_flag g layout.no_integer_leading_zeros twelve)) ∙ (and_parts (m.flag g) _ set).0 in
-                  or_right (nat_lt (bit g) 12) _ (and_from _ _ (eq-eqb (bit g) 12 twelve) (needs (m.flag layout.no_integer_leading_zeros) _ is on))
+                  or_right (nat_lt (bit g) 12) _ (and_from _ _ (eq-eqb (bit g) 12 twelve) (grind arith))
             ]))
 
   -- SEPARATORS
 
   own_at : (place : Place) (part : Part) (f : Flag) → is_at place part f ≡ true → is_own part f ≡ true
-  own_at places.BeforeDigits part f is = grind arith
-  own_at _ part f is = grind arith
+  own_at place part f is = grind arith
 
   own_separates : (part : Part) (f : Flag) → is_own part f ≡ true → is_one_of separator_flags f ≡ true
-  own_separates parts.Integer f is = grind (arith, nat_tests)
-  own_separates _ f is = grind (arith, nat_tests)
+  own_separates part f is = grind (arith, nat_tests)
 
   module _ (s : Summary) (class : Class) (front : List ℕ) (byte : ℕ) (decides : Decides m s (Some class) front (Some byte))
       (refused : allows (bare m) s (Some class) ≡ false) where

@@ -51,10 +51,6 @@ module _ (m : Notation) where
       → Cut m part stage gap text → Found m part stage gap [] [] text
   plain part stage gap text over bare new cut = unprefixed part stage gap [] cut.prefix text bare new (unsigned part stage gap text over cut)
 
-  -- Where no sign follows, none is needed.
-  no_sign_fits : (part : Part) (stage : Stage) → is_signed m part stage ≡ true → sign_fits m part stage [] ≡ true
-  no_sign_fits part stage signed = grind arith
-
   module _ (part : Part) (stage : Stage) (gap : Bool) (text : List ℕ) where
     cut_at : (sign prefix digits : List ℕ) (more : Literal) → text ≡ sign ++ (prefix ++ (digits ++ text_after part more)) → sign_fits m part stage sign ≡ true
         → prefix_fits m stage gap prefix ≡ true → is_rest m part (has_digit (stage_at stage sign prefix)) (gap_at gap prefix) digits ≡ true
@@ -79,7 +75,7 @@ module _ (m : Notation) where
         → ((run : List ℕ) → stage_after (m.digit part) next gap' run ≡ after_byte (m.digit part) stage gap b run digit)
         → Found m part next gap' [] [] text → Cut m part stage gap (b ∷ text)
     longer next gap' digit is signed fits same found = cut_at part stage gap (b ∷ text) [] [] (b ∷ found.digits) found.more (ap (λ t. b ∷ t) found.whole)
-        (no_sign_fits part stage signed) refl (fits found.digits found.run)
+        (grind arith) refl (fits found.digits found.run)
         (subst (λ s. ends_part m part found.more s ≡ true) (same found.digits ∙ ap (after_byte (m.digit part) stage gap b found.digits) (sym is)) found.end)
 
     -- A digit in front, or the zero of a prefix.
@@ -90,7 +86,7 @@ module _ (m : Notation) where
       go [] found = longer (after_digit stage gap (b == 48)) false true digit signed
           (λ run is. grind arith) (λ run. refl) found
       go (x ∷ []) found = cut_at part stage gap (b ∷ text) [] (b ∷ x ∷ []) found.digits found.more (ap (λ t. b ∷ t) found.whole)
-          (no_sign_fits part stage signed) (let prefixed = found.prefixed in grind arith) found.run found.end
+          (grind arith) (let prefixed = found.prefixed in grind arith) found.run found.end
       go (z ∷ x ∷ more) found = absurd (let prefixed = found.prefixed in grind arith)
 
     -- A separator in front.

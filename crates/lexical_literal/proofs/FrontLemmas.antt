@@ -28,9 +28,6 @@ module _ (m : Notation) where
       → ((digit ≡ true) × (gap_fits m part digit gap false ≡ true)) ⊎ ((gap_fits m part digit gap true ≡ true) × (implies digit next ≡ true))
   closed part digit gap next is = grind arith
 
-  point_unled : (digit : Bool) → implies (is_led (after_point digit)) (may_lead m) ≡ true
-  point_unled digit = grind arith
-
   -- What can go on does so after each byte that is taken.
   goes_on : (s : Summary) (plus zero : Bool) (r : Role) → CanGoOn m s → takes m s plus r ≡ true → CanGoOn m (after s zero r)
   goes_on s plus zero roles.Digit can is = record { closes = refl; led = grind arith }
@@ -84,40 +81,23 @@ module _ (m : Notation) where
     exponent_finishes : Finishes parts.Exponent
     exponent_finishes stage gap digit end led = ([], and_from _ true end refl)
 
-    scale : (a b n : Bool) → (a && b) ≡ false → (b && not n) ≡ true → (not a ≡ true) × (n ≡ false)
-    scale a b n agree needs = grind arith
-
     fraction_finishes : Finishes parts.Fraction
     fraction_finishes stage gap digit end led = elim (cases_Bool (needs_exponent m)) [
       | inl needs ↦
-          let may = scale (m.flag layout.no_exponent_notation) (m.flag layout.required_exponent_notation) m.integers_only ready.agree needs in
+          let agree = ready.agree in
           then_byte (reading parts.Fraction stage gap) ready.exponent roles.Exponent refl
-          (is_role m ready.roles parts.Fraction roles.Exponent ready.exponent (λ e. cc) (ready.has_exponent may.1)) (and_from _ _ end may.0)
+          (is_role m ready.roles parts.Fraction roles.Exponent ready.exponent (λ e. cc) (ready.has_exponent (grind arith))) (and_from _ _ end (grind arith))
           (part_completed parts.Exponent stages.Mark false (record { closes = refl; led = refl }) exponent_finishes)
       | inr none ↦ ([], and_from _ _ end (ap not none))
     ]
 
-    -- Where no point may follow, a number may stop.
-    stops : (d l f i r n : Bool) → d ≡ true → (n || (l && f)) ≡ true → implies l ((not n && not f) || (not i && not (r && not n))) ≡ true
-        → (not (r && not n) && (d && implies i (not l))) ≡ true
-    stops d l f i r n digit no_point led = grind arith
-
-    points : (l f n : Bool) → (n || (l && f)) ≡ false → (n ≡ false) × (implies f (not l) ≡ true)
-    points l f n may = grind arith
-
     integer_finishes : Finishes parts.Integer
     integer_finishes stage gap digit end led = elim (cases_Bool (m.integers_only || (is_led stage && m.flag layout.no_float_leading_zeros))) [
-      | inl no_point ↦ (
-        [],
-        and_from _ _ end (stops (has_digit stage) (is_led stage) (m.flag layout.no_float_leading_zeros) (m.flag layout.no_integer_leading_zeros)
-            (m.flag layout.required_exponent_notation) m.integers_only digit no_point led),
-      )
+      | inl no_point ↦ ([], and_from _ _ end (grind arith))
       | inr point ↦
-          let may = points (is_led stage) (m.flag layout.no_float_leading_zeros) m.integers_only point in
           then_byte (reading parts.Integer stage gap) ready.point roles.Point refl
-          (is_role m ready.roles parts.Integer roles.Point ready.point (λ e. cc) (ready.has_point may.0)) (and_from _ _ end may.1)
-          (part_completed parts.Fraction (after_point (has_digit stage)) false
-          (record { closes = refl; led = point_unled (has_digit stage) }) fraction_finishes)
+          (is_role m ready.roles parts.Integer roles.Point ready.point (λ e. cc) (ready.has_point (grind arith))) (and_from _ _ end (grind arith))
+          (part_completed parts.Fraction (after_point (has_digit stage)) false (record { closes = refl; led = grind arith }) fraction_finishes)
     ]
 
     completed : (part : Part) (stage : Stage) (gap ended : Bool) → CanGoOn m (record { part = part; stage = stage; gap = gap; ended = ended })

@@ -29,8 +29,7 @@ taken n s plus (Some role) = takes n s plus role
 
 moved : (n : Notation) (s : Summary) (ended plus zero : Bool) (o : Option Role)
     → is_some (move n (record s { ended = ended }) plus zero o) ≡ (not ended && taken n (reading s.part s.stage s.gap) plus o)
-moved n s ended plus zero None = grind arith
-moved n s ended plus zero (Some role) = grind arith
+moved n s ended plus zero o = grind arith
 
 -- What is allowed is a question of roles, before a suffix.
 pub allows_is : (n : Notation) (s : Summary) (next : Option Class) → s.ended ≡ false
@@ -50,18 +49,12 @@ module _ (m : Notation) where
       → refuses m (reading part stage gap) plus o (bit f) ≡ not (taken (adding f (bare m)) (reading part stage gap) plus o)
   alone_role f part stage gap plus None requires free = absurd (false≢true free)
   alone_role layout.required_mantissa_digits parts.Integer stage gap plus (Some roles.Digit) requires free = grind arith
-  alone_role layout.required_mantissa_digits _ stage gap plus (Some _) requires free = grind arith
   alone_role layout.no_exponent_notation parts.Integer stage gap plus (Some roles.Exponent) requires _ = grind arith
-  alone_role layout.no_exponent_notation _ stage gap plus (Some _) requires free = grind arith
   alone_role layout.no_exponent_without_fraction parts.Integer stages.Start gap plus (Some roles.Exponent) requires _ = grind arith
   alone_role layout.no_exponent_without_fraction parts.Integer _ gap plus (Some roles.Exponent) requires _ = grind arith
-  alone_role layout.no_exponent_without_fraction _ stage gap plus (Some _) requires free = grind arith
   alone_role layout.no_integer_leading_zeros parts.Integer stage gap plus (Some roles.Digit) requires free = grind arith
-  alone_role layout.no_integer_leading_zeros _ stage gap plus (Some _) requires free = grind arith
   alone_role layout.no_float_leading_zeros parts.Integer stage gap plus (Some roles.Digit) requires free = grind arith
-  alone_role layout.no_float_leading_zeros _ stage gap plus (Some _) requires free = grind arith
   alone_role layout.required_exponent_notation parts.Integer stage gap plus (Some roles.Digit) requires free = grind arith
-  alone_role layout.required_exponent_notation _ stage gap plus (Some _) requires free = grind arith
   alone_role _ part stage gap plus (Some role) requires free = grind arith
 
   -- FLAGS THAT REFUSE TOGETHER

@@ -97,13 +97,11 @@ module _ (any led p one_p f fits_f k : Bool) (flag : Flag → Bool) (only : Bool
       || (not (flag layout.no_integer_leading_zeros) && not (flag layout.required_exponent_notation && not only))
 
   abbrev stops_so : Bool
-  stops_so =
-      let may = not (flag layout.required_exponent_notation && not only) in
+  stops_so = let may = not (flag layout.required_exponent_notation && not only) in
       if p then may && (any && implies (flag layout.no_integer_leading_zeros) (not led)) else may
 
   abbrev scales_so : Bool
-  scales_so =
-      let may = not (flag layout.no_exponent_notation) in
+  scales_so = let may = not (flag layout.no_exponent_notation) in
       if p then may && (implies (flag layout.no_float_leading_zeros) (not led)
       && (implies (flag layout.required_mantissa_digits) any && not (flag layout.no_exponent_without_fraction))) else may
 
@@ -170,8 +168,7 @@ module _ (m : Notation) where
         grind arith
 
     exponent_seen : is_rest m parts.Exponent false false l.exponent ≡ true → has_digit exponent_last ≡ is_present l.exponent
-    exponent_seen fit = has_bytes parts.Exponent (stage_at stages.Mark l.exponent_sign []) l.exponent
-        (grind arith) fit
+    exponent_seen fit = has_bytes parts.Exponent (stage_at stages.Mark l.exponent_sign []) l.exponent (grind arith) fit
 
     -- WHAT IS ACCEPTED IS A LITERAL
 
@@ -220,9 +217,9 @@ module _ (m : Notation) (h : HasRoles m) where
       let l : Literal = record found.more { sign = cut.sign; prefix = cut.prefix; integer = found.digits } in
       let first = stage_at stages.Start cut.sign cut.prefix in
       let no_gap = and_right (is_absent cut.prefix) false refl in
-      let run = subst (λ t. is_rest m parts.Integer t false found.digits ≡ true) (grind arith)
-      (subst (λ g. is_rest m parts.Integer (has_digit first) g found.digits ≡ true) no_gap found.run) in
-      let end = subst (λ g. ends_part m parts.Integer found.more (stage_after (m.digit parts.Integer) first g found.digits) ≡ true) no_gap found.end in
+      let none : has_digit first ≡ false = grind arith in
+      let run = rw (none, no_gap) at found.run in
+      let end = rw (no_gap) at found.end in
       (l, record { whole = found.whole; literal = literal_if m l found.signed found.prefixed run end })
 
   -- A LITERAL IS ACCEPTED
@@ -269,7 +266,7 @@ module _ (m : Notation) (h : HasRoles m) where
       → Arrives m (Some (reading part stage false)) c (run ++ rest) d
   unled_arrives part stage run rest c d signed none unled fit goes =
       run_arrives part stage false run rest c d signed (subst (λ t. is_rest m part t false run ≡ true) (sym none) fit)
-      (record { leads = λ led. absurd (false≢true (sym ((passed (m.digit part) stage false run).led ∙ unled) ∙ led)); arrives = goes })
+      (record { leads = λ led. let last = (passed (m.digit part) stage false run).led in cc; arrives = goes })
 
   -- A sign, or none.
   sign_arrives : (part : Part) (stage : Stage) (gap : Bool) (sign rest : List ℕ) (c d : Cuts) → sign_fits m part stage sign ≡ true
@@ -353,7 +350,6 @@ module _ (m : Notation) (h : HasRoles m) where
       (prefix_cuts prefix c) rest d)
       → Arrives m (Some (reading parts.Integer stage false)) c (prefix ++ rest) d
   prefix_arrives stage [] rest c d follows bare signed one more = more signed
-  prefix_arrives stage (z ∷ []) rest c d follows bare signed one more = absurd (false≢true one)
   prefix_arrives stage (z ∷ b ∷ []) rest c d follows bare signed one more =
       let both = and_parts (z == 48) _ one in
       let zero = add c pieces.Integer in
@@ -362,7 +358,7 @@ module _ (m : Notation) (h : HasRoles m) where
       (and_from _ _ signed follows) (subst (λ s. Arrives m (Some (reading parts.Integer s false)) zero (b ∷ rest) d) (sym bare)
       (arrives_byte m h (reading parts.Integer stages.Bare false) b roles.Prefix zero rest d refl
       (is_role m h parts.Integer roles.Prefix b (λ e. cc) both.1) refl (more refl))))
-  prefix_arrives stage (z ∷ b ∷ x ∷ prefix) rest c d follows bare signed one more = absurd (false≢true one)
+  prefix_arrives stage _ rest c d follows bare signed one more = absurd (false≢true one)
 
   module _ (l : Literal) (is : IsLiteral m l) where
     run : (part : Part) (digits : List ℕ) → is_run m part digits ≡ true → is_rest m part false false digits ≡ true

@@ -182,34 +182,23 @@ module _ (m : Notation) (ready : IsReady m) (text : List ℕ) where
       no_longer = λ more over within is. absurd (omega arith);
     }
 
-    complete_from : is_complete m s ≡ true → (l : Literal) × Reads m l (take i text)
-    complete_from complete = let l = literal_from m ready.roles (take i text) (ap (is_accepted m) has.read ∙ complete) in (l.0, l.1)
-
-    incomplete_from : is_complete m s ≡ false → NoLiteral m (take i text)
-    incomplete_from incomplete l reads = false≢true (sym incomplete ∙ ap (is_accepted m) (sym has.read) ∙ accepted i l reads)
-
-    longest_from : IsValidUpTo m text i → IsTrue seeks → IsLongest m text (length text) longest
-    longest_from wrong sought = record {
-      found = λ size is. let old = (has.longest_is sought).found size is in (omega (arith, old.0, has.within), old.1, old.2);
-      no_longer = λ more within past l reads. (has.longest_is sought).no_longer more (no_longer_than m text i wrong more within l reads) past l reads;
-    }
-
-    counted_from : (l : Literal) → Reads m l (take i text) → HasLengths l c
-    counted_from l reads = rw (← has.counted, reads.whole, (literal_arrives m ready.roles l reads.literal).1) (has_lengths m ready.roles l reads.literal)
-
     -- What the loop has found where it is left.
     pub is_scanned : (row : ℕ) (counts : List ℕ) → row < 108 → s ≡ tables.summary_at row → c ≡ tables.cuts_of counts → IsValidUpTo m text i
         → (i < length text → allows m (tables.summary_at row) (class_of_next m (slice_get text i)) ≡ false)
         → IsScanned m seeks text (record { valid_up_to = i; row = row; literal = longest; counts = counts })
-    is_scanned row counts small at lengths wrong refused = record {
+    is_scanned row counts small at lengths wrong refused = let read = has.read ∙ ap Some at in record {
       error = wrong;
       row = small;
-      read = has.read ∙ ap Some at;
+      read = read;
       refused = refused;
-      complete = λ complete. complete_from (ap (is_complete m) at ∙ complete);
-      incomplete = λ incomplete. incomplete_from (ap (is_complete m) at ∙ incomplete);
-      longest = longest_from wrong;
-      counted = λ l reads. subst (HasLengths l) lengths (counted_from l reads);
+      complete = λ complete. literal_from m ready.roles (take i text) (ap (is_accepted m) read ∙ complete);
+      incomplete = λ incomplete l reads. false≢true (sym incomplete ∙ ap (is_accepted m) (sym read) ∙ accepted i l reads);
+      longest = λ sought. record {
+        found = λ size is. let old = (has.longest_is sought).found size is in (omega (arith, old.0, has.within), old.1, old.2);
+        no_longer = λ more within past l reads. (has.longest_is sought).no_longer more (no_longer_than m text i wrong more within l reads) past l reads;
+      };
+      counted = λ l reads.
+          rw (← lengths, ← has.counted, reads.whole, (literal_arrives m ready.roles l reads.literal).1) (has_lengths m ready.roles l reads.literal);
     }
 
   -- A text has one reading.

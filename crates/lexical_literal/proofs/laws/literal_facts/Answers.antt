@@ -32,10 +32,8 @@ returns-clause-requirements c g l text reads = reads.literal.requirements
 
 pub returns-clause-digits : goal.returns-clause-digits
 returns-clause-digits c g is first digits not_zero all =
-    let is_ready = ready c.role_facts.ensures.disjoint c.role_facts.ensures.five c.role_facts.ensures.lawful g is in
-    digits_read (notation_of g) is_ready.roles first digits not_zero all
+    digits_read _ (ready c.role_facts.ensures.disjoint c.role_facts.ensures.five c.role_facts.ensures.lawful g is).roles first digits not_zero all
 
 pub returns-clause-negative : goal.returns-clause-negative
 returns-clause-negative c g is first digits not_zero all =
-    let is_ready = ready c.role_facts.ensures.disjoint c.role_facts.ensures.five c.role_facts.ensures.lawful g is in
-    negative_read (notation_of g) is_ready.roles first digits not_zero all
+    negative_read _ (ready c.role_facts.ensures.disjoint c.role_facts.ensures.five c.role_facts.ensures.lawful g is).roles first digits not_zero all

@@ -1,6 +1,6 @@
 -- A requirement, missing digits, or what is wrong with a byte.
-use Rattle.std.proofs.Common.{◌≡◌, ◌||◌, Bool, false, None, sym, ap, subst, ◌∙◌, arith}
-use Rattle.std.proofs.lemmas.Bool.{false≢true}
+use Rattle.std.proofs.Common.{◌≡◌, false, None, sym, ap, subst, ◌∙◌}
+use Rattle.std.proofs.lemmas.Bool.{false≢true, or_parts}
 use Rattle.lexical_literal.specs.Additions.Causes.{Decides, allows, class_of_next}
 use Rattle.lexical_literal.specs.Cause.{IsCause, bare}
 use Rattle.lexical_literal.specs.Notation.{notation_of}
@@ -9,9 +9,6 @@ use Rattle.lexical_literal.specs.declared.cause.Cause.TheVariants as causes
 use Rattle.lexical_literal.proofs.BlameLemmas.{as_bare, bare_weaker}
 use Rattle.lexical_literal.proofs.CauseLemmas.{flag_zero}
 use Rattle.lexical_literal.proofs.cause.Stop.blame.Goals as goal
-
-not_ended : (e t : Bool) → (e || t) ≡ false → e ≡ false
-not_ended e t is = grind arith
 
 pub requirements-requires-clause-allowed : goal.requirements-requires-clause-allowed
 requirements-requires-clause-allowed c =
@@ -36,7 +33,7 @@ returns-in-None c front is_read =
     ∙ sym (ap (λ n. allows n s c.args.self.next) (as_bare m c.bare.result c.bare.ensures)) ∙ sym c.allows.ensures ∙ c.if-allows.false in
     subst (λ next. IsCause m front next (causes.Missing s.part) (raw 0).flag) (sym c.in-None.is) (record {
       refused = λ l reads. false≢true (sym refused ∙ (is_read.decides None (bare m).flag (bare_weaker m)).1 (l, reads));
-      last = is_read.part (not_ended s.ended _ refused);
+      last = is_read.part (or_parts s.ended _ refused).0;
       none = flag_zero;
     })
 
