@@ -1,6 +1,6 @@
 -- The flags that are found are to blame.
 use Rattle.std.proofs.Common.{ℕ, ◌≡◌, ◌<◌, ◌≤◌, ◌/◌, ◌%◌, ◌^◌, ◌↔◌, Bool, true, false, not, ◌==◌, ◌&&◌}
-use Rattle.std.proofs.Common.{◌||◌, inl, inr, IsTrue, bit_and, if◌then◌else◌, nat_lt, List}
+use Rattle.std.proofs.Common.{◌||◌, inl, inr, IsTrue, bit_and, if◌then◌else◌, List}
 use Rattle.std.proofs.Common.{Option, Some, refl, sym, ap, subst, ◌∙◌, arith}
 use Rattle.std.proofs.lemmas.Bool.{false≢true, and_parts, and_from, or_left, or_right, cases_Bool, cases_lt}
 use Rattle.std.proofs.lemmas.Bool.{eq-eqb, eqb-true, false_from_ne_true, lt-ltb, agree_below}
@@ -124,13 +124,9 @@ module _ (m : Notation) where
         is_lowest = record { none_alone = none_alone; releases = releases; lowest = not_lower }
 
         the_one : (f : Flag) → IsLowest m front next f → bit f ≡ bit flag
-        the_one f lowest = elim (cases_lt (bit f) (bit flag)) [
-          | inl below ↦ absurd (not_lower f below lowest.releases)
-          | inr above ↦ elim (cases_lt (bit flag) (bit f)) [
-            | inl higher ↦ absurd (lowest.lowest flag higher releases)
-            | inr same ↦ omega (arith, above, same)
-          ]
-        ]
+        the_one f lowest =
+            let low = λ (below : bit f < bit flag). not_lower f below lowest.releases in
+            let high = λ (above : bit flag < bit f). lowest.lowest flag above releases in grind arith
 
         one_lowest : IsRequirement m front next (raw (2 ^ bit flag)).flag
         one_lowest = record {
@@ -169,13 +165,9 @@ module _ (m : Notation) where
         pub second_of_two : zeros_bind m ≡ false → IsRequirement m front next (raw (2 ^ 13)).flag
         second_of_two is =
             let both = and_parts (m.flag layout.no_float_leading_zeros) _ (two false is) in
-            one_lowest layout.no_float_leading_zeros (and_from _ _ both.0 refl) both.1 (λ g below set. lower_free g (elim (cases_lt (bit g) 12) [
-              | inl under ↦ or_left _ _ (lt-ltb (bit g) 12 under)
-              | inr same ↦
-                  let twelve : bit g ≡ 12 = omega arith in
-                  let on = ap m.flag (sym (same_flag g layout.no_integer_leading_zeros twelve)) ∙ (and_parts (m.flag g) _ set).0 in
-                  or_right (nat_lt (bit g) 12) _ (and_from _ _ (eq-eqb (bit g) 12 twelve) (grind arith))
-            ]))
+            one_lowest layout.no_float_leading_zeros (and_from _ _ both.0 refl) both.1 (λ g below set. lower_free g
+            (let on = λ (twelve : bit g ≡ 12). ap m.flag (sym (same_flag g layout.no_integer_leading_zeros twelve)) ∙ (and_parts (m.flag g) _ set).0 in
+            grind (arith, nat_tests)))
 
   -- SEPARATORS
 

@@ -141,9 +141,6 @@ module _ (m : Notation) where
     ended s (b ∷ text) over is = absurd (false≢true (sym (took m h s b (λ o. Accepts m o text) (none_accepts m text) is).going ∙ over))
 
     -- What is accepted can be cut into parts.
-    abbrev CanCut : List ℕ → Type 0
-    CanCut text = (part : Part) (stage : Stage) (gap : Bool) → Accepts m (Some (reading part stage gap)) text → Cut m part stage gap text
-
     pub cut_of : (part : Part) (stage : Stage) (gap : Bool) (text : List ℕ) → Accepts m (Some (reading part stage gap)) text → Cut m part stage gap text
     cut_of part stage gap [] is = stopped part stage gap [] is refl
     cut_of part stage gap (b ∷ text) is =
@@ -153,7 +150,9 @@ module _ (m : Notation) where
           plays r role = as_role m h part r b role
 
           go : (r : Role) → role_in m part b ≡ Some r → takes m (reading part stage gap) (b == 43) r ≡ true
-              → Accepts m (Some (after (reading part stage gap) (b == 48) r)) text → CanCut text → Cut m part stage gap (b ∷ text)
+              → Accepts m (Some (after (reading part stage gap) (b == 48) r)) text
+              → ((part : Part) (stage : Stage) (gap : Bool) → Accepts m (Some (reading part stage gap)) text → Cut m part stage gap text)
+              → Cut m part stage gap (b ∷ text)
           go roles.Digit role taken is cut =
               let both = and_parts (is_signed m part stage) _ taken in
               let fits = and_parts _ (may_follow m stage) both.1 in

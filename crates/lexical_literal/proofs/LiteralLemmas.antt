@@ -20,7 +20,7 @@ use Rattle.lexical_literal.specs.declared.steps.Stage.{Stage}
 use Rattle.lexical_literal.specs.declared.steps.Stage.TheVariants as stages
 use Rattle.lexical_literal.proofs.RunLemmas.{is_rest, rest_of_none, digits_present, opens}
 use Rattle.lexical_literal.proofs.ScanLemmas.{HasRoles, Accepts, Arrives, add_all, arrives_byte, digit_role, is_role}
-use Rattle.lexical_literal.proofs.StepLemmas.{reading, led_after, stage_after, after_byte, passed, stage_at, sign_fits, prefix_fits, digits_fit}
+use Rattle.lexical_literal.proofs.StepLemmas.{reading, led_after, stage_after, passed, stage_at, sign_fits, prefix_fits, digits_fit}
 use Rattle.lexical_literal.proofs.StepLemmas.{ends_exponent, ends_mantissa, fraction_fits, stops, scales, ends_part, text_after}
 use Rattle.lexical_literal.proofs.CutLemmas.{cut_of}
 
@@ -190,8 +190,7 @@ module _ (m : Notation) where
         let point = and_parts (is_none_or_one m.point l.point) _ digits.1 in
         let fraction = and_parts (fraction_fits m l integer_last) _ point.1 in
         let tail = tail_of (stops m l integer_last) (scales m l integer_last) fraction.1 in
-        let end = subst (λ t. End t (is_zero_led m l)) (integer_seen run)
-        (subst (λ t. End (has_digit integer_last) t) integer_led (end_of integer_last tail digits.0 point.0 fraction.0)) in
+        let end = rw (integer_seen run, integer_led) at (end_of integer_last tail digits.0 point.0 fraction.0) in
         record {
           sign = grind arith;
           prefix = grind arith;
@@ -242,19 +241,17 @@ module _ (m : Notation) (h : HasRoles m) where
   run_arrives part stage gap [] rest c d signed fit goes = goes.arrives gap fit signed
   run_arrives part stage gap (b ∷ run) rest c d signed fit goes =
       let more = add c (digits_piece part) in
-      let next : (t : Bool) → m.digit part b ≡ t → Goes part (after_byte (m.digit part) stage gap b run t) (add_all more (digits_piece part) run) rest d =
-      λ t is. subst (λ t. Goes part (after_byte (m.digit part) stage gap b run t) (add_all more (digits_piece part) run) rest d) is goes in
       elim (cases_Bool (m.digit part b)) [
         | inl digit ↦
             let may = follow (m.digit part) stage gap (b ∷ run) goes.leads (or_left _ _ digit) in
             arrives_byte m h (reading part stage gap) b roles.Digit c (run ++ rest) d refl (digit_role m h part b digit) (grind arith)
-            (run_arrives part (after_digit stage gap (b == 48)) false run rest more d (grind arith) (grind arith) (next true digit))
+            (run_arrives part (after_digit stage gap (b == 48)) false run rest more d (grind arith) (grind arith) (rw (digit) at goes))
         | inr other ↦
             let may = λ (some : list_any (m.digit part) run ≡ true). follow (m.digit part) stage gap (b ∷ run) goes.leads (or_right (m.digit part b) _ some) in
             let closes = opens m part (has_digit stage) (may_follow m stage) run (grind arith) may in
             arrives_byte m h (reading part stage gap) b roles.Separator c (run ++ rest) d refl
             (is_role m h part roles.Separator b (λ e. cc) (grind arith)) (grind arith)
-            (run_arrives part (after_mark stage) true run rest more d (grind arith) (grind arith) (next false other))
+            (run_arrives part (after_mark stage) true run rest more d (grind arith) (grind arith) (rw (other) at goes))
       ]
 
   -- Digits of a part without a leading zero.
@@ -310,14 +307,13 @@ module _ (m : Notation) (h : HasRoles m) where
     go [] [] [] fits =
         let both = and_parts (continues m part stage roles.Suffix) _ fits in
         stop_arrives part stage gap c l.suffix (and_from _ _ end both.0) both.1
-    go [] sign exponent fits = absurd (grind arith)
     go (b ∷ []) sign exponent fits =
         let scale = and_parts (continues m part stage roles.Exponent) _ (and_parts (m.exponent_character b) _ fits).1 in
         arrives_byte m h (reading part stage gap) b roles.Exponent c (sign ++ (exponent ++ l.suffix)) _ refl
         (is_role m h part roles.Exponent b (λ e. cc) (and_parts (m.exponent_character b) _ fits).0) (and_from _ _ end scale.0)
         (power_arrives (record l { exponent_character = b ∷ []; exponent_sign = sign; exponent = exponent })
         (add c pieces.ExponentCharacter) (let fit = scale.1 in grind arith) (let fit = scale.1 in grind arith))
-    go (b ∷ x ∷ character) sign exponent fits = absurd (false≢true fits)
+    go _ sign exponent fits = absurd (grind arith)
 
   -- What follows the integer digits.
   end_arrives : (l : Literal) (stage : Stage) (gap : Bool) (c : Cuts) → ends m (reading parts.Integer stage gap) ≡ true
@@ -327,7 +323,6 @@ module _ (m : Notation) (h : HasRoles m) where
         (is_none_or_one m.point point && (fraction_fits m l stage && ends_mantissa m l (stops m l stage) (scales m l stage))) ≡ true
         → Arrives m (Some (reading parts.Integer stage gap)) c (text_after parts.Integer l) (end_cuts l c)
     go [] [] fits = tail_arrives l parts.Integer stage gap c end fits
-    go [] (f ∷ fraction) fits = absurd (false≢true fits)
     go (b ∷ []) fraction fits =
         let l : Literal = record l { point = b ∷ []; fraction = fraction } in
         let more = add c pieces.Point in
@@ -341,7 +336,7 @@ module _ (m : Notation) (h : HasRoles m) where
         (grind arith) (grind arith) (grind arith) run.0
         (λ gap closed signed. tail_arrives l parts.Fraction (fraction_last m l (has_digit stage)) gap (add_all more pieces.Fraction fraction)
         (and_from _ _ signed (and_from _ _ closed run.1)) both.1))
-    go (b ∷ x ∷ point) fraction fits = absurd (false≢true fits)
+    go _ fraction fits = absurd (false≢true fits)
 
   -- A prefix, or none.
   prefix_arrives : (stage : Stage) (prefix rest : List ℕ) (c d : Cuts) → may_follow m stage ≡ true → after_digit stage false true ≡ stages.Bare

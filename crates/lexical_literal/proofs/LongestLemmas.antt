@@ -106,14 +106,11 @@ module _ (m : Notation) (text : List ℕ) where
   module _ (scanned : Scanned) (is : IsScanned m true text scanned) where
     -- The longest front that is a literal, and its parts, which have been counted if it is all that was read.
     pub front_literal : (size : ℕ) → scanned.literal ≡ Some size → (l : Literal) × ReadsFront m l text size
-    front_literal size found = let l = (is.longest refl).found size found in (
-      l.1,
-      record {
-        within = l.0;
-        reads = l.2;
-        no_longer = λ more past below. (is.longest refl).no_longer more below (λ other same. let equal : size ≡ other = cc in subst (λ n. n < more) equal past);
-      },
-    )
+    front_literal size found = let l = (is.longest refl).found size found in (l.1, record {
+      within = l.0;
+      reads = l.2;
+      no_longer = λ more past below. (is.longest refl).no_longer more below (λ other same. let equal : size ≡ other = cc in subst (λ n. n < more) equal past);
+    })
 
     pub front_counted : (size : ℕ) → size ≡ scanned.valid_up_to → (l : Literal) → Reads m l (take size text) → HasLengths l (tables.cuts_of scanned.counts)
     front_counted size right l reads = is.counted l (subst (λ n. Reads m l (take n text)) right reads)
@@ -205,12 +202,9 @@ module _ (m : Notation) (ready : IsReady m) (text : List ℕ) where
   pub one_reading : (l k : Literal) → Reads m l text → Reads m k text → l ≡ k
   one_reading l k first second =
       let a = has_lengths m ready.roles l first.literal in
-      let b : HasLengths k (cuts_of l) = rw (
-        ← (literal_arrives m ready.roles l first.literal).1,
-        ← first.whole,
-        second.whole,
-        (literal_arrives m ready.roles k second.literal).1,
-      ) (has_lengths m ready.roles k second.literal) in
+      let counts = λ (l : Literal) (is : IsLiteral m l). (literal_arrives m ready.roles l is).1 in
+      let b : HasLengths k (cuts_of l) =
+      rw (← counts l first.literal, ← first.whole, second.whole, counts k second.literal) (has_lengths m ready.roles k second.literal) in
       let sign = same_part l.sign k.sign _ _ (a.sign ∙ sym b.sign) (sym first.whole ∙ second.whole) in
       let prefix = same_part l.prefix k.prefix _ _ (a.prefix ∙ sym b.prefix) sign.1 in
       let integer = same_part l.integer k.integer _ _ (omega (arith, a.integer, b.integer)) prefix.1 in

@@ -1,9 +1,9 @@
 -- A refusal has one cause, and a text has one refusal.
-use Rattle.std.proofs.Common.{ℕ, ◌≡◌, ◌≤◌, ◌↔◌, ◌+◌, ◌^◌, Bool, true, false, if◌then◌else◌, inl, inr, List, Option, Some, None, sum_by, take}
+use Rattle.std.proofs.Common.{ℕ, ◌≡◌, ◌<◌, ◌≤◌, ◌↔◌, ◌+◌, ◌^◌, Bool, true, false, if◌then◌else◌, List, Option, Some, None, sum_by, take}
 use Rattle.std.proofs.Common.{refl, sym, ap, subst, ◌∙◌, arith}
 use Rattle.std.proofs.Math.Nat.{le_antisymm}
 use Rattle.std.specs.Prelude.{slice_get}
-use Rattle.std.proofs.lemmas.Bool.{false≢true, false_from_ne_true, cases_lt}
+use Rattle.std.proofs.lemmas.Bool.{false≢true, false_from_ne_true}
 use Rattle.std.proofs.lemmas.Bool.Decides.{nat_tests}
 use Rattle.lexical_util.specs.Groups.{bits_of}
 use Rattle.lexical_util.specs.Layout.{Flag, bit, flags}
@@ -69,10 +69,7 @@ one_mask a b one two same = one ∙ (λ j. sum_by (λ f. if same f j then 2 ^ bi
 
 module _ (m : Notation) (text : List ℕ) where
   no_longer : (i k : ℕ) → IsValidUpTo m text i → IsValidUpTo m text k → k ≤ i
-  no_longer i k one two = elim (cases_lt i k) [
-    | inl below ↦ absurd (one.no_longer k below two.within two.front)
-    | inr above ↦ above
-  ]
+  no_longer i k one two = let longer = λ (below : i < k). one.no_longer k below two.within two.front in grind arith
 
   pub one_refusal : (a b : ReadError) → IsRefusal m text a → IsRefusal m text b → a ≡ b
   one_refusal a b one two =

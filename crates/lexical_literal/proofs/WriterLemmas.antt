@@ -7,7 +7,7 @@ use Rattle.lexical_util.specs.declared.format_flags.Part.TheVariants as parts
 use Rattle.lexical_literal.specs.Notation.{Notation}
 use Rattle.lexical_literal.specs.Literal.{Literal, Reads}
 use Rattle.lexical_literal.specs.Readings.{AllIn}
-use Rattle.lexical_literal.specs.Additions.Summary.{class_of, implies, needs_exponent, move, step, scan, is_accepted, start}
+use Rattle.lexical_literal.specs.Additions.Summary.{class_of, needs_exponent, move, step, scan, is_accepted, start}
 use Rattle.lexical_literal.specs.declared.steps.Stage.{Stage}
 use Rattle.lexical_literal.specs.declared.steps.Stage.TheVariants as stages
 use Rattle.lexical_literal.proofs.ScanLemmas.{HasRoles, scan_none, moved, digit_role, is_role}
@@ -19,11 +19,9 @@ module _ (m : Notation) (h : HasRoles m) where
   literal_exactly : (text : List ℕ) (refused : Bool) → is_accepted m (scan m (Some start) text) ≡ not refused
       → ((l : Literal) × Reads m l text) ↔ IsFalse refused
   literal_exactly text refused same = (
-    λ (l, reads). known refused (sym same ∙ ap (λ t. is_accepted m (scan m (Some start) t)) reads.whole ∙ (literal_arrives m h l reads.literal).0),
+    λ (l, reads). let is = sym same ∙ ap (λ t. is_accepted m (scan m (Some start) t)) reads.whole ∙ (literal_arrives m h l reads.literal).0 in grind arith,
     λ none. literal_from m h text (same ∙ ap not none),
-  ) where
-    known : (refused : Bool) → not refused ≡ true → refused ≡ false
-    known refused is = grind arith
+  )
 
   -- Digits that follow a digit that is not 0.
   more_digits : (digits : List ℕ) → AllIn (m.digit parts.Integer) digits
@@ -48,11 +46,8 @@ module _ (m : Notation) (h : HasRoles m) where
           go false = more_digits digits all.1
 
     pub negative_read : ((l : Literal) × Reads m l (45 ∷ first ∷ digits)) ↔ IsFalse (m.flag layout.required_exponent_notation && not m.integers_only)
-    negative_read = literal_exactly (45 ∷ first ∷ digits) _ (
-        ap (λ o. is_accepted m (scan m o (first ∷ digits))) (moved m h start 45 (Some roles.Sign) (is_role m h parts.Integer roles.Sign 45 (λ e. cc) refl)
-        ∙ go (m.flag layout.no_positive_mantissa_sign))
-        ∙ ap (λ o. is_accepted m (scan m o digits)) (first_digit stages.Empty) ∙ more_digits digits all.1
-        ) where
-          go : (plus : Bool) → (if implies plus true then Some (reading parts.Integer stages.Empty false) else None)
-              ≡ Some (reading parts.Integer stages.Empty false)
-          go plus = grind arith
+    negative_read =
+        let sign : move m start false false (Some roles.Sign) ≡ Some (reading parts.Integer stages.Empty false) = grind arith in
+        literal_exactly (45 ∷ first ∷ digits) _ (ap (λ o. is_accepted m (scan m o (first ∷ digits)))
+        (moved m h start 45 (Some roles.Sign) (is_role m h parts.Integer roles.Sign 45 (λ e. cc) refl) ∙ sign)
+        ∙ ap (λ o. is_accepted m (scan m o digits)) (first_digit stages.Empty) ∙ more_digits digits all.1)

@@ -1,5 +1,5 @@
 -- One more byte.
-use Rattle.std.proofs.Common.{◌≡◌, ◌<◌, ◌+◌, if◌then◌else◌, length, take, get_or, sym, ap, ◌∙◌, arith}
+use Rattle.std.proofs.Common.{◌≡◌, ◌<◌, ◌+◌, if◌then◌else◌, length, take, get_or, ap, ◌∙◌, arith}
 use Rattle.std.proofs.lemmas.List.{take_more, length-take-le}
 use Rattle.lexical_literal.specs.Additions.Causes.{kind_set}
 use Rattle.lexical_literal.specs.Cause.{behind}
@@ -20,13 +20,7 @@ loop-index-preserved c =
     ap (behind A) (take_more text i 0 inside) ∙ behind_more A (take i text) byte in
     record {
       within = omega arith;
-      last = elim c.if-is_kind.branch [
-        | then-is_kind w ↦ w.found-is
-            ∙ sym (more ∙ ap (λ t. if t then length (take i text) + 1 else behind A (take i text)) (sym c.is_kind.ensures ∙ w.if-is_kind.true)
-            ∙ ap (λ n. n + 1) size)
-        | else-is_kind w ↦ w.found-is ∙ c.loop-index.invariant.last
-            ∙ sym (more ∙ ap (λ t. if t then length (take i text) + 1 else behind A (take i text)) (sym c.is_kind.ensures ∙ w.if-is_kind.false))
-      ];
+      last = let branch = c.if-is_kind.branch in let is = c.is_kind.ensures in let last = c.loop-index.invariant.last in grind arith;
     }
 
 pub returns : goal.returns
