@@ -38,9 +38,6 @@ allows_is n s None going = grind arith
 allows_is n s (Some class) going = moved n s s.ended (is_plus class) (is_zero class) (in_part s.part class)
     ∙ ap (λ e. not e && taken n (reading s.part s.stage s.gap) (is_plus class) (in_part s.part class)) going
 
-not_ended : (e t : Bool) → (not e && t) ≡ true → e ≡ false
-not_ended e t is = grind arith
-
 module _ (m : Notation) where
   -- FLAGS THAT REFUSE ALONE
 
@@ -75,8 +72,6 @@ module _ (m : Notation) where
 
   whole_role : (part : Part) (stage : Stage) (gap plus : Bool) (role : Role) → Alone (λ n. takes n (reading part stage gap) plus role) → is_digits role ≡ false
       → takes m (reading part stage gap) plus role ≡ true
-  whole_role _ stage gap plus roles.Digit a other = absurd (false≢true (sym other))
-  whole_role _ stage gap plus roles.Separator a other = absurd (false≢true (sym other))
   whole_role parts.Exponent stage gap plus roles.Sign a other = let forbidden = met a layout.no_positive_exponent_sign in grind arith
   whole_role _ stage gap plus roles.Sign a other = let forbidden = met a layout.no_positive_mantissa_sign in grind arith
   whole_role parts.Integer stage gap plus roles.Suffix a other =
@@ -176,7 +171,7 @@ module _ (m : Notation) where
   -- What is allowed without requirements, and refused with them, follows no suffix.
   pub going : (s : Summary) (next : Option Class) → allows (bare m) s next ≡ true → allows m s next ≡ false → s.ended ≡ false
   going s None free refused = (or_parts s.ended _ refused).0
-  going s (Some class) free refused = not_ended s.ended _ (sym (moved (bare m) s s.ended (is_plus class) (is_zero class) (in_part s.part class)) ∙ free)
+  going s (Some class) free refused = let is = sym (moved (bare m) s s.ended (is_plus class) (is_zero class) (in_part s.part class)) ∙ free in grind arith
 
   module _ (s : Summary) (next : Option Class) (unended : s.ended ≡ false) where
     abbrev o : Option Role
@@ -201,5 +196,5 @@ module _ (m : Notation) where
       → allows (adding f (bare m)) s (Some class) ≡ true → separates m s (in_part s.part class) f ≡ true
   at_next f s class is refused allowed =
       subst (λ (P : Notation → Bool). P (bare m) ≡ false → P (adding f (bare m)) ≡ true → separates m s (in_part s.part class) f ≡ true)
-      (same s (Some class) (not_ended s.ended _ (sym (moved (adding f (bare m)) s s.ended (is_plus class) (is_zero class) (in_part s.part class)) ∙ allowed)))
+      (same s (Some class) (let is = sym (moved (adding f (bare m)) s s.ended (is_plus class) (is_zero class) (in_part s.part class)) ∙ allowed in grind arith))
       (at_role f s.part s.stage s.gap (is_plus class) (in_part s.part class) is) refused allowed

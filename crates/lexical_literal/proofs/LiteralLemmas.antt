@@ -14,7 +14,7 @@ use Rattle.lexical_literal.specs.Notation.{Notation}
 use Rattle.lexical_literal.specs.Run.{is_run}
 use Rattle.lexical_literal.specs.Literal.{Literal, IsLiteral, Reads, text_of, is_present, is_absent, is_plus, is_none_or_one, is_none_or_prefix, is_zero_led}
 use Rattle.lexical_literal.specs.Additions.Summary.{Cuts, implies, has_digit, is_lone, is_led, after_digit, after_mark, after_point, may_follow, may_lead, is_signed}
-use Rattle.lexical_literal.specs.Additions.Summary.{forbids_plus, gap_fits, digits_suffice, ends, continues, may_float, add, digits_piece, piece_of, start, no_cuts}
+use Rattle.lexical_literal.specs.Additions.Summary.{forbids_plus, gap_fits, digits_suffice, ends, continues, add, digits_piece, piece_of, start, no_cuts}
 use Rattle.lexical_literal.specs.declared.steps.Piece.TheVariants as pieces
 use Rattle.lexical_literal.specs.declared.steps.Stage.{Stage}
 use Rattle.lexical_literal.specs.declared.steps.Stage.TheVariants as stages
@@ -328,14 +328,13 @@ module _ (m : Notation) (h : HasRoles m) where
         let more = add c pieces.Point in
         let point = and_parts (m.point b) _ fits in
         let both = and_parts (fraction_fits m l stage) _ point.1 in
-        let float = and_parts (may_float m stage) _ both.0 in
-        let run = and_parts (is_rest m parts.Fraction false false fraction) _ float.1 in
+        let float = both.0 in
         arrives_byte m h (reading parts.Integer stage gap) b roles.Point c (fraction ++ text_after parts.Fraction l) (end_cuts l c) refl
-        (is_role m h parts.Integer roles.Point b (λ e. cc) point.0) (and_from _ _ end float.0)
+        (is_role m h parts.Integer roles.Point b (λ e. cc) point.0) (grind arith)
         (unled_arrives parts.Fraction (after_point (has_digit stage)) fraction (text_after parts.Fraction l) more (end_cuts l c)
-        (grind arith) (grind arith) (grind arith) run.0
+        (grind arith) (grind arith) (grind arith) (grind arith)
         (λ gap closed signed. tail_arrives l parts.Fraction (fraction_last m l (has_digit stage)) gap (add_all more pieces.Fraction fraction)
-        (and_from _ _ signed (and_from _ _ closed run.1)) both.1))
+        (grind arith) both.1))
     go _ fraction fits = absurd (false≢true fits)
 
   -- A prefix, or none.

@@ -63,14 +63,10 @@ pub record HasRead (m : Notation) (seeks : Bool) (text : List ℕ) (i : ℕ) (s 
 module _ (m : Notation) (text : List ℕ) where
   -- A literal is no longer than the longest front that some literal begins with.
   no_longer_than : (n : ℕ) → IsValidUpTo m text n → (more : ℕ) → more ≤ length text → (l : Literal) → Reads m l (take more text) → more ≤ n
-  no_longer_than n wrong more within l reads = elim (cases_lt n more) [
-    | inl past ↦ absurd (wrong.no_longer more past within (record {
-      more = [];
-      literal = l;
-      reads = record { whole = append-nil (take more text) ∙ reads.whole; literal = reads.literal };
-    }))
-    | inr below ↦ below
-  ]
+  no_longer_than n wrong more within l reads =
+      let front : IsFront m (take more text) =
+      record { more = []; literal = l; reads = record { whole = append-nil (take more text) ∙ reads.whole; literal = reads.literal } } in
+      let longer = λ (past : n < more). wrong.no_longer more past within front in grind arith
 
   module _ (seeks : Bool) (scanned : Scanned) (is : IsScanned m seeks text scanned) where
     -- If the front that was read is all of the text and a literal, then its parts have been counted.

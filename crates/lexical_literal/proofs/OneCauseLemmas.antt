@@ -18,11 +18,8 @@ use Rattle.lexical_literal.specs.declared.cause.Place.{Place}
 use Rattle.lexical_literal.specs.declared.cause.ReadError.{ReadError}
 
 -- A flag allows separators at one place of one part.
-same_place : (x y : Place) (p q : Part) (f : Flag) → is_at x p f ≡ true → is_at y q f ≡ true → x ≡ y
-same_place x y p q f first second = grind (arith, nat_tests)
-
-same_part : (x y : Place) (p q : Part) (f : Flag) → is_at x p f ≡ true → is_at y q f ≡ true → p ≡ q
-same_part x y p q f first second = grind (arith, nat_tests)
+same_at : (x y : Place) (p q : Part) (f : Flag) → is_at x p f ≡ true → is_at y q f ≡ true → (x ≡ y) × (p ≡ q)
+same_at x y p q f first second = (grind (arith, nat_tests), grind (arith, nat_tests))
 
 -- Two truth values that are equivalent to one fact are the same.
 same_truth : {X : Type 0} (a b : Bool) → (a ≡ true) ↔ X → (b ≡ true) ↔ X → a ≡ b
@@ -34,10 +31,8 @@ module _ (m : Notation) (front : List ℕ) (a b : Flag → Bool) where
       → SameBlame (causes.Separator p x) (causes.Separator q y) a b
   separators byte p q x y one two =
       let flags = λ (f : Flag). same_truth (a f) (b f) (one.each f) (two.each f) in
-      let f = one.some.0 in
-      let first = one.at f one.some.1 in
-      let second = two.at f (sym (flags f) ∙ one.some.1) in
-      record { cause = λ j. causes.Separator (same_part x y p q f first second j) (same_place x y p q f first second j); flags = flags }
+      let same = same_at x y p q one.some.0 (one.at _ one.some.1) (two.at _ (sym (flags one.some.0) ∙ one.some.1)) in
+      record { cause = λ j. causes.Separator (same.1 j) (same.0 j); flags = flags }
 
   pub one_cause : (next : Option ℕ) (cause other : Cause) → IsCause m front next cause a → IsCause m front next other b → SameBlame cause other a b
   one_cause next causes.Requirement causes.Requirement one two = record { cause = refl; flags = λ f. same_truth (a f) (b f) (one.each f) (two.each f) }

@@ -2,7 +2,6 @@
 use Rattle.std.proofs.Common.{sym, ◌∙◌, arith}
 use Rattle.lexical_literal.proofs.LongestLemmas.{whole_literal, whole_counted, refused_there}
 use Rattle.lexical_literal.proofs.read.find.Goals as goal
-use Rattle.lexical_literal.proofs.read.find.Goals.{else-scanned-text-via-then-scanned-text+else-is_complete_by, else-scanned-text-via-else-scanned-text}
 
 pub refuse-requires-clause-refused : goal.refuse-requires-clause-refused
 refuse-requires-clause-refused c = refused_there _ _ _ _ c.scan-scanned.ensures (λ all. let branch = c.else-scanned-text.branch in grind arith)

@@ -18,22 +18,13 @@ step A text end i inside within =
 
 pub returns-then-is_kind : goal.returns-then-is_kind
 returns-then-is_kind c =
-    let text = c.args.text.now in
-    let i = c.loop-index.index in
-    let rest = first_in (kind_set (notation_of c.args.grammar) c.args.kind) (drop (i + 1) (take c.args.end text)) in
-    sym (c.loop-index.invariant.rest ∙ ap (λ n. i + n) (step _ text c.args.end i c.loop-index-test.true c.requires
-    ∙ ap (λ t. if t then 0 else 1 + rest) (sym c.is_kind.ensures ∙ c.if-is_kind.true)) ∙ omega arith)
+    let now = step (kind_set (notation_of c.args.grammar) c.args.kind) c.args.text.now c.args.end c.loop-index.index c.loop-index-test.true c.requires in
+    let rest = c.loop-index.invariant.rest in let is = sym c.is_kind.ensures ∙ c.if-is_kind.true in grind arith
 
 pub loop-index-preserved : goal.loop-index-preserved
 loop-index-preserved c =
-    let text = c.args.text.now in
-    let i = c.loop-index.index in
-    let rest = first_in (kind_set (notation_of c.args.grammar) c.args.kind) (drop (i + 1) (take c.args.end text)) in
-    record {
-      within = omega arith;
-      rest = c.loop-index.invariant.rest ∙ ap (λ n. i + n) (step _ text c.args.end i c.loop-index-test.true c.requires
-          ∙ ap (λ t. if t then 0 else 1 + rest) (sym c.is_kind.ensures ∙ c.if-is_kind.false)) ∙ omega arith;
-    }
+    let now = step (kind_set (notation_of c.args.grammar) c.args.kind) c.args.text.now c.args.end c.loop-index.index c.loop-index-test.true c.requires in
+    let rest = c.loop-index.invariant.rest in let is = sym c.is_kind.ensures ∙ c.if-is_kind.false in record { within = omega arith; rest = grind arith }
 
 pub returns : goal.returns
 returns c =

@@ -12,13 +12,11 @@ use Rattle.lexical_literal.proofs.cause.Stop.blame.Goals as goal
 
 pub requirements-requires-clause-allowed : goal.requirements-requires-clause-allowed
 requirements-requires-clause-allowed c =
-    let m = notation_of c.args.self.grammar in
-    sym (ap (λ n. allows n c.args.self.read c.args.self.next) (as_bare m c.bare.result c.bare.ensures)) ∙ sym c.allows.ensures ∙ c.if-allows.true
+    rw (← as_bare (notation_of c.args.self.grammar) c.bare.result c.bare.ensures) (sym c.allows.ensures ∙ c.if-allows.true)
 
 pub wrong-requires-clause-refused : goal.wrong-requires-clause-refused
 wrong-requires-clause-refused c =
-    let m = notation_of c.args.self.grammar in
-    sym (ap (λ n. allows n c.args.self.read c.args.self.next) (as_bare m c.bare.result c.bare.ensures)) ∙ sym c.allows.ensures ∙ c.if-allows.false
+    rw (← as_bare (notation_of c.args.self.grammar) c.bare.result c.bare.ensures) (sym c.allows.ensures ∙ c.if-allows.false)
 
 pub returns-then-allows : goal.returns-then-allows
 returns-then-allows c front is_read =
