@@ -154,9 +154,7 @@ module _ (m : Notation) where
 
         two : (t : Bool) → zeros_bind m ≡ t → (if t then allows (without layout.no_integer_leading_zeros m) s class
             else m.flag layout.no_float_leading_zeros && allows (without layout.no_float_leading_zeros m) s class) ≡ true
-        two t is = sym (ap (λ t. if t then allows (without layout.no_integer_leading_zeros m) s class
-            else m.flag layout.no_float_leading_zeros && allows (without layout.no_float_leading_zeros m) s class) is)
-            ∙ joint m s class (going m s class allowed refused) each_free refused
+        two t is = rw (is) at (joint m s class (going m s class allowed refused) each_free refused)
 
         pub first_of_two : zeros_bind m ≡ true → IsRequirement m front next (raw (2 ^ 12)).flag
         first_of_two is = one_lowest layout.no_integer_leading_zeros (and_from _ _ (and_parts (m.flag layout.no_integer_leading_zeros) _ is).0 refl)

@@ -7,7 +7,7 @@ use Rattle.lexical_util.specs.declared.feature_format.roles.Role.{Role}
 use Rattle.lexical_util.specs.declared.feature_format.roles.Role.TheVariants as roles
 use Rattle.lexical_util.specs.declared.format_flags.Part.{Part}
 use Rattle.lexical_util.specs.declared.format_flags.Part.TheVariants as parts
-use Rattle.lexical_literal.specs.Notation.{Notation, role_set}
+use Rattle.lexical_literal.specs.Notation.{Notation}
 use Rattle.lexical_literal.specs.Literal.{Literal, is_none_or_one}
 use Rattle.lexical_literal.specs.Additions.Summary.{implies, has_digit, is_fresh, is_bare, after_digit, after_mark, after_point, is_open, may_follow}
 use Rattle.lexical_literal.specs.Additions.Summary.{is_signed, forbids_plus, gap_fits, digits_suffice, ends, continues, may_float, takes, after}
@@ -146,25 +146,20 @@ module _ (m : Notation) where
     cut_of part stage gap (b ∷ text) is =
         let t = took m h (reading part stage gap) b (λ o. Accepts m o text) (none_accepts m text) is in
         go t.role t.plays t.taken t.rest (λ part stage gap. cut_of part stage gap text) where
-          plays : (r : Role) → role_in m part b ≡ Some r → role_set m r b ≡ true
-          plays r role = as_role m h part r b role
-
           go : (r : Role) → role_in m part b ≡ Some r → takes m (reading part stage gap) (b == 43) r ≡ true
               → Accepts m (Some (after (reading part stage gap) (b == 48) r)) text
               → ((part : Part) (stage : Stage) (gap : Bool) → Accepts m (Some (reading part stage gap)) text → Cut m part stage gap text)
               → Cut m part stage gap (b ∷ text)
           go roles.Digit role taken is cut =
-              let both = and_parts (is_signed m part stage) _ taken in
-              let fits = and_parts _ (may_follow m stage) both.1 in
-              digit_first part stage gap b text (as_digit m h part b role) both.0 fits.0 (cut part (after_digit stage gap (b == 48)) false is)
+              digit_first part stage gap b text (as_digit m h part b role) (grind arith) (grind arith) (cut part (after_digit stage gap (b == 48)) false is)
           go roles.Separator role taken is cut =
-              let both = and_parts (is_signed m part stage) _ taken in
-              separator_first part stage gap b text (no_digit m h part b role) (plays roles.Separator role) both.0 both.1 (cut part (after_mark stage) true is)
-          go roles.Sign role taken is cut = sign_first part stage gap b text (plays roles.Sign role) taken (cut part (after_mark stage) gap is)
-          go roles.Prefix role taken is cut = prefix_first part stage gap b text (plays roles.Prefix role) taken (cut part stages.Free false is)
+              separator_first part stage gap b text (no_digit m h part b role) (as_role m h part _ b role) (grind arith) (grind arith)
+              (cut part (after_mark stage) true is)
+          go roles.Sign role taken is cut = sign_first part stage gap b text (as_role m h part _ b role) taken (cut part (after_mark stage) gap is)
+          go roles.Prefix role taken is cut = prefix_first part stage gap b text (as_role m h part _ b role) taken (cut part stages.Free false is)
           go roles.Point role taken is cut =
-              point_first part stage gap b text (plays roles.Point role) taken (cut parts.Fraction (after_point (has_digit stage)) false is)
+              point_first part stage gap b text (as_role m h part _ b role) taken (cut parts.Fraction (after_point (has_digit stage)) false is)
           go roles.Exponent role taken is cut =
-              exponent_first part stage gap b text (plays roles.Exponent role) taken (cut parts.Exponent stages.Mark false is)
+              exponent_first part stage gap b text (as_role m h part _ b role) taken (cut parts.Exponent stages.Mark false is)
           go roles.Suffix role taken is cut = stopped part stage gap (b ∷ text) taken
-              (subst (λ t. is_none_or_one m.suffix (b ∷ t) ≡ true) (sym (ended _ text refl is)) (plays roles.Suffix role))
+              (subst (λ t. is_none_or_one m.suffix (b ∷ t) ≡ true) (sym (ended _ text refl is)) (as_role m h part _ b role))

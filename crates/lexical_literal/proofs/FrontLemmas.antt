@@ -60,11 +60,9 @@ module _ (m : Notation) where
     digit_completed part stage gap signed can finishes = elim (closed part (has_digit stage) gap (may_follow m stage) can.closes) [
       | inl here ↦ finishes stage gap here.0 (and_from _ _ signed (and_from _ _ here.1 (let digit = here.0 in grind arith))) can.led
       | inr more ↦
-          let seen : has_digit (after_digit stage gap true) ≡ true = grind arith in
-          let may : may_follow m stage ≡ true = (let digit = more.1 in grind arith) in
           then_byte (reading part stage gap) 48 roles.Digit refl (digit_role m ready.roles part 48 (ready.roles.zero_is_digit part))
-          (and_from _ _ signed (and_from _ _ more.0 may)) (finishes (after_digit stage gap true) false seen
-          (and_from (is_signed m part (after_digit stage gap true)) _ (grind arith) (grind arith)) (let led = can.led in grind arith))
+          (and_from _ _ signed (and_from _ _ more.0 (let digit = more.1 in grind arith))) (finishes (after_digit stage gap true) false (grind arith)
+          (grind arith) (let led = can.led in grind arith))
     ]
 
     -- A sign first, where one may follow.

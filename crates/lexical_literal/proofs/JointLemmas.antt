@@ -111,11 +111,8 @@ module _ (m : Notation) where
   led : (part : Part) (stage : Stage) (gap plus : Bool) (role : Role) → is_digits role ≡ true → Alone (λ n. takes n (reading part stage gap) plus role)
       → takes m (reading part stage gap) plus role ≡ false
       → (may_follow m stage || (is_role roles.Separator (Some role) && is_place m part (has_digit stage) false)) ≡ false
-  led parts.Exponent stage gap plus roles.Digit is a refused = let sign = met a layout.required_exponent_sign in grind arith
-  led _ stage gap plus roles.Digit is a refused = let sign = met a layout.required_mantissa_sign in grind arith
-  led parts.Exponent stage gap plus roles.Separator is a refused = let sign = met a layout.required_exponent_sign in grind arith
-  led _ stage gap plus roles.Separator is a refused = let sign = met a layout.required_mantissa_sign in grind arith
-  led _ stage gap plus _ is a refused = absurd (false≢true is)
+  led parts.Exponent stage gap plus role is a refused = let sign = met a layout.required_exponent_sign in grind arith
+  led _ stage gap plus role is a refused = let sign = met a layout.required_mantissa_sign in grind arith
 
   joint_role : (part : Part) (stage : Stage) (gap plus : Bool) (o : Option Role) → Alone (λ n. taken n (reading part stage gap) plus o)
       → taken m (reading part stage gap) plus o ≡ false → in_two (λ n. taken n (reading part stage gap) plus o) ≡ true

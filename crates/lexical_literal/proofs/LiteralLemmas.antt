@@ -69,11 +69,8 @@ module _ (k one_k s one_s plus e fits_e one_x no_plus sign_required digits_requi
     tail_if same facts = grind arith
 
     module _ (absent_s : implies s (one_s && not plus) ≡ true) (absent_e : implies e fits_e ≡ true) (is : tail_fits stop scale digit ≡ true) where
-      has_exponent : fits_e ≡ true
-      has_exponent = grind arith
-
       tail_facts : (fits_e ≡ true → digit ≡ not e) → TailFacts stop scale
-      tail_facts seen = let same : digit ≡ not e = seen has_exponent in grind arith
+      tail_facts seen = let fits : fits_e ≡ true = grind arith in let same : digit ≡ not e = seen fits in grind arith
 
 -- What an integer and a fraction satisfy: `any` and `led` tell whether the integer has a digit and a leading zero, and `p`, `f` and
 -- `k` whether the point, the fraction and the exponent character are absent.
@@ -118,9 +115,6 @@ module _ (any led p one_p f fits_f k : Bool) (flag : Flag → Bool) (only : Bool
 
     module _ (absent_f : implies f fits_f ≡ true) (is_point : one_p ≡ true) (integer : implies (flag layout.required_integer_digits) any ≡ true)
         (is : fraction_so digit lone ≡ true) where
-      has_fraction : fits_f ≡ true
-      has_fraction = grind arith
-
       end_facts : implies k stops_so ≡ true → implies (not k) scales_so ≡ true
           → (fits_f ≡ true → digit ≡ not f) → (fits_f ≡ true → lone ≡ not (not f || any)) → EndFacts
       end_facts stop scale seen counted = grind arith
@@ -217,9 +211,10 @@ module _ (m : Notation) (h : HasRoles m) where
       let first = stage_at stages.Start cut.sign cut.prefix in
       let no_gap = and_right (is_absent cut.prefix) false refl in
       let none : has_digit first ≡ false = grind arith in
-      let run = rw (none, no_gap) at found.run in
-      let end = rw (no_gap) at found.end in
-      (l, record { whole = found.whole; literal = literal_if m l found.signed found.prefixed run end })
+      (l, record {
+        whole = found.whole;
+        literal = literal_if m l found.signed found.prefixed (rw (none, no_gap) at found.run) (rw (no_gap) at found.end);
+      })
 
   -- A LITERAL IS ACCEPTED
 

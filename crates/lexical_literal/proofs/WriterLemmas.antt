@@ -1,6 +1,6 @@
 -- Which texts of mantissa digits are literals.
-use Rattle.std.proofs.Common.{ℕ, ◌≡◌, ◌≢◌, ◌↔◌, Bool, true, false, not, ◌==◌, ◌&&◌, ◌||◌, if◌then◌else◌}
-use Rattle.std.proofs.Common.{IsFalse, List, [], ◌∷◌, Some, None, refl, sym, ap, ◌∙◌, arith}
+use Rattle.std.proofs.Common.{ℕ, ◌≡◌, ◌≢◌, ◌↔◌, Bool, false, not, ◌==◌, ◌&&◌, ◌||◌}
+use Rattle.std.proofs.Common.{IsFalse, List, [], ◌∷◌, Some, refl, sym, ap, ◌∙◌, arith}
 use Rattle.lexical_util.specs.Layout as layout
 use Rattle.lexical_util.specs.declared.feature_format.roles.Role.TheVariants as roles
 use Rattle.lexical_util.specs.declared.format_flags.Part.TheVariants as parts
@@ -38,12 +38,8 @@ module _ (m : Notation) (h : HasRoles m) where
 
     pub digits_read : ((l : Literal) × Reads m l (first ∷ digits))
         ↔ IsFalse (m.flag layout.required_mantissa_sign || (m.flag layout.required_exponent_notation && not m.integers_only))
-    digits_read = literal_exactly (first ∷ digits) _
-        (ap (λ o. is_accepted m (scan m o digits)) (first_digit stages.Start) ∙ go (m.flag layout.required_mantissa_sign)) where
-          go : (signed : Bool) → is_accepted m (scan m (if not signed && true then Some (reading parts.Integer stages.Digits false) else None) digits)
-              ≡ not (signed || needs_exponent m)
-          go true = ap (is_accepted m) (scan_none m digits)
-          go false = more_digits digits all.1
+    digits_read = literal_exactly (first ∷ digits) _ (ap (λ o. is_accepted m (scan m o digits)) (first_digit stages.Start)
+        ∙ (let none = scan_none m digits in let more = more_digits digits all.1 in grind arith))
 
     pub negative_read : ((l : Literal) × Reads m l (45 ∷ first ∷ digits)) ↔ IsFalse (m.flag layout.required_exponent_notation && not m.integers_only)
     negative_read =

@@ -1,7 +1,7 @@
 -- A requirement, missing digits, or what is wrong with a byte.
 use Rattle.std.proofs.Common.{◌≡◌, false, None, sym, ap, subst, ◌∙◌}
 use Rattle.std.proofs.lemmas.Bool.{false≢true, or_parts}
-use Rattle.lexical_literal.specs.Additions.Causes.{Decides, allows, class_of_next}
+use Rattle.lexical_literal.specs.Additions.Causes.{allows, class_of_next}
 use Rattle.lexical_literal.specs.Cause.{IsCause, bare}
 use Rattle.lexical_literal.specs.Notation.{notation_of}
 use Rattle.lexical_util.specs.Record.{raw}
@@ -19,9 +19,7 @@ wrong-requires-clause-refused c =
     rw (← as_bare (notation_of c.args.self.grammar) c.bare.result c.bare.ensures) (sym c.allows.ensures ∙ c.if-allows.false)
 
 pub returns-then-allows : goal.returns-then-allows
-returns-then-allows c front is_read =
-    let m = notation_of c.args.self.grammar in
-    c.requirements.ensures front c.args.next (subst (λ k. Decides m c.args.self.read k front c.args.next) (sym c.requires.next) (is_read.decides c.args.next))
+returns-then-allows c front is_read = c.requirements.ensures front c.args.next (rw (c.requires.next) (is_read.decides c.args.next))
 
 pub returns-in-None : goal.returns-in-None
 returns-in-None c front is_read =
@@ -36,6 +34,4 @@ returns-in-None c front is_read =
     })
 
 pub returns-in-Some : goal.returns-in-Some
-returns-in-Some c front is_read =
-    subst (λ next. IsCause (notation_of c.args.self.grammar) front next c.wrong.result.cause (raw c.wrong.result.mask).flag) (sym c.in-Some.is)
-    (c.wrong.ensures front is_read)
+returns-in-Some c front is_read = rw (c.in-Some.is) (c.wrong.ensures front is_read)
