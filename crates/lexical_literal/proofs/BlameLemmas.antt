@@ -1,10 +1,8 @@
 -- The flags that are found are to blame.
-use Rattle.std.proofs.Common.{ℕ, ◌≡◌, ◌<◌, ◌≤◌, ◌/◌, ◌%◌, ◌^◌, ◌↔◌, Bool, true, false, not, ◌==◌, ◌&&◌}
-use Rattle.std.proofs.Common.{◌||◌, inl, inr, IsTrue, bit_and, if◌then◌else◌, List}
+use Rattle.std.proofs.Common.{ℕ, ◌≡◌, ◌<◌, ◌≤◌, ◌/◌, ◌%◌, ◌^◌, ◌↔◌, Bool, true, false, not, ◌==◌, ◌&&◌, ◌||◌, inl, inr, IsTrue, bit_and, if◌then◌else◌, List}
 use Rattle.std.proofs.Common.{Option, Some, refl, sym, ap, subst, ◌∙◌, arith}
-use Rattle.std.proofs.lemmas.Bool.{false≢true, and_parts, and_from, or_left, or_right, cases_Bool, cases_lt}
-use Rattle.std.proofs.lemmas.Bool.{eq-eqb, eqb-true, false_from_ne_true, lt-ltb, agree_below}
-use Rattle.std.proofs.lemmas.Bool.{agree_below_at}
+use Rattle.std.proofs.lemmas.Bool.{false≢true, and_parts, and_from, or_left, or_right, cases_Bool, cases_lt, eq-eqb, eqb-true, false_from_ne_true, lt-ltb}
+use Rattle.std.proofs.lemmas.Bool.{agree_below, agree_below_at}
 use Rattle.std.proofs.lemmas.Bool.Decides.{nat_tests}
 use Rattle.std.proofs.lemmas.Nat.Bits.{bit_at_and}
 use Rattle.std.proofs.Math.Nat.{div-eq_of_lt, pow-le-pow_right}
@@ -172,9 +170,6 @@ module _ (m : Notation) where
   own_at : (place : Place) (part : Part) (f : Flag) → is_at place part f ≡ true → is_own part f ≡ true
   own_at place part f is = grind arith
 
-  own_separates : (part : Part) (f : Flag) → is_own part f ≡ true → is_one_of separator_flags f ≡ true
-  own_separates part f is = grind (arith, nat_tests)
-
   module _ (s : Summary) (class : Class) (front : List ℕ) (byte : ℕ) (decides : Decides m s (Some class) front (Some byte))
       (refused : allows (bare m) s (Some class) ≡ false) where
     abbrev found : Flag → Bool
@@ -187,7 +182,7 @@ module _ (m : Notation) where
     owned : (f : Flag) → found f ≡ true → (is_one_of separator_flags f ≡ true) × (allows (adding f (bare m)) s (Some class) ≡ true)
     owned f is =
         let both = and_parts (is_own s.part f) _ (and_parts (s.gap || is_role roles.Separator (in_part s.part class)) _ is).1 in
-        (own_separates s.part f both.0, both.1)
+        (let own = both.0 in grind (arith, nat_tests), both.1)
 
     -- The flags that are found are those that permit a separator, and of its place.
     pub each_permits : (f : Flag) → (found f ≡ true) ↔ Permits m front byte f

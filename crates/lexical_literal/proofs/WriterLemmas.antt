@@ -1,6 +1,5 @@
 -- Which texts of mantissa digits are literals.
-use Rattle.std.proofs.Common.{ℕ, ◌≡◌, ◌≢◌, ◌↔◌, Bool, false, not, ◌==◌, ◌&&◌, ◌||◌}
-use Rattle.std.proofs.Common.{IsFalse, List, [], ◌∷◌, Some, refl, sym, ap, ◌∙◌, arith}
+use Rattle.std.proofs.Common.{ℕ, ◌≡◌, ◌≢◌, ◌↔◌, Bool, false, not, ◌==◌, ◌&&◌, ◌||◌, IsFalse, List, [], ◌∷◌, Some, refl, sym, ap, ◌∙◌, arith}
 use Rattle.lexical_util.specs.Layout as layout
 use Rattle.lexical_util.specs.declared.feature_format.roles.Role.TheVariants as roles
 use Rattle.lexical_util.specs.declared.format_flags.Part.TheVariants as parts
