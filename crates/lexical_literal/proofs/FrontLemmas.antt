@@ -109,8 +109,7 @@ module _ (m : Notation) where
     pub front_from : (text : List ℕ) (s : Summary) → scan m (Some start) text ≡ Some s → IsFront m text
     front_from text s is =
         let more = completed s.part s.stage s.gap s.ended (all_go_on ready.roles start text s (record { closes = refl; led = refl }) is) in
-        let found = literal_from m ready.roles (text ++ more.0) (subst (λ o. is_accepted m o ≡ true)
-        (sym (scan_append m (Some start) text more.0 ∙ ap (λ o. scan m o more.0) is)) more.1) in
+        let found = literal_from m ready.roles (text ++ more.0) (rw (scan_append m (Some start) text more.0, is) more.1) in
         record { more = more.0; literal = found.0; reads = found.1 }
 
     -- A front of a literal is read.

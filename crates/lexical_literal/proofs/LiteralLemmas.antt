@@ -211,10 +211,7 @@ module _ (m : Notation) (h : HasRoles m) where
       let first = stage_at stages.Start cut.sign cut.prefix in
       let no_gap = and_right (is_absent cut.prefix) false refl in
       let none : has_digit first ≡ false = grind arith in
-      (l, record {
-        whole = found.whole;
-        literal = literal_if m l found.signed found.prefixed (rw (none, no_gap) at found.run) (rw (no_gap) at found.end);
-      })
+      (l, record { whole = found.whole; literal = literal_if m l found.signed found.prefixed (rw (none, no_gap) at found.run) (rw (no_gap) at found.end) })
 
   -- A LITERAL IS ACCEPTED
 

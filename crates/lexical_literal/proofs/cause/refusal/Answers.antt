@@ -1,7 +1,6 @@
 -- What has been read decides the cause.
 use Rattle.std.proofs.Common.{◌≡◌, ◌+◌, bit_and, take, sym, ap, subst, ◌∙◌, arith}
 use Rattle.std.proofs.lemmas.List.{take_all}
-use Rattle.lexical_util.specs.Record.{raw}
 use Rattle.lexical_literal.specs.Additions.Causes.{IsReadOf}
 use Rattle.lexical_literal.specs.Additions.Summary.{start}
 use Rattle.lexical_literal.specs.Cause.{IsCause, lowest, span_of}
@@ -37,8 +36,7 @@ returns c =
     record {
       valid_up_to = c.requires.valid;
       byte = c.byte_at-byte.ensures;
-      cause = subst (λ next. IsCause m front next cause (raw mask).flag) c.byte_at-byte.ensures
-          (subst (IsCause m front next cause) (λ j f. kept_flags bits f j) (c.blame-cause.ensures front is_read));
+      cause = rw (← c.byte_at-byte.ensures) (subst (IsCause m front next cause) (λ j f. kept_flags bits f j) (c.blame-cause.ensures front is_read));
       mask = only_flags bits;
       span = c.span-start.ensures ∙ ap (λ stop. span_of m front stop cause (lowest mask)) stop;
       code = c.error.ensures;

@@ -11,12 +11,10 @@ use Rattle.lexical_literal.proofs.CauseLemmas.{flag_zero}
 use Rattle.lexical_literal.proofs.cause.Stop.blame.Goals as goal
 
 pub requirements-requires-clause-allowed : goal.requirements-requires-clause-allowed
-requirements-requires-clause-allowed c =
-    rw (← as_bare (notation_of c.args.self.grammar) c.bare.result c.bare.ensures) (sym c.allows.ensures ∙ c.if-allows.true)
+requirements-requires-clause-allowed c = rw (← as_bare (notation_of c.args.self.grammar) c.bare.result c.bare.ensures) (sym c.allows.ensures ∙ c.if-allows.true)
 
 pub wrong-requires-clause-refused : goal.wrong-requires-clause-refused
-wrong-requires-clause-refused c =
-    rw (← as_bare (notation_of c.args.self.grammar) c.bare.result c.bare.ensures) (sym c.allows.ensures ∙ c.if-allows.false)
+wrong-requires-clause-refused c = rw (← as_bare (notation_of c.args.self.grammar) c.bare.result c.bare.ensures) (sym c.allows.ensures ∙ c.if-allows.false)
 
 pub returns-then-allows : goal.returns-then-allows
 returns-then-allows c front is_read = c.requirements.ensures front c.args.next (rw (c.requires.next) (is_read.decides c.args.next))
