@@ -118,9 +118,6 @@ module _ (m : Notation) where
         not_lower : (g : Flag) → bit g < bit flag → Releases m front next g → ⊥
         not_lower g below is = false≢true (sym (least g below is.0) ∙ (decides _ (without_weaker g (and_parts (m.flag g) _ is.0).1)).1 is.1)
 
-        is_lowest : IsLowest m front next flag
-        is_lowest = record { none_alone = none_alone; releases = releases; lowest = not_lower }
-
         the_one : (f : Flag) → IsLowest m front next f → bit f ≡ bit flag
         the_one f lowest =
             let low = λ (below : bit f < bit flag). not_lower f below lowest.releases in
@@ -131,7 +128,8 @@ module _ (m : Notation) where
           allowed = (decides _ bare_weaker).0 allowed;
           some = (flag, flag_pow flag (bit flag) ∙ eq-eqb (bit flag) (bit flag) refl);
           each = λ f. (
-            λ is. inr (subst (IsLowest m front next) (sym (same_flag f flag (eqb-true (bit f) (bit flag) (sym (flag_pow f (bit flag)) ∙ is)))) is_lowest),
+            λ is. inr (subst (IsLowest m front next) (sym (same_flag f flag (eqb-true (bit f) (bit flag) (sym (flag_pow f (bit flag)) ∙ is))))
+                (record { none_alone = none_alone; releases = releases; lowest = not_lower })),
             λ is. elim is [
               | inl refuses ↦ absurd (none_alone f refuses)
               | inr lowest ↦ flag_pow f (bit flag) ∙ eq-eqb (bit f) (bit flag) (the_one f lowest)

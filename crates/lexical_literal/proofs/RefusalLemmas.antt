@@ -103,11 +103,6 @@ module _ (m : Notation) (A : Flag → Bool) where
     front_too text is =
         record { more = is.more; literal = is.literal; reads = record { whole = is.reads.whole; literal = literal_too is.literal is.reads.literal } }
 
-    -- What is allowed stays so.
-    pub allowed_too : (front : List ℕ) (next : Option ℕ) → Allows m front next → Allows n front next
-    allowed_too front None is = (is.0, record { whole = is.1.whole; literal = literal_too is.0 is.1.literal })
-    allowed_too front (Some b) is = front_too (front ++ b ∷ []) is
-
   -- THE SAME SUMMARY
 
   same_last : HasRoles m → (t : Summary) (text : List ℕ) (s r : Summary) → scan m (Some t) text ≡ Some s → scan n (Some t) text ≡ Some r → s ≡ r
