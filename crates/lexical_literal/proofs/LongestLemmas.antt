@@ -102,11 +102,14 @@ module _ (m : Notation) (text : List ℕ) where
   module _ (scanned : Scanned) (is : IsScanned m true text scanned) where
     -- The longest front that is a literal, and its parts, which have been counted if it is all that was read.
     pub front_literal : (size : ℕ) → scanned.literal ≡ Some size → (l : Literal) × ReadsFront m l text size
-    front_literal size found = let l = (is.longest refl).found size found in (l.1, record {
-      within = l.0;
-      reads = l.2;
-      no_longer = λ more past below. (is.longest refl).no_longer more below (λ other same. let equal : size ≡ other = cc in subst (λ n. n < more) equal past);
-    })
+    front_literal size found = let l = (is.longest refl).found size found in (
+      l.1,
+      record {
+        within = l.0;
+        reads = l.2;
+        no_longer = λ more past below. (is.longest refl).no_longer more below (λ other same. let equal : size ≡ other = cc in subst (λ n. n < more) equal past);
+      },
+    )
 
     pub front_counted : (size : ℕ) → size ≡ scanned.valid_up_to → (l : Literal) → Reads m l (take size text) → HasLengths l (tables.cuts_of scanned.counts)
     front_counted size right l reads = is.counted l (subst (λ n. Reads m l (take n text)) right reads)
