@@ -1,10 +1,8 @@
 -- The flags that are found are to blame.
-use Rattle.std.proofs.Common.{ℕ, ◌≡◌, ◌<◌, ◌≤◌, ◌/◌, ◌%◌, ◌^◌, ◌↔◌, min, Bool, true, false, not, ◌==◌, ◌&&◌}
-use Rattle.std.proofs.Common.{◌||◌, inl, inr, IsTrue, bit_and, if◌then◌else◌, nat_lt, List}
+use Rattle.std.proofs.Common.{ℕ, ◌≡◌, ◌<◌, ◌≤◌, ◌/◌, ◌%◌, ◌^◌, ◌↔◌, Bool, true, false, not, ◌==◌, ◌&&◌, ◌||◌, inl, inr, IsTrue, bit_and, if◌then◌else◌, List}
 use Rattle.std.proofs.Common.{Option, Some, refl, sym, ap, subst, ◌∙◌, arith}
-use Rattle.std.proofs.lemmas.Bool.{false≢true, and_parts, and_from, or_left, or_right, cases_Bool, cases_lt}
-use Rattle.std.proofs.lemmas.Bool.{eq-eqb, eqb-true, false_from_ne_true, lt-ltb, agree_below}
-use Rattle.std.proofs.lemmas.Bool.{agree_below_at}
+use Rattle.std.proofs.lemmas.Bool.{false≢true, and_parts, and_from, or_left, or_right, cases_Bool, cases_lt, eq-eqb, eqb-true, false_from_ne_true, lt-ltb}
+use Rattle.std.proofs.lemmas.Bool.{agree_below, agree_below_at}
 use Rattle.std.proofs.lemmas.Bool.Decides.{nat_tests}
 use Rattle.std.proofs.lemmas.Nat.Bits.{bit_at_and}
 use Rattle.std.proofs.Math.Nat.{div-eq_of_lt, pow-le-pow_right}
@@ -17,10 +15,8 @@ use Rattle.lexical_literal.specs.Cause.{IsLowest, IsRequirement, Permits, Refuse
 use Rattle.lexical_literal.specs.Cause.{flag_at, is_at, requirement_flags, separator_flags, with_flags, without}
 use Rattle.lexical_literal.specs.Additions.Causes.{Decides, IsWeaker, allows, is_own, is_role, place_of}
 use Rattle.lexical_util.specs.declared.format_flags.Part.{Part}
-use Rattle.lexical_util.specs.declared.format_flags.Part.TheVariants as parts
 use Rattle.lexical_literal.specs.Additions.Summary.{in_part}
 use Rattle.lexical_literal.specs.declared.cause.Place.{Place}
-use Rattle.lexical_literal.specs.declared.cause.Place.TheVariants as places
 use Rattle.lexical_literal.specs.declared.steps.Class.{Class}
 use Rattle.lexical_literal.specs.declared.steps.Summary.{Summary}
 use Rattle.lexical_literal.proofs.CauseLemmas.{bit_small, flag_pow}
@@ -35,34 +31,22 @@ pub mask_flag : (mask : ℕ) → mask < 2 ^ 44 → agree_below (λ k. (part mask
 mask_flag mask small agree k one = elim (cases_lt k 44) [
   | inl below ↦ (
     flag_at k,
-    eqb-true (bit (flag_at k)) k (owned _ _ (eq-eqb (part mask k 1) 1 one)
-        (agree_below_at (λ k. (part mask k 1 == 1) && not (bit (flag_at k) == k)) (λ k. false) 44 k agree below)),
+    let none = agree_below_at (λ k. (part mask k 1 == 1) && not (bit (flag_at k) == k)) (λ k. false) 44 k agree below in grind (arith, nat_tests),
   )
   | inr high ↦
       let wide : 2 ^ 44 ≤ 2 ^ k = pow-le-pow_right {n = 2} (omega arith) high in
       let none : mask / 2 ^ k ≡ 0 = div-eq_of_lt (omega (arith, wide)) in
       absurd (omega (arith, one, ap (λ n. n % 2) none))
-] where
-  owned : (x y : Bool) → x ≡ true → (x && not y) ≡ false → y ≡ true
-  owned x y is none = grind arith
-
-both_bits : (a b : ℕ) → min a b ≡ 1 → b < 2 → b ≡ 1
-both_bits a b is small = omega arith
+]
 
 pub of_mask : (word mask k : ℕ) → part (bit_and word mask) k 1 ≡ 1 → part mask k 1 ≡ 1
-of_mask word mask k one = both_bits _ _ (sym (bit_at_and word mask k) ∙ one) (bit_small mask k)
+of_mask word mask k one = omega (arith, one, bit_at_and word mask k, bit_small mask k)
 
 -- FEWER REQUIREMENTS
 
 module _ (m : Notation) where
-  weak_without : (x e r : Bool) → ((x && not e) && r) ≡ true → x ≡ true
-  weak_without x e r is = grind arith
-
-  kept_adding : (e x r : Bool) → x ≡ true → ((e || (x && not r)) || r) ≡ true
-  kept_adding e x r is = grind arith
-
   pub bare_weaker : IsWeaker m (bare m).flag
-  bare_weaker = record { no_more = λ f is. weak_without (m.flag f) _ _ is; no_less = λ f is. kept_adding false (m.flag f) _ is }
+  bare_weaker = record { no_more = λ f is. grind arith; no_less = λ f is. grind arith }
 
   weak_adding : (e x r : Bool) → ((e || (x && not r)) && r) ≡ true → e ≡ true
   weak_adding e x r is = grind arith
@@ -73,12 +57,12 @@ module _ (m : Notation) where
     no_more = λ g is.
         let same = same_flag g f (eqb-true (bit g) (bit f) (weak_adding _ (m.flag g) (is_one_of requirement_flags g) is)) in
         ap m.flag same ∙ set (ap (is_one_of requirement_flags) (sym same) ∙ (and_parts ((bit g == bit f) || (bare m).flag g) _ is).1);
-    no_less = λ g is. kept_adding (bit g == bit f) (m.flag g) (is_one_of requirement_flags g) is;
+    no_less = λ g is. grind arith;
   }
 
   pub without_weaker : (f : Flag) → is_one_of requirement_flags f ≡ true → IsWeaker m (without f m).flag
   without_weaker f requires = record {
-    no_more = λ g is. weak_without (m.flag g) (bit g == bit f) _ is;
+    no_more = λ g is. (and_parts (m.flag g) _ (and_parts ((without f m).flag g) _ is).0).0;
     no_less = λ g is. elim (cases_Bool (bit g == bit f)) [
       | inl same ↦ or_right ((without f m).flag g) _ (ap (is_one_of requirement_flags) (same_flag g f (eqb-true (bit g) (bit f) same)) ∙ requires)
       | inr other ↦ or_left _ _ (and_from _ _ is (ap not other))
@@ -134,24 +118,18 @@ module _ (m : Notation) where
         not_lower : (g : Flag) → bit g < bit flag → Releases m front next g → ⊥
         not_lower g below is = false≢true (sym (least g below is.0) ∙ (decides _ (without_weaker g (and_parts (m.flag g) _ is.0).1)).1 is.1)
 
-        is_lowest : IsLowest m front next flag
-        is_lowest = record { none_alone = none_alone; releases = releases; lowest = not_lower }
-
         the_one : (f : Flag) → IsLowest m front next f → bit f ≡ bit flag
-        the_one f lowest = elim (cases_lt (bit f) (bit flag)) [
-          | inl below ↦ absurd (not_lower f below lowest.releases)
-          | inr above ↦ elim (cases_lt (bit flag) (bit f)) [
-            | inl higher ↦ absurd (lowest.lowest flag higher releases)
-            | inr same ↦ omega (arith, above, same)
-          ]
-        ]
+        the_one f lowest =
+            let low = λ (below : bit f < bit flag). not_lower f below lowest.releases in
+            let high = λ (above : bit flag < bit f). lowest.lowest flag above releases in grind arith
 
         one_lowest : IsRequirement m front next (raw (2 ^ bit flag)).flag
         one_lowest = record {
           allowed = (decides _ bare_weaker).0 allowed;
           some = (flag, flag_pow flag (bit flag) ∙ eq-eqb (bit flag) (bit flag) refl);
           each = λ f. (
-            λ is. inr (subst (IsLowest m front next) (sym (same_flag f flag (eqb-true (bit f) (bit flag) (sym (flag_pow f (bit flag)) ∙ is)))) is_lowest),
+            λ is. inr (subst (IsLowest m front next) (sym (same_flag f flag (eqb-true (bit f) (bit flag) (sym (flag_pow f (bit flag)) ∙ is))))
+                (record { none_alone = none_alone; releases = releases; lowest = not_lower })),
             λ is. elim is [
               | inl refuses ↦ absurd (none_alone f refuses)
               | inr lowest ↦ flag_pow f (bit flag) ∙ eq-eqb (bit f) (bit flag) (the_one f lowest)
@@ -161,9 +139,6 @@ module _ (m : Notation) where
 
       met : (b a : Bool) → (b && not a) ≡ false → b ≡ true → a ≡ true
       met b a none is = grind arith
-
-      needs : (t n : Bool) → (t && not n) ≡ false → t ≡ true → n ≡ true
-      needs t n none is = grind arith
 
       -- Two flags on leading zeros refuse together.
       module _ (refused : allows m s class ≡ false) where
@@ -175,9 +150,7 @@ module _ (m : Notation) where
 
         two : (t : Bool) → zeros_bind m ≡ t → (if t then allows (without layout.no_integer_leading_zeros m) s class
             else m.flag layout.no_float_leading_zeros && allows (without layout.no_float_leading_zeros m) s class) ≡ true
-        two t is = sym (ap (λ t. if t then allows (without layout.no_integer_leading_zeros m) s class
-            else m.flag layout.no_float_leading_zeros && allows (without layout.no_float_leading_zeros m) s class) is)
-            ∙ joint m s class (going m s class allowed refused) each_free refused
+        two t is = rw (is) at (joint m s class (going m s class allowed refused) each_free refused)
 
         pub first_of_two : zeros_bind m ≡ true → IsRequirement m front next (raw (2 ^ 12)).flag
         first_of_two is = one_lowest layout.no_integer_leading_zeros (and_from _ _ (and_parts (m.flag layout.no_integer_leading_zeros) _ is).0 refl)
@@ -186,23 +159,14 @@ module _ (m : Notation) where
         pub second_of_two : zeros_bind m ≡ false → IsRequirement m front next (raw (2 ^ 13)).flag
         second_of_two is =
             let both = and_parts (m.flag layout.no_float_leading_zeros) _ (two false is) in
-            one_lowest layout.no_float_leading_zeros (and_from _ _ both.0 refl) both.1 (λ g below set. lower_free g (elim (cases_lt (bit g) 12) [
-              | inl under ↦ or_left _ _ (lt-ltb (bit g) 12 under)
-              | inr same ↦
-                  let twelve : bit g ≡ 12 = omega arith in
-                  let on = ap m.flag (sym (same_flag g layout.no_integer_leading_zeros twelve)) ∙ (and_parts (m.flag g) _ set).0 in
-                  or_right (nat_lt (bit g) 12) _ (and_from _ _ (eq-eqb (bit g) 12 twelve) (needs (m.flag layout.no_integer_leading_zeros) _ is on))
-            ]))
+            one_lowest layout.no_float_leading_zeros (and_from _ _ both.0 refl) both.1 (λ g below set. lower_free g
+            (let on = λ (twelve : bit g ≡ 12). ap m.flag (sym (same_flag g layout.no_integer_leading_zeros twelve)) ∙ (and_parts (m.flag g) _ set).0 in
+            grind (arith, nat_tests)))
 
   -- SEPARATORS
 
   own_at : (place : Place) (part : Part) (f : Flag) → is_at place part f ≡ true → is_own part f ≡ true
-  own_at places.BeforeDigits part f is = grind arith
-  own_at _ part f is = grind arith
-
-  own_separates : (part : Part) (f : Flag) → is_own part f ≡ true → is_one_of separator_flags f ≡ true
-  own_separates parts.Integer f is = grind (arith, nat_tests)
-  own_separates _ f is = grind (arith, nat_tests)
+  own_at place part f is = grind arith
 
   module _ (s : Summary) (class : Class) (front : List ℕ) (byte : ℕ) (decides : Decides m s (Some class) front (Some byte))
       (refused : allows (bare m) s (Some class) ≡ false) where
@@ -216,7 +180,7 @@ module _ (m : Notation) where
     owned : (f : Flag) → found f ≡ true → (is_one_of separator_flags f ≡ true) × (allows (adding f (bare m)) s (Some class) ≡ true)
     owned f is =
         let both = and_parts (is_own s.part f) _ (and_parts (s.gap || is_role roles.Separator (in_part s.part class)) _ is).1 in
-        (own_separates s.part f both.0, both.1)
+        (let own = both.0 in grind (arith, nat_tests), both.1)
 
     -- The flags that are found are those that permit a separator, and of its place.
     pub each_permits : (f : Flag) → (found f ≡ true) ↔ Permits m front byte f

@@ -108,12 +108,10 @@ has_either a b of_a of_b some = elim (eq-zero-or-pos a) [
 
 -- The flags of a mask that is taken if `t` is true.
 pub flag_if : (t : Bool) (mask : ℕ) (f : Flag) → (raw (if t then mask else 0)).flag f ≡ (t && (raw mask).flag f)
-flag_if true mask f = refl
-flag_if false mask f = flag_zero f
+flag_if t mask f = let zero = flag_zero f in grind arith
 
 pub is_taken : (t : Bool) (mask : ℕ) → (if t then mask else 0) ≢ 0 → t ≡ true
-is_taken true mask some = refl
-is_taken false mask some = absurd (some refl)
+is_taken t mask some = grind arith
 
 -- A mask of one flag, if `t` is true.
 pub one_flag : (t : Bool) (k mask : ℕ) → mask ≡ (if t then 2 ^ k else 0) → (f : Flag) → (raw mask).flag f ≡ (t && (bit f == k))

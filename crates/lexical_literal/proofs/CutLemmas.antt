@@ -7,7 +7,7 @@ use Rattle.lexical_util.specs.declared.feature_format.roles.Role.{Role}
 use Rattle.lexical_util.specs.declared.feature_format.roles.Role.TheVariants as roles
 use Rattle.lexical_util.specs.declared.format_flags.Part.{Part}
 use Rattle.lexical_util.specs.declared.format_flags.Part.TheVariants as parts
-use Rattle.lexical_literal.specs.Notation.{Notation, role_set}
+use Rattle.lexical_literal.specs.Notation.{Notation}
 use Rattle.lexical_literal.specs.Literal.{Literal, is_none_or_one}
 use Rattle.lexical_literal.specs.Additions.Summary.{implies, has_digit, is_fresh, is_bare, after_digit, after_mark, after_point, is_open, may_follow}
 use Rattle.lexical_literal.specs.Additions.Summary.{is_signed, forbids_plus, gap_fits, digits_suffice, ends, continues, may_float, takes, after}
@@ -51,10 +51,6 @@ module _ (m : Notation) where
       → Cut m part stage gap text → Found m part stage gap [] [] text
   plain part stage gap text over bare new cut = unprefixed part stage gap [] cut.prefix text bare new (unsigned part stage gap text over cut)
 
-  -- Where no sign follows, none is needed.
-  no_sign_fits : (part : Part) (stage : Stage) → is_signed m part stage ≡ true → sign_fits m part stage [] ≡ true
-  no_sign_fits part stage signed = grind arith
-
   module _ (part : Part) (stage : Stage) (gap : Bool) (text : List ℕ) where
     cut_at : (sign prefix digits : List ℕ) (more : Literal) → text ≡ sign ++ (prefix ++ (digits ++ text_after part more)) → sign_fits m part stage sign ≡ true
         → prefix_fits m stage gap prefix ≡ true → is_rest m part (has_digit (stage_at stage sign prefix)) (gap_at gap prefix) digits ≡ true
@@ -79,7 +75,7 @@ module _ (m : Notation) where
         → ((run : List ℕ) → stage_after (m.digit part) next gap' run ≡ after_byte (m.digit part) stage gap b run digit)
         → Found m part next gap' [] [] text → Cut m part stage gap (b ∷ text)
     longer next gap' digit is signed fits same found = cut_at part stage gap (b ∷ text) [] [] (b ∷ found.digits) found.more (ap (λ t. b ∷ t) found.whole)
-        (no_sign_fits part stage signed) refl (fits found.digits found.run)
+        (grind arith) refl (fits found.digits found.run)
         (subst (λ s. ends_part m part found.more s ≡ true) (same found.digits ∙ ap (after_byte (m.digit part) stage gap b found.digits) (sym is)) found.end)
 
     -- A digit in front, or the zero of a prefix.
@@ -90,7 +86,7 @@ module _ (m : Notation) where
       go [] found = longer (after_digit stage gap (b == 48)) false true digit signed
           (λ run is. grind arith) (λ run. refl) found
       go (x ∷ []) found = cut_at part stage gap (b ∷ text) [] (b ∷ x ∷ []) found.digits found.more (ap (λ t. b ∷ t) found.whole)
-          (no_sign_fits part stage signed) (let prefixed = found.prefixed in grind arith) found.run found.end
+          (grind arith) (let prefixed = found.prefixed in grind arith) found.run found.end
       go (z ∷ x ∷ more) found = absurd (let prefixed = found.prefixed in grind arith)
 
     -- A separator in front.
@@ -145,31 +141,25 @@ module _ (m : Notation) where
     ended s (b ∷ text) over is = absurd (false≢true (sym (took m h s b (λ o. Accepts m o text) (none_accepts m text) is).going ∙ over))
 
     -- What is accepted can be cut into parts.
-    abbrev CanCut : List ℕ → Type 0
-    CanCut text = (part : Part) (stage : Stage) (gap : Bool) → Accepts m (Some (reading part stage gap)) text → Cut m part stage gap text
-
     pub cut_of : (part : Part) (stage : Stage) (gap : Bool) (text : List ℕ) → Accepts m (Some (reading part stage gap)) text → Cut m part stage gap text
     cut_of part stage gap [] is = stopped part stage gap [] is refl
     cut_of part stage gap (b ∷ text) is =
         let t = took m h (reading part stage gap) b (λ o. Accepts m o text) (none_accepts m text) is in
         go t.role t.plays t.taken t.rest (λ part stage gap. cut_of part stage gap text) where
-          plays : (r : Role) → role_in m part b ≡ Some r → role_set m r b ≡ true
-          plays r role = as_role m h part r b role
-
           go : (r : Role) → role_in m part b ≡ Some r → takes m (reading part stage gap) (b == 43) r ≡ true
-              → Accepts m (Some (after (reading part stage gap) (b == 48) r)) text → CanCut text → Cut m part stage gap (b ∷ text)
+              → Accepts m (Some (after (reading part stage gap) (b == 48) r)) text
+              → ((part : Part) (stage : Stage) (gap : Bool) → Accepts m (Some (reading part stage gap)) text → Cut m part stage gap text)
+              → Cut m part stage gap (b ∷ text)
           go roles.Digit role taken is cut =
-              let both = and_parts (is_signed m part stage) _ taken in
-              let fits = and_parts _ (may_follow m stage) both.1 in
-              digit_first part stage gap b text (as_digit m h part b role) both.0 fits.0 (cut part (after_digit stage gap (b == 48)) false is)
+              digit_first part stage gap b text (as_digit m h part b role) (grind arith) (grind arith) (cut part (after_digit stage gap (b == 48)) false is)
           go roles.Separator role taken is cut =
-              let both = and_parts (is_signed m part stage) _ taken in
-              separator_first part stage gap b text (no_digit m h part b role) (plays roles.Separator role) both.0 both.1 (cut part (after_mark stage) true is)
-          go roles.Sign role taken is cut = sign_first part stage gap b text (plays roles.Sign role) taken (cut part (after_mark stage) gap is)
-          go roles.Prefix role taken is cut = prefix_first part stage gap b text (plays roles.Prefix role) taken (cut part stages.Free false is)
+              separator_first part stage gap b text (no_digit m h part b role) (as_role m h part _ b role) (grind arith) (grind arith)
+              (cut part (after_mark stage) true is)
+          go roles.Sign role taken is cut = sign_first part stage gap b text (as_role m h part _ b role) taken (cut part (after_mark stage) gap is)
+          go roles.Prefix role taken is cut = prefix_first part stage gap b text (as_role m h part _ b role) taken (cut part stages.Free false is)
           go roles.Point role taken is cut =
-              point_first part stage gap b text (plays roles.Point role) taken (cut parts.Fraction (after_point (has_digit stage)) false is)
+              point_first part stage gap b text (as_role m h part _ b role) taken (cut parts.Fraction (after_point (has_digit stage)) false is)
           go roles.Exponent role taken is cut =
-              exponent_first part stage gap b text (plays roles.Exponent role) taken (cut parts.Exponent stages.Mark false is)
+              exponent_first part stage gap b text (as_role m h part _ b role) taken (cut parts.Exponent stages.Mark false is)
           go roles.Suffix role taken is cut = stopped part stage gap (b ∷ text) taken
-              (subst (λ t. is_none_or_one m.suffix (b ∷ t) ≡ true) (sym (ended _ text refl is)) (plays roles.Suffix role))
+              (subst (λ t. is_none_or_one m.suffix (b ∷ t) ≡ true) (sym (ended _ text refl is)) (as_role m h part _ b role))

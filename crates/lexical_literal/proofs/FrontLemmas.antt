@@ -28,9 +28,6 @@ module _ (m : Notation) where
       → ((digit ≡ true) × (gap_fits m part digit gap false ≡ true)) ⊎ ((gap_fits m part digit gap true ≡ true) × (implies digit next ≡ true))
   closed part digit gap next is = grind arith
 
-  point_unled : (digit : Bool) → implies (is_led (after_point digit)) (may_lead m) ≡ true
-  point_unled digit = grind arith
-
   -- What can go on does so after each byte that is taken.
   goes_on : (s : Summary) (plus zero : Bool) (r : Role) → CanGoOn m s → takes m s plus r ≡ true → CanGoOn m (after s zero r)
   goes_on s plus zero roles.Digit can is = record { closes = refl; led = grind arith }
@@ -63,11 +60,9 @@ module _ (m : Notation) where
     digit_completed part stage gap signed can finishes = elim (closed part (has_digit stage) gap (may_follow m stage) can.closes) [
       | inl here ↦ finishes stage gap here.0 (and_from _ _ signed (and_from _ _ here.1 (let digit = here.0 in grind arith))) can.led
       | inr more ↦
-          let seen : has_digit (after_digit stage gap true) ≡ true = grind arith in
-          let may : may_follow m stage ≡ true = (let digit = more.1 in grind arith) in
           then_byte (reading part stage gap) 48 roles.Digit refl (digit_role m ready.roles part 48 (ready.roles.zero_is_digit part))
-          (and_from _ _ signed (and_from _ _ more.0 may)) (finishes (after_digit stage gap true) false seen
-          (and_from (is_signed m part (after_digit stage gap true)) _ (grind arith) (grind arith)) (let led = can.led in grind arith))
+          (and_from _ _ signed (and_from _ _ more.0 (let digit = more.1 in grind arith))) (finishes (after_digit stage gap true) false (grind arith)
+          (grind arith) (let led = can.led in grind arith))
     ]
 
     -- A sign first, where one may follow.
@@ -84,40 +79,23 @@ module _ (m : Notation) where
     exponent_finishes : Finishes parts.Exponent
     exponent_finishes stage gap digit end led = ([], and_from _ true end refl)
 
-    scale : (a b n : Bool) → (a && b) ≡ false → (b && not n) ≡ true → (not a ≡ true) × (n ≡ false)
-    scale a b n agree needs = grind arith
-
     fraction_finishes : Finishes parts.Fraction
     fraction_finishes stage gap digit end led = elim (cases_Bool (needs_exponent m)) [
       | inl needs ↦
-          let may = scale (m.flag layout.no_exponent_notation) (m.flag layout.required_exponent_notation) m.integers_only ready.agree needs in
+          let agree = ready.agree in
           then_byte (reading parts.Fraction stage gap) ready.exponent roles.Exponent refl
-          (is_role m ready.roles parts.Fraction roles.Exponent ready.exponent (λ e. cc) (ready.has_exponent may.1)) (and_from _ _ end may.0)
+          (is_role m ready.roles parts.Fraction roles.Exponent ready.exponent (λ e. cc) (ready.has_exponent (grind arith))) (and_from _ _ end (grind arith))
           (part_completed parts.Exponent stages.Mark false (record { closes = refl; led = refl }) exponent_finishes)
       | inr none ↦ ([], and_from _ _ end (ap not none))
     ]
 
-    -- Where no point may follow, a number may stop.
-    stops : (d l f i r n : Bool) → d ≡ true → (n || (l && f)) ≡ true → implies l ((not n && not f) || (not i && not (r && not n))) ≡ true
-        → (not (r && not n) && (d && implies i (not l))) ≡ true
-    stops d l f i r n digit no_point led = grind arith
-
-    points : (l f n : Bool) → (n || (l && f)) ≡ false → (n ≡ false) × (implies f (not l) ≡ true)
-    points l f n may = grind arith
-
     integer_finishes : Finishes parts.Integer
     integer_finishes stage gap digit end led = elim (cases_Bool (m.integers_only || (is_led stage && m.flag layout.no_float_leading_zeros))) [
-      | inl no_point ↦ (
-        [],
-        and_from _ _ end (stops (has_digit stage) (is_led stage) (m.flag layout.no_float_leading_zeros) (m.flag layout.no_integer_leading_zeros)
-            (m.flag layout.required_exponent_notation) m.integers_only digit no_point led),
-      )
+      | inl no_point ↦ ([], and_from _ _ end (grind arith))
       | inr point ↦
-          let may = points (is_led stage) (m.flag layout.no_float_leading_zeros) m.integers_only point in
           then_byte (reading parts.Integer stage gap) ready.point roles.Point refl
-          (is_role m ready.roles parts.Integer roles.Point ready.point (λ e. cc) (ready.has_point may.0)) (and_from _ _ end may.1)
-          (part_completed parts.Fraction (after_point (has_digit stage)) false
-          (record { closes = refl; led = point_unled (has_digit stage) }) fraction_finishes)
+          (is_role m ready.roles parts.Integer roles.Point ready.point (λ e. cc) (ready.has_point (grind arith))) (and_from _ _ end (grind arith))
+          (part_completed parts.Fraction (after_point (has_digit stage)) false (record { closes = refl; led = grind arith }) fraction_finishes)
     ]
 
     completed : (part : Part) (stage : Stage) (gap ended : Bool) → CanGoOn m (record { part = part; stage = stage; gap = gap; ended = ended })
@@ -131,8 +109,7 @@ module _ (m : Notation) where
     pub front_from : (text : List ℕ) (s : Summary) → scan m (Some start) text ≡ Some s → IsFront m text
     front_from text s is =
         let more = completed s.part s.stage s.gap s.ended (all_go_on ready.roles start text s (record { closes = refl; led = refl }) is) in
-        let found = literal_from m ready.roles (text ++ more.0) (subst (λ o. is_accepted m o ≡ true)
-        (sym (scan_append m (Some start) text more.0 ∙ ap (λ o. scan m o more.0) is)) more.1) in
+        let found = literal_from m ready.roles (text ++ more.0) (rw (scan_append m (Some start) text more.0, is) more.1) in
         record { more = more.0; literal = found.0; reads = found.1 }
 
     -- A front of a literal is read.

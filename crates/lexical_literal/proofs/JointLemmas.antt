@@ -29,8 +29,7 @@ taken n s plus (Some role) = takes n s plus role
 
 moved : (n : Notation) (s : Summary) (ended plus zero : Bool) (o : Option Role)
     → is_some (move n (record s { ended = ended }) plus zero o) ≡ (not ended && taken n (reading s.part s.stage s.gap) plus o)
-moved n s ended plus zero None = grind arith
-moved n s ended plus zero (Some role) = grind arith
+moved n s ended plus zero o = grind arith
 
 -- What is allowed is a question of roles, before a suffix.
 pub allows_is : (n : Notation) (s : Summary) (next : Option Class) → s.ended ≡ false
@@ -38,9 +37,6 @@ pub allows_is : (n : Notation) (s : Summary) (next : Option Class) → s.ended �
 allows_is n s None going = grind arith
 allows_is n s (Some class) going = moved n s s.ended (is_plus class) (is_zero class) (in_part s.part class)
     ∙ ap (λ e. not e && taken n (reading s.part s.stage s.gap) (is_plus class) (in_part s.part class)) going
-
-not_ended : (e t : Bool) → (not e && t) ≡ true → e ≡ false
-not_ended e t is = grind arith
 
 module _ (m : Notation) where
   -- FLAGS THAT REFUSE ALONE
@@ -50,18 +46,12 @@ module _ (m : Notation) where
       → refuses m (reading part stage gap) plus o (bit f) ≡ not (taken (adding f (bare m)) (reading part stage gap) plus o)
   alone_role f part stage gap plus None requires free = absurd (false≢true free)
   alone_role layout.required_mantissa_digits parts.Integer stage gap plus (Some roles.Digit) requires free = grind arith
-  alone_role layout.required_mantissa_digits _ stage gap plus (Some _) requires free = grind arith
   alone_role layout.no_exponent_notation parts.Integer stage gap plus (Some roles.Exponent) requires _ = grind arith
-  alone_role layout.no_exponent_notation _ stage gap plus (Some _) requires free = grind arith
   alone_role layout.no_exponent_without_fraction parts.Integer stages.Start gap plus (Some roles.Exponent) requires _ = grind arith
   alone_role layout.no_exponent_without_fraction parts.Integer _ gap plus (Some roles.Exponent) requires _ = grind arith
-  alone_role layout.no_exponent_without_fraction _ stage gap plus (Some _) requires free = grind arith
   alone_role layout.no_integer_leading_zeros parts.Integer stage gap plus (Some roles.Digit) requires free = grind arith
-  alone_role layout.no_integer_leading_zeros _ stage gap plus (Some _) requires free = grind arith
   alone_role layout.no_float_leading_zeros parts.Integer stage gap plus (Some roles.Digit) requires free = grind arith
-  alone_role layout.no_float_leading_zeros _ stage gap plus (Some _) requires free = grind arith
   alone_role layout.required_exponent_notation parts.Integer stage gap plus (Some roles.Digit) requires free = grind arith
-  alone_role layout.required_exponent_notation _ stage gap plus (Some _) requires free = grind arith
   alone_role _ part stage gap plus (Some role) requires free = grind arith
 
   -- FLAGS THAT REFUSE TOGETHER
@@ -82,8 +72,6 @@ module _ (m : Notation) where
 
   whole_role : (part : Part) (stage : Stage) (gap plus : Bool) (role : Role) → Alone (λ n. takes n (reading part stage gap) plus role) → is_digits role ≡ false
       → takes m (reading part stage gap) plus role ≡ true
-  whole_role _ stage gap plus roles.Digit a other = absurd (false≢true (sym other))
-  whole_role _ stage gap plus roles.Separator a other = absurd (false≢true (sym other))
   whole_role parts.Exponent stage gap plus roles.Sign a other = let forbidden = met a layout.no_positive_exponent_sign in grind arith
   whole_role _ stage gap plus roles.Sign a other = let forbidden = met a layout.no_positive_mantissa_sign in grind arith
   whole_role parts.Integer stage gap plus roles.Suffix a other =
@@ -123,11 +111,8 @@ module _ (m : Notation) where
   led : (part : Part) (stage : Stage) (gap plus : Bool) (role : Role) → is_digits role ≡ true → Alone (λ n. takes n (reading part stage gap) plus role)
       → takes m (reading part stage gap) plus role ≡ false
       → (may_follow m stage || (is_role roles.Separator (Some role) && is_place m part (has_digit stage) false)) ≡ false
-  led parts.Exponent stage gap plus roles.Digit is a refused = let sign = met a layout.required_exponent_sign in grind arith
-  led _ stage gap plus roles.Digit is a refused = let sign = met a layout.required_mantissa_sign in grind arith
-  led parts.Exponent stage gap plus roles.Separator is a refused = let sign = met a layout.required_exponent_sign in grind arith
-  led _ stage gap plus roles.Separator is a refused = let sign = met a layout.required_mantissa_sign in grind arith
-  led _ stage gap plus _ is a refused = absurd (false≢true is)
+  led parts.Exponent stage gap plus role is a refused = let sign = met a layout.required_exponent_sign in grind arith
+  led _ stage gap plus role is a refused = let sign = met a layout.required_mantissa_sign in grind arith
 
   joint_role : (part : Part) (stage : Stage) (gap plus : Bool) (o : Option Role) → Alone (λ n. taken n (reading part stage gap) plus o)
       → taken m (reading part stage gap) plus o ≡ false → in_two (λ n. taken n (reading part stage gap) plus o) ≡ true
@@ -183,7 +168,7 @@ module _ (m : Notation) where
   -- What is allowed without requirements, and refused with them, follows no suffix.
   pub going : (s : Summary) (next : Option Class) → allows (bare m) s next ≡ true → allows m s next ≡ false → s.ended ≡ false
   going s None free refused = (or_parts s.ended _ refused).0
-  going s (Some class) free refused = not_ended s.ended _ (sym (moved (bare m) s s.ended (is_plus class) (is_zero class) (in_part s.part class)) ∙ free)
+  going s (Some class) free refused = let is = sym (moved (bare m) s s.ended (is_plus class) (is_zero class) (in_part s.part class)) ∙ free in grind arith
 
   module _ (s : Summary) (next : Option Class) (unended : s.ended ≡ false) where
     abbrev o : Option Role
@@ -208,5 +193,5 @@ module _ (m : Notation) where
       → allows (adding f (bare m)) s (Some class) ≡ true → separates m s (in_part s.part class) f ≡ true
   at_next f s class is refused allowed =
       subst (λ (P : Notation → Bool). P (bare m) ≡ false → P (adding f (bare m)) ≡ true → separates m s (in_part s.part class) f ≡ true)
-      (same s (Some class) (not_ended s.ended _ (sym (moved (adding f (bare m)) s s.ended (is_plus class) (is_zero class) (in_part s.part class)) ∙ allowed)))
+      (same s (Some class) (let is = sym (moved (adding f (bare m)) s s.ended (is_plus class) (is_zero class) (in_part s.part class)) ∙ allowed in grind arith))
       (at_role f s.part s.stage s.gap (is_plus class) (in_part s.part class) is) refused allowed

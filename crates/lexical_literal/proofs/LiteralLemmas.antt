@@ -14,13 +14,13 @@ use Rattle.lexical_literal.specs.Notation.{Notation}
 use Rattle.lexical_literal.specs.Run.{is_run}
 use Rattle.lexical_literal.specs.Literal.{Literal, IsLiteral, Reads, text_of, is_present, is_absent, is_plus, is_none_or_one, is_none_or_prefix, is_zero_led}
 use Rattle.lexical_literal.specs.Additions.Summary.{Cuts, implies, has_digit, is_lone, is_led, after_digit, after_mark, after_point, may_follow, may_lead, is_signed}
-use Rattle.lexical_literal.specs.Additions.Summary.{forbids_plus, gap_fits, digits_suffice, ends, continues, may_float, add, digits_piece, piece_of, start, no_cuts}
+use Rattle.lexical_literal.specs.Additions.Summary.{forbids_plus, gap_fits, digits_suffice, ends, continues, add, digits_piece, piece_of, start, no_cuts}
 use Rattle.lexical_literal.specs.declared.steps.Piece.TheVariants as pieces
 use Rattle.lexical_literal.specs.declared.steps.Stage.{Stage}
 use Rattle.lexical_literal.specs.declared.steps.Stage.TheVariants as stages
 use Rattle.lexical_literal.proofs.RunLemmas.{is_rest, rest_of_none, digits_present, opens}
 use Rattle.lexical_literal.proofs.ScanLemmas.{HasRoles, Accepts, Arrives, add_all, arrives_byte, digit_role, is_role}
-use Rattle.lexical_literal.proofs.StepLemmas.{reading, led_after, stage_after, after_byte, passed, stage_at, sign_fits, prefix_fits, digits_fit}
+use Rattle.lexical_literal.proofs.StepLemmas.{reading, led_after, stage_after, passed, stage_at, sign_fits, prefix_fits, digits_fit}
 use Rattle.lexical_literal.proofs.StepLemmas.{ends_exponent, ends_mantissa, fraction_fits, stops, scales, ends_part, text_after}
 use Rattle.lexical_literal.proofs.CutLemmas.{cut_of}
 
@@ -69,11 +69,8 @@ module _ (k one_k s one_s plus e fits_e one_x no_plus sign_required digits_requi
     tail_if same facts = grind arith
 
     module _ (absent_s : implies s (one_s && not plus) ≡ true) (absent_e : implies e fits_e ≡ true) (is : tail_fits stop scale digit ≡ true) where
-      has_exponent : fits_e ≡ true
-      has_exponent = grind arith
-
       tail_facts : (fits_e ≡ true → digit ≡ not e) → TailFacts stop scale
-      tail_facts seen = let same : digit ≡ not e = seen has_exponent in grind arith
+      tail_facts seen = let fits : fits_e ≡ true = grind arith in let same : digit ≡ not e = seen fits in grind arith
 
 -- What an integer and a fraction satisfy: `any` and `led` tell whether the integer has a digit and a leading zero, and `p`, `f` and
 -- `k` whether the point, the fraction and the exponent character are absent.
@@ -97,13 +94,11 @@ module _ (any led p one_p f fits_f k : Bool) (flag : Flag → Bool) (only : Bool
       || (not (flag layout.no_integer_leading_zeros) && not (flag layout.required_exponent_notation && not only))
 
   abbrev stops_so : Bool
-  stops_so =
-      let may = not (flag layout.required_exponent_notation && not only) in
+  stops_so = let may = not (flag layout.required_exponent_notation && not only) in
       if p then may && (any && implies (flag layout.no_integer_leading_zeros) (not led)) else may
 
   abbrev scales_so : Bool
-  scales_so =
-      let may = not (flag layout.no_exponent_notation) in
+  scales_so = let may = not (flag layout.no_exponent_notation) in
       if p then may && (implies (flag layout.no_float_leading_zeros) (not led)
       && (implies (flag layout.required_mantissa_digits) any && not (flag layout.no_exponent_without_fraction))) else may
 
@@ -120,9 +115,6 @@ module _ (any led p one_p f fits_f k : Bool) (flag : Flag → Bool) (only : Bool
 
     module _ (absent_f : implies f fits_f ≡ true) (is_point : one_p ≡ true) (integer : implies (flag layout.required_integer_digits) any ≡ true)
         (is : fraction_so digit lone ≡ true) where
-      has_fraction : fits_f ≡ true
-      has_fraction = grind arith
-
       end_facts : implies k stops_so ≡ true → implies (not k) scales_so ≡ true
           → (fits_f ≡ true → digit ≡ not f) → (fits_f ≡ true → lone ≡ not (not f || any)) → EndFacts
       end_facts stop scale seen counted = grind arith
@@ -170,8 +162,7 @@ module _ (m : Notation) where
         grind arith
 
     exponent_seen : is_rest m parts.Exponent false false l.exponent ≡ true → has_digit exponent_last ≡ is_present l.exponent
-    exponent_seen fit = has_bytes parts.Exponent (stage_at stages.Mark l.exponent_sign []) l.exponent
-        (grind arith) fit
+    exponent_seen fit = has_bytes parts.Exponent (stage_at stages.Mark l.exponent_sign []) l.exponent (grind arith) fit
 
     -- WHAT IS ACCEPTED IS A LITERAL
 
@@ -193,8 +184,7 @@ module _ (m : Notation) where
         let point = and_parts (is_none_or_one m.point l.point) _ digits.1 in
         let fraction = and_parts (fraction_fits m l integer_last) _ point.1 in
         let tail = tail_of (stops m l integer_last) (scales m l integer_last) fraction.1 in
-        let end = subst (λ t. End t (is_zero_led m l)) (integer_seen run)
-        (subst (λ t. End (has_digit integer_last) t) integer_led (end_of integer_last tail digits.0 point.0 fraction.0)) in
+        let end = rw (integer_seen run, integer_led) at (end_of integer_last tail digits.0 point.0 fraction.0) in
         record {
           sign = grind arith;
           prefix = grind arith;
@@ -220,10 +210,8 @@ module _ (m : Notation) (h : HasRoles m) where
       let l : Literal = record found.more { sign = cut.sign; prefix = cut.prefix; integer = found.digits } in
       let first = stage_at stages.Start cut.sign cut.prefix in
       let no_gap = and_right (is_absent cut.prefix) false refl in
-      let run = subst (λ t. is_rest m parts.Integer t false found.digits ≡ true) (grind arith)
-      (subst (λ g. is_rest m parts.Integer (has_digit first) g found.digits ≡ true) no_gap found.run) in
-      let end = subst (λ g. ends_part m parts.Integer found.more (stage_after (m.digit parts.Integer) first g found.digits) ≡ true) no_gap found.end in
-      (l, record { whole = found.whole; literal = literal_if m l found.signed found.prefixed run end })
+      let none : has_digit first ≡ false = grind arith in
+      (l, record { whole = found.whole; literal = literal_if m l found.signed found.prefixed (rw (none, no_gap) at found.run) (rw (no_gap) at found.end) })
 
   -- A LITERAL IS ACCEPTED
 
@@ -245,19 +233,17 @@ module _ (m : Notation) (h : HasRoles m) where
   run_arrives part stage gap [] rest c d signed fit goes = goes.arrives gap fit signed
   run_arrives part stage gap (b ∷ run) rest c d signed fit goes =
       let more = add c (digits_piece part) in
-      let next : (t : Bool) → m.digit part b ≡ t → Goes part (after_byte (m.digit part) stage gap b run t) (add_all more (digits_piece part) run) rest d =
-      λ t is. subst (λ t. Goes part (after_byte (m.digit part) stage gap b run t) (add_all more (digits_piece part) run) rest d) is goes in
       elim (cases_Bool (m.digit part b)) [
         | inl digit ↦
             let may = follow (m.digit part) stage gap (b ∷ run) goes.leads (or_left _ _ digit) in
             arrives_byte m h (reading part stage gap) b roles.Digit c (run ++ rest) d refl (digit_role m h part b digit) (grind arith)
-            (run_arrives part (after_digit stage gap (b == 48)) false run rest more d (grind arith) (grind arith) (next true digit))
+            (run_arrives part (after_digit stage gap (b == 48)) false run rest more d (grind arith) (grind arith) (rw (digit) at goes))
         | inr other ↦
             let may = λ (some : list_any (m.digit part) run ≡ true). follow (m.digit part) stage gap (b ∷ run) goes.leads (or_right (m.digit part b) _ some) in
             let closes = opens m part (has_digit stage) (may_follow m stage) run (grind arith) may in
             arrives_byte m h (reading part stage gap) b roles.Separator c (run ++ rest) d refl
             (is_role m h part roles.Separator b (λ e. cc) (grind arith)) (grind arith)
-            (run_arrives part (after_mark stage) true run rest more d (grind arith) (grind arith) (next false other))
+            (run_arrives part (after_mark stage) true run rest more d (grind arith) (grind arith) (rw (other) at goes))
       ]
 
   -- Digits of a part without a leading zero.
@@ -269,7 +255,7 @@ module _ (m : Notation) (h : HasRoles m) where
       → Arrives m (Some (reading part stage false)) c (run ++ rest) d
   unled_arrives part stage run rest c d signed none unled fit goes =
       run_arrives part stage false run rest c d signed (subst (λ t. is_rest m part t false run ≡ true) (sym none) fit)
-      (record { leads = λ led. absurd (false≢true (sym ((passed (m.digit part) stage false run).led ∙ unled) ∙ led)); arrives = goes })
+      (record { leads = λ led. let last = (passed (m.digit part) stage false run).led in cc; arrives = goes })
 
   -- A sign, or none.
   sign_arrives : (part : Part) (stage : Stage) (gap : Bool) (sign rest : List ℕ) (c d : Cuts) → sign_fits m part stage sign ≡ true
@@ -313,14 +299,13 @@ module _ (m : Notation) (h : HasRoles m) where
     go [] [] [] fits =
         let both = and_parts (continues m part stage roles.Suffix) _ fits in
         stop_arrives part stage gap c l.suffix (and_from _ _ end both.0) both.1
-    go [] sign exponent fits = absurd (grind arith)
     go (b ∷ []) sign exponent fits =
         let scale = and_parts (continues m part stage roles.Exponent) _ (and_parts (m.exponent_character b) _ fits).1 in
         arrives_byte m h (reading part stage gap) b roles.Exponent c (sign ++ (exponent ++ l.suffix)) _ refl
         (is_role m h part roles.Exponent b (λ e. cc) (and_parts (m.exponent_character b) _ fits).0) (and_from _ _ end scale.0)
         (power_arrives (record l { exponent_character = b ∷ []; exponent_sign = sign; exponent = exponent })
         (add c pieces.ExponentCharacter) (let fit = scale.1 in grind arith) (let fit = scale.1 in grind arith))
-    go (b ∷ x ∷ character) sign exponent fits = absurd (false≢true fits)
+    go _ sign exponent fits = absurd (grind arith)
 
   -- What follows the integer digits.
   end_arrives : (l : Literal) (stage : Stage) (gap : Bool) (c : Cuts) → ends m (reading parts.Integer stage gap) ≡ true
@@ -330,21 +315,19 @@ module _ (m : Notation) (h : HasRoles m) where
         (is_none_or_one m.point point && (fraction_fits m l stage && ends_mantissa m l (stops m l stage) (scales m l stage))) ≡ true
         → Arrives m (Some (reading parts.Integer stage gap)) c (text_after parts.Integer l) (end_cuts l c)
     go [] [] fits = tail_arrives l parts.Integer stage gap c end fits
-    go [] (f ∷ fraction) fits = absurd (false≢true fits)
     go (b ∷ []) fraction fits =
         let l : Literal = record l { point = b ∷ []; fraction = fraction } in
         let more = add c pieces.Point in
         let point = and_parts (m.point b) _ fits in
         let both = and_parts (fraction_fits m l stage) _ point.1 in
-        let float = and_parts (may_float m stage) _ both.0 in
-        let run = and_parts (is_rest m parts.Fraction false false fraction) _ float.1 in
+        let float = both.0 in
         arrives_byte m h (reading parts.Integer stage gap) b roles.Point c (fraction ++ text_after parts.Fraction l) (end_cuts l c) refl
-        (is_role m h parts.Integer roles.Point b (λ e. cc) point.0) (and_from _ _ end float.0)
+        (is_role m h parts.Integer roles.Point b (λ e. cc) point.0) (grind arith)
         (unled_arrives parts.Fraction (after_point (has_digit stage)) fraction (text_after parts.Fraction l) more (end_cuts l c)
-        (grind arith) (grind arith) (grind arith) run.0
+        (grind arith) (grind arith) (grind arith) (grind arith)
         (λ gap closed signed. tail_arrives l parts.Fraction (fraction_last m l (has_digit stage)) gap (add_all more pieces.Fraction fraction)
-        (and_from _ _ signed (and_from _ _ closed run.1)) both.1))
-    go (b ∷ x ∷ point) fraction fits = absurd (false≢true fits)
+        (grind arith) both.1))
+    go _ fraction fits = absurd (false≢true fits)
 
   -- A prefix, or none.
   prefix_arrives : (stage : Stage) (prefix rest : List ℕ) (c d : Cuts) → may_follow m stage ≡ true → after_digit stage false true ≡ stages.Bare
@@ -353,7 +336,6 @@ module _ (m : Notation) (h : HasRoles m) where
       (prefix_cuts prefix c) rest d)
       → Arrives m (Some (reading parts.Integer stage false)) c (prefix ++ rest) d
   prefix_arrives stage [] rest c d follows bare signed one more = more signed
-  prefix_arrives stage (z ∷ []) rest c d follows bare signed one more = absurd (false≢true one)
   prefix_arrives stage (z ∷ b ∷ []) rest c d follows bare signed one more =
       let both = and_parts (z == 48) _ one in
       let zero = add c pieces.Integer in
@@ -362,7 +344,7 @@ module _ (m : Notation) (h : HasRoles m) where
       (and_from _ _ signed follows) (subst (λ s. Arrives m (Some (reading parts.Integer s false)) zero (b ∷ rest) d) (sym bare)
       (arrives_byte m h (reading parts.Integer stages.Bare false) b roles.Prefix zero rest d refl
       (is_role m h parts.Integer roles.Prefix b (λ e. cc) both.1) refl (more refl))))
-  prefix_arrives stage (z ∷ b ∷ x ∷ prefix) rest c d follows bare signed one more = absurd (false≢true one)
+  prefix_arrives stage _ rest c d follows bare signed one more = absurd (false≢true one)
 
   module _ (l : Literal) (is : IsLiteral m l) where
     run : (part : Part) (digits : List ℕ) → is_run m part digits ≡ true → is_rest m part false false digits ≡ true

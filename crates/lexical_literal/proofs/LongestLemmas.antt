@@ -63,14 +63,10 @@ pub record HasRead (m : Notation) (seeks : Bool) (text : List ℕ) (i : ℕ) (s 
 module _ (m : Notation) (text : List ℕ) where
   -- A literal is no longer than the longest front that some literal begins with.
   no_longer_than : (n : ℕ) → IsValidUpTo m text n → (more : ℕ) → more ≤ length text → (l : Literal) → Reads m l (take more text) → more ≤ n
-  no_longer_than n wrong more within l reads = elim (cases_lt n more) [
-    | inl past ↦ absurd (wrong.no_longer more past within (record {
-      more = [];
-      literal = l;
-      reads = record { whole = append-nil (take more text) ∙ reads.whole; literal = reads.literal };
-    }))
-    | inr below ↦ below
-  ]
+  no_longer_than n wrong more within l reads =
+      let front : IsFront m (take more text) =
+      record { more = []; literal = l; reads = record { whole = append-nil (take more text) ∙ reads.whole; literal = reads.literal } } in
+      let longer = λ (past : n < more). wrong.no_longer more past within front in grind arith
 
   module _ (seeks : Bool) (scanned : Scanned) (is : IsScanned m seeks text scanned) where
     -- If the front that was read is all of the text and a literal, then its parts have been counted.
@@ -182,46 +178,32 @@ module _ (m : Notation) (ready : IsReady m) (text : List ℕ) where
       no_longer = λ more over within is. absurd (omega arith);
     }
 
-    complete_from : is_complete m s ≡ true → (l : Literal) × Reads m l (take i text)
-    complete_from complete = let l = literal_from m ready.roles (take i text) (ap (is_accepted m) has.read ∙ complete) in (l.0, l.1)
-
-    incomplete_from : is_complete m s ≡ false → NoLiteral m (take i text)
-    incomplete_from incomplete l reads = false≢true (sym incomplete ∙ ap (is_accepted m) (sym has.read) ∙ accepted i l reads)
-
-    longest_from : IsValidUpTo m text i → IsTrue seeks → IsLongest m text (length text) longest
-    longest_from wrong sought = record {
-      found = λ size is. let old = (has.longest_is sought).found size is in (omega (arith, old.0, has.within), old.1, old.2);
-      no_longer = λ more within past l reads. (has.longest_is sought).no_longer more (no_longer_than m text i wrong more within l reads) past l reads;
-    }
-
-    counted_from : (l : Literal) → Reads m l (take i text) → HasLengths l c
-    counted_from l reads = rw (← has.counted, reads.whole, (literal_arrives m ready.roles l reads.literal).1) (has_lengths m ready.roles l reads.literal)
-
     -- What the loop has found where it is left.
     pub is_scanned : (row : ℕ) (counts : List ℕ) → row < 108 → s ≡ tables.summary_at row → c ≡ tables.cuts_of counts → IsValidUpTo m text i
         → (i < length text → allows m (tables.summary_at row) (class_of_next m (slice_get text i)) ≡ false)
         → IsScanned m seeks text (record { valid_up_to = i; row = row; literal = longest; counts = counts })
-    is_scanned row counts small at lengths wrong refused = record {
+    is_scanned row counts small at lengths wrong refused = let read = has.read ∙ ap Some at in record {
       error = wrong;
       row = small;
-      read = has.read ∙ ap Some at;
+      read = read;
       refused = refused;
-      complete = λ complete. complete_from (ap (is_complete m) at ∙ complete);
-      incomplete = λ incomplete. incomplete_from (ap (is_complete m) at ∙ incomplete);
-      longest = longest_from wrong;
-      counted = λ l reads. subst (HasLengths l) lengths (counted_from l reads);
+      complete = λ complete. literal_from m ready.roles (take i text) (ap (is_accepted m) read ∙ complete);
+      incomplete = λ incomplete l reads. false≢true (sym incomplete ∙ ap (is_accepted m) (sym read) ∙ accepted i l reads);
+      longest = λ sought. record {
+        found = λ size is. let old = (has.longest_is sought).found size is in (omega (arith, old.0, has.within), old.1, old.2);
+        no_longer = λ more within past l reads. (has.longest_is sought).no_longer more (no_longer_than m text i wrong more within l reads) past l reads;
+      };
+      counted = λ l reads.
+          rw (← lengths, ← has.counted, reads.whole, (literal_arrives m ready.roles l reads.literal).1) (has_lengths m ready.roles l reads.literal);
     }
 
   -- A text has one reading.
   pub one_reading : (l k : Literal) → Reads m l text → Reads m k text → l ≡ k
   one_reading l k first second =
       let a = has_lengths m ready.roles l first.literal in
-      let b : HasLengths k (cuts_of l) = rw (
-        ← (literal_arrives m ready.roles l first.literal).1,
-        ← first.whole,
-        second.whole,
-        (literal_arrives m ready.roles k second.literal).1,
-      ) (has_lengths m ready.roles k second.literal) in
+      let counts = λ (l : Literal) (is : IsLiteral m l). (literal_arrives m ready.roles l is).1 in
+      let b : HasLengths k (cuts_of l) =
+      rw (← counts l first.literal, ← first.whole, second.whole, counts k second.literal) (has_lengths m ready.roles k second.literal) in
       let sign = same_part l.sign k.sign _ _ (a.sign ∙ sym b.sign) (sym first.whole ∙ second.whole) in
       let prefix = same_part l.prefix k.prefix _ _ (a.prefix ∙ sym b.prefix) sign.1 in
       let integer = same_part l.integer k.integer _ _ (omega (arith, a.integer, b.integer)) prefix.1 in

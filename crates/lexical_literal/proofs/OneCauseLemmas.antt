@@ -1,9 +1,9 @@
 -- A refusal has one cause, and a text has one refusal.
-use Rattle.std.proofs.Common.{ℕ, ◌≡◌, ◌≤◌, ◌↔◌, ◌+◌, ◌^◌, Bool, true, false, if◌then◌else◌, inl, inr, List, Option, Some, None, sum_by, take}
+use Rattle.std.proofs.Common.{ℕ, ◌≡◌, ◌<◌, ◌≤◌, ◌↔◌, ◌+◌, ◌^◌, Bool, true, false, if◌then◌else◌, List, Option, Some, None, sum_by, take}
 use Rattle.std.proofs.Common.{refl, sym, ap, subst, ◌∙◌, arith}
 use Rattle.std.proofs.Math.Nat.{le_antisymm}
 use Rattle.std.specs.Prelude.{slice_get}
-use Rattle.std.proofs.lemmas.Bool.{false≢true, false_from_ne_true, cases_lt}
+use Rattle.std.proofs.lemmas.Bool.{false≢true, false_from_ne_true}
 use Rattle.std.proofs.lemmas.Bool.Decides.{nat_tests}
 use Rattle.lexical_util.specs.Groups.{bits_of}
 use Rattle.lexical_util.specs.Layout.{Flag, bit, flags}
@@ -18,11 +18,8 @@ use Rattle.lexical_literal.specs.declared.cause.Place.{Place}
 use Rattle.lexical_literal.specs.declared.cause.ReadError.{ReadError}
 
 -- A flag allows separators at one place of one part.
-same_place : (x y : Place) (p q : Part) (f : Flag) → is_at x p f ≡ true → is_at y q f ≡ true → x ≡ y
-same_place x y p q f first second = grind (arith, nat_tests)
-
-same_part : (x y : Place) (p q : Part) (f : Flag) → is_at x p f ≡ true → is_at y q f ≡ true → p ≡ q
-same_part x y p q f first second = grind (arith, nat_tests)
+same_at : (x y : Place) (p q : Part) (f : Flag) → is_at x p f ≡ true → is_at y q f ≡ true → (x ≡ y) × (p ≡ q)
+same_at x y p q f first second = (grind (arith, nat_tests), grind (arith, nat_tests))
 
 -- Two truth values that are equivalent to one fact are the same.
 same_truth : {X : Type 0} (a b : Bool) → (a ≡ true) ↔ X → (b ≡ true) ↔ X → a ≡ b
@@ -34,10 +31,8 @@ module _ (m : Notation) (front : List ℕ) (a b : Flag → Bool) where
       → SameBlame (causes.Separator p x) (causes.Separator q y) a b
   separators byte p q x y one two =
       let flags = λ (f : Flag). same_truth (a f) (b f) (one.each f) (two.each f) in
-      let f = one.some.0 in
-      let first = one.at f one.some.1 in
-      let second = two.at f (sym (flags f) ∙ one.some.1) in
-      record { cause = λ j. causes.Separator (same_part x y p q f first second j) (same_place x y p q f first second j); flags = flags }
+      let same = same_at x y p q one.some.0 (one.at _ one.some.1) (two.at _ (sym (flags one.some.0) ∙ one.some.1)) in
+      record { cause = λ j. causes.Separator (same.1 j) (same.0 j); flags = flags }
 
   pub one_cause : (next : Option ℕ) (cause other : Cause) → IsCause m front next cause a → IsCause m front next other b → SameBlame cause other a b
   one_cause next causes.Requirement causes.Requirement one two = record { cause = refl; flags = λ f. same_truth (a f) (b f) (one.each f) (two.each f) }
@@ -69,10 +64,7 @@ one_mask a b one two same = one ∙ (λ j. sum_by (λ f. if same f j then 2 ^ bi
 
 module _ (m : Notation) (text : List ℕ) where
   no_longer : (i k : ℕ) → IsValidUpTo m text i → IsValidUpTo m text k → k ≤ i
-  no_longer i k one two = elim (cases_lt i k) [
-    | inl below ↦ absurd (one.no_longer k below two.within two.front)
-    | inr above ↦ above
-  ]
+  no_longer i k one two = let longer = λ (below : i < k). one.no_longer k below two.within two.front in grind arith
 
   pub one_refusal : (a b : ReadError) → IsRefusal m text a → IsRefusal m text b → a ≡ b
   one_refusal a b one two =

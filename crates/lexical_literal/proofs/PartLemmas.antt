@@ -22,9 +22,8 @@ one_bytes A (b ∷ c ∷ bytes) is = absurd (false≢true is)
 
 prefix_bytes : (m : Notation) (bytes : List ℕ) → is_none_or_prefix m.prefix bytes ≡ true → AllIn (prefix_byte m) bytes
 prefix_bytes m [] is = tt
-prefix_bytes m (z ∷ []) is = absurd (false≢true is)
 prefix_bytes m (z ∷ b ∷ []) is = (grind arith, (grind arith, tt))
-prefix_bytes m (z ∷ b ∷ c ∷ bytes) is = absurd (false≢true is)
+prefix_bytes m _ is = absurd (false≢true is)
 
 pub parts_have_roles : (m : Notation) (l : Literal) → IsLiteral m l → PartsHaveRoles m l
 parts_have_roles m l is = record {

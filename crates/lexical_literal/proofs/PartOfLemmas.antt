@@ -7,8 +7,7 @@ use Rattle.lexical_util.specs.declared.feature_format.roles.Role.TheVariants as 
 use Rattle.lexical_util.specs.declared.format_flags.Part.{Part}
 use Rattle.lexical_util.specs.declared.format_flags.Part.TheVariants as parts
 use Rattle.lexical_literal.specs.Notation.{Notation}
-use Rattle.lexical_literal.specs.Cause.{last_part}
-use Rattle.lexical_literal.specs.Additions.Summary.{after, scan, start, takes}
+use Rattle.lexical_literal.specs.Additions.Summary.{after, scan, takes}
 use Rattle.lexical_literal.specs.declared.steps.Summary.{Summary}
 use Rattle.lexical_literal.proofs.ScanLemmas.{HasRoles, role_in, scan_none, as_role, took}
 
@@ -32,12 +31,9 @@ module _ (m : Notation) (h : HasRoles m) where
   moves t b text last r plays taken going rest =
       let is = as_role m h t.part r b plays in let scale = h.one r roles.Exponent b is in let dot = h.one r roles.Point b is in grind arith
 
-  ends_in : (t : Summary) (text : List ℕ) (last : Summary) → scan m (Some t) text ≡ Some last → last.ended ≡ false → last.part ≡ part_after t.part text
+  -- What has been read is in the last part.
+  pub ends_in : (t : Summary) (text : List ℕ) (last : Summary) → scan m (Some t) text ≡ Some last → last.ended ≡ false → last.part ≡ part_after t.part text
   ends_in t [] last is going = let same : t.part ≡ last.part = cc in grind arith
   ends_in t (b ∷ text) last is going =
       let k = took m h t b (λ o. scan m o text ≡ Some last) (none_after m text last) is in
       ends_in (after t (b == 48) k.role) text last k.rest going ∙ moves t b text last k.role k.plays k.taken going k.rest
-
-  -- What has been read is in the last part.
-  pub in_last_part : (front : List ℕ) (last : Summary) → scan m (Some start) front ≡ Some last → last.ended ≡ false → last.part ≡ last_part m front
-  in_last_part front last is going = ends_in start front last is going

@@ -5,10 +5,9 @@ use Rattle.std.proofs.lemmas.Bool.{false≢true, and_parts, and_from}
 use Rattle.std.specs.Prelude.{is_some}
 use Rattle.lexical_util.specs.Layout as layout
 use Rattle.lexical_util.specs.Layout.{Flag, bit, separators_in}
-use Rattle.lexical_util.specs.declared.feature_format.roles.Role.{Role}
 use Rattle.lexical_util.specs.declared.format_flags.Part.{Part}
 use Rattle.lexical_util.specs.declared.format_flags.Part.TheVariants as parts
-use Rattle.lexical_literal.specs.Notation.{Notation, role_set}
+use Rattle.lexical_literal.specs.Notation.{Notation}
 use Rattle.lexical_literal.specs.Run.{is_place, is_fit, are_fit}
 use Rattle.lexical_literal.specs.Literal.{Literal, IsLiteral, requirement}
 use Rattle.lexical_literal.specs.Front.{IsFront}
@@ -42,12 +41,9 @@ module _ (m : Notation) (A : Flag → Bool) where
   abbrev n : Notation
   n = with_flags m A
 
-  same_set : (r : Role) (b : ℕ) → role_set n r b ≡ role_set m r b
-  same_set r b = grind arith
-
   other_roles : HasRoles m → HasRoles n
   other_roles h = record {
-    one = λ a c b is_a is_c. h.one a c b (sym (same_set a b) ∙ is_a) (sym (same_set c b) ∙ is_c);
+    one = λ a c b is_a is_c. h.one a c b (grind arith) (grind arith);
     zero_is_digit = h.zero_is_digit;
     one_mantissa = h.one_mantissa;
     integers = h.integers;
@@ -106,11 +102,6 @@ module _ (m : Notation) (A : Flag → Bool) where
     front_too : (text : List ℕ) → IsFront m text → IsFront n text
     front_too text is =
         record { more = is.more; literal = is.literal; reads = record { whole = is.reads.whole; literal = literal_too is.literal is.reads.literal } }
-
-    -- What is allowed stays so.
-    pub allowed_too : (front : List ℕ) (next : Option ℕ) → Allows m front next → Allows n front next
-    allowed_too front None is = (is.0, record { whole = is.1.whole; literal = literal_too is.0 is.1.literal })
-    allowed_too front (Some b) is = front_too (front ++ b ∷ []) is
 
   -- THE SAME SUMMARY
 

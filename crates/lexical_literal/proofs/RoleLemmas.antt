@@ -1,6 +1,5 @@
 -- In a syntax, no byte plays two roles.
-use Rattle.std.proofs.Common.{ℕ, ◌≡◌, ◌<◌, ◌↔◌, Bool, true, false, nat_lt, ◌&&◌}
-use Rattle.std.proofs.Common.{IsTrue, List, [], ◌∷◌, Option, Some, None, refl, sym, arith}
+use Rattle.std.proofs.Common.{ℕ, ◌≡◌, ◌<◌, ◌↔◌, Bool, true, false, nat_lt, ◌&&◌, IsTrue, List, [], ◌∷◌, Option, Some, None, refl, sym, arith}
 use Rattle.std.proofs.lemmas.Bool.{lt-ltb, false≢true}
 use Rattle.std.proofs.lemmas.Bool.Decides.{nat_tests}
 use Rattle.std.specs.List.{AllByRecursion}
@@ -57,17 +56,13 @@ unfolding Lawful byte_value
 zero_is_digit word lawful parts.Exponent = lt-ltb 0 _ (omega (arith, lawful.exponent_radix.0))
 zero_is_digit word lawful _ = lt-ltb 0 _ (omega (arith, lawful.mantissa_radix.0))
 
--- The set of no byte is empty.
-none_in : (counts : Bool) (byte : ℕ) → IsTrue (cased counts 0 byte) → ⊥
-unfolding cased
-none_in counts byte is = false≢true is
-
 module _ (law : (A B : ByteSet) → Disjoint A B ↔ ((byte : ℕ) → byte < 256 → IsTrue (A byte) → IsTrue (B byte) → ⊥))
     (five : (word : ℕ) → Lawful word → sets.AreDisjoint (sets.five_roles (raw word)))
     (accepted : (word e p : ℕ) → Lawful word → OptionsFit word e p → OptionsHaveOneRole word e p) where
   empty_apart : (counts : Bool) (sets : List ByteSet) → AllByRecursion (Disjoint (cased counts 0)) sets
+  unfolding cased
   empty_apart counts [] = tt
-  empty_apart counts (B ∷ sets) = ((law (cased counts 0) B).1 (λ byte below in_a in_b. none_in counts byte in_a), empty_apart counts sets)
+  empty_apart counts (B ∷ sets) = ((law (cased counts 0) B).1 (λ byte below in_a in_b. false≢true in_a), empty_apart counts sets)
 
   apart_of : (word : ℕ) (o : Option Options) → Lawful word → FitIfAny word o → AreApart word (exponent_byte o) (point_byte o)
   apart_of word None lawful fit = record {

@@ -1,5 +1,5 @@
 -- A reader sees no difference between equivalent formats.
-use Rattle.std.proofs.Common.{ℕ, ◌≡◌, nat_lt, Option, Some, None, refl, arith}
+use Rattle.std.proofs.Common.{ℕ, ◌≡◌, nat_lt, Option, arith}
 use Rattle.lexical_util.specs.Digits.{byte_value}
 use Rattle.lexical_util.specs.Layout as layout
 use Rattle.lexical_util.specs.NormalForm.{SameFormat}
@@ -12,16 +12,14 @@ use Rattle.lexical_literal.specs.Notation.{notation_of, radix_of, point_of, expo
 
 module _ (r s : Record) (same : SameFormat r s) where
   same_radix : (part : Part) → radix_of r part ≡ radix_of s part
-  same_radix parts.Integer = same.mantissa_radix
-  same_radix parts.Fraction = same.mantissa_radix
   same_radix parts.Exponent = same.exponent_radix
+  same_radix _ = same.mantissa_radix
 
   same_separator : (byte : ℕ) → used_separator r byte ≡ used_separator s byte
   same_separator byte = grind arith
 
   same_character : (options : Option Options) (byte : ℕ) → exponent_character_of r options byte ≡ exponent_character_of s options byte
-  same_character None byte = refl
-  same_character (Some o) byte = λ j. cased (same.flags layout.case_sensitive_exponent j) o.exponent byte
+  same_character options byte = let flag = same.flags layout.case_sensitive_exponent in grind arith
 
 -- Equivalent words have the same notation.
 pub same_notation : (a b : ℕ) (options : Option Options) → SameFormat (raw a) (raw b)

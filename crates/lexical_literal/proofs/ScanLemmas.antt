@@ -10,7 +10,6 @@ use Rattle.lexical_util.specs.declared.format_flags.Part.TheVariants as parts
 use Rattle.lexical_literal.specs.Notation.{Notation, role_set, IsOnlyRole}
 use Rattle.lexical_literal.specs.Additions.Summary.{Cuts, add, class_of, role_of, in_part, is_plus, is_zero, takes, after}
 use Rattle.lexical_literal.specs.Additions.Summary.{move, scan, step, is_accepted, count, tally}
-use Rattle.lexical_literal.specs.declared.steps.Class.{Class}
 use Rattle.lexical_literal.specs.declared.steps.Piece.{Piece}
 use Rattle.lexical_literal.specs.declared.steps.Summary.{Summary}
 
@@ -109,9 +108,7 @@ module _ (m : Notation) (h : HasRoles m) where
   no_digit part b role = false_from_ne_true _ (λ is. let same = sym role ∙ digit_role part b is in cc)
 
   pub as_role : (part : Part) (r : Role) (b : ℕ) → role_in m part b ≡ Some r → role_set m r b ≡ true
-  as_role part r b role = played b r (go part (class_of m b) role) where
-    go : (part : Part) (class : Class) → in_part part class ≡ Some r → role_of class ≡ Some r
-    go part class is = grind arith
+  as_role part r b role = played b r (grind arith)
 
   pub is_role : (part : Part) (r : Role) (b : ℕ) → (roles.Digit ≡ r → ⊥) → role_set m r b ≡ true → role_in m part b ≡ Some r
   is_role part r b other is = let only = (only_role b r).0 is in grind arith

@@ -1,5 +1,5 @@
 -- Rows and columns of tables.
-use Rattle.std.proofs.Common.{ℕ, Bor, Some, ◌≡◌, ◌≢◌, ◌<◌, ◌≤◌, ◌+◌, ◌*◌, ◌/◌, ◌%◌, ◌==◌, Bool, List, [], ◌∷◌, length, length-set, get_or, set}
+use Rattle.std.proofs.Common.{ℕ, Bor, Some, ◌≡◌, ◌≢◌, ◌<◌, ◌≤◌, ◌+◌, ◌*◌, ◌/◌, ◌%◌, ◌==◌, List, [], ◌∷◌, length, length-set, get_or, set}
 use Rattle.std.proofs.Common.{refl, sym, ap, subst, ◌∙◌, arith, below_more, get_or-set_other, get_or-set_same, replicate}
 use mir.Val.{bool_byte}
 use Rattle.std.specs.Option.{ForSome}
@@ -25,20 +25,14 @@ fill_more P list size n x is small here = record {
       (let inside : n < length list = omega (arith, is.size_is) in subst (P n) (sym (get_or-set_same list n x d inside)) here) k below;
 }
 
-bit_below : (b : Bool) → bool_byte b < 2
-bit_below b = grind arith
-
-bit_back : (b : Bool) → (bool_byte b == 1) ≡ b
-bit_back b = grind arith
-
 -- A summary is that of the number which the numbers of its fields make.
 pub number_back : (s : Summary) (p t : ℕ) → part_at p ≡ s.part → stage_at t ≡ s.stage → t < 9
     → summary_at ((p * 9 + t) * 4 + bool_byte s.gap * 2 + bool_byte s.ended) ≡ s
 number_back s p t part stage small =
     let g = bool_byte s.gap in
     let e = bool_byte s.ended in
-    let gap = bit_below s.gap in
-    let ended = bit_below s.ended in
+    let gap : g < 2 = grind arith in let is_gap : (g == 1) ≡ s.gap = grind arith in
+    let ended : e < 2 = grind arith in let is_ended : (e == 1) ≡ s.ended = grind arith in
     let at_part : ((p * 9 + t) * 4 + g * 2 + e) / 36 ≡ p = omega arith in
     let at_stage : ((p * 9 + t) * 4 + g * 2 + e) / 4 % 9 ≡ t = omega arith in
     let at_gap : ((p * 9 + t) * 4 + g * 2 + e) / 2 % 2 ≡ g = omega arith in
@@ -46,8 +40,8 @@ number_back s p t part stage small =
     λ j. record {
       part = (ap part_at at_part ∙ part) j;
       stage = (ap stage_at at_stage ∙ stage) j;
-      gap = (ap (λ n. n == 1) at_gap ∙ bit_back s.gap) j;
-      ended = (ap (λ n. n == 1) at_end ∙ bit_back s.ended) j;
+      gap = (ap (λ n. n == 1) at_gap ∙ is_gap) j;
+      ended = (ap (λ n. n == 1) at_end ∙ is_ended) j;
     }
 
 -- What holds of a value holds of what is borrowed of it.

@@ -1,13 +1,12 @@
 -- Which texts of mantissa digits are literals.
-use Rattle.std.proofs.Common.{ℕ, ◌≡◌, ◌≢◌, ◌↔◌, Bool, true, false, not, ◌==◌, ◌&&◌, ◌||◌, if◌then◌else◌}
-use Rattle.std.proofs.Common.{IsFalse, List, [], ◌∷◌, Some, None, refl, sym, ap, ◌∙◌, arith}
+use Rattle.std.proofs.Common.{ℕ, ◌≡◌, ◌≢◌, ◌↔◌, Bool, false, not, ◌==◌, ◌&&◌, ◌||◌, IsFalse, List, [], ◌∷◌, Some, refl, sym, ap, ◌∙◌, arith}
 use Rattle.lexical_util.specs.Layout as layout
 use Rattle.lexical_util.specs.declared.feature_format.roles.Role.TheVariants as roles
 use Rattle.lexical_util.specs.declared.format_flags.Part.TheVariants as parts
 use Rattle.lexical_literal.specs.Notation.{Notation}
 use Rattle.lexical_literal.specs.Literal.{Literal, Reads}
 use Rattle.lexical_literal.specs.Readings.{AllIn}
-use Rattle.lexical_literal.specs.Additions.Summary.{class_of, implies, needs_exponent, move, step, scan, is_accepted, start}
+use Rattle.lexical_literal.specs.Additions.Summary.{class_of, needs_exponent, move, step, scan, is_accepted, start}
 use Rattle.lexical_literal.specs.declared.steps.Stage.{Stage}
 use Rattle.lexical_literal.specs.declared.steps.Stage.TheVariants as stages
 use Rattle.lexical_literal.proofs.ScanLemmas.{HasRoles, scan_none, moved, digit_role, is_role}
@@ -19,11 +18,9 @@ module _ (m : Notation) (h : HasRoles m) where
   literal_exactly : (text : List ℕ) (refused : Bool) → is_accepted m (scan m (Some start) text) ≡ not refused
       → ((l : Literal) × Reads m l text) ↔ IsFalse refused
   literal_exactly text refused same = (
-    λ (l, reads). known refused (sym same ∙ ap (λ t. is_accepted m (scan m (Some start) t)) reads.whole ∙ (literal_arrives m h l reads.literal).0),
+    λ (l, reads). let is = sym same ∙ ap (λ t. is_accepted m (scan m (Some start) t)) reads.whole ∙ (literal_arrives m h l reads.literal).0 in grind arith,
     λ none. literal_from m h text (same ∙ ap not none),
-  ) where
-    known : (refused : Bool) → not refused ≡ true → refused ≡ false
-    known refused is = grind arith
+  )
 
   -- Digits that follow a digit that is not 0.
   more_digits : (digits : List ℕ) → AllIn (m.digit parts.Integer) digits
@@ -40,19 +37,12 @@ module _ (m : Notation) (h : HasRoles m) where
 
     pub digits_read : ((l : Literal) × Reads m l (first ∷ digits))
         ↔ IsFalse (m.flag layout.required_mantissa_sign || (m.flag layout.required_exponent_notation && not m.integers_only))
-    digits_read = literal_exactly (first ∷ digits) _
-        (ap (λ o. is_accepted m (scan m o digits)) (first_digit stages.Start) ∙ go (m.flag layout.required_mantissa_sign)) where
-          go : (signed : Bool) → is_accepted m (scan m (if not signed && true then Some (reading parts.Integer stages.Digits false) else None) digits)
-              ≡ not (signed || needs_exponent m)
-          go true = ap (is_accepted m) (scan_none m digits)
-          go false = more_digits digits all.1
+    digits_read = literal_exactly (first ∷ digits) _ (ap (λ o. is_accepted m (scan m o digits)) (first_digit stages.Start)
+        ∙ (let none = scan_none m digits in let more = more_digits digits all.1 in grind arith))
 
     pub negative_read : ((l : Literal) × Reads m l (45 ∷ first ∷ digits)) ↔ IsFalse (m.flag layout.required_exponent_notation && not m.integers_only)
-    negative_read = literal_exactly (45 ∷ first ∷ digits) _ (
-        ap (λ o. is_accepted m (scan m o (first ∷ digits))) (moved m h start 45 (Some roles.Sign) (is_role m h parts.Integer roles.Sign 45 (λ e. cc) refl)
-        ∙ go (m.flag layout.no_positive_mantissa_sign))
-        ∙ ap (λ o. is_accepted m (scan m o digits)) (first_digit stages.Empty) ∙ more_digits digits all.1
-        ) where
-          go : (plus : Bool) → (if implies plus true then Some (reading parts.Integer stages.Empty false) else None)
-              ≡ Some (reading parts.Integer stages.Empty false)
-          go plus = grind arith
+    negative_read =
+        let sign : move m start false false (Some roles.Sign) ≡ Some (reading parts.Integer stages.Empty false) = grind arith in
+        literal_exactly (45 ∷ first ∷ digits) _ (ap (λ o. is_accepted m (scan m o (first ∷ digits)))
+        (moved m h start 45 (Some roles.Sign) (is_role m h parts.Integer roles.Sign 45 (λ e. cc) refl) ∙ sign)
+        ∙ ap (λ o. is_accepted m (scan m o digits)) (first_digit stages.Empty) ∙ more_digits digits all.1)

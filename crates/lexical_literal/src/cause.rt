@@ -161,6 +161,7 @@ impl Stop {
     }
 
     // Returns the flags without requirements.
+    #[tactic(auto, using(crate::proofs::CauseLemmas::bare_flags))]
     const fn bare(self) -> u128
         ensures { (f : Flag) → (raw result).flag f ≡ (bare (notation_of self.grammar)).flag f }
     {

@@ -1,12 +1,12 @@
 -- What has been read decides the cause.
 use Rattle.std.proofs.Common.{◌≡◌, ◌+◌, bit_and, take, sym, ap, subst, ◌∙◌, arith}
 use Rattle.std.proofs.lemmas.List.{take_all}
-use Rattle.lexical_util.specs.Record.{raw}
 use Rattle.lexical_literal.specs.Additions.Causes.{IsReadOf}
+use Rattle.lexical_literal.specs.Additions.Summary.{start}
 use Rattle.lexical_literal.specs.Cause.{IsCause, lowest, span_of}
 use Rattle.lexical_literal.specs.Notation.{notation_of}
 use Rattle.lexical_literal.proofs.CauseLemmas.{kept_flags, only_flags}
-use Rattle.lexical_literal.proofs.PartOfLemmas.{in_last_part}
+use Rattle.lexical_literal.proofs.PartOfLemmas.{ends_in}
 use Rattle.lexical_literal.proofs.RefusalLemmas.{decided}
 use Rattle.lexical_literal.proofs.RoleLemmas.{ready}
 use Rattle.lexical_literal.proofs.cause.refusal.Goals as goal
@@ -26,7 +26,7 @@ returns c =
     let is_ready = ready c.role_facts.ensures.disjoint c.role_facts.ensures.five c.role_facts.ensures.lawful c.args.grammar c.requires.syntax in
     let is_read : IsReadOf m s front = record {
       decides = λ next A weaker. decided m A is_ready weaker front s c.requires.read next;
-      part = in_last_part m is_ready.roles front s c.requires.read;
+      part = ends_in m is_ready.roles start front s c.requires.read;
     } in
     let stop : take c.if-size-text.end text ≡ take (size + 1) text = elim c.if-size-text.branch [
       | then-size-text w ↦ ap (λ n. take n text) w.end-is
@@ -36,8 +36,7 @@ returns c =
     record {
       valid_up_to = c.requires.valid;
       byte = c.byte_at-byte.ensures;
-      cause = subst (λ next. IsCause m front next cause (raw mask).flag) c.byte_at-byte.ensures
-          (subst (IsCause m front next cause) (λ j f. kept_flags bits f j) (c.blame-cause.ensures front is_read));
+      cause = rw (← c.byte_at-byte.ensures) (subst (IsCause m front next cause) (λ j f. kept_flags bits f j) (c.blame-cause.ensures front is_read));
       mask = only_flags bits;
       span = c.span-start.ensures ∙ ap (λ stop. span_of m front stop cause (lowest mask)) stop;
       code = c.error.ensures;

@@ -1,7 +1,5 @@
 -- What is true of every literal of a syntax.
-use Rattle.std.proofs.Common.{subst}
-use Rattle.lexical_literal.specs.Notation.{Notation, notation_of}
-use Rattle.lexical_literal.specs.Literal.{Reads}
+use Rattle.lexical_literal.specs.Notation.{notation_of}
 use Rattle.lexical_literal.proofs.LongestLemmas.{one_reading}
 use Rattle.lexical_literal.proofs.OneCauseLemmas.{one_cause, one_refusal}
 use Rattle.lexical_literal.proofs.PartLemmas.{parts_have_roles}
@@ -16,7 +14,7 @@ returns-clause-one_reading c g is l k text first second =
 
 pub returns-clause-same_literals : goal.returns-clause-same_literals
 returns-clause-same_literals c a b same options l text reads =
-    subst (λ (m : Notation). Reads m l text) (same_notation a b options ((c.normal_form_facts.ensures.equal a b).0 same)) reads
+    rw (← same_notation a b options ((c.normal_form_facts.ensures.equal a b).0 same)) reads
 
 pub returns-clause-roles : goal.returns-clause-roles
 returns-clause-roles c g l text reads = parts_have_roles (notation_of g) l reads.literal
@@ -32,10 +30,8 @@ returns-clause-requirements c g l text reads = reads.literal.requirements
 
 pub returns-clause-digits : goal.returns-clause-digits
 returns-clause-digits c g is first digits not_zero all =
-    let is_ready = ready c.role_facts.ensures.disjoint c.role_facts.ensures.five c.role_facts.ensures.lawful g is in
-    digits_read (notation_of g) is_ready.roles first digits not_zero all
+    digits_read _ (ready c.role_facts.ensures.disjoint c.role_facts.ensures.five c.role_facts.ensures.lawful g is).roles first digits not_zero all
 
 pub returns-clause-negative : goal.returns-clause-negative
 returns-clause-negative c g is first digits not_zero all =
-    let is_ready = ready c.role_facts.ensures.disjoint c.role_facts.ensures.five c.role_facts.ensures.lawful g is in
-    negative_read (notation_of g) is_ready.roles first digits not_zero all
+    negative_read _ (ready c.role_facts.ensures.disjoint c.role_facts.ensures.five c.role_facts.ensures.lawful g is).roles first digits not_zero all

@@ -1,14 +1,10 @@
 -- The lengths that were counted are those of the parts.
-use Rattle.std.proofs.Common.{sym, ◌∙◌}
+use Rattle.std.proofs.Common.{sym, ◌∙◌, arith}
 use Rattle.lexical_literal.proofs.LongestLemmas.{whole_literal, whole_counted, refused_there}
 use Rattle.lexical_literal.proofs.read.find.Goals as goal
-use Rattle.lexical_literal.proofs.read.find.Goals.{else-scanned-text-via-then-scanned-text+else-is_complete_by, else-scanned-text-via-else-scanned-text}
 
 pub refuse-requires-clause-refused : goal.refuse-requires-clause-refused
-refuse-requires-clause-refused c = refused_there _ _ _ _ c.scan-scanned.ensures (λ all. elim c.else-scanned-text.branch [
-  | else-scanned-text-via-then-scanned-text+else-is_complete_by w ↦ sym w.is_complete_by.ensures ∙ w.if-is_complete_by.false
-  | else-scanned-text-via-else-scanned-text w ↦ absurd (w.if-scanned-text.false all)
-])
+refuse-requires-clause-refused c = refused_there _ _ _ _ c.scan-scanned.ensures (λ all. let branch = c.else-scanned-text.branch in grind arith)
 
 pub returns-then-is_complete_by : goal.returns-then-is_complete_by
 returns-then-is_complete_by c =

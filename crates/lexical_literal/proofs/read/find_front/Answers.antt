@@ -1,8 +1,5 @@
 -- The longest front that is a literal, and the lengths of its parts.
-use Rattle.std.proofs.Common.{subst, sym}
 use Rattle.std.proofs.lemmas.Bool.{false≢true}
-use Rattle.lexical_literal.specs.Literal.{Reads}
-use Rattle.lexical_literal.specs.Notation.{notation_of}
 use Rattle.lexical_literal.proofs.LongestLemmas.{front_literal, front_counted, no_front, not_whole, refused_there}
 use Rattle.lexical_literal.proofs.read.find_front.Goals as goal
 
@@ -25,7 +22,7 @@ pub returns-in-Ok : goal.returns-in-Ok
 returns-in-Ok c =
     let l = front_literal _ _ _ c.scan-scanned.ensures c.in-Some.size c.in-Some.is in
     record {
-      found = (l.0, l.1, c.in-Ok.ensures.counted l.0 (subst (Reads (notation_of c.args.grammar) l.0) (sym c.front_of.ensures) l.1.reads));
+      found = (l.0, l.1, c.in-Ok.ensures.counted l.0 (rw (c.front_of.ensures) l.1.reads));
       none = λ err. absurd (false≢true err);
       error = tt;
     }
@@ -33,7 +30,7 @@ returns-in-Ok c =
 pub returns-in-Err : goal.returns-in-Err
 returns-in-Err c =
     let l = front_literal _ _ _ c.scan-scanned.ensures c.in-Some.size c.in-Some.is in
-    absurd (c.in-Err.ensures.counted l.0 (subst (Reads (notation_of c.args.grammar) l.0) (sym c.front_of.ensures) l.1.reads))
+    absurd (c.in-Err.ensures.counted l.0 (rw (c.front_of.ensures) l.1.reads))
 
 pub returns-in_default : goal.returns-in_default
 returns-in_default c = record {

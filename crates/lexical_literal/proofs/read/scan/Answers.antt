@@ -2,7 +2,6 @@
 use Rattle.std.proofs.Common.{◌<◌, ◌+◌, length, length-set, get_or, set, Some, if◌then◌else◌, refl, sym, ap, ◌∙◌, arith, rules, subst}
 use Rattle.std.proofs.lemmas.Option.{slice_get-get_or}
 use Rattle.std.specs.Prelude.{is_some}
-use Rattle.lexical_literal.specs.Additions.Causes.{allows, class_of_next}
 use Rattle.lexical_literal.specs.Notation.{notation_of}
 use Rattle.lexical_literal.specs.Additions.Tables.{summary_at, cuts_of}
 use Rattle.lexical_literal.proofs.RoleLemmas.{ready}
@@ -49,8 +48,7 @@ returns-in_default c =
     let has = c.loop-index.invariant.has in
     is_scanned _ has.ready _ _ _ _ _ _ has _ _ c.loop-index.invariant.is_row refl refl
     (wrong_at _ has.ready _ _ _ _ _ _ has c.loop-index-test.true c.in_default.ensures)
-    (λ inside. ap (λ next. allows (notation_of c.args.grammar) (summary_at c.loop-index.row) (class_of_next (notation_of c.args.grammar) next))
-    (slice_get-get_or c.args.text.now c.loop-index.index 0 c.loop-index-test.true) ∙ ap is_some c.in_default.ensures)
+    (λ inside. rw (slice_get-get_or c.args.text.now c.loop-index.index 0 c.loop-index-test.true) (ap is_some c.in_default.ensures))
 
 pub returns : goal.returns
 returns c =

@@ -1,5 +1,3 @@
-use Rattle.std.proofs.Common.{subst}
-use Rattle.lexical_literal.specs.Additions.Tables.{IsStep}
 use Rattle.lexical_literal.specs.Notation.{notation_of}
 use Rattle.lexical_literal.proofs.read.step_by.Goals as goal
 
@@ -7,4 +5,4 @@ pub returns-in-Some : goal.returns-in-Some
 returns-in-Some c =
     let m = notation_of c.args.grammar in
     let holds = c.requires.tables c.in-Some.tables c.in-Some.is in
-    subst (λ k. IsStep m c.args.row k c.step.result) (c.class.ensures m holds) (c.step.ensures m holds)
+    rw (← c.class.ensures m holds) (c.step.ensures m holds)

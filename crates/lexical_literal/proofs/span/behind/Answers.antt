@@ -1,32 +1,23 @@
 -- One more byte.
-use Rattle.std.proofs.Common.{◌≡◌, ◌<◌, ◌+◌, if◌then◌else◌, length, take, get_or, sym, ap, ◌∙◌, arith}
+use Rattle.std.proofs.Common.{◌≡◌, ◌<◌, length, take, get_or, ap, ◌∙◌, arith}
 use Rattle.std.proofs.lemmas.List.{take_more, length-take-le}
 use Rattle.lexical_literal.specs.Additions.Causes.{kind_set}
 use Rattle.lexical_literal.specs.Cause.{behind}
 use Rattle.lexical_literal.specs.Notation.{notation_of}
 use Rattle.lexical_literal.proofs.CauseLemmas.{behind_more}
 use Rattle.lexical_literal.proofs.span.behind.Goals as goal
-use Rattle.lexical_literal.proofs.span.behind.Goals.{then-is_kind, else-is_kind}
 
 pub loop-index-preserved : goal.loop-index-preserved
 loop-index-preserved c =
     let A = kind_set (notation_of c.args.grammar) c.args.kind in
     let text = c.args.text.now in
     let i = c.loop-index.index in
-    let byte = get_or text i 0 in
     let inside : i < length text = omega (arith, c.requires) in
     let size : length (take i text) ≡ i = length-take-le i text (omega arith) in
-    let more : behind A (take (i + 1) text) ≡ (if A byte then length (take i text) + 1 else behind A (take i text)) =
-    ap (behind A) (take_more text i 0 inside) ∙ behind_more A (take i text) byte in
+    let more = ap (behind A) (take_more text i 0 inside) ∙ behind_more A (take i text) (get_or text i 0) in
     record {
       within = omega arith;
-      last = elim c.if-is_kind.branch [
-        | then-is_kind w ↦ w.found-is
-            ∙ sym (more ∙ ap (λ t. if t then length (take i text) + 1 else behind A (take i text)) (sym c.is_kind.ensures ∙ w.if-is_kind.true)
-            ∙ ap (λ n. n + 1) size)
-        | else-is_kind w ↦ w.found-is ∙ c.loop-index.invariant.last
-            ∙ sym (more ∙ ap (λ t. if t then length (take i text) + 1 else behind A (take i text)) (sym c.is_kind.ensures ∙ w.if-is_kind.false))
-      ];
+      last = let branch = c.if-is_kind.branch in let is = c.is_kind.ensures in let last = c.loop-index.invariant.last in grind arith;
     }
 
 pub returns : goal.returns

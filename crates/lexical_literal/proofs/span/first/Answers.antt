@@ -16,33 +16,18 @@ step A text end i inside within =
     let some : i < length (take end text) = omega arith in
     rw (add-one, drop-cons (take end text) i 0 some, get_or-take end text i 0 inside) refl
 
-none_more : (i n : ℕ) → i + (1 + n) ≡ (i + 1) + n
-none_more i n = omega arith
-
-none_left : (i : ℕ) → i + 0 ≡ i
-none_left i = omega arith
-
 pub returns-then-is_kind : goal.returns-then-is_kind
 returns-then-is_kind c =
-    let text = c.args.text.now in
-    let i = c.loop-index.index in
-    let rest = first_in (kind_set (notation_of c.args.grammar) c.args.kind) (drop (i + 1) (take c.args.end text)) in
-    sym (c.loop-index.invariant.rest ∙ ap (λ n. i + n) (step _ text c.args.end i c.loop-index-test.true c.requires
-    ∙ ap (λ t. if t then 0 else 1 + rest) (sym c.is_kind.ensures ∙ c.if-is_kind.true)) ∙ none_left i)
+    let now = step (kind_set (notation_of c.args.grammar) c.args.kind) c.args.text.now c.args.end c.loop-index.index c.loop-index-test.true c.requires in
+    let rest = c.loop-index.invariant.rest in let is = sym c.is_kind.ensures ∙ c.if-is_kind.true in grind arith
 
 pub loop-index-preserved : goal.loop-index-preserved
 loop-index-preserved c =
-    let text = c.args.text.now in
-    let i = c.loop-index.index in
-    let rest = first_in (kind_set (notation_of c.args.grammar) c.args.kind) (drop (i + 1) (take c.args.end text)) in
-    record {
-      within = omega arith;
-      rest = c.loop-index.invariant.rest ∙ ap (λ n. i + n) (step _ text c.args.end i c.loop-index-test.true c.requires
-          ∙ ap (λ t. if t then 0 else 1 + rest) (sym c.is_kind.ensures ∙ c.if-is_kind.false)) ∙ none_more i rest;
-    }
+    let now = step (kind_set (notation_of c.args.grammar) c.args.kind) c.args.text.now c.args.end c.loop-index.index c.loop-index-test.true c.requires in
+    let rest = c.loop-index.invariant.rest in let is = sym c.is_kind.ensures ∙ c.if-is_kind.false in record { within = omega arith; rest = grind arith }
 
 pub returns : goal.returns
 returns c =
     let size = length-take-le c.args.end c.args.text.now c.requires in
     sym (c.loop-index.invariant.rest ∙ ap (λ bytes. c.loop-index.index + first_in (kind_set (notation_of c.args.grammar) c.args.kind) bytes)
-    (drop_of_length-le (take c.args.end c.args.text.now) (omega arith)) ∙ none_left c.loop-index.index)
+    (drop_of_length-le (take c.args.end c.args.text.now) (omega arith)) ∙ omega arith)

@@ -1,4 +1,4 @@
-use Rattle.std.proofs.Common.{ℕ, ◌≡◌, ◌^◌, ◌*◌, ◌%◌, ◌&&◌, ◌==◌, ◌||◌, if◌then◌else◌, Bool, false, bit_or, inl, inr, sym, ap, subst, ◌∙◌, arith}
+use Rattle.std.proofs.Common.{◌≡◌, ◌^◌, ◌*◌, ◌%◌, ◌&&◌, ◌==◌, ◌||◌, if◌then◌else◌, Bool, bit_or, inl, inr, sym, ap, subst, ◌∙◌, arith}
 use Rattle.std.proofs.lemmas.Bool.{cases_Bool, eqb-true}
 use Rattle.std.proofs.lemmas.Bool.Decides.{nat_tests}
 use Rattle.lexical_util.specs.Layout.{Flag, bit}
@@ -10,17 +10,11 @@ use Rattle.lexical_literal.proofs.CauseLemmas.{flag_or, flag_pow, has_one, one_f
 use Rattle.lexical_literal.proofs.RefusalLemmas.{same_flag}
 use Rattle.lexical_literal.proofs.cause.Stop.permitted.Goals as goal
 
-swap : (p q : Bool) → (p && q) ≡ (q && p)
-swap p q = grind arith
-
-apart : (k n : ℕ) (p q : Bool) → (n == k) ≡ false → (p && (n == k)) ≡ ((k == n) && q)
-apart k n p q other = grind (arith, nat_tests)
-
 -- A mask with the flag `g` alone.
 met : (P : Flag → Bool) (g f : Flag) → (P g && (bit f == bit g)) ≡ ((bit g == bit f) && P f)
 met P g f = elim (cases_Bool (bit f == bit g)) [
-  | inl same ↦ subst (λ f. (P g && (bit f == bit g)) ≡ ((bit g == bit f) && P f)) (sym (same_flag f g (eqb-true (bit f) (bit g) same))) (swap (P g) _)
-  | inr other ↦ apart (bit g) (bit f) (P g) (P f) other
+  | inl same ↦ subst (λ f. (P g && (bit f == bit g)) ≡ ((bit g == bit f) && P f)) (sym (same_flag f g (eqb-true (bit f) (bit g) same))) (grind arith)
+  | inr other ↦ grind (arith, nat_tests)
 ]
 
 is_flag : (c : goal.After-flag_if) (g : Flag) → bit g ≡ c.args.number

@@ -1,5 +1,5 @@
 -- Flags that refuse alone, or the lower one of two that do together.
-use Rattle.std.proofs.Common.{ℕ, ◌≡◌, ◌&&◌, ◌==◌, Bool, true, false, not, bit_and, refl, sym, ap, ◌∙◌, arith}
+use Rattle.std.proofs.Common.{ℕ, ◌≡◌, ◌&&◌, ◌==◌, Bool, true, false, not, bit_and, sym, ap, ◌∙◌, arith}
 use Rattle.std.proofs.lemmas.Bool.{and_parts}
 use Rattle.std.proofs.lemmas.Nat.{and_le_l}
 use Rattle.lexical_util.specs.Layout as layout
@@ -15,8 +15,7 @@ use Rattle.lexical_literal.proofs.JointLemmas.{alone_refuses, going}
 use Rattle.lexical_literal.proofs.cause.Stop.requirements.Goals as goal
 
 both : (q r b a : Bool) → (b ≡ true → q ≡ true) → (b ≡ true → r ≡ not a) → ((q && r) && b) ≡ (b && not a)
-both q r true a requires same = let first = requires refl in let second = same refl in grind arith
-both q r false a requires same = grind arith
+both q r b a requires same = grind arith
 
 -- The flags of the masks `A` and `B` refuse alone.
 module _ (stop : Stop) (A B : ℕ) where

@@ -27,17 +27,17 @@ module _ (stop : Stop) (byte : ℕ) (front : List ℕ) where
   found next f = (stop.read.gap || is_role roles.Separator (role_of_next stop.read next))
       && (is_own stop.read.part f && allows (adding f (bare m)) stop.read next)
 
-  -- The flags of `separators` are found, and those of `cases` are of the other case of the byte.
-  record Known (separators cases : ℕ) : Type 0 where
+  -- The flags of `separators` are found, and those of a mask `cases` are of the other case of the byte.
+  record Known (separators : ℕ) : Type 0 where
     refused : Allows (bare m) front (Some byte) → ⊥
     permits : (f : Flag) → IsTrue ((raw separators).flag f) ↔ Permits m front byte f
     at : (f : Flag) → IsTrue ((raw separators).flag f) → IsTrue (is_at (place_of m stop.read (role_of_next stop.read stop.next)) stop.read.part f)
-    is_case : (f : Flag) → (raw cases).flag f ≡ (allows (bare m) stop.read (Some (class_of m (other_case byte))) && case_set f m (other_case byte))
+    is_case : (cases : ℕ) (f : Flag) → (raw cases).flag f ≡ (allows (bare m) stop.read (Some (class_of m (other_case byte))) && case_set f m (other_case byte))
         → IsTrue ((raw cases).flag f) ↔ IsCaseFlag m front byte f
 
-  known : (separators cases : ℕ) → IsReadOf m stop.read front → stop.next ≡ Some class → allows (bare m) stop.read stop.next ≡ false
-      → ((f : Flag) → (raw separators).flag f ≡ found stop.next f) → Known separators cases
-  known separators cases is_read is_next refused each =
+  known : (separators : ℕ) → IsReadOf m stop.read front → stop.next ≡ Some class → allows (bare m) stop.read stop.next ≡ false
+      → ((f : Flag) → (raw separators).flag f ≡ found stop.next f) → Known separators
+  known separators is_read is_next refused each =
       let none = sym (ap (allows (bare m) stop.read) is_next) ∙ refused in
       let same = λ (f : Flag). each f ∙ ap (λ next. found next f) is_next in
       let decides = is_read.decides (Some byte) in
@@ -49,7 +49,7 @@ module _ (stop : Stop) (byte : ℕ) (front : List ℕ) where
             (λ is. both.0 (sym (same f) ∙ is), λ is. same f ∙ both.1 is);
         at = λ f is. ap (λ next. is_at (place_of m stop.read (role_of_next stop.read next)) stop.read.part f) is_next
             ∙ found_at m stop.read class front byte decides none f (sym (same f) ∙ is);
-        is_case = λ f of_case. (
+        is_case = λ cases f of_case. (
           λ is. let both = and_parts _ (case_set f m (other_case byte)) (sym of_case ∙ is) in (both.1, other.0 both.0),
           λ is. of_case ∙ and_from _ _ (other.1 is.1) is.0,
         );
@@ -62,9 +62,8 @@ pub case_flag-mask-requires : goal.case_flag-mask-requires
 case_flag-mask-requires c = sym (ap (allows (bare (notation_of c.args.self.grammar)) c.args.self.read) c.requires.next) ∙ c.requires.refused
 
 pub returns-then-separators-ne0 : goal.returns-then-separators-ne0
-returns-then-separators-ne0 c front is_read =
-    let k = known c.args.self c.args.byte front c.separators-separators.result 0 is_read c.requires.next c.requires.refused
-    c.separators-separators.ensures.each in
+returns-then-separators-ne0 c front read =
+    let k = known c.args.self c.args.byte front c.separators-separators.result read c.requires.next c.requires.refused c.separators-separators.ensures.each in
     record {
       refused = k.refused;
       some = c.separators-separators.ensures.some c.if-separators-ne0.true;
@@ -73,23 +72,21 @@ returns-then-separators-ne0 c front is_read =
     }
 
 pub returns-then-mask-eq0 : goal.returns-then-mask-eq0
-returns-then-mask-eq0 c front is_read =
-    let k = known c.args.self c.args.byte front c.separators-separators.result c.case_flag-mask.result is_read c.requires.next c.requires.refused
-    c.separators-separators.ensures.each in
+returns-then-mask-eq0 c front read =
+    let k = known c.args.self c.args.byte front c.separators-separators.result read c.requires.next c.requires.refused c.separators-separators.ensures.each in
     record {
       refused = k.refused;
       no_separator = λ f is. false≢true (sym (none c.separators-separators.result c.if-separators-ne0.false f) ∙ (k.permits f).1 is);
-      no_case = λ f is. false≢true (sym (none c.case_flag-mask.result c.if-mask-eq0.true f) ∙ (k.is_case f (c.case_flag-mask.ensures.each f)).1 is);
+      no_case = λ f is. false≢true (sym (none c.case_flag-mask.result c.if-mask-eq0.true f) ∙ (k.is_case _ f (c.case_flag-mask.ensures.each f)).1 is);
       none = none c.case_flag-mask.result c.if-mask-eq0.true;
     }
 
 pub returns-else-mask-eq0 : goal.returns-else-mask-eq0
-returns-else-mask-eq0 c front is_read =
-    let k = known c.args.self c.args.byte front c.separators-separators.result c.case_flag-mask.result is_read c.requires.next c.requires.refused
-    c.separators-separators.ensures.each in
+returns-else-mask-eq0 c front read =
+    let k = known c.args.self c.args.byte front c.separators-separators.result read c.requires.next c.requires.refused c.separators-separators.ensures.each in
     record {
       refused = k.refused;
       no_separator = λ f is. false≢true (sym (none c.separators-separators.result c.if-separators-ne0.false f) ∙ (k.permits f).1 is);
       some = c.case_flag-mask.ensures.some c.if-mask-eq0.false;
-      each = λ f. k.is_case f (c.case_flag-mask.ensures.each f);
+      each = λ f. k.is_case _ f (c.case_flag-mask.ensures.each f);
     }
