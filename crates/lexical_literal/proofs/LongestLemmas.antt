@@ -153,7 +153,8 @@ module _ (m : Notation) (ready : IsReady m) (text : List ℕ) where
 
     -- One more byte.
     pub read_more : (t : Summary) (d : Cuts) → i < length text → step m s (class_of m (get_or text i 0)) ≡ Some t
-        → count s.part (in_part s.part (class_of m (get_or text i 0))) c ≡ d → HasRead m seeks text (i + 1) t d (if seeks && is_complete m t then Some (i + 1) else longest)
+        → count s.part (in_part s.part (class_of m (get_or text i 0))) c ≡ d
+        → HasRead m seeks text (i + 1) t d (if seeks && is_complete m t then Some (i + 1) else longest)
     read_more t d inside taken counted = record {
       ready = ready;
       within = omega arith;
