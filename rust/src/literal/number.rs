@@ -158,7 +158,7 @@ const fn front<'a>(
 #[derive(Clone, Copy, PartialEq, Eq, Hash)]
 pub struct Literal<'a> {
     text: &'a [u8],
-    /// The lengths of the parts, as [`cut`] takes them. Whoever asks for a part pays for it.
+    /// The lengths of the parts, by which [`cut`] finds a part when it is asked for.
     counts: [usize; 9],
     /// The format, in normal form.
     view: FormatView,
