@@ -73,6 +73,7 @@ mod steps;
 mod syntax;
 mod tables;
 mod text;
+mod value;
 
 pub use cause::{Cause, Place, ReadError};
 pub use language::{Language, Number};
@@ -80,3 +81,4 @@ pub use number::{Digits, Literal};
 pub use read::Reader;
 pub use specials::{Sign, Special, Specials, Spelling};
 pub use syntax::Syntax;
+pub use value::{FromLiteral, ParseError, ValueError, ValueErrorKind};

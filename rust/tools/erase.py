@@ -32,13 +32,18 @@ PLACES = {
     "lexical_flags": LIBRARY,
     "lexical_builder": LIBRARY,
     "lexical_util": LIBRARY,
+    "lexical_number": ("src/number", "crate", "crate::number", "core"),
     "lexical_literal": ("src/literal", "crate", "crate::literal", "core"),
+    "lexical_value": ("src/literal/value", "crate", "crate::literal::value", "core"),
     "numfmt": ("numfmt/src", "peltzivar", "crate", "std"),
 }
 
 # Files whose counterpart is written by hand, because plain Rust does the same in another way: by loops that the compiler
-# turns into vectors, by derives, by absent bytes that are `None`, by a type of core, and by literals with digits.
-BY_HAND = {"ascii/slices.rt", "error/traits.rt", "feature_format/bytes.rt", "format_builder/non_zero.rt", "number.rt"}
+# turns into vectors, by derives, by absent bytes that are `None`, by a type of core, by literals with digits, and by errors
+# that name a type.
+BY_HAND = {
+    "ascii/slices.rt", "error/traits.rt", "feature_format/bytes.rt", "format_builder/non_zero.rt", "number.rt", "parse.rt",
+}  # fmt: skip
 
 # Roots and tests, which are written by hand too, laws and examples.
 LEFT_OUT = re.compile(r"(lib|main)\.rt|(laws|examples|tests)(\.rt|/.*)")
@@ -53,7 +58,7 @@ COPIED = {
     "lexical_tests/src/*.rt": "tests/known",
     "numfmt/src/tests/rows.rt": "numfmt/tests/program",
 }
-NOT_COPIED = {"lib.rt", "example.rt", "literals.rt", "proved_callers.rt", "values.rt"}
+NOT_COPIED = {"lib.rt", "example.rt", "integers.rt", "literals.rt", "values.rt"}
 
 # The forms of tests in Rattle, and in plain Rust.
 TEST_FORMS = [
@@ -80,7 +85,6 @@ REPLACED = [
     ("read.rt", "\nfn find_front(", "\nconst fn find_front("),
     # Calls with these names are written by hand: they take or return a `Format`, a `Literal` or a range.
     ("read.rt", "Reader {\n    grammar: Grammar,\n    tables", "Reader {\n    pub(crate) grammar: Grammar,\n    tables"),
-    ("syntax.rt", "Syntax {\n    grammar: Grammar,", "Syntax {\n    pub(crate) grammar: Grammar,"),
     ("syntax.rt", "pub const fn options(&self)", "pub(crate) const fn options(&self)"),
     ("syntax.rt", "pub const fn new(word", "#[doc(hidden)] pub const fn of_word(word"),
     ("syntax.rt", "pub const fn integers(word", "#[doc(hidden)] pub const fn integers_of_word(word"),
@@ -97,7 +101,8 @@ EVERYWHERE = [
 
 # Types that may grow. In plain Rust, a match outside the crate has to have an arm for what they lack today.
 GROWS = {
-    "enum": "ArgumentKind Byte Cause Class Edit Error FlagSetter Note Part Place Radixes Role Rule Setter SettingErrorKind",
+    "enum": "ArgumentKind Byte Cause Class Edit Error FlagSetter Note Part Place Radixes Role Rule Setter "
+    "SettingErrorKind ValueErrorKind",
     "struct": "NamedByte Separators",
 }
 for kind, types in GROWS.items():
@@ -280,13 +285,14 @@ def renamed(text, root, own, std):
     """Returns the text with the paths and names of plain Rust."""
     text = re.sub(r"\bcrate::", f"{own}::", text)
     text = re.sub(r"\blexical_(base|flags|builder|util)\b(?=::)", root, text)
+    text = re.sub(r"\blexical_(literal|number)\b(?=::)", rf"{root}::\1", text)
     text = re.sub(r"\bstd::", f"{std}::", text)
     text = re.sub(rf"\b{root}::({'|'.join(MODULES)})\b", lambda m: f"{root}::{MODULES[m[1]]}", text)
     return re.sub(rf"\b{VIEW[0]}\b", VIEW[1], text)
 
 
-def laid_out(text, folder):
-    return subprocess.run("rustfmt", cwd=RUST / folder, input=text, stdout=subprocess.PIPE, text=True, check=True).stdout
+def laid_out(text):
+    return subprocess.run("rustfmt", cwd=RUST, input=text, stdout=subprocess.PIPE, text=True, check=True).stdout
 
 
 def made_files():
@@ -303,14 +309,14 @@ def made_files():
                 read.append(path)
                 head = f"{MADE} from crates/{crate}/src/{name}: change that file.\n\n"
                 text = head + renamed(source_of(path).erase(), *names)
-                files[RUST.joinpath(folder, stem, *others).with_suffix(".rs")] = laid_out(text, folder)
+                files[RUST.joinpath(folder, stem, *others).with_suffix(".rs")] = laid_out(text)
     for pattern, folder in COPIED.items():
         for path in sorted(it for it in CRATES.glob(pattern) if it.name not in NOT_COPIED):
             text = f"{MADE} from crates/{path.relative_to(CRATES)}: change that file.\n\n{path.read_text()}"
             for old, new in TEST_FORMS:
                 text = text.replace(old, new)
             text = re.sub(r"format!\(in rt\.alloc\(\); ([^)]*)\)\?", r"format!(\1)", text)
-            files[RUST.joinpath(folder, path.stem).with_suffix(".rs")] = laid_out(renamed(text, "peltzivar", "crate", "std"), folder)
+            files[RUST.joinpath(folder, path.stem).with_suffix(".rs")] = laid_out(renamed(text, "peltzivar", "crate", "std"))
     # The page that the package has. Cargo packs only files below rust/, and rt takes no links.
     # Links to other files lead nowhere outside the repository.
     page = (RUST.parent / "docs/FORMAT.md").read_text()

@@ -4,8 +4,7 @@
 //! is lawful. After a call to the law, you can pass the constant where a lawful format is required. Nothing is tested
 //! at run time.
 
-ghost use Rattle.std.specs.Prelude.{◌≡◌, ◌↔◌, ◌<◌, ◌^◌, [], ◌∷◌, IsNone, IsTrue, None, true, false};
-ghost use Rattle.std.specs.Option.{SomeIff};
+ghost use Rattle.std.specs.Prelude.{◌≡◌, ◌↔◌, ◌-◌, ◌^◌, [], ◌∷◌, IsTrue, None, pos, true, false};
 ghost use Rattle.lexical_util.specs.Layout as layout;
 ghost use Rattle.lexical_util.specs.Record.{raw};
 ghost use Rattle.lexical_util.specs.Rules.{Lawful};
@@ -13,13 +12,13 @@ ghost use Rattle.lexical_util.specs.Options.{OptionsFit};
 ghost use Rattle.lexical_util.specs.Writes.{write_byte, write_flags};
 ghost use Rattle.lexical_util.specs.Edits.{edited};
 ghost use Rattle.lexical_util.specs.NormalForm.{normal_form_of};
-ghost use Rattle.lexical_literal.specs.Front.{NoLiteral};
 ghost use Rattle.lexical_literal.specs.Literal.{Literal, Reads};
 ghost use Rattle.lexical_literal.specs.Notation.{notation_of};
-ghost use Rattle.callers.specs.Magnitude.{magnitude};
+ghost use Rattle.lexical_value.specs.Parsed.{IsParsed};
 
-use crate::magnitude::magnitude;
+use lexical_literal::read::Reader;
 use lexical_literal::syntax::Syntax;
+use lexical_value::parse::{ParseError, parse_integer};
 
 /// The format of decimal numbers with `_` between digits, such as `1_000.000_1e1_0`.
 pub const DECIMAL: u128 = 0x0A0A0A00_0000005F_00000007_0000000C;
@@ -81,12 +80,13 @@ pub fn is_literal(syntax: &Syntax, text: &[u8]) -> bool
     }
 }
 
-/// Returns the number that the integer `text` represents in the format [`DECIMAL`], without its sign, or `None` if
-/// `text` is not such an integer, or if the number is 2^64 or more. It may have `_` between digits, as in `1_000`.
-pub fn read_decimal(text: &[u8]) -> Option<u64>
-    ensures literal { (l : Literal) → Reads (notation_of (record { word = DECIMAL; options = None })) l text.now
-        → SomeIff result (magnitude (raw DECIMAL) l.integer < 2 ^ 64) (magnitude (raw DECIMAL) l.integer) }
-    ensures other { NoLiteral (notation_of (record { word = DECIMAL; options = None })) text.now → IsNone result }
+/// Returns the value of the integer `text` in the format [`DECIMAL`]. It may have `_` between digits, as in `1_000`.
+///
+/// # Errors
+///
+/// If `text` is not such an integer, or if its value is not a `u64`, returns why.
+pub fn read_decimal(text: &[u8]) -> Result<u64, ParseError>
+    ensures { IsParsed pos 0 (2 ^ 64 - 1) (record { word = DECIMAL; options = None }) text.now result }
 {
-    magnitude(&decimal(), text)
+    parse_integer(&Reader::new(decimal()), text)
 }

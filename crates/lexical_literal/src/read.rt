@@ -104,6 +104,16 @@ impl Reader {
         }
     }
 
+    /// Returns the syntax.
+    #[must_use]
+    pub const fn syntax(&self) -> Syntax
+        ensures { result ≡ self.now }
+    {
+        Syntax {
+            grammar: self.grammar,
+        }
+    }
+
     // Returns the lengths of the parts of the literal `text`, or why it is not one.
     #[inline(always)]
     pub(crate) const fn find(&self, text: &[u8]) -> Result<[usize; 9], ReadError>

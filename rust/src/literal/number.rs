@@ -1,10 +1,11 @@
 //! Literals that were read, with their parts and digits, which are written by hand.
 
-use core::{fmt, iter::FusedIterator, slice};
+use core::fmt::{self, Write};
+use core::{iter::FusedIterator, slice};
 
 use crate::digit::char_to_valid_digit_const;
 use crate::format_flags::Part;
-use crate::literal::read::{cut, Found};
+use crate::literal::read::{cut, Found, Parts};
 use crate::literal::syntax::Grammar;
 use crate::literal::{ReadError, Reader, Syntax};
 use crate::view::FormatView;
@@ -66,13 +67,6 @@ impl Syntax {
 }
 
 impl Reader {
-    /// Returns the syntax.
-    #[must_use]
-    pub const fn syntax(&self) -> Syntax {
-        let grammar = self.grammar;
-        Syntax { grammar }
-    }
-
     /// Returns `text` as a literal, as [`Syntax::read`] does.
     ///
     /// # Errors
@@ -126,34 +120,23 @@ const fn front<'a>(
 /// A part that is absent has no bytes. All bytes are ASCII. Two literals are equal if they have the same format, up to
 /// its [normal form][crate::Format::normal_form], and the same parts.
 ///
+/// An integer type of Rust can be made from a literal, also in a constant. A [`Reader`] can [parse][Reader::parse] a text
+/// in one call.
+///
 /// ```
-/// use peltzivar::literal::{Language, Literal};
-/// use peltzivar::Part;
-///
-/// /// Returns the value of an integer. Returns `None` if the literal is a float, or if its value is not an `i64`.
-/// fn integer(literal: Literal<'_>) -> Option<i64> {
-///     let radix = literal.radix(Part::Integer).into();
-///     let sign = if literal.is_negative() { -1 } else { 1 };
-///     let mut digits = literal.digits(Part::Integer).map(|digit| sign * i64::from(digit));
-///     let value = digits.try_fold(0i64, |value, digit| value.checked_mul(radix)?.checked_add(digit));
-///     value.filter(|_| !literal.is_float())
-/// }
-///
-/// /// Returns the nearest `f64`, in radix 10. The separator, the decimal point and the exponent character may be any.
-/// fn float(literal: Literal<'_>) -> Result<f64, std::num::ParseFloatError> {
-///     let digits = |part| literal.digits(part).map(|digit| digit.to_string()).collect::<String>();
-///     let [integer, fraction, exponent] = [Part::Integer, Part::Fraction, Part::Exponent].map(digits);
-///     let [sign, exponent_sign] = [literal.sign(), literal.exponent_sign()].map(<[u8]>::escape_ascii);
-///     format!("{sign}0{integer}.{fraction}0e{exponent_sign}0{exponent}").parse()
-/// }
+/// use peltzivar::literal::{Language, ParseError, ValueErrorKind};
 ///
 /// let literal = Language::TOML.reader().read(b"-9_223_372_036_854_775_808")?;
-/// assert_eq!((literal.is_float(), integer(literal)), (false, Some(i64::MIN)));
-/// let literal = Language::TOML.reader().read(b"-1_000.5e-3")?;
-/// assert_eq!((literal.is_float(), integer(literal), float(literal)), (true, None, Ok(-1.0005)));
-/// assert_eq!((literal.integer(), literal.fraction()), (&b"1_000"[..], &b"5"[..]));
-/// assert_eq!(float(Language::SPREADSHEET_CSV.reader().read(b"1,234.50")?), Ok(1234.5));
-/// # Ok::<(), peltzivar::literal::ReadError>(())
+/// assert_eq!(i64::try_from(literal), Ok(i64::MIN));
+/// assert_eq!(i32::try_from(literal).unwrap_err().to_string(), "below -2147483648, the least i32");
+/// assert_eq!(Language::RUST_HEX_INTEGER.reader().parse::<u16>("0xFFFF")?, u16::MAX);
+///
+/// // A float is no integer, even if its value is whole. Its plain text can be parsed.
+/// let literal = Language::SPREADSHEET_CSV.reader().read(b"1,234.50")?;
+/// assert_eq!(literal.to_i64().unwrap_err().kind(), ValueErrorKind::Float);
+/// let plain = literal.plain().expect("the radixes are 10").to_string();
+/// assert_eq!((plain.as_str(), plain.parse()), ("1234.50", Ok(1234.5)));
+/// # Ok::<(), ParseError>(())
 /// ```
 #[derive(Clone, Copy, PartialEq, Eq, Hash)]
 pub struct Literal<'a> {
@@ -161,10 +144,15 @@ pub struct Literal<'a> {
     /// The lengths of the parts, by which [`cut`] finds a part when it is asked for.
     counts: [usize; 9],
     /// The format, in normal form.
-    view: FormatView,
+    pub(super) view: FormatView,
 }
 
 impl<'a> Literal<'a> {
+    #[inline]
+    pub(super) const fn cut(&self) -> Parts<'a> {
+        cut(self.text, self.counts)
+    }
+
     /// Returns all bytes of the literal.
     #[must_use]
     pub const fn as_bytes(&self) -> &'a [u8] {
@@ -223,14 +211,14 @@ macro_rules! parts {
                 #[must_use]
                 #[inline]
                 pub const fn $name(&self) -> &'a [u8] {
-                    cut(self.text, self.counts).$name
+                    self.cut().$name
                 }
             )*
 
             /// Returns the name and the bytes of each part that is present, in the order of the text. The name is that
             /// of the call that returns the part, such as `integer`.
             pub fn parts(&self) -> impl Iterator<Item = (&'static str, &'a [u8])> + Clone {
-                let parts = cut(self.text, self.counts);
+                let parts = self.cut();
                 let all = [$((stringify!($name), parts.$name)),*];
                 all.into_iter().filter(|(_, bytes)| !bytes.is_empty())
             }
@@ -265,10 +253,19 @@ impl AsRef<[u8]> for Literal<'_> {
     }
 }
 
-/// Prints the text that was read.
+/// Prints the text that was read, with the width and the fill of the formatter. A precision is ignored.
 impl fmt::Display for Literal<'_> {
     fn fmt(&self, f: &mut fmt::Formatter<'_>) -> fmt::Result {
-        f.pad(self.as_str())
+        let missing = f.width().unwrap_or(0).saturating_sub(self.text.len());
+        let before = match f.align() {
+            Some(fmt::Alignment::Right) => missing,
+            Some(fmt::Alignment::Center) => missing / 2,
+            Some(fmt::Alignment::Left) | None => 0,
+        };
+        let fill = f.fill();
+        (0..before).try_for_each(|_| f.write_char(fill))?;
+        f.write_str(self.as_str())?;
+        (before..missing).try_for_each(|_| f.write_char(fill))
     }
 }
 

@@ -68,6 +68,12 @@ impl Reader {
         Reader { grammar, tables: Tables::new(grammar) }
     }
 
+    /// Returns the syntax.
+    #[must_use]
+    pub const fn syntax(&self) -> Syntax {
+        Syntax { grammar: self.grammar }
+    }
+
     // Returns the lengths of the parts of the literal `text`, or why it is not one.
     #[inline(always)]
     pub(crate) const fn find(&self, text: &[u8]) -> Result<[usize; 9], ReadError> {

@@ -1,0 +1,42 @@
+-- The number that digits represent when they follow those of another number.
+use Rattle.std.proofs.Common.{◌≡◌, ℕ, suc, ◌+◌, ◌*◌, ◌<◌, ◌≤◌, List, ◌∷◌, length, drop, get_or, nat_lt}
+use Rattle.std.proofs.Common.{Bool, true, false, cond, refl}
+use Rattle.std.proofs.lemmas.Bool.Decides.{nat_tests}
+use Rattle.std.proofs.Common.{Option, Some, None, IsSome, sym, ap, ◌∙◌, arith, drop-cons}
+use Rattle.std.proofs.lemmas.Int.Digits.{number_after_ge}
+use Rattle.std.specs.Int.Digits.{number_from_digits_after}
+use Rattle.std.specs.List.{AllByRecursion, cons_option}
+use Rattle.lexical_base.specs.Digits.{byte_value, digit_of}
+use Rattle.lexical_number.specs.Number.{digits_in}
+
+-- `number_after radix n bytes` is the number that the digits among `bytes` represent after those of `n`.
+abbrev pub number_after : ℕ → ℕ → List ℕ → ℕ
+number_after radix n bytes = number_from_digits_after radix n (digits_in radix bytes)
+
+-- `AreDigits radix bytes` holds if each of `bytes` is a digit.
+abbrev pub AreDigits : ℕ → List ℕ → Type 0
+AreDigits radix bytes = AllByRecursion (λ byte. IsSome (digit_of byte radix)) bytes
+
+-- What is left at the index `i` begins with the byte at `i`.
+module _ (radix n i : ℕ) (bytes : List ℕ) (inside : i < length bytes) where
+  next : drop i bytes ≡ get_or bytes i 0 ∷ drop (i + 1) bytes
+  next = drop-cons bytes i 0 inside ∙ ap (λ k. get_or bytes i 0 ∷ drop k bytes) {x = suc i} {y = i + 1} (omega arith)
+
+  at : (o : Option ℕ) → digit_of (get_or bytes i 0) radix ≡ o
+      → number_after radix n (drop i bytes) ≡ number_from_digits_after radix n (cons_option o (digits_in radix (drop (i + 1) bytes)))
+  at o e = ap (number_after radix n) next ∙ ap (λ d. number_from_digits_after radix n (cons_option d (digits_in radix (drop (i + 1) bytes)))) e
+
+  pub after_digit : (d : ℕ) → digit_of (get_or bytes i 0) radix ≡ Some d
+      → number_after radix (n * radix + d) (drop (i + 1) bytes) ≡ number_after radix n (drop i bytes)
+  after_digit d e = sym (at (Some d) e)
+
+  pub after_other : digit_of (get_or bytes i 0) radix ≡ None → number_after radix n (drop (i + 1) bytes) ≡ number_after radix n (drop i bytes)
+  after_other e = sym (at None e)
+
+-- More digits do not make a number smaller. A radix with a digit is not 0.
+pub grows : (radix n byte d : ℕ) (bytes : List ℕ) → digit_of byte radix ≡ Some d → n ≤ number_after radix n bytes
+grows radix n byte d bytes e = number_after_ge radix n (digits_in radix bytes) (go _ refl e)
+  where
+    go : (test : Bool) → nat_lt (byte_value byte) radix ≡ test → cond test (Some (byte_value byte)) None ≡ Some d → 0 < radix
+    go true is e = grind (arith, nat_tests)
+    go false is e = absurd (let apart : None ≡ Some d = e in cc)

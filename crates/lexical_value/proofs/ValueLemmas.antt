@@ -1,0 +1,96 @@
+-- On what the value of a literal does not depend.
+use Rattle.std.proofs.Common.{ℕ, ◌≡◌, ◌*◌, ◌<◌, ◌^◌, Bool, true, false, not, cond, if◌then◌else◌, IsTrue, IsFalse, List, [], ◌∷◌, ◌++◌, filter, map, nat_lt}
+use Rattle.std.proofs.Common.{Some, None, refl, sym, ap, ◌∙◌, arith, append-nil, length}
+use Rattle.std.proofs.Math.Nat.{pow-zero}
+use Rattle.std.proofs.lemmas.Bool.Decides.{nat_tests}
+use Rattle.std.proofs.lemmas.List.Elements.{filter_map-append}
+use Rattle.std.specs.Int.Digits.{number_from_digits}
+use Rattle.std.specs.List.{cons_option}
+use Rattle.std.specs.Prelude.{◌==◌, position, unwrap_or}
+use Rattle.lexical_util.specs.Digits.{byte_value, digit_characters, digit_of, uppercase}
+use Rattle.lexical_util.specs.Layout as layout
+use Rattle.lexical_util.specs.NormalForm.{SameFormat}
+use Rattle.lexical_util.specs.Record.{Record, effective_exponent_base, effective_exponent_radix}
+use Rattle.lexical_literal.specs.Literal.{Literal, Reads, is_float}
+use Rattle.lexical_literal.specs.Notation.{Notation}
+use Rattle.lexical_number.specs.Number.{digits_in, number}
+use Rattle.lexical_value.specs.Integer.{integer_size}
+use Rattle.lexical_value.specs.Value.{SameDigits, SameValue, is_minus, mantissa, numerator, power, spelled}
+
+-- The value depends on the mantissa radix, and on the effective exponent base and radix.
+pub same_word : (r s : Record) (l : Literal) → SameFormat r s → SameValue r l s l
+same_word r s l same = record {
+  sign = refl;
+  numerator = grind (arith, same.mantissa_radix, same.exponent_base, same.exponent_radix);
+  denominator = grind (arith, same.mantissa_radix, same.exponent_base, same.exponent_radix);
+}
+
+-- The case of a letter does not change its value.
+twice : (byte : ℕ) → uppercase (uppercase byte) ≡ uppercase byte
+twice byte = grind (arith, nat_tests)
+
+uppercase_value : (byte : ℕ) → byte_value (uppercase byte) ≡ byte_value byte
+unfolding byte_value
+uppercase_value byte = ap (λ letter. unwrap_or (position (λ character. character == letter) digit_characters) 255) (twice byte)
+
+-- Where no separator is a digit of `radix`, the digits are those that are left without separators, with uppercase letters.
+module _ (m : Notation) (radix : ℕ) (apart : (byte : ℕ) → byte_value byte < radix → IsTrue (m.separator byte) → ⊥) where
+  same_digit : (byte : ℕ) → digit_of (uppercase byte) radix ≡ digit_of byte radix
+  same_digit byte = ap (λ value. cond (nat_lt value radix) (Some value) None) (uppercase_value byte)
+
+  spelled_digits : (bytes : List ℕ) → digits_in radix (spelled m bytes) ≡ digits_in radix bytes
+  spelled_digits [] = refl
+  spelled_digits (byte ∷ bytes) = go (m.separator byte) refl (spelled_digits bytes)
+    where
+      no_digit : (test : Bool) → nat_lt (byte_value byte) radix ≡ test → m.separator byte ≡ true → cond test (Some (byte_value byte)) None ≡ None
+      no_digit true is separator = absurd (apart byte (grind (arith, nat_tests)) separator)
+      no_digit false is separator = refl
+
+      go : (test : Bool) → m.separator byte ≡ test → digits_in radix (spelled m bytes) ≡ digits_in radix bytes
+          → digits_in radix (map uppercase (cond (not test) (byte ∷ filter (λ b. not (m.separator b)) bytes) (filter (λ b. not (m.separator b)) bytes)))
+          ≡ digits_in radix (byte ∷ bytes)
+      go true is rest = rest ∙ sym (ap (λ d. cons_option d (digits_in radix bytes)) (no_digit _ refl is))
+      go false is rest = (λ i. cons_option (same_digit byte i) (rest i))
+
+  pub same_digits : (xs ys : List ℕ) → spelled m xs ≡ spelled m ys → digits_in radix xs ≡ digits_in radix ys
+  same_digits xs ys same = sym (spelled_digits xs) ∙ ap (digits_in radix) same ∙ spelled_digits ys
+
+-- No digit is a separator.
+module _ (r : Record) (m : Notation) (l k : Literal) (same : SameDigits m l k)
+    (mantissa_apart : (byte : ℕ) → byte_value byte < r.byte layout.mantissa_radix → IsTrue (m.separator byte) → ⊥)
+    (exponent_apart : (byte : ℕ) → byte_value byte < effective_exponent_radix r → IsTrue (m.separator byte) → ⊥) where
+  abbrev radix : ℕ
+  radix = r.byte layout.mantissa_radix
+
+  same_fraction : digits_in radix l.fraction ≡ digits_in radix k.fraction
+  same_fraction = same_digits m radix mantissa_apart l.fraction k.fraction same.fraction
+
+  same_mantissa : mantissa r l ≡ mantissa r k
+  same_mantissa = ap (number_from_digits radix) (filter_map-append _ l.integer l.fraction
+      ∙ (λ i. same_digits m radix mantissa_apart l.integer k.integer same.integer i ++ same_fraction i) ∙ sym (filter_map-append _ k.integer k.fraction))
+
+  same_power : power r l ≡ power r k
+  same_power = ap (λ digits. effective_exponent_base r ^ number_from_digits (effective_exponent_radix r) digits)
+      (same_digits m (effective_exponent_radix r) exponent_apart l.exponent k.exponent same.exponent)
+
+  pub same_value : SameValue r l r k
+  same_value = record {
+    sign = same.sign;
+    numerator = λ i. same_mantissa i * (if same.exponent_sign i then 1 else same_power i);
+    denominator = λ i. radix ^ length (same_fraction i) * (if same.exponent_sign i then same_power i else 1);
+  }
+
+-- The value of an integer.
+pub integer_numerator : (m : Notation) (r : Record) (l : Literal) (text : List ℕ) → Reads m l text → IsFalse (is_float l)
+    → numerator r l ≡ integer_size r l
+integer_numerator m r l text reads whole =
+    let fraction : l.fraction ≡ [] = reads.literal.after_point (grind arith) in
+    let exponent : l.exponent ≡ [] = (reads.literal.after_character (grind arith)).1 in
+    let same : mantissa r l ≡ integer_size r l =
+    ap (number (r.byte layout.mantissa_radix)) (ap (λ bytes. l.integer ++ bytes) fraction ∙ append-nil l.integer) in
+    let one : power r l ≡ 1 = ap (λ bytes. effective_exponent_base r ^ number (effective_exponent_radix r) bytes) exponent ∙ pow-zero (effective_exponent_base r) in
+    times_one (is_minus l.exponent_sign) _ _ one ∙ same
+  where
+    times_one : (minus : Bool) (size n : ℕ) → n ≡ 1 → size * (if minus then 1 else n) ≡ size
+    times_one true size n one = omega arith
+    times_one false size n one = ap (λ k. size * k) one ∙ omega arith

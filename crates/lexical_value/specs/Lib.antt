@@ -1,0 +1,4 @@
+pub mod Value
+pub mod Integer
+pub mod Parsed
+pub mod Private

@@ -1,0 +1,80 @@
+//! The value of a literal as a value of an integer type.
+
+ghost use Rattle.std.specs.Prelude.{◌≡◌, ◌↔◌, if◌then◌else◌, true, IfSome, IsNone, IsTrue, MatchResult};
+ghost use Rattle.lexical_util.specs.Layout as layout;
+ghost use Rattle.lexical_util.specs.Record.{raw};
+ghost use Rattle.lexical_literal.specs.Literal.{is_float};
+ghost use Rattle.lexical_literal.specs.Parts.{literal_of};
+ghost use Rattle.lexical_value.specs.Integer.{IsInteger, IsNoInteger};
+ghost use Rattle.lexical_value.specs.Value.{is_minus};
+ghost use Rattle.lexical_value.specs.declared.integer.ValueErrorKind.TheVariants as kinds;
+
+use lexical_literal::read::Parts;
+use lexical_number::integer::Integer;
+use lexical_number::numeral::Numeral;
+use lexical_util::format::NumberFormat;
+
+/// Why a literal has no value in a type.
+#[derive(Debug, Clone, Copy, PartialEq, Eq, Hash)]
+pub enum ValueErrorKind {
+    /// The type is an integer type, and the literal has a decimal point or an exponent, even if its value is whole.
+    Float,
+    /// The value is above the largest value of the type.
+    TooLarge,
+    /// The value is below the least value of the type.
+    TooSmall,
+}
+
+impl ValueErrorKind {
+    // Returns the error of a value that is out of range.
+    pub(crate) const fn out_of_range(negative: bool) -> ValueErrorKind
+        ensures { result ≡ (if negative then kinds.TooSmall else kinds.TooLarge) }
+    {
+        if negative {
+            ValueErrorKind::TooSmall
+        } else {
+            ValueErrorKind::TooLarge
+        }
+    }
+}
+
+/// Returns the value of a literal of `format` as a value of an integer type. The value of `-0` is 0.
+///
+/// # Errors
+///
+/// If the literal has a decimal point or an exponent, or if its value is not in the range of the type, returns which.
+pub fn to_integer<T: Integer>(format: NumberFormat, parts: &Parts) -> Result<T, ValueErrorKind>
+    ensures { MatchResult result (λ value. IsInteger (raw format) (literal_of parts.now) (T.value value))
+        (IsNoInteger T.least T.largest (raw format) (literal_of parts.now)) }
+{
+    let Some(numeral) = integer_digits(format, parts) else {
+        return Err(ValueErrorKind::Float);
+    };
+    match T::from_numeral(&numeral) {
+        Some(value) => Ok(value),
+        None => Err(ValueErrorKind::out_of_range(numeral.negative)),
+    }
+}
+
+// Returns the sign and the digits of a literal, or `None` if it has a decimal point or an exponent.
+#[inline(always)]
+pub(crate) const fn integer_digits<'a>(
+    format: NumberFormat,
+    parts: &Parts<'a>,
+) -> Option<Numeral<'a>>
+    ensures float { IsTrue (is_float (literal_of parts.now)) ↔ IsNone result }
+    ensures negative { IfSome result (λ numeral. numeral.negative ≡ is_minus (literal_of parts.now).sign) }
+    ensures bytes { IfSome result (λ numeral. numeral.bytes.now ≡ (literal_of parts.now).integer) }
+    ensures radix { IfSome result (λ numeral. numeral.radix ≡ (raw format).byte layout.mantissa_radix) }
+    ensures separated { IfSome result (λ numeral. numeral.separated ≡ true) }
+{
+    if !matches!(parts.point, []) || !matches!(parts.exponent_character, []) {
+        return None;
+    }
+    Some(Numeral {
+        negative: matches!(parts.sign, [b'-', ..]),
+        bytes: parts.integer,
+        radix: format.mantissa_radix(),
+        separated: true,
+    })
+}

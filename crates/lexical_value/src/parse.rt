@@ -1,0 +1,39 @@
+//! Texts that are read and converted at once.
+
+ghost use Rattle.lexical_value.specs.Parsed.{IsParsed};
+
+use crate::integer::{ValueErrorKind, to_integer};
+use crate::plain::plain_integer;
+use lexical_literal::cause::ReadError;
+use lexical_literal::read::Reader;
+use lexical_number::integer::Integer;
+
+/// Why a text has no value in a type.
+#[derive(Debug, Clone, Copy, PartialEq, Eq)]
+pub enum ParseError {
+    /// The text is not a literal.
+    Read(ReadError),
+    /// The text is a literal, and has no value in the type.
+    Value(ValueErrorKind),
+}
+
+/// Returns the value of the literal `text` as a value of an integer type. The value of `-0` is 0.
+///
+/// # Errors
+///
+/// If `text` is not a literal, or if it has no value in the type, returns why.
+pub fn parse_integer<T: Integer>(reader: &Reader, text: &[u8]) -> Result<T, ParseError>
+    ensures { IsParsed T.value T.least T.largest reader.now text.now result }
+{
+    let format = reader.syntax().format();
+    if let Some(value) = plain_integer(format, text) {
+        return Ok(value);
+    }
+    match reader.read(text) {
+        Ok(parts) => match to_integer(format, &parts) {
+            Ok(value) => Ok(value),
+            Err(kind) => Err(ParseError::Value(kind)),
+        },
+        Err(error) => Err(ParseError::Read(error)),
+    }
+}

@@ -1,0 +1,60 @@
+// Made by rust/tools/erase.py from crates/lexical_value/src/integer.rt: change that file.
+
+//! The value of a literal as a value of an integer type.
+
+use crate::literal::read::Parts;
+use crate::number::integer::Integer;
+use crate::number::numeral::Numeral;
+use crate::word::FormatView;
+
+/// Why a literal has no value in a type.
+#[derive(Debug, Clone, Copy, PartialEq, Eq, Hash)]
+#[non_exhaustive]
+pub enum ValueErrorKind {
+    /// The type is an integer type, and the literal has a decimal point or an exponent, even if its value is whole.
+    Float,
+    /// The value is above the largest value of the type.
+    TooLarge,
+    /// The value is below the least value of the type.
+    TooSmall,
+}
+
+impl ValueErrorKind {
+    // Returns the error of a value that is out of range.
+    pub(crate) const fn out_of_range(negative: bool) -> ValueErrorKind {
+        if negative {
+            ValueErrorKind::TooSmall
+        } else {
+            ValueErrorKind::TooLarge
+        }
+    }
+}
+
+/// Returns the value of a literal of `format` as a value of an integer type. The value of `-0` is 0.
+///
+/// # Errors
+///
+/// If the literal has a decimal point or an exponent, or if its value is not in the range of the type, returns which.
+pub fn to_integer<T: Integer>(format: FormatView, parts: &Parts) -> Result<T, ValueErrorKind> {
+    let Some(numeral) = integer_digits(format, parts) else {
+        return Err(ValueErrorKind::Float);
+    };
+    match T::from_numeral(&numeral) {
+        Some(value) => Ok(value),
+        None => Err(ValueErrorKind::out_of_range(numeral.negative)),
+    }
+}
+
+// Returns the sign and the digits of a literal, or `None` if it has a decimal point or an exponent.
+#[inline(always)]
+pub(crate) const fn integer_digits<'a>(format: FormatView, parts: &Parts<'a>) -> Option<Numeral<'a>> {
+    if !matches!(parts.point, []) || !matches!(parts.exponent_character, []) {
+        return None;
+    }
+    Some(Numeral {
+        negative: matches!(parts.sign, [b'-', ..]),
+        bytes: parts.integer,
+        radix: format.mantissa_radix(),
+        separated: true,
+    })
+}

@@ -1,0 +1,127 @@
+// Made by rust/tools/erase.py from crates/lexical_number/src/numeral.rt: change that file.
+
+//! Digits with a sign, and the number that they represent.
+
+use crate::digit::char_to_digit;
+
+/// Digits with a sign.
+#[derive(Debug, Clone, Copy, PartialEq, Eq, Hash)]
+pub struct Numeral<'a> {
+    /// Whether the sign is `-`.
+    pub negative: bool,
+    /// The digits, with the highest one first. Letters of both cases are digits.
+    pub bytes: &'a [u8],
+    /// The radix of the digits.
+    pub radix: u32,
+    /// Whether bytes that are not digits are skipped. If this is false, such bytes have no number.
+    pub separated: bool,
+}
+
+// Returns the size of a numeral, to which `$push` appends digits, or `None` if it is above `$most`.
+macro_rules! size {
+    ($numeral:ident, $push:ident, $most:ident) => {{
+        let mut size = 0;
+        let mut index = 0;
+        while index < $numeral.bytes.len() {
+            match char_to_digit($numeral.bytes[index], $numeral.radix) {
+                Some(digit) => match $push(size, $numeral.radix, digit, $most) {
+                    Some(longer) => size = longer,
+                    None => return None,
+                },
+                None if $numeral.separated => (),
+                None => return None,
+            }
+            index += 1;
+        }
+        Some(size)
+    }};
+}
+
+impl Numeral<'_> {
+    /// Returns the number without its sign, or `None` if the value is not between `-least` and `largest`.
+    ///
+    /// It looks at no byte behind the first digit by which the number is too large.
+    #[must_use]
+    #[inline(always)]
+    pub const fn size(&self, least: u64, largest: u64) -> Option<u64> {
+        let most = if self.negative { least } else { largest };
+        size!(self, push, most)
+    }
+
+    /// Returns the number without its sign, as [`size`][Self::size] does, with 128 bits.
+    #[must_use]
+    #[inline(always)]
+    pub const fn wide_size(&self, least: u128, largest: u128) -> Option<u128> {
+        let most = if self.negative { least } else { largest };
+        size!(self, wide_push, most)
+    }
+
+    /// Returns the value, or `None` if it is not a `u64`.
+    #[must_use]
+    #[inline(always)]
+    pub const fn as_u64(&self) -> Option<u64> {
+        self.size(0, u64::MAX)
+    }
+
+    /// Returns the value, or `None` if it is not an `i64`.
+    #[must_use]
+    #[inline(always)]
+    pub const fn as_i64(&self) -> Option<i64> {
+        match self.size(1 << 63, i64::MAX as u64) {
+            Some(size) => Some(signed(self.negative, size)),
+            None => None,
+        }
+    }
+
+    /// Returns the value, or `None` if it is not a `u128`.
+    #[must_use]
+    #[inline(always)]
+    pub const fn as_u128(&self) -> Option<u128> {
+        self.wide_size(0, u128::MAX)
+    }
+
+    /// Returns the value, or `None` if it is not an `i128`.
+    #[must_use]
+    #[inline(always)]
+    pub const fn as_i128(&self) -> Option<i128> {
+        match self.wide_size(1 << 127, i128::MAX as u128) {
+            Some(size) if self.negative => Some(0i128.wrapping_sub_unsigned(size)),
+            Some(size) => Some(size as i128),
+            None => None,
+        }
+    }
+}
+
+// Returns the number `size` with one more digit, or `None` if this is above `most`.
+#[inline(always)]
+const fn push(size: u64, radix: u32, digit: u32, most: u64) -> Option<u64> {
+    let Some(shifted) = size.checked_mul(radix as u64) else {
+        return None;
+    };
+    match shifted.checked_add(digit as u64) {
+        Some(longer) if longer <= most => Some(longer),
+        _ => None,
+    }
+}
+
+// Returns the same as `push`, with 128 bits.
+#[inline(always)]
+const fn wide_push(size: u128, radix: u32, digit: u32, most: u128) -> Option<u128> {
+    let Some(shifted) = size.checked_mul(radix as u128) else {
+        return None;
+    };
+    match shifted.checked_add(digit as u128) {
+        Some(longer) if longer <= most => Some(longer),
+        _ => None,
+    }
+}
+
+// Returns `size` with its sign.
+#[inline(always)]
+pub(crate) const fn signed(negative: bool, size: u64) -> i64 {
+    if negative {
+        0i64.wrapping_sub_unsigned(size)
+    } else {
+        size as i64
+    }
+}
