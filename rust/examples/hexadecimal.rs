@@ -1,7 +1,7 @@
 //! Reads hexadecimal integers, such as `1_FF`. A format that is not lawful does not compile.
 
 use core::num::NonZeroU8;
-use peltzivar::{literal::Syntax, NumberFormatBuilder, Part};
+use peltzivar::{literal::Syntax, NumberFormatBuilder};
 
 const INTEGERS: Syntax = Syntax::integers(
     NumberFormatBuilder::new()
@@ -13,7 +13,7 @@ const INTEGERS: Syntax = Syntax::integers(
 
 fn main() {
     let literal = INTEGERS.read(b"1_FF").unwrap();
-    assert!(literal.digits(Part::Integer).eq([1, 15, 15]));
+    assert_eq!(literal.to_u64(), Ok(0x1FF));
 
     let error = INTEGERS.read(b"1__FF").unwrap_err();
     assert_eq!(format!("{error:#}"), "a digit separator after another");

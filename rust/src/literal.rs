@@ -1,8 +1,8 @@
 //! Literals: the texts that are numbers of a format, their parts, the calls that read them, and why a text is not one.
 //!
 //! A [`Syntax`] is a lawful format with an exponent character and a decimal point or, for integers alone, without both.
-//! A [`Reader`] has tables of a syntax, so that it reads a text in less time. A [`Literal`] has the parts of a text and
-//! the values of its digits. A [`ReadError`] has the cause of a refusal, and the flags to blame. NaN and infinity are not
+//! A [`Reader`] has tables of a syntax, so that it reads a text in less time. A [`Literal`] has the parts of a text and,
+//! if it is an integer, its value in any type of Rust. A [`ReadError`] has the cause of a refusal, and the flags to blame. NaN and infinity are not
 //! literals: [`Specials`] reads them. A [`Language`] has a reader and the special values of a language.
 //!
 //! ```
@@ -22,7 +22,7 @@
 //! assert_eq!((literal.as_bytes(), rest), (&b"1.25"[..], &b".3"[..]));
 //! ```
 //!
-//! [`Literal`] has examples that compute values, and [`Syntax::read_prefix`] one that splits a text into numbers.
+//! [`Reader::parse`] returns the value of a text. [`Syntax::read_prefix`] has an example that splits a text into numbers.
 //!
 //! # Writing numbers
 //!
