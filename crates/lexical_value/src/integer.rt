@@ -44,8 +44,8 @@ impl ValueErrorKind {
 ///
 /// If the literal has a decimal point or an exponent, or if its value is not in the range of the type, returns which.
 pub fn to_integer<T: Integer>(format: NumberFormat, parts: &Parts) -> Result<T, ValueErrorKind>
-    ensures { MatchResult result (λ value. IsInteger (raw format) (literal_of parts.now) (T.value value))
-        (IsNoInteger T.least T.largest (raw format) (literal_of parts.now)) }
+    ensures { MatchResult result (λ value. IsInteger (raw format) (literal_of parts.now) (T.range.value value))
+        (IsNoInteger T.range.least T.range.largest (raw format) (literal_of parts.now)) }
 {
     let Some(numeral) = integer_digits(format, parts) else {
         return Err(ValueErrorKind::Float);
