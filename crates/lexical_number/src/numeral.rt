@@ -45,6 +45,7 @@ impl Numeral<'_> {
     /// It looks at no byte behind the first digit by which the number is too large.
     #[must_use]
     #[inline(always)]
+    #[tactic(auto, using(crate::proofs::NumberLemmas::too_large))]
     pub const fn size(&self, least: u64, largest: u64) -> Option<u64>
         ensures { SomeIff result (Fits least largest self.now) (size_of self.now) }
     {
@@ -55,6 +56,7 @@ impl Numeral<'_> {
     /// Returns the number without its sign, as [`size`][Self::size] does, with 128 bits.
     #[must_use]
     #[inline(always)]
+    #[tactic(auto, using(crate::proofs::NumberLemmas::too_large))]
     pub const fn wide_size(&self, least: u128, largest: u128) -> Option<u128>
         ensures { SomeIff result (Fits least largest self.now) (size_of self.now) }
     {
