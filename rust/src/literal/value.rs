@@ -25,7 +25,7 @@ pub trait Sealed: for<'a> TryFrom<Literal<'a>, Error = ValueError> {
 }
 
 impl Reader {
-    /// Returns the value of the literal `text`. A minus sign before 0 changes no integer.
+    /// Returns the value of the literal `text`. That of `-0` is 0 in each integer type.
     ///
     /// ```
     /// use peltzivar::literal::Language;
