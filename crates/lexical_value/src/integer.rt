@@ -14,7 +14,7 @@ use lexical_number::integer::Integer;
 use lexical_number::numeral::Numeral;
 use lexical_util::format::NumberFormat;
 
-/// Why a literal has no value in a type.
+/// Why a number has no value in a type.
 #[derive(Debug, Clone, Copy, PartialEq, Eq, Hash)]
 pub enum ValueErrorKind {
     /// The type is an integer type, and the literal has a decimal point or an exponent, even if its value is whole.
@@ -23,6 +23,8 @@ pub enum ValueErrorKind {
     TooLarge,
     /// The value is below the least value of the type.
     TooSmall,
+    /// The type is an integer type, and the number is NaN or infinity, which no literal is.
+    Special,
 }
 
 impl ValueErrorKind {

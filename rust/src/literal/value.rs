@@ -3,7 +3,7 @@
 use core::fmt::{self, Write};
 
 use crate::format_flags::Part;
-use crate::literal::{Literal, ReadError, Reader};
+use crate::literal::{Literal, Number, ReadError, Reader};
 
 mod integer;
 mod plain;
@@ -15,7 +15,7 @@ use plain::plain_integer;
 
 /// A type that can be [parsed][Reader::parse]: each integer type of Rust.
 ///
-/// Each of these types is also [made][TryFrom] from a [`Literal`], as in `u16::try_from(literal)`.
+/// Each of these types is also [made][TryFrom] from a [`Literal`] or a [`Number`], as in `u16::try_from(literal)`.
 pub trait FromLiteral: Sealed {}
 
 /// The conversions of a type, which only this crate calls.
@@ -95,7 +95,7 @@ impl fmt::Display for Plain<'_> {
     }
 }
 
-/// Why a literal has no value in a type.
+/// Why a number has no value in a type.
 #[derive(Debug, Clone, Copy, PartialEq, Eq, Hash)]
 pub struct ValueError {
     kind: ValueErrorKind,
@@ -123,6 +123,7 @@ impl fmt::Display for ValueError {
             ValueErrorKind::Float => write!(f, "a float, and {} is an integer type", self.target()),
             ValueErrorKind::TooLarge => self.target.write_limit(f, true),
             ValueErrorKind::TooSmall => self.target.write_limit(f, false),
+            ValueErrorKind::Special => write!(f, "NaN or infinity, and {} is an integer type", self.target()),
         }
     }
 }
@@ -191,6 +192,20 @@ macro_rules! integers {
                 fn try_from(literal: Literal<'_>) -> Result<$type, ValueError> {
                     let target = Target::$Target;
                     to_integer(literal.view, &literal.cut()).map_err(|kind| ValueError { kind, target })
+                }
+            }
+
+            /// Makes the value of an integer from a number of a language.
+            impl TryFrom<Number<'_>> for $type {
+                type Error = ValueError;
+
+                fn try_from(number: Number<'_>) -> Result<$type, ValueError> {
+                    match number {
+                        Number::Literal(literal) => literal.try_into(),
+                        Number::Special(_) => {
+                            Err(ValueError { kind: ValueErrorKind::Special, target: Target::$Target })
+                        }
+                    }
                 }
             }
         )*

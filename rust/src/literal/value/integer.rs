@@ -7,7 +7,7 @@ use crate::number::integer::Integer;
 use crate::number::numeral::Numeral;
 use crate::word::FormatView;
 
-/// Why a literal has no value in a type.
+/// Why a number has no value in a type.
 #[derive(Debug, Clone, Copy, PartialEq, Eq, Hash)]
 #[non_exhaustive]
 pub enum ValueErrorKind {
@@ -17,6 +17,8 @@ pub enum ValueErrorKind {
     TooLarge,
     /// The value is below the least value of the type.
     TooSmall,
+    /// The type is an integer type, and the number is NaN or infinity, which no literal is.
+    Special,
 }
 
 impl ValueErrorKind {
