@@ -1226,7 +1226,7 @@ class Language(_Named):
     C_FLOAT: C's decimal floating constants (C23, Floating constants). A format cannot accept both `1.0f` and `1.0L`.
 
     C_HEX_FLOAT: C's hexadecimal floating constants (C23, Floating constants): `0x1.8p3` is 1.5 * 2^3. A format cannot
-        accept both `0x1p3f` and `0x1p3L`.
+        accept both `0x1p3f` and `0x1p3L`, reject `-0x1p3`, or require the prefix, so `1p3` is accepted.
 
     C_SHARP: C#'s real literals and decimal integers (C# standard, 6.4.5.3 and 6.4.5.4). A format cannot accept `1L`,
         `1f` and `1m`.
@@ -1234,11 +1234,12 @@ class Language(_Named):
     FORTRAN: Fortran's signed integers and reals (ISO/IEC 1539-1:2018, 7.4.3). A format cannot accept both `1E3` and
         `1D3`, or a kind as in `1.0_8`.
 
-    GO_HEX_FLOAT: Go's hexadecimal floats (Language Specification, Floating-point literals).
+    GO_HEX_FLOAT: Go's hexadecimal floats (Language Specification, Floating-point literals). A format cannot reject
+        `-0x1p3`, or require the prefix, so `1p3` is accepted.
 
     HASKELL: Haskell's floats and decimal integers (Haskell 2010 Report, 2.5).
 
-    JAVA: Java's floats and decimal integers (Language Specification 21, 3.10.1 and 3.10.2). A format cannot accept
+    JAVA: Java's decimal floats and integers (Language Specification 21, 3.10.1 and 3.10.2). A format cannot accept
         `1L`, `1f` and `1d`.
 
     JAVASCRIPT: JavaScript's decimal literals in strict code (ECMA-262, Numeric Literals). A format cannot accept `1n`
@@ -1246,36 +1247,38 @@ class Language(_Named):
 
     JSON: JSON's numbers (RFC 8259, 6. Numbers).
 
-    JULIA: Julia's floats and decimal integers (Manual 1.11, Integers and Floating-Point Numbers). A format cannot
+    JULIA: Julia's decimal floats and integers (Manual 1.11, Integers and Floating-Point Numbers). A format cannot
         accept both `1e3` and `1f3`.
 
     KOTLIN: Kotlin's real literals and decimal integers (Kotlin language specification 1.9, Literals). A format cannot
         accept `1L`, `1f` and `1u`.
 
-    NASM_HEX_INTEGER: NASM's hexadecimal integers with a suffix (NASM manual, Numeric Constants). A format cannot
-        accept `0FFh` but reject `FFh`, which is a name.
+    NASM_HEX_INTEGER: NASM's hexadecimal integers with the suffix `h` (NASM manual, Numeric Constants). A format cannot
+        accept `0FFx` too, reject `-1h` or `FFh`, which is a name, or require the suffix, so `10` is 16.
 
-    OCAML: OCaml's floats and decimal integers (Manual 5.2, 11.1 Lexical conventions). A format cannot accept `1._`,
+    OCAML: OCaml's decimal floats and integers (Manual 5.2, 11.1 Lexical conventions). A format cannot accept `1._`,
         whose fraction has a separator alone, or `1l`, `1L` and `1n`.
 
     PYTHON: Python's floats and decimal integers (Language Reference 3.12, 2.4.5 and 2.4.6). A format cannot accept
         `00` and reject `01`.
 
-    PYTHON_HEX_INTEGER: Python's hexadecimal integers (Language Reference 3.12, 2.4.5).
+    PYTHON_HEX_INTEGER: Python's hexadecimal integers (Language Reference 3.12, 2.4.5). A format cannot reject `-0x1F`,
+        or require the prefix, so `10` is 16.
 
-    RUBY: Ruby's floats and decimal integers (ISO/IEC 30170:2012, 8.7.6.2). A format cannot accept `1r` and `1i`.
+    RUBY: Ruby's floats and decimal integers (ISO/IEC 30170:2012, 8.7.6.2). A format cannot accept `1r` and `1i`, or
+        accept `0d10` but reject `0d1.5`.
 
     RUST_HEX_INTEGER: Rust's hexadecimal integers (Reference, Integer literals). A format cannot accept the suffix in
-        `0x1F_u8`.
+        `0x1F_u8`, reject `-0x1F`, or require the prefix, so `10` is 16.
 
     SPREADSHEET_CSV: Numbers in CSV, as spreadsheets write cells of the format `#,##0.00`, in quotes (RFC 4180):
-        `"1,234.50"`. A format cannot require groups of three digits. For `1.234,50` use the separator `.` and the
-        decimal point `,`.
+        `"1,234.50"`. A format cannot require groups of three digits, or accept the minus sign U+2212 of Gnumeric:
+        replace it by `-`. For `1.234,50` use the separator `.` and the decimal point `,`.
 
     SQL: SQL's signed numeric literals (ISO/IEC 9075-2:2016, 5.3 `<literal>`).
 
     SWIFT_HEX_FLOAT: Swift's hexadecimal floats (The Swift Programming Language, Lexical Structure, Floating-Point
-        Literals).
+        Literals). A format cannot require the prefix, so `1p3` is accepted.
 
     TOML: TOML's floats and decimal integers (TOML 1.0.0, Integer and Float).
 
