@@ -63,39 +63,6 @@ pub normal_form-is : (w : ℕ) → normal_form_of w ≡ pack (fill (raw w))
 unfolding after
 normal_form-is w = refl
 
--- The flags of a word under the mask of all flags are the sum of the flags.
-masked_flags : (w : ℕ) → bit_and w FLAG_MASK ≡ sum_by (flag_bits (raw w)) flags
-masked_flags w = and_all bit flags w refl
-    ∙ sym (λ i. sum_by (λ f. bit_value (part w (bit f) 1) (2 ^ bit f) (mod-lt _ (omega arith)) i) flags)
-
--- If the flags of a word and the bytes of its normal form are joined by `|`, then the result is the normal form.
-pub normal_joined : (w upper : ℕ) → upper < 2 ^ 64 → upper * 2 ^ 64 ≡ sum_by (byte_bits (trim (fill (raw w)))) bytes
-    → bit_or (bit_and w FLAG_MASK) (upper * 2 ^ 64 % 2 ^ 128) ≡ normal_form_of w
-unfolding word_of
-normal_joined w upper fits e =
-    (λ i. bit_or (masked_flags w i) (shl_whole upper 64 64 128 fits (omega arith) i))
-    ∙ or_comm (sum_by (flag_bits (raw w)) flags) (upper * 2 ^ 64)
-    ∙ or_shifted upper 64 (sum_by (flag_bits (raw w)) flags) (flags-lt (raw w)) ∙ omega (arith, e) ∙ sym (normal_form-is w)
-
--- `lower_bytes r` has the bytes of `r` below the exponent bytes, at their bits in the upper half.
-abbrev pub lower_bytes : Record → ℕ
-lower_bytes r = r.byte layout.digit_separator
-    + (r.byte layout.base_prefix + r.byte layout.base_suffix * 2 ^ 8 + r.byte layout.mantissa_radix * 2 ^ 16) * 2 ^ 24
-
--- If the exponent bytes of a record and its other bytes are joined by `|`, then the result is the sum of the bytes.
-pub bytes_joined : (r : Record) → HasBytes r → bit_or (bit_or (r.byte layout.exponent_base * 2 ^ 48)
-    (r.byte layout.exponent_radix * 2 ^ 56)) (lower_bytes r) * 2 ^ 64 ≡ sum_by (byte_bits r) bytes
-bytes_joined r h =
-    let base : ℕ = r.byte layout.exponent_base in
-    let radix : ℕ = r.byte layout.exponent_radix in
-    let each = h.each in
-    let fits : lower_bytes r < 2 ^ 48 = omega arith in
-    let base_fits : base * 2 ^ 48 < 2 ^ 56 = omega arith in
-    let exponents : bit_or (base * 2 ^ 48) (radix * 2 ^ 56) ≡ (base + radix * 2 ^ 8) * 2 ^ 48 =
-    or_comm (base * 2 ^ 48) (radix * 2 ^ 56) ∙ or_shifted radix 56 (base * 2 ^ 48) base_fits ∙ omega arith in
-    ap (λ n. n * 2 ^ 64) (ap (λ n. bit_or n (lower_bytes r)) exponents
-    ∙ or_shifted (base + radix * 2 ^ 8) 48 (lower_bytes r) fits) ∙ omega arith
-
 -- If two words are equivalent, then their normal forms are equal.
 pub normal_same : (a b : ℕ) → SameFormat (raw a) (raw b) → normal_form_of a ≡ normal_form_of b
 normal_same a b s = normal_form-is a ∙ ap word_of (trim-same_format (raw a) (raw b) s) ∙ sym (normal_form-is b)
