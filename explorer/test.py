@@ -451,11 +451,11 @@ class Walk(unittest.TestCase):
         self.assertEqual(self.texts("#read mark"), ["_", "\u00e9", "x"])
         self.assertEqual(self.texts("#read p"), [
             "accepted: float = -12000",
-            "at index 2: a digit separator after a digit, which requires integer_internal_digit_separator or "
-            "integer_trailing_digit_separator",
-            "at index 1: no literal has the byte 195 here",
+            "at index 2: unexpected digit separator in the integer after a digit, which requires "
+            "integer_internal_digit_separator or integer_trailing_digit_separator",
+            "at index 1: unexpected byte 195",
             "accepted as integer = 1, but it must be refused",
-            "refused: at index 1: no literal has the byte 'x' here"])
+            "refused: at index 1: unexpected character 'x'"])
         self.assertEqual((self.text("#count"), self.text("#first-error").split(" ")[0]), ("2 of 5 as expected", "-1_000"))
         self.find("#refuse-3").send_keys(Keys.SPACE)
         self.assertEqual((self.value("#literal").split("\n")[3], self.focused()), ("1", "refuse-3"))
