@@ -392,7 +392,7 @@ PELTZIVAR_MUST_USE peltzivar_error peltzivar_read(
 PELTZIVAR_MUST_USE peltzivar_error peltzivar_read_prefix(
     const peltzivar_syntax *syntax, const char *text, size_t len, peltzivar_literal *literal, peltzivar_read_error *error);
 
-/* Writes why peltzivar_read refuses a text or its syntax as a sentence, such as "no literal has the byte 'x' here" or
+/* Writes why peltzivar_read refuses a text or its syntax as a sentence, such as "unexpected character 'x'" or
  * "the exponent character 'e' is a digit in radix 16". The text has len bytes, and the buffer `to` has to_len bytes. If
  * peltzivar_read accepts the text, writes an empty string. */
 size_t peltzivar_read_error_text(

@@ -250,7 +250,7 @@ fn candidates(state: State, text: &[u8], at: usize) -> [Option<State>; 9] {
     let [shown, same, needed] = suffixes(state, text, at);
     let radix = radix_of(text, state.radix() + 1).filter(|_| byte.is_ascii_alphanumeric());
     [
-        prefix(state, before, byte),
+        prefix(state, before, byte, rest),
         exponent(state, before, byte, rest),
         point(state, before, byte, rest),
         shown,
@@ -267,15 +267,22 @@ fn is_mark(byte: u8) -> bool {
     matches!(byte, b'_' | b'\'' | b',' | b'.' | b' ')
 }
 
-/// A letter behind the first zero is the base prefix, and shows the radix.
-fn prefix(state: State, before: &[u8], byte: u8) -> Option<State> {
+/// A letter behind the first zero is the base prefix, and shows the radix. A digit of this radix is never before a sign,
+/// so the radix is kept if the exponent character is such a digit and is before a sign.
+fn prefix(state: State, before: &[u8], byte: u8, rest: &[u8]) -> Option<State> {
     let radix = match byte.to_ascii_lowercase() {
         b'x' => 16,
         b'o' => 8,
         b'b' => 2,
         _ => return None,
     };
-    (unsigned(before) == b"0").then(|| state.with_radix(radix).with(BASE_PREFIX, byte))
+    let is_digit = value(state.exponent).is_some_and(|digit| digit < radix);
+    let is_exponent = |it: &[u8]| it[0].eq_ignore_ascii_case(&state.exponent) && matches!(it[1], b'+' | b'-');
+    let shown = match is_digit && rest.windows(2).any(is_exponent) {
+        true => state,
+        false => state.with_radix(radix),
+    };
+    (unsigned(before) == b"0").then(|| shown.with(BASE_PREFIX, byte))
 }
 
 /// A letter or `^` between digits is the exponent character.

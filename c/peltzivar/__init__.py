@@ -1149,7 +1149,7 @@ class Syntax:
         if error := call(numbers, data, len(data), literal, refused):
             sentence, index = _text(_library.read_error_text, numbers, data, len(data)), refused.valid_up_to
             if isinstance(text, str) and data[index : index + 1] == b"\xff":
-                sentence = f"no literal has the character {text[index]!r} here"
+                sentence = f"unexpected character {text[index]!r}"
             part = Part(refused.part) if refused.part != _NO_PART else None
             span, cause, mask = (refused.span.start, refused.span.end), Cause(refused.cause), _joined(refused.mask)
             raise LiteralError(sentence, text, index, span, cause, part, mask, Error(error))

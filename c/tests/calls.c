@@ -182,7 +182,7 @@ static void test_literals(void) {
     CHECK(error.valid_up_to == 2 && error.span.start == 1 && error.span.end == 2 && error.index == 1);
     CHECK(is_word(error.mask, 0, UINT64_C(1) << 38) && error.cause == PELTZIVAR_CAUSE_SEPARATOR);
     CHECK(error.number == PELTZIVAR_SET_INTEGER_TRAILING_DIGIT_SEPARATOR && error.part == PELTZIVAR_PART_INTEGER);
-    CHECK(WRITES("no literal has the byte '.' here", peltzivar_read_error_text(&syntax, "1..", 3, text, sizeof text)));
+    CHECK(WRITES("unexpected character '.'", peltzivar_read_error_text(&syntax, "1..", 3, text, sizeof text)));
     CHECK(WRITES("", peltzivar_read_error_text(&syntax, "1.", 2, text, sizeof text)));
 }
 

@@ -210,7 +210,7 @@ class Literals(unittest.TestCase):
         for text, index in (("12\u00e9", 2), ("\u20ac", 0), ("1.5\U0001F600e", 3), ("1e\ud800", 2), ("1x\u00e9", 1)):
             with self.assertRaises(LiteralError) as caught:
                 Syntax(Format()).read(text)
-            error, sentence = caught.exception, f"no literal has the {'byte' if index == 1 else 'character'} {text[index]!r} here"
+            error, sentence = caught.exception, f"unexpected character {text[index]!r}"
             self.assertEqual((error.valid_up_to, error.error, str(error)), (index, Error.INVALID_DIGIT, sentence))
 
     def test_syntaxes(self):

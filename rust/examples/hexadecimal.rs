@@ -16,6 +16,6 @@ fn main() {
     assert!(literal.digits(Part::Integer).eq([1, 15, 15]));
 
     let error = INTEGERS.read(b"1__FF").unwrap_err();
-    assert_eq!(format!("{error:#}"), "a digit separator after another");
+    assert_eq!(format!("{error:#}"), "unexpected digit separator in the integer after another");
     assert_eq!(error.span(), 2..3);
 }

@@ -17,7 +17,7 @@
 //!
 //! // A second decimal point is refused. What is before it is a literal.
 //! let error = READER.read(b"1.25.3").unwrap_err();
-//! assert_eq!((error.valid_up_to(), error.to_string()), (4, "no literal has the byte '.' here".into()));
+//! assert_eq!((error.valid_up_to(), error.to_string()), (4, "unexpected character '.'".into()));
 //! let (literal, rest) = READER.read_prefix(b"1.25.3").unwrap();
 //! assert_eq!((literal.as_bytes(), rest), (&b"1.25"[..], &b".3"[..]));
 //! ```

@@ -175,6 +175,28 @@ fn causes_are_those_of_the_page() {
     }
 }
 
+/// What users read of refused texts, with what is shown of each.
+#[test]
+fn sentences_name_what_is_seen() {
+    let separators = "digit_separator=95 integer_internal_digit_separator=true";
+    let rows = [
+        ("", "1 000", "unexpected space", " "),
+        ("", "1'000", "unexpected character \"'\"", "'"),
+        ("", "1\t", "unexpected tab", "\t"),
+        ("", "1\r\n", "unexpected carriage return", "\r"),
+        ("", "1\0", "unexpected byte 0", "\0"),
+        ("", "1e+", "expected a digit after the exponent character", "+"),
+        (separators, "1_0.0_5", "unexpected digit separator in the fraction after a digit", "_"),
+        (separators, "1__0", "unexpected digit separator in the integer after another", "_"),
+        ("no_integer_leading_zeros=true", "007", "unexpected leading zero", "007"),
+        ("case_sensitive_exponent=true", "1E5", "unexpected case of the exponent character", "E"),
+    ];
+    for (settings, text, sentence, shown) in rows {
+        let error = syntax(word(settings)).read(text.as_bytes()).unwrap_err();
+        assert_eq!((format!("{error:#}").as_str(), &text[error.span()]), (sentence, shown), "{text}");
+    }
+}
+
 /// The parts of the number at the top of the page, and of the longest front that is a literal.
 #[test]
 fn parts_are_known() {

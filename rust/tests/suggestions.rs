@@ -34,6 +34,7 @@ fn numbers_of_many_forms_lead_to_their_formats() {
         ("12h", "hexadecimal base_suffix='h'", b'p', b'.'),
         ("0o17", "mantissa_radix=8 base_prefix='o'", b'e', b'.'),
         ("0b101", "mantissa_radix=2 base_prefix='b'", b'e', b'.'),
+        ("-0x1_000.5e+12h", "base_prefix='x' base_suffix='h' digit_separator='_' integer_internal_digit_separator=true", b'e', b'.'),
         ("101b", "mantissa_radix=2 base_suffix='b'", b'e', b'.'),
         ("FF", "hexadecimal", b'p', b'.'),
         ("1D3", "", b'D', b'.'),

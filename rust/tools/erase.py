@@ -118,7 +118,8 @@ ATTRIBUTES = [
     # The type of core has its own page.
     ("format_builder.rt", "pub use non_zero::NonZeroU8;", "#[doc(no_inline)] pub use non_zero::NonZeroU8;"),
     ("feature_format.rt", "#[derive(Clone, Copy)]", f"#[derive({COMPARED})]"),
-    ("short_text.rt", "#[derive(Drop)]", "#[derive(Clone, Copy)]"),
+    # Only in plain Rust do public calls return this type. The documentation hides the traits of a hidden type.
+    ("short_text.rt", "#[derive(Drop)]\n#[doc(hidden)]", "#[derive(Clone,\nCopy)]"),
     ("read.rt", "#[derive(Drop)]", "#[derive(Clone)]"),
     ("tables.rt", "#[derive(Drop)]", "#[derive(Clone)]"),
     ("cause.rt", "Eq)]\npub struct ReadError", "Eq, Hash)]\npub struct ReadError"),

@@ -32,7 +32,7 @@ impl Syntax {
     ///     rest = after;
     /// }
     /// let error = syntax.read_prefix(rest).unwrap_err();
-    /// assert_eq!((error.valid_up_to(), error.to_string()), (1, "no literal has the byte ';' here".into()));
+    /// assert_eq!((error.valid_up_to(), error.to_string()), (1, "unexpected character ';'".into()));
     /// let missing = syntax.read(&rest[..error.valid_up_to()]).unwrap_err();
     /// assert_eq!(missing.to_string(), "expected a digit of the integer");
     /// ```

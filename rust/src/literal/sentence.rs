@@ -1,7 +1,8 @@
 //! What a caller makes of a [`ReadError`], and its text, which are written by hand.
 
-use core::{fmt, ops::Range};
+use core::{fmt, ops::Range, slice, str};
 
+use crate::digit::digit_to_char;
 use crate::edits::{Edit, FlagSetter};
 use crate::literal::{Cause, Place, ReadError};
 use crate::short_text::ShortText;
@@ -14,11 +15,23 @@ impl ReadError {
         self.byte().is_none()
     }
 
-    /// Returns the range of the bytes to show. It may be empty, and in a UTF-8 text, it may end inside a character.
+    /// Returns the range of the bytes to show, which may be empty. A wrong byte is shown with all bytes of its character,
+    /// so `&text[span]` does not panic for the `str` that was read.
     #[must_use]
     pub const fn span(&self) -> Range<usize> {
         let (start, end) = self.bounds();
-        start..end
+        match self.cause() {
+            Cause::Byte => start..start + self.wrong().len(),
+            _ => start..end,
+        }
+    }
+
+    /// Returns the bytes of the character that cannot follow, or none if bytes are missing.
+    const fn wrong(&self) -> &[u8] {
+        match &self.byte {
+            Some(byte) => first_character(slice::from_ref(byte)),
+            None => &[],
+        }
     }
 
     /// Returns the edits that end the cause, one for each flag to blame. Each edit that sets a separator flag ends it
@@ -51,63 +64,133 @@ impl ReadError {
 
 impl core::error::Error for ReadError {}
 
-/// Prints the cause as a sentence without a full stop, such as `a leading zero, which no_integer_leading_zeros forbids`.
-/// If several flags are to blame for a requirement, the sentence names the lowest. For users of a language, who know no
-/// flags, `{:#}` prints the sentence without them, such as `a leading zero` or `a digit separator before digits`.
+/// Prints `expected` and what is missing, or `unexpected` and what must not be there, and then the flags to blame, such as
+/// `unexpected leading zero, which no_integer_leading_zeros forbids`. If several flags are to blame for a requirement, the
+/// sentence names the lowest. For users of a language, who know no flags, `{:#}` leaves out the flags, as in `unexpected
+/// leading zero` or `unexpected digit separator in the fraction after another`.
 impl fmt::Display for ReadError {
     fn fmt(&self, f: &mut fmt::Formatter<'_>) -> fmt::Result {
-        let mut blamed = self.blamed();
-        let text = match (self.cause(), blamed.next()) {
-            (Cause::Missing(part), _) => ShortText::of("expected a digit of the ").and(part.name()),
-            (Cause::Separator(_, place), Some(flag)) => {
-                let text = ShortText::of(separator(place)).and(", which requires ");
-                let join = |text: ShortText, other: FlagSetter| text.and(" or ").and(other.name());
-                blamed.fold(text.and(flag.name()), join)
-            }
-            (_, Some(flag)) => {
-                let is_required = flag.name().starts_with("required");
-                let verb = if is_required { " requires" } else { " forbids" };
-                let text = ShortText::of(requirement(flag)).and(", which ");
-                text.and(flag.name()).and(verb)
-            }
-            (_, None) => {
-                let text = ShortText::of("no literal has the byte ");
-                text.quoted(self.byte().unwrap_or(0)).and(" here")
-            }
+        f.pad(self.sentence(!f.alternate()).as_str())
+    }
+}
+
+impl ReadError {
+    /// Returns the sentence, with the flags to blame or without them.
+    const fn sentence(&self, with_flags: bool) -> ShortText {
+        let (cause, mut mask) = (self.cause(), self.mask());
+        let Some(flag) = lowest(mask) else {
+            return match cause {
+                Cause::Missing(part) => ShortText::of("expected a digit of the ").and(part.name()),
+                _ => unexpected(self.wrong()),
+            };
         };
-        f.pad(match text.as_str().split_once(", which ") {
-            Some((front, _)) if f.alternate() => front,
-            _ => text.as_str(),
-        })
+        let Cause::Separator(part, place) = cause else {
+            let is_required = matches!(flag.name().as_bytes(), [b'r', ..]);
+            let text = ShortText::of(if is_required { "expected " } else { "unexpected " }).and(requirement(flag));
+            let verb = if is_required { " requires" } else { " forbids" };
+            return if with_flags { text.and(", which ").and(flag.name()).and(verb) } else { text };
+        };
+        let text = ShortText::of("unexpected digit separator in the ").and(part.name());
+        let mut text = text.and(match place {
+            Place::BeforeDigits => " before digits",
+            Place::AfterDigit => " after a digit",
+            Place::Consecutive => " after another",
+        });
+        let mut link = ", which requires ";
+        while let (true, Some(flag)) = (with_flags, lowest(mask)) {
+            text = text.and(link).and(flag.name());
+            link = " or ";
+            mask &= mask - 1;
+        }
+        text
     }
 }
 
-fn separator(place: Place) -> &'static str {
-    match place {
-        Place::BeforeDigits => "a digit separator before digits",
-        Place::AfterDigit => "a digit separator after a digit",
-        Place::Consecutive => "a digit separator after another",
+/// Returns the flag with the lowest bit of a mask of flags.
+const fn lowest(mask: u128) -> Option<FlagSetter> {
+    let mut index = 0;
+    while index < FlagSetter::FLAGS.len() {
+        if FlagSetter::FLAGS[index].is_set(mask) {
+            return Some(FlagSetter::FLAGS[index]);
+        }
+        index += 1;
     }
+    None
 }
 
-/// Returns what a flag requires or forbids. If a flag has no text here, its name without the first word is true, too.
-fn requirement(flag: FlagSetter) -> &'static str {
+/// Returns what a flag requires or forbids.
+const fn requirement(flag: FlagSetter) -> &'static str {
     match flag {
-        FlagSetter::RequiredIntegerDigits => "expected a digit of the integer",
-        FlagSetter::RequiredFractionDigits => "expected a digit after the decimal point",
-        FlagSetter::RequiredExponentDigits => "expected a digit after the exponent character",
-        FlagSetter::RequiredMantissaDigits => "expected a digit of the integer or the fraction",
-        FlagSetter::NoPositiveMantissaSign => "a plus sign",
-        FlagSetter::RequiredMantissaSign => "expected a sign",
-        FlagSetter::NoExponentNotation => "an exponent",
-        FlagSetter::NoPositiveExponentSign => "a plus sign in the exponent",
-        FlagSetter::RequiredExponentSign => "expected a sign of the exponent",
-        FlagSetter::NoExponentWithoutFraction => "an exponent without a decimal point",
-        FlagSetter::RequiredExponentNotation => "expected an exponent",
-        FlagSetter::CaseSensitiveExponent => "the other case of the exponent character",
-        FlagSetter::CaseSensitiveBasePrefix => "the other case of the base prefix",
-        FlagSetter::CaseSensitiveBaseSuffix => "the other case of the base suffix",
-        FlagSetter::NoIntegerLeadingZeros | FlagSetter::NoFloatLeadingZeros => "a leading zero",
-        _ => flag.name().split_once('_').map_or("", |(_, what)| what),
+        FlagSetter::RequiredIntegerDigits => "a digit of the integer",
+        FlagSetter::RequiredFractionDigits => "a digit after the decimal point",
+        FlagSetter::RequiredExponentDigits => "a digit after the exponent character",
+        FlagSetter::RequiredMantissaDigits => "a digit of the integer or the fraction",
+        FlagSetter::NoPositiveMantissaSign => "plus sign",
+        FlagSetter::RequiredMantissaSign => "a sign",
+        FlagSetter::NoExponentNotation => "exponent",
+        FlagSetter::NoPositiveExponentSign => "plus sign in the exponent",
+        FlagSetter::RequiredExponentSign => "a sign of the exponent",
+        FlagSetter::NoExponentWithoutFraction => "exponent without a decimal point",
+        FlagSetter::RequiredExponentNotation => "an exponent",
+        FlagSetter::CaseSensitiveExponent => "case of the exponent character",
+        FlagSetter::CaseSensitiveBasePrefix => "case of the base prefix",
+        FlagSetter::CaseSensitiveBaseSuffix => "case of the base suffix",
+        FlagSetter::NoIntegerLeadingZeros | FlagSetter::NoFloatLeadingZeros => "leading zero",
+        _ => flag.name(),
+    }
+}
+
+/// Returns the first character of a text in UTF-8, or its first byte if that begins no character. An empty text has none.
+const fn first_character(text: &[u8]) -> &[u8] {
+    let size = match text {
+        [] => 0,
+        [0xC2..=0xDF, ..] => 2,
+        [0xE0..=0xEF, ..] => 3,
+        [0xF0..=0xF4, ..] => 4,
+        _ => 1,
+    };
+    match text.split_at_checked(size) {
+        Some((character, _)) if str::from_utf8(character).is_ok() => character,
+        _ => text.split_at(1).0,
+    }
+}
+
+/// Returns the sentence for a character, or for a byte that begins none. Characters that cannot be seen, or change the
+/// order of others, have a name or a number.
+const fn unexpected(wrong: &[u8]) -> ShortText {
+    let text = ShortText::of("unexpected ");
+    match wrong {
+        b" " => text.and("space"),
+        b"\t" => text.and("tab"),
+        b"\n" => text.and("line feed"),
+        b"\r" => text.and("carriage return"),
+        b"'" => text.and("character \"'\""),
+        [byte] if byte.is_ascii_graphic() => text.and("character ").quoted(*byte),
+        [byte] => text.and("byte ").decimal(*byte as usize),
+        [0xC2, 0x80..=0xA0 | 0xAD]
+        | [0xE2, 0x80, 0x80..=0x8F | 0xA8..=0xAF]
+        | [0xE2, 0x81, 0x9F..=0xAF]
+        | [0xE3, 0x80, 0x80]
+        | [0xEF, 0xBB, 0xBF] => code_point(text.and("character U+"), wrong),
+        _ => match str::from_utf8(wrong) {
+            Ok(character) => text.and("character '").and(character).and("'"),
+            Err(_) => text,
+        },
+    }
+}
+
+/// Appends the number of a character of two or three bytes, as four hexadecimal digits.
+const fn code_point(text: ShortText, character: &[u8]) -> ShortText {
+    let (mut number, mut index) = (character[0] as u32 & 0x7F >> character.len(), 1);
+    while index < character.len() {
+        number = number << 6 | character[index] as u32 & 0x3F;
+        index += 1;
+    }
+    let digits = [number >> 12, number >> 8 & 15, number >> 4 & 15, number & 15];
+    let digits =
+        [digit_to_char(digits[0]), digit_to_char(digits[1]), digit_to_char(digits[2]), digit_to_char(digits[3])];
+    match str::from_utf8(&digits) {
+        Ok(digits) => text.and(digits),
+        Err(_) => text,
     }
 }
