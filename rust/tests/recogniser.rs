@@ -178,9 +178,9 @@ impl Syntax {
         };
         let begins = |word: u128| self.begun(word, stop, more).is_some();
         let alone = mask(0..15, |flag| is_set(self.word, flag) && !begins(bare | 1 << flag));
-        let lowest = || 1 << (0..15).find(|flag| begins(self.word & !(1 << flag))).unwrap();
+        let zeros = || mask(12..14, |flag| is_set(self.word, flag));
         let hidden = u128::from(is_set(self.word, 14) && !self.is_integers) << 12;
-        let blamed = if alone == 0 { lowest() } else { alone } & !hidden;
+        let blamed = if alone == 0 { zeros() } else { alone } & !hidden;
         let end = if is_missing { stop.len() } else { stop.len() - 1 };
         let mut requirements = self.requirements(&text, &pieces, end).into_iter();
         let (_, _, span, code) = requirements.find(|row| row.0 == blamed.trailing_zeros()).unwrap();

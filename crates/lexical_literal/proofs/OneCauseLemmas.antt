@@ -1,5 +1,5 @@
 -- A refusal has one cause, and a text has one refusal.
-use Rattle.std.proofs.Common.{ℕ, ◌≡◌, ◌<◌, ◌≤◌, ◌↔◌, ◌+◌, ◌^◌, Bool, true, false, if◌then◌else◌, List, Option, Some, None, sum_by, take}
+use Rattle.std.proofs.Common.{ℕ, ◌≡◌, ◌<◌, ◌≤◌, ◌↔◌, ◌^◌, Bool, true, false, if◌then◌else◌, List, Option, Some, None, sum_by, take}
 use Rattle.std.proofs.Common.{refl, sym, ap, subst, ◌∙◌, arith}
 use Rattle.std.proofs.Math.Nat.{le_antisymm}
 use Rattle.std.specs.Prelude.{slice_get}
@@ -10,12 +10,11 @@ use Rattle.lexical_util.specs.Layout.{Flag, bit, flags}
 use Rattle.lexical_util.specs.Record.{raw}
 use Rattle.lexical_util.specs.declared.format_flags.Part.{Part}
 use Rattle.lexical_literal.specs.Notation.{Notation}
-use Rattle.lexical_literal.specs.Cause.{IsCause, IsRefusal, IsSeparator, SameBlame, error_of, is_at, lowest, span_of}
+use Rattle.lexical_literal.specs.Cause.{IsCause, IsRefusal, IsSeparator, Refusal, SameBlame, error_of, is_at, lowest, marks_of, span_of}
 use Rattle.lexical_literal.specs.Front.{IsValidUpTo}
 use Rattle.lexical_literal.specs.declared.cause.Cause.{Cause}
 use Rattle.lexical_literal.specs.declared.cause.Cause.TheVariants as causes
 use Rattle.lexical_literal.specs.declared.cause.Place.{Place}
-use Rattle.lexical_literal.specs.declared.cause.ReadError.{ReadError}
 
 -- A flag allows separators at one place of one part.
 same_at : (x y : Place) (p q : Part) (f : Flag) → is_at x p f ≡ true → is_at y q f ≡ true → (x ≡ y) × (p ≡ q)
@@ -66,16 +65,16 @@ module _ (m : Notation) (text : List ℕ) where
   no_longer : (i k : ℕ) → IsValidUpTo m text i → IsValidUpTo m text k → k ≤ i
   no_longer i k one two = let longer = λ (below : i < k). one.no_longer k below two.within two.front in grind arith
 
-  pub one_refusal : (a b : ReadError) → IsRefusal m text a → IsRefusal m text b → a ≡ b
+  pub one_refusal : (a b : Refusal) → IsRefusal m text a → IsRefusal m text b → a ≡ b
   one_refusal a b one two =
       let size = le_antisymm (no_longer b.valid_up_to a.valid_up_to two.valid_up_to one.valid_up_to)
       (no_longer a.valid_up_to b.valid_up_to one.valid_up_to two.valid_up_to) in
       let other = subst (λ n. IsCause m (take n text) (slice_get text n) b.cause (raw b.mask).flag) (sym size) two.cause in
       let same = one_cause m _ _ _ (slice_get text a.valid_up_to) a.cause b.cause one.cause other in
       let mask = one_mask a.mask b.mask one.mask two.mask same.flags in
-      let span = one.span ∙ (λ j. span_of m (take (size j) text) (take (size j + 1) text) (same.cause j) (lowest (mask j))) ∙ sym two.span in
-      let code = one.code ∙ (λ j. error_of m (take (size j) text) (same.cause j) (lowest (mask j)) (span j).0) ∙ sym two.code in
       let byte = one.byte ∙ ap (slice_get text) size ∙ sym two.byte in
+      let span = one.span ∙ (λ j. span_of m (marks_of m (take (size j) text) (byte j)) (byte j) (same.cause j) (lowest (mask j))) ∙ sym two.span in
+      let code = one.code ∙ (λ j. error_of m (marks_of m (take (size j) text) (byte j)) (same.cause j) (lowest (mask j)) (span j).0) ∙ sym two.code in
       λ j. record {
         valid_up_to = size j;
         byte = byte j;

@@ -14,7 +14,7 @@ ghost use Rattle.lexical_literal.specs.Parts.{literal_of};
 ghost use Rattle.lexical_literal.specs.Syntax.{IsSyntax};
 
 use crate::cause::{ReadError, refusal};
-use crate::steps::{Class, class_of};
+use crate::steps::class_of;
 use crate::syntax::{Grammar, Syntax};
 use crate::tables::{START, Step, Tables, is_complete, piece_number, step_from, summary_at};
 use lexical_util::laws::flags::role_facts;
@@ -146,7 +146,7 @@ const fn find(
     if scanned.valid_up_to == text.len() && is_complete_by(grammar, tables, scanned.row) {
         Ok(scanned.counts)
     } else {
-        Err(refuse(grammar, tables, text, scanned))
+        Err(refuse(grammar, text, scanned))
     }
 }
 
@@ -159,7 +159,7 @@ fn find_front(grammar: Grammar, tables: Option<&Tables>, text: &[u8]) -> Result<
 {
     let scanned = scan(grammar, tables, text, true);
     let Some(size) = scanned.literal else {
-        return Err(refuse(grammar, tables, text, scanned));
+        return Err(refuse(grammar, text, scanned));
     };
     if size == scanned.valid_up_to {
         let counts = scanned.counts;
@@ -173,43 +173,15 @@ fn find_front(grammar: Grammar, tables: Option<&Tables>, text: &[u8]) -> Result<
 
 // Returns why `text` is not a literal.
 #[inline(always)]
-const fn refuse(
-    grammar: Grammar,
-    tables: Option<&Tables>,
-    text: &[u8],
-    scanned: Scanned,
-) -> ReadError
+const fn refuse(grammar: Grammar, text: &[u8], scanned: Scanned) -> ReadError
     requires syntax { IsSyntax grammar }
-    requires tables { ForSome tables (λ tables. HasTables (notation_of grammar) tables.now) }
     requires scanned { (seeks : Bool) × IsScanned (notation_of grammar) seeks text.now scanned }
     requires refused { allows (notation_of grammar) (summary_at scanned.row)
         (class_of_next (notation_of grammar) (slice_get text.now scanned.valid_up_to)) ≡ false }
-    ensures refusal { IsRefusal (notation_of grammar) text.now result }
+    ensures refusal { IsRefusal (notation_of grammar) text.now result.refusal }
     ensures none { NoLiteral (notation_of grammar) text.now }
 {
-    let size = scanned.valid_up_to;
-    let next = class_at(grammar, tables, text, size);
-    refusal(grammar, text, size, summary_at(scanned.row), next)
-}
-
-// Returns the class of the byte behind the first `size`, if there is one, by the tables if there are any.
-#[inline(always)]
-const fn class_at(
-    grammar: Grammar,
-    tables: Option<&Tables>,
-    text: &[u8],
-    size: usize,
-) -> Option<Class>
-    requires tables { ForSome tables (λ tables. HasTables (notation_of grammar) tables.now) }
-    ensures { result ≡ class_of_next (notation_of grammar) (slice_get text.now size) }
-{
-    if size >= text.len() {
-        return None;
-    }
-    Some(match tables {
-        None => class_of(grammar, text[size]),
-        Some(tables) => tables.class(text[size]),
-    })
+    refusal(grammar, text, scanned.valid_up_to, summary_at(scanned.row))
 }
 
 // Returns the first `size` bytes.

@@ -3,7 +3,7 @@
 //! How literals are found, and the lengths of their parts.
 
 use crate::literal::cause::{refusal, ReadError};
-use crate::literal::steps::{class_of, Class};
+use crate::literal::steps::class_of;
 use crate::literal::syntax::{Grammar, Syntax};
 use crate::literal::tables::{is_complete, piece_number, step_from, summary_at, Step, Tables, START};
 
@@ -98,7 +98,7 @@ const fn find(grammar: Grammar, tables: Option<&Tables>, text: &[u8]) -> Result<
     if scanned.valid_up_to == text.len() && is_complete_by(grammar, tables, scanned.row) {
         Ok(scanned.counts)
     } else {
-        Err(refuse(grammar, tables, text, scanned))
+        Err(refuse(grammar, text, scanned))
     }
 }
 
@@ -107,7 +107,7 @@ const fn find(grammar: Grammar, tables: Option<&Tables>, text: &[u8]) -> Result<
 const fn find_front(grammar: Grammar, tables: Option<&Tables>, text: &[u8]) -> Result<Found, ReadError> {
     let scanned = scan(grammar, tables, text, true);
     let Some(size) = scanned.literal else {
-        return Err(refuse(grammar, tables, text, scanned));
+        return Err(refuse(grammar, text, scanned));
     };
     if size == scanned.valid_up_to {
         let counts = scanned.counts;
@@ -121,22 +121,8 @@ const fn find_front(grammar: Grammar, tables: Option<&Tables>, text: &[u8]) -> R
 
 // Returns why `text` is not a literal.
 #[inline(always)]
-const fn refuse(grammar: Grammar, tables: Option<&Tables>, text: &[u8], scanned: Scanned) -> ReadError {
-    let size = scanned.valid_up_to;
-    let next = class_at(grammar, tables, text, size);
-    refusal(grammar, text, size, summary_at(scanned.row), next)
-}
-
-// Returns the class of the byte behind the first `size`, if there is one, by the tables if there are any.
-#[inline(always)]
-const fn class_at(grammar: Grammar, tables: Option<&Tables>, text: &[u8], size: usize) -> Option<Class> {
-    if size >= text.len() {
-        return None;
-    }
-    Some(match tables {
-        None => class_of(grammar, text[size]),
-        Some(tables) => tables.class(text[size]),
-    })
+const fn refuse(grammar: Grammar, text: &[u8], scanned: Scanned) -> ReadError {
+    refusal(grammar, text, scanned.valid_up_to, summary_at(scanned.row))
 }
 
 // Returns the first `size` bytes.
