@@ -59,6 +59,9 @@ module _ (m : Notation) where
   pub bare_weaker : IsWeaker m (bare m).flag
   bare_weaker = record { no_more = λ f is. grind arith; no_less = λ f is. grind arith }
 
+  own_weaker : IsWeaker m m.flag
+  own_weaker = record { no_more = λ f is. grind arith; no_less = λ f is. grind arith }
+
   weak_adding : (e x r : Bool) → ((e || (x && not r)) && r) ≡ true → e ≡ true
   weak_adding e x r is = grind arith
 
@@ -92,6 +95,9 @@ module _ (m : Notation) where
     met : (b a : Bool) → (b && not a) ≡ false → b ≡ true → a ≡ true
     met b a none is = grind arith
 
+    refuses : allows m s class ≡ false → Allows m front next → ⊥
+    refuses refused is = false≢true (sym refused ∙ (decides m.flag own_weaker).1 is)
+
     -- Flags that refuse alone, or else those on leading zeros.
     pub is_requirement : allows (bare m) s class ≡ true → allows m s class ≡ false → IsRequirement m front next (requirements m s class)
     is_requirement allowed refused = elim (cases_Bool (list_any (alone m s class) flags)) [
@@ -99,6 +105,7 @@ module _ (m : Notation) where
           let first = found_in (alone m s class) flags some in
           let same = λ (g : Flag). ap (λ t. if t then alone m s class g else (binds m g && is_one_of leading_zero_flags g)) some in
           record {
+            refused = refuses refused;
             allowed = (decides _ bare_weaker).0 allowed;
             some = (first.0, same first.0 ∙ first.1);
             each = λ g. (
@@ -116,6 +123,7 @@ module _ (m : Notation) where
           let free : Alone m (λ n. allows n s class) = record { free = allowed; each = λ f is. met (binds m f) _ (no f) is } in
           let float = joint m s class (going m s class allowed refused) free refused in
           record {
+            refused = refuses refused;
             allowed = (decides _ bare_weaker).0 allowed;
             some = (layout.no_float_leading_zeros, same layout.no_float_leading_zeros ∙ and_from _ true (and_from _ true float refl) refl);
             each = λ g. (
@@ -181,15 +189,15 @@ module _ (m : Notation) (s : Summary) (front : List ℕ) (read : IsReadOf m s fr
     no_flag : {X : Flag → Type 0} (P : Flag → Bool) → ((f : Flag) → IsTrue (P f) ↔ X f) → list_any P flags ≡ false → (f : Flag) → X f → ⊥
     no_flag P each none f is = false≢true (sym (none_in P flags f none (all_flags f)) ∙ (each f).1 is)
 
-    is_wrong : IsCause m front (Some byte) (wrong m s byte).cause (wrong m s byte).flags
-    is_wrong = choose (λ b. IsCause m front (Some byte) b.cause b.flags) (list_any (separators m s (Some (class_of m byte))) flags) _ _
+    is_wrong : IsCause m front (Some byte) (wrong m s byte).kind (wrong m s byte).flags
+    is_wrong = choose (λ b. IsCause m front (Some byte) b.kind b.flags) (list_any (separators m s (Some (class_of m byte))) flags) _ _
         (λ some. record {
           refused = not_allowed;
           some = found_in _ flags some;
           each = permits;
           at = found_at m s (class_of m byte) front byte (read.decides (Some byte)) none;
         })
-        (λ no_separators. choose (λ b. IsCause m front (Some byte) b.cause b.flags) (list_any (cases m s byte) flags) _ _
+        (λ no_separators. choose (λ b. IsCause m front (Some byte) b.kind b.flags) (list_any (cases m s byte) flags) _ _
         (λ some. record { refused = not_allowed; no_separator = no_flag _ permits no_separators; some = found_in _ flags some; each = is_case })
         (λ no_cases. record {
           refused = not_allowed;
@@ -199,7 +207,7 @@ module _ (m : Notation) (s : Summary) (front : List ℕ) (read : IsReadOf m s fr
         }))
 
   is_otherwise : (next : Option ℕ) → allows (bare m) s (class_of_next m next) ≡ false
-      → IsCause m front next (otherwise m s next).cause (otherwise m s next).flags
+      → IsCause m front next (otherwise m s next).kind (otherwise m s next).flags
   is_otherwise None none = record {
     refused = λ l reads. false≢true (sym none ∙ (read.decides None (bare m).flag (bare_weaker m)).1 (l, reads));
     last = read.part (or_parts s.ended _ none).0;
@@ -208,8 +216,8 @@ module _ (m : Notation) (s : Summary) (front : List ℕ) (read : IsReadOf m s fr
   is_otherwise (Some byte) none = is_wrong byte none
 
   -- What has been read, and what refuses, decide the cause.
-  pub is_blamed : (next : Option ℕ) → allows m s (class_of_next m next) ≡ false → IsCause m front next (blame m s next).cause (blame m s next).flags
-  is_blamed next refused = choose (λ b. IsCause m front next b.cause b.flags) (allows (bare m) s (class_of_next m next)) _ _
+  pub is_blamed : (next : Option ℕ) → allows m s (class_of_next m next) ≡ false → IsCause m front next (blame m s next).kind (blame m s next).flags
+  is_blamed next refused = choose (λ b. IsCause m front next b.kind b.flags) (allows (bare m) s (class_of_next m next)) _ _
       (λ allowed. is_requirement m s (class_of_next m next) front next (read.decides next) allowed refused) (is_otherwise next)
 
 -- THE REFUSAL
@@ -233,12 +241,12 @@ module _ (g : Grammar) (text : List ℕ) (s : Summary) (k : Marks) (size : ℕ) 
       record {
         valid_up_to = subst (IsValidUpTo n text) is_size valid;
         byte = is_next ∙ ap (slice_get text) is_size;
-        cause = subst (λ size. IsCause n (take size text) (slice_get text size) b.cause (raw (mask_of b.flags)).flag) is_size
-            (subst (λ next. IsCause n (take size text) next b.cause (raw (mask_of b.flags)).flag) is_next
-            (subst (IsCause n (take size text) next b.cause) (λ j f. sym (mask_flags b.flags f) j) cause));
+        cause = subst (λ size. IsCause n (take size text) (slice_get text size) b.kind (raw (mask_of b.flags)).flag) is_size
+            (subst (λ next. IsCause n (take size text) next b.kind (raw (mask_of b.flags)).flag) is_next
+            (subst (IsCause n (take size text) next b.kind) (λ j f. sym (mask_flags b.flags f) j) cause));
         mask = only_mask b.flags;
-        span = ap (λ k. span_of n k next b.cause f) same;
-        code = λ j. error_of n (same j) b.cause f (span_of n k next b.cause f).0;
+        span = ap (λ k. span_of n k next b.kind f) same;
+        code = λ j. error_of n (same j) b.kind f (span_of n k next b.kind f).0;
       }
 
 -- A mask as the flags of a notation.

@@ -16,9 +16,19 @@ use Rattle.lexical_util.specs.Layout.{Flag, bit, part}
 use Rattle.lexical_util.specs.Record.{raw}
 use Rattle.lexical_util.proofs.ViewLemmas.{bits_by_mask}
 use Rattle.lexical_util.specs.Record.{Record, word_of}
+use Rattle.lexical_util.specs.Roles.{signs}
 use Rattle.lexical_flags.proofs.Packing.{raw-word_of}
 use Rattle.std.specs.List.{list_any}
+use Rattle.lexical_util.specs.declared.feature_format.roles.Role.{Role}
+use Rattle.lexical_util.specs.declared.feature_format.roles.Role.TheVariants as roles
+use Rattle.lexical_util.specs.declared.format_flags.Part.TheVariants as parts
+use Rattle.lexical_literal.specs.Additions.Causes.{has_role, is_role, kind_set}
 use Rattle.lexical_literal.specs.Additions.Explained.{mask_of}
+use Rattle.lexical_literal.specs.Notation.{Notation, role_set}
+use Rattle.lexical_literal.specs.declared.span.Kind.{Kind}
+use Rattle.lexical_literal.specs.declared.span.Kind.TheVariants as kinds
+use Rattle.lexical_literal.proofs.ScanLemmas.{HasRoles, as_digit, as_role, digit_role, role_in}
+use Rattle.lexical_literal.proofs.ScanLemmas as scans
 use Rattle.lexical_literal.specs.Cause.{behind, flag_at, is_one_of, leading_zero_flags, requirement_flags}
 
 -- FLAGS
@@ -181,6 +191,29 @@ pub has_one : (t : Bool) (g : Flag) (mask : ℕ) → mask ≡ (if t then 2 ^ bit
 has_one t g mask is some = (g, one_flag t (bit g) mask is g ∙ and_from _ _ (is_taken t _ (λ zero. some (is ∙ zero))) (eq-eqb (bit g) (bit g) refl))
 
 -- THE BYTES TO SHOW
+
+module _ (m : Notation) (h : HasRoles m) (b : ℕ) where
+  digit : is_role roles.Digit (role_in m parts.Integer b) ≡ m.digit parts.Integer b
+  digit = let yes = as_digit m h parts.Integer b in let no = digit_role m h parts.Integer b in grind arith
+
+  separator : is_role roles.Separator (role_in m parts.Integer b) ≡ m.separator b
+  separator = let yes = as_role m h parts.Integer roles.Separator b in let no = scans.is_role m h parts.Integer roles.Separator b (λ same. cc) in grind arith
+
+  sign : is_role roles.Sign (role_in m parts.Integer b) ≡ signs b
+  sign = let yes = as_role m h parts.Integer roles.Sign b in let no = scans.is_role m h parts.Integer roles.Sign b (λ same. cc) in grind arith
+
+  point : is_role roles.Point (role_in m parts.Integer b) ≡ m.point b
+  point = let yes = as_role m h parts.Integer roles.Point b in let no = scans.is_role m h parts.Integer roles.Point b (λ same. cc) in grind arith
+
+  exponent : is_role roles.Exponent (role_in m parts.Integer b) ≡ m.exponent_character b
+  exponent = let yes = as_role m h parts.Integer roles.Exponent b in let no = scans.is_role m h parts.Integer roles.Exponent b (λ same. cc) in grind arith
+
+  -- The role of a byte in the integer decides its kinds.
+  pub kind_is : (kind : Kind) → has_role kind (role_in m parts.Integer b) ≡ kind_set m kind b
+  kind_is kinds.Digit = digit
+  kind_is kinds.NotSeparator = ap not separator
+  kind_is kinds.Body = λ j. not (separator j || sign j)
+  kind_is kinds.Mark = λ j. separator j || (point j || exponent j)
 
 module _ (A : ByteSet) where
   pub behind_more : (text : List ℕ) (byte : ℕ) → behind A (text ++ byte ∷ []) ≡ (if A byte then length text + 1 else behind A text)

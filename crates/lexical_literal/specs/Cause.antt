@@ -17,12 +17,13 @@ use Rattle.lexical_util.specs.declared.format_flags.Part.TheVariants as parts
 use Rattle.lexical_literal.specs.Front.{IsFront, IsValidUpTo, NoLiteral}
 use Rattle.lexical_literal.specs.Literal.{Literal, Reads}
 use Rattle.lexical_literal.specs.Notation.{Notation}
-use Rattle.lexical_literal.specs.declared.cause.Cause.{Cause}
-use Rattle.lexical_literal.specs.declared.cause.Cause.TheVariants as causes
 use Rattle.lexical_literal.specs.declared.cause.Marks.{Marks}
-use Rattle.lexical_literal.specs.declared.cause.Spot.{Spot}
 use Rattle.lexical_literal.specs.declared.cause.Place.{Place}
 use Rattle.lexical_literal.specs.declared.cause.Place.TheVariants as places
+use Rattle.lexical_literal.specs.declared.cause.ReadErrorKind.{ReadErrorKind}
+use Rattle.lexical_literal.specs.declared.cause.ReadErrorKind.TheVariants as causes
+use Rattle.lexical_literal.specs.declared.cause.Refusal.{Refusal}
+use Rattle.lexical_literal.specs.declared.cause.Spot.{Spot}
 
 -- THE SAME NOTATION WITH OTHER FLAGS
 
@@ -91,9 +92,10 @@ module _ (m : Notation) (front : List ℕ) (next : Option ℕ) where
     pub none_alone : (g : Flag) → RefusesAlone g → ⊥
     pub zeros : IsTrue (binds m f && is_one_of leading_zero_flags f)
 
-  -- `IsRequirement blamed` holds if `next` is allowed without requirements, and if the flags that are `blamed` are those
-  -- that refuse it alone, or else those on leading zeros.
+  -- `IsRequirement blamed` holds if `next` is refused, and allowed without requirements, and if the flags that are `blamed`
+  -- are those that refuse it alone, or else those on leading zeros.
   pub record IsRequirement (blamed : Flag → Bool) : Type 0 where
+    pub refused : Allows m front next → ⊥
     pub allowed : Allows (bare m) front next
     pub some : SomeFlag blamed
     pub each : (f : Flag) → IsTrue (blamed f) ↔ (RefusesAlone f ⊎ RefusesJointly f)
@@ -158,7 +160,7 @@ pub record IsMissing (m : Notation) (front : List ℕ) (part : Part) (blamed : F
 
 -- `IsCause m front next cause blamed` holds if `cause` is why the byte `next` cannot follow `front`, or why `front` is not a
 -- literal, where `next` is `None`, and if the flags that are `blamed` are to blame.
-abbrev pub IsCause : Notation → List ℕ → Option ℕ → Cause → (Flag → Bool) → Type 0
+abbrev pub IsCause : Notation → List ℕ → Option ℕ → ReadErrorKind → (Flag → Bool) → Type 0
 IsCause m front next causes.Requirement blamed = IsRequirement m front next blamed
 IsCause m front (Some byte) (causes.Separator part place) blamed = IsSeparator m front byte part place blamed
 IsCause m front (Some byte) causes.Case blamed = IsWrongCase m front byte blamed
@@ -220,7 +222,7 @@ requirement_span layout.no_exponent_without_fraction m k next = (k.size, k.size 
 requirement_span _ m k next = (k.size, k.size)
 
 -- `span_of m k next cause f` has the first index and the end of the bytes to show for `cause` and its lowest flag `f`.
-abbrev pub span_of : Notation → Marks → Option ℕ → Cause → Flag → ℕ × ℕ
+abbrev pub span_of : Notation → Marks → Option ℕ → ReadErrorKind → Flag → ℕ × ℕ
 span_of m k next causes.Requirement f = requirement_span f m k next
 span_of m k next (causes.Separator part places.Consecutive) f = (k.size, k.size + 1)
 span_of m k next (causes.Separator part place) f = (k.run, if is_in m.separator next then k.size + 1 else k.size)
@@ -248,22 +250,12 @@ requirement_error layout.required_exponent_notation m start size = errors.Missin
 requirement_error f m start size = sign_error f m start
 
 -- `error_of m k cause f start` is the error for `cause` and its lowest flag `f`, where the bytes to show begin at `start`.
-abbrev pub error_of : Notation → Marks → Cause → Flag → ℕ → Error
+abbrev pub error_of : Notation → Marks → ReadErrorKind → Flag → ℕ → Error
 error_of m k causes.Requirement f start = requirement_error f m start k.size
 error_of m k (causes.Missing part) f start = if k.has_mark then errors.InvalidDigit start else errors.Empty start
 error_of m k _ f start = errors.InvalidDigit start
 
--- `Refusal` has what a caller can ask an error for.
-pub record Refusal : Type 0 where
-  pub valid_up_to : ℕ
-  pub byte : Option ℕ
-  pub cause : Cause
-  pub mask : ℕ
-  pub start : ℕ
-  pub end : ℕ
-  pub code : Error
-
--- `Explained` is an error as a contract sees it: what it answers, and what the answers are made of.
+-- `Explained` is an error as contracts see it: its answers, and where reading stopped, of which they are made.
 pub record Explained : Type 0 where
   pub refusal : Refusal
   pub spot : Spot
@@ -273,14 +265,14 @@ pub record Explained : Type 0 where
 pub record IsRefusal (m : Notation) (text : List ℕ) (error : Refusal) : Type 0 where
   pub valid_up_to : IsValidUpTo m text error.valid_up_to
   pub byte : error.byte ≡ slice_get text error.valid_up_to
-  pub cause : IsCause m (take error.valid_up_to text) (slice_get text error.valid_up_to) error.cause (raw error.mask).flag
+  pub cause : IsCause m (take error.valid_up_to text) (slice_get text error.valid_up_to) error.kind (raw error.mask).flag
   -- No bit of the mask is set but those of flags.
   pub mask : error.mask ≡ bits_of error.mask layout.flags
   pub span : (error.start, error.end)
-      ≡ span_of m (marks_of m (take error.valid_up_to text) error.byte) error.byte error.cause (lowest error.mask)
-  pub code : error.code ≡ error_of m (marks_of m (take error.valid_up_to text) error.byte) error.cause (lowest error.mask) error.start
+      ≡ span_of m (marks_of m (take error.valid_up_to text) error.byte) error.byte error.kind (lowest error.mask)
+  pub code : error.code ≡ error_of m (marks_of m (take error.valid_up_to text) error.byte) error.kind (lowest error.mask) error.start
 
 -- `SameBlame c d a b` holds if the causes `c` and `d` are the same, and `a` and `b` are true of the same flags.
-pub record SameBlame (c d : Cause) (a b : Flag → Bool) : Type 0 where
-  pub cause : c ≡ d
+pub record SameBlame (c d : ReadErrorKind) (a b : Flag → Bool) : Type 0 where
+  pub kind : c ≡ d
   pub flags : (f : Flag) → a f ≡ b f

@@ -1,21 +1,16 @@
 //! Why a text is not a literal.
 
-ghost use Rattle.std.specs.Prelude.{◌≡◌, ◌≢◌, IsTrue, List, Option, Some, if◌then◌else◌, ◌<◌, ◌^◌};
-ghost use Rattle.std.specs.Prelude.{◌≤◌, ◌&&◌, ◌||◌, ◌==◌, ℕ, false, not, length, take, slice_get};
+ghost use Rattle.std.specs.Prelude.{◌≡◌, ◌≢◌, ◌<◌, Some, if◌then◌else◌, ◌&&◌, ◌||◌, ◌==◌, ℕ, false, not};
 ghost use Rattle.lexical_util.specs.Layout.{Flag, bit, part, separators_in};
 ghost use Rattle.lexical_util.specs.Record.{raw};
 ghost use Rattle.lexical_util.specs.Roles.{other_case};
-ghost use Rattle.lexical_literal.specs.Additions.Causes.{allows, class_of_next, is_own};
-ghost use Rattle.lexical_literal.specs.Additions.Causes.{is_role, place_of, role_of_next};
-ghost use Rattle.lexical_literal.specs.Additions.Explained.{alone, blame, cases, mask_of, requirements, separators, wrong};
-ghost use Rattle.lexical_literal.specs.Cause.{SomeFlag, adding, bare, case_set, binds, IsRefusal};
-ghost use Rattle.lexical_literal.specs.Cause.{flag_at, is_one_of, requirement_flags, span_of, with_flags};
-ghost use Rattle.lexical_literal.specs.Additions.Summary.{class_of, scan, start};
-ghost use Rattle.lexical_literal.specs.Front.{IsValidUpTo};
+ghost use Rattle.lexical_literal.specs.Additions.Causes.{allows, class_of_next, is_role, place_of, role_of_next};
+ghost use Rattle.lexical_literal.specs.Additions.Explained.{blame, cases, mask_of, requirements, separators, wrong};
+ghost use Rattle.lexical_literal.specs.Additions.Summary.{class_of};
+ghost use Rattle.lexical_literal.specs.Cause.{SomeFlag, adding, bare, binds, case_set, is_one_of, requirement_flags, with_flags};
 ghost use Rattle.lexical_literal.specs.Notation.{notation_of};
-ghost use Rattle.lexical_literal.specs.Syntax.{IsSyntax};
 
-use crate::span::{error, marks, span};
+use crate::span::{error, span};
 use crate::steps::{
     self, Class, Summary, class_of, has_digit, in_part, is_exponent_character, needs_exponent,
 };
@@ -23,7 +18,6 @@ use crate::syntax::Grammar;
 use lexical_util::error::Error;
 use lexical_util::format as masks;
 use lexical_util::format::{Part, Role};
-use lexical_util::laws::flags::role_facts;
 use std::marker::Model;
 
 /// Where a digit separator is.
@@ -37,10 +31,10 @@ pub enum Place {
     Consecutive,
 }
 
-/// Why a text is not a literal. Another cause may follow when this one is mended. The `Cause` of a `Reason` is another
-/// enum: why a format word is not lawful.
+/// The kind of a [`ReadError`]: the cause, without the flags that are to blame. Another cause may follow when this one is
+/// mended.
 #[derive(Debug, Clone, Copy, PartialEq, Eq, Hash)]
-pub enum Cause {
+pub enum ReadErrorKind {
     /// Flags are set whose requirements the text does not satisfy.
     Requirement,
     /// A digit separator is not allowed in this part at this place.
@@ -53,9 +47,9 @@ pub enum Cause {
     Missing(Part),
 }
 
-// What spans and errors are made of: the number of bytes that are right, indexes of the integer digits, of the last
-// separators and of the exponent, and whether a text that misses bytes has a separator, a point or an exponent character.
-#[derive(Debug, Clone, Copy, PartialEq, Eq)]
+// What spans and errors are made of: the number of bytes that are right, indexes of the exponent, of the integer digits
+// and of the last separators, and whether a text that misses bytes has a separator, a point or an exponent character.
+#[derive(Debug, Clone, Copy, PartialEq, Eq, Hash)]
 pub struct Marks {
     pub(crate) size: usize,
     pub(crate) exponent: usize,
@@ -65,7 +59,7 @@ pub struct Marks {
 }
 
 // Where reading stopped: what has been read, and the byte that cannot follow, or `None` if bytes are missing.
-#[derive(Debug, Clone, Copy, PartialEq, Eq)]
+#[derive(Debug, Clone, Copy, PartialEq, Eq, Hash)]
 pub struct Spot {
     pub(crate) grammar: Grammar,
     pub(crate) read: Summary,
@@ -73,12 +67,26 @@ pub struct Spot {
     pub(crate) marks: Marks,
 }
 
+// What an error answers.
+#[derive(Clone, Copy)]
+pub struct Refusal {
+    pub(crate) valid_up_to: usize,
+    pub(crate) byte: Option<u8>,
+    pub(crate) kind: ReadErrorKind,
+    pub(crate) mask: u128,
+    pub(crate) start: usize,
+    pub(crate) end: usize,
+    pub(crate) code: Error,
+}
+
 /// Why a text is not a literal, and where. If a byte cannot follow, the error is that of the byte, as in `1e;`. To say
 /// what is missing before it, read the front of the text that ends at [`valid_up_to`][Self::valid_up_to]. If this front
 /// is not a literal either, its error says it.
 ///
-/// The error keeps where reading stopped. Each call but `valid_up_to` and `byte` finds the cause anew.
-#[derive(Debug, Clone, Copy, PartialEq, Eq)]
+/// An error holds where reading stopped. Each call but `valid_up_to` and `byte` finds the cause anew. Two errors are
+/// equal if they have the same syntax, and if reading stopped at the same index, at the same byte, after bytes that the
+/// same may follow. Equal errors have equal answers. Errors of two syntaxes differ, even if their answers are the same.
+#[derive(Debug, Clone, Copy, PartialEq, Eq, Hash)]
 pub struct ReadError {
     pub(crate) spot: Spot,
 }
@@ -108,42 +116,6 @@ impl ReadError {
         self.spot.marks.size
     }
 
-    /// Returns the cause.
-    #[must_use]
-    pub const fn cause(&self) -> Cause
-        ensures { result ≡ self.now.refusal.cause }
-    {
-        self.spot.blame().cause
-    }
-
-    /// Returns the mask of the flags in a format word that are to blame. It is 0 for a wrong byte and for missing digits.
-    #[must_use]
-    pub const fn mask(&self) -> u128
-        ensures { result ≡ self.now.refusal.mask }
-    {
-        self.spot.blame().mask
-    }
-
-    /// Returns the first index and the end of the bytes to show. They may be none.
-    #[must_use]
-    pub const fn span(&self) -> (usize, usize)
-        ensures { result ≡ (self.now.refusal.start, self.now.refusal.end) }
-    {
-        let Blame { cause, mask } = self.spot.blame();
-        self.spot.span(cause, mask.trailing_zeros())
-    }
-
-    /// Returns the error that `lexical-util` has for the cause.
-    #[must_use]
-    pub const fn code(&self) -> Error
-        ensures { result ≡ self.now.refusal.code }
-    {
-        let Blame { cause, mask } = self.spot.blame();
-        let number = mask.trailing_zeros();
-        let (start, _) = self.spot.span(cause, number);
-        error(self.spot.grammar, self.spot.marks, cause, number, start)
-    }
-
     /// Returns the byte that cannot follow, or `None` if bytes are missing.
     #[must_use]
     pub const fn byte(&self) -> Option<u8>
@@ -151,20 +123,69 @@ impl ReadError {
     {
         self.spot.byte
     }
+
+    /// Returns the kind.
+    #[must_use]
+    pub const fn kind(&self) -> ReadErrorKind
+        ensures { result ≡ self.now.refusal.kind }
+    {
+        self.explain().kind
+    }
+
+    /// Returns the mask of the flags in a format word that are to blame. It is 0 for a wrong byte and for missing digits.
+    #[must_use]
+    pub const fn mask(&self) -> u128
+        ensures { result ≡ self.now.refusal.mask }
+    {
+        self.explain().mask
+    }
+
+    /// Returns the first index and the end of the bytes to show. They may be none.
+    #[must_use]
+    pub const fn span(&self) -> (usize, usize)
+        ensures { result ≡ (self.now.refusal.start, self.now.refusal.end) }
+    {
+        let Refusal { start, end, .. } = self.explain();
+        (start, end)
+    }
+
+    /// Returns the error that `lexical-util` has for the cause.
+    #[must_use]
+    pub const fn code(&self) -> Error
+        ensures { result ≡ self.now.refusal.code }
+    {
+        self.explain().code
+    }
+
+    // Returns all answers. It finds the cause once.
+    pub(crate) const fn explain(&self) -> Refusal
+        ensures { result ≡ self.now.refusal }
+    {
+        let Spot {
+            grammar,
+            byte,
+            marks,
+            ..
+        } = self.spot;
+        let Blame { kind, mask } = self.spot.blame();
+        let number = mask.trailing_zeros();
+        let (start, end) = span(grammar, marks, byte, kind, number);
+        Refusal {
+            valid_up_to: marks.size,
+            byte,
+            kind,
+            mask,
+            start,
+            end,
+            code: error(grammar, marks, kind, number, start),
+        }
+    }
 }
 
 impl Spot {
-    // Returns the first index and the end of the bytes to show for a cause and its lowest flag.
-    const fn span(self, cause: Cause, number: u32) -> (usize, usize)
-        requires { self.marks.size < 2 ^ 63 }
-        ensures { result ≡ span_of (notation_of self.grammar) self.marks self.byte cause (flag_at number) }
-    {
-        span(self.grammar, self.marks, self.byte, cause, number)
-    }
-
-    // Returns the cause, and the mask of the flags that are to blame.
+    // Returns the kind, and the mask of the flags that are to blame.
     const fn blame(self) -> Blame
-        ensures cause { result.cause ≡ (blame (notation_of self.grammar) self.read self.byte).cause }
+        ensures kind { result.kind ≡ (blame (notation_of self.grammar) self.read self.byte).kind }
         ensures mask { result.mask ≡ mask_of (blame (notation_of self.grammar) self.read self.byte).flags }
     {
         let stop = Stop {
@@ -172,10 +193,10 @@ impl Spot {
             read: self.read,
             next: class_of_next(self.grammar, self.byte),
         };
-        let Blame { cause, mask } = stop.blame(self.byte);
+        let Blame { kind, mask } = stop.blame(self.byte);
         // No bit of the mask is set but those of flags.
         Blame {
-            cause,
+            kind,
             mask: mask & masks::FLAG_MASK,
         }
     }
@@ -203,13 +224,16 @@ const REQUIREMENTS: u128 = masks::REQUIRED_DIGITS
     | masks::NO_FLOAT_LEADING_ZEROS
     | masks::REQUIRED_EXPONENT_NOTATION;
 
+// Those that bind where each literal has an exponent, and none is an integer.
+const FLOAT_REQUIREMENTS: u128 = REQUIREMENTS & !masks::NO_INTEGER_LEADING_ZEROS;
+
 // The flags on leading zeros.
 const ZEROS: u128 = masks::NO_INTEGER_LEADING_ZEROS | masks::NO_FLOAT_LEADING_ZEROS;
 
-// A cause, and the flags that are to blame.
+// A kind of error, and the flags that are to blame.
 #[derive(Clone, Copy)]
 struct Blame {
-    cause: Cause,
+    kind: ReadErrorKind,
     mask: u128,
 }
 
@@ -250,7 +274,7 @@ impl Stop {
         ensures flags { (k : ℕ) → part result k 1 ≡ 1 → (f : Flag) × (bit f ≡ k) }
     {
         if needs_exponent(self.grammar) {
-            self.grammar.word & (REQUIREMENTS & !masks::NO_INTEGER_LEADING_ZEROS)
+            self.grammar.word & FLOAT_REQUIREMENTS
         } else {
             self.grammar.word & REQUIREMENTS
         }
@@ -361,36 +385,40 @@ impl Stop {
     const fn wrong(self, byte: u8) -> Blame
         requires next { self.next ≡ class_of_next (notation_of self.grammar) (Some byte) }
         requires refused { allows (bare (notation_of self.grammar)) self.read self.next ≡ false }
-        ensures cause { result.cause ≡ (wrong (notation_of self.grammar) self.read byte).cause }
+        ensures kind { result.kind ≡ (wrong (notation_of self.grammar) self.read byte).kind }
         ensures flags { (f : Flag) → (raw result.mask).flag f ≡ (wrong (notation_of self.grammar) self.read byte).flags f }
     {
         let separators = self.separators();
         if separators != 0 {
             return Blame {
-                cause: Cause::Separator(self.read.part, self.place()),
+                kind: ReadErrorKind::Separator(self.read.part, self.place()),
                 mask: separators,
             };
         }
         let mask = self.case_flag(byte);
-        let cause = if mask == 0 { Cause::Byte } else { Cause::Case };
-        Blame { cause, mask }
+        let kind = if mask == 0 {
+            ReadErrorKind::Byte
+        } else {
+            ReadErrorKind::Case
+        };
+        Blame { kind, mask }
     }
 
-    // Returns the cause, and the flags that are to blame.
+    // Returns the kind, and the flags that are to blame.
     const fn blame(self, next: Option<u8>) -> Blame
         requires next { self.next ≡ class_of_next (notation_of self.grammar) next }
-        ensures cause { result.cause ≡ (blame (notation_of self.grammar) self.read next).cause }
+        ensures kind { result.kind ≡ (blame (notation_of self.grammar) self.read next).kind }
         ensures flags { (f : Flag) → (raw result.mask).flag f ≡ (blame (notation_of self.grammar) self.read next).flags f }
     {
         if self.allows(self.bare()) {
             return Blame {
-                cause: Cause::Requirement,
+                kind: ReadErrorKind::Requirement,
                 mask: self.requirements(),
             };
         }
         match next {
             None => Blame {
-                cause: Cause::Missing(self.read.part),
+                kind: ReadErrorKind::Missing(self.read.part),
                 mask: 0,
             },
             Some(byte) => self.wrong(byte),
@@ -442,37 +470,5 @@ const fn other_case(byte: u8) -> u8
         b'A'..=b'Z' => byte + 32,
         b'a'..=b'z' => byte - 32,
         _ => byte,
-    }
-}
-
-// Returns the byte behind the first `size`, if there is one.
-const fn byte_at(text: &[u8], size: usize) -> Option<u8>
-    ensures { result ≡ slice_get text.now size }
-{
-    if size < text.len() {
-        Some(text[size])
-    } else {
-        None
-    }
-}
-
-// Returns the error of `text`, of which `size` bytes can be read, which makes `read` of them.
-#[inline(always)]
-pub(crate) const fn refusal(grammar: Grammar, text: &[u8], size: usize, read: Summary) -> ReadError
-    requires syntax { IsSyntax grammar }
-    requires valid { IsValidUpTo (notation_of grammar) text.now size }
-    requires read { scan (notation_of grammar) (Some start) (take size text.now) ≡ Some read }
-    requires refused { allows (notation_of grammar) read (class_of_next (notation_of grammar) (slice_get text.now size)) ≡ false }
-    ensures { IsRefusal (notation_of grammar) text.now result.refusal }
-{
-    role_facts();
-    let byte = byte_at(text, size);
-    ReadError {
-        spot: Spot {
-            grammar,
-            read,
-            byte,
-            marks: marks(grammar, text, size, byte),
-        },
     }
 }

@@ -5,12 +5,13 @@ ghost use Rattle.lexical_util.specs.Layout as layout;
 ghost use Rattle.lexical_util.specs.Layout.{Flag};
 ghost use Rattle.lexical_util.specs.NormalForm.{normal_form_of};
 ghost use Rattle.lexical_util.specs.declared.format_flags.Part.{Part};
-ghost use Rattle.lexical_literal.specs.Cause.{IsCause, IsRefusal, Refusal, SameBlame};
+ghost use Rattle.lexical_literal.specs.Cause.{IsCause, IsRefusal, SameBlame};
 ghost use Rattle.lexical_literal.specs.Literal.{Literal, Reads, requirement};
 ghost use Rattle.lexical_literal.specs.Notation.{Notation, notation_of};
 ghost use Rattle.lexical_literal.specs.Readings.{AllIn, PartsHaveRoles};
 ghost use Rattle.lexical_literal.specs.Syntax.{IsSyntax};
-ghost use Rattle.lexical_literal.specs.declared.cause.Cause.{Cause};
+ghost use Rattle.lexical_literal.specs.declared.cause.ReadErrorKind.{ReadErrorKind};
+ghost use Rattle.lexical_literal.specs.declared.cause.Refusal.{Refusal};
 ghost use Rattle.lexical_literal.specs.declared.syntax.Grammar.{Grammar};
 ghost use Rattle.lexical_literal.specs.declared.syntax.Options.{Options};
 
@@ -37,8 +38,8 @@ pub fn literal_facts()
         → PartsHaveRoles (notation_of g) l }
 
     // A refusal has one cause, and the same flags are to blame.
-    ensures one_cause { (m : Notation) → (front : List ℕ) → (next : Option ℕ) → (cause other : Cause) → (a b : Flag → Bool)
-        → IsCause m front next cause a → IsCause m front next other b → SameBlame cause other a b }
+    ensures one_cause { (m : Notation) → (front : List ℕ) → (next : Option ℕ) → (kind other : ReadErrorKind) → (a b : Flag → Bool)
+        → IsCause m front next kind a → IsCause m front next other b → SameBlame kind other a b }
 
     // A text has one refusal: each answer of its error is determined.
     ensures one_refusal { (m : Notation) → (text : List ℕ) → (a b : Refusal) → IsRefusal m text a → IsRefusal m text b → a ≡ b }

@@ -45,7 +45,7 @@ impl Grammar {
 /// both. Without both, literals are integers.
 #[derive(Clone, Copy, PartialEq, Eq, Hash)]
 pub struct Syntax {
-    grammar: Grammar,
+    pub(crate) grammar: Grammar,
 }
 
 impl Model for Syntax {

@@ -3,7 +3,7 @@
 //! Why a text is not a literal.
 
 use crate::error::Error;
-use crate::literal::span::{error, marks, span};
+use crate::literal::span::{error, span};
 use crate::literal::steps::{
     self, class_of, has_digit, in_part, is_exponent_character, needs_exponent, Class, Summary,
 };
@@ -23,11 +23,11 @@ pub enum Place {
     Consecutive,
 }
 
-/// Why a text is not a literal. Another cause may follow when this one is mended. The `Cause` of a `Reason` is another
-/// enum: why a format word is not lawful.
+/// The kind of a [`ReadError`]: the cause, without the flags that are to blame. Another cause may follow when this one is
+/// mended.
 #[derive(Debug, Clone, Copy, PartialEq, Eq, Hash)]
 #[non_exhaustive]
-pub enum Cause {
+pub enum ReadErrorKind {
     /// Flags are set whose requirements the text does not satisfy.
     Requirement,
     /// A digit separator is not allowed in this part at this place.
@@ -40,8 +40,8 @@ pub enum Cause {
     Missing(Part),
 }
 
-// What spans and errors are made of: the number of bytes that are right, indexes of the integer digits, of the last
-// separators and of the exponent, and whether a text that misses bytes has a separator, a point or an exponent character.
+// What spans and errors are made of: the number of bytes that are right, indexes of the exponent, of the integer digits
+// and of the last separators, and whether a text that misses bytes has a separator, a point or an exponent character.
 #[derive(Debug, Clone, Copy, PartialEq, Eq, Hash)]
 pub struct Marks {
     pub(crate) size: usize,
@@ -60,12 +60,26 @@ pub struct Spot {
     pub(crate) marks: Marks,
 }
 
+// What an error answers.
+#[derive(Clone, Copy)]
+pub struct Refusal {
+    pub(crate) valid_up_to: usize,
+    pub(crate) byte: Option<u8>,
+    pub(crate) kind: ReadErrorKind,
+    pub(crate) mask: u128,
+    pub(crate) start: usize,
+    pub(crate) end: usize,
+    pub(crate) code: Error,
+}
+
 /// Why a text is not a literal, and where. If a byte cannot follow, the error is that of the byte, as in `1e;`. To say
 /// what is missing before it, read the front of the text that ends at [`valid_up_to`][Self::valid_up_to]. If this front
 /// is not a literal either, its error says it.
 ///
-/// The error keeps where reading stopped. Each call but `valid_up_to` and `byte` finds the cause anew.
-#[derive(Debug, Clone, Copy, PartialEq, Eq, Hash)]
+/// An error holds where reading stopped. Each call but `valid_up_to` and `byte` finds the cause anew. Two errors are
+/// equal if they have the same syntax, and if reading stopped at the same index, at the same byte, after bytes that the
+/// same may follow. Equal errors have equal answers. Errors of two syntaxes differ, even if their answers are the same.
+#[derive(Clone, Copy, PartialEq, Eq, Hash)]
 pub struct ReadError {
     pub(crate) spot: Spot,
 }
@@ -78,54 +92,63 @@ impl ReadError {
         self.spot.marks.size
     }
 
-    /// Returns the cause.
+    /// Returns the byte that cannot follow, or `None` if bytes are missing.
     #[must_use]
-    pub const fn cause(&self) -> Cause {
-        self.spot.blame().cause
+    pub const fn byte(&self) -> Option<u8> {
+        self.spot.byte
+    }
+
+    /// Returns the kind.
+    #[must_use]
+    pub const fn kind(&self) -> ReadErrorKind {
+        self.explain().kind
     }
 
     /// Returns the mask of the flags in a format word that are to blame. It is 0 for a wrong byte and for missing digits.
     #[must_use]
     pub const fn mask(&self) -> u128 {
-        self.spot.blame().mask
+        self.explain().mask
     }
 
     /// Returns the first index and the end of the bytes to show. They may be none.
     #[must_use]
     #[doc(hidden)]
     pub const fn bounds(&self) -> (usize, usize) {
-        let Blame { cause, mask } = self.spot.blame();
-        self.spot.span(cause, mask.trailing_zeros())
+        let Refusal { start, end, .. } = self.explain();
+        (start, end)
     }
 
     /// Returns the error that `lexical-util` has for the cause.
     #[must_use]
     pub const fn code(&self) -> Error {
-        let Blame { cause, mask } = self.spot.blame();
-        let number = mask.trailing_zeros();
-        let (start, _) = self.spot.span(cause, number);
-        error(self.spot.grammar, self.spot.marks, cause, number, start)
+        self.explain().code
     }
 
-    /// Returns the byte that cannot follow, or `None` if bytes are missing.
-    #[must_use]
-    pub const fn byte(&self) -> Option<u8> {
-        self.spot.byte
+    // Returns all answers. It finds the cause once.
+    pub(crate) const fn explain(&self) -> Refusal {
+        let Spot { grammar, byte, marks, .. } = self.spot;
+        let Blame { kind, mask } = self.spot.blame();
+        let number = mask.trailing_zeros();
+        let (start, end) = span(grammar, marks, byte, kind, number);
+        Refusal {
+            valid_up_to: marks.size,
+            byte,
+            kind,
+            mask,
+            start,
+            end,
+            code: error(grammar, marks, kind, number, start),
+        }
     }
 }
 
 impl Spot {
-    // Returns the first index and the end of the bytes to show for a cause and its lowest flag.
-    const fn span(self, cause: Cause, number: u32) -> (usize, usize) {
-        span(self.grammar, self.marks, self.byte, cause, number)
-    }
-
-    // Returns the cause, and the mask of the flags that are to blame.
+    // Returns the kind, and the mask of the flags that are to blame.
     const fn blame(self) -> Blame {
         let stop = Stop { grammar: self.grammar, read: self.read, next: class_of_next(self.grammar, self.byte) };
-        let Blame { cause, mask } = stop.blame(self.byte);
+        let Blame { kind, mask } = stop.blame(self.byte);
         // No bit of the mask is set but those of flags.
-        Blame { cause, mask: mask & masks::FLAG_MASK }
+        Blame { kind, mask: mask & masks::FLAG_MASK }
     }
 }
 
@@ -149,13 +172,16 @@ const REQUIREMENTS: u128 = masks::REQUIRED_DIGITS
     | masks::NO_FLOAT_LEADING_ZEROS
     | masks::REQUIRED_EXPONENT_NOTATION;
 
+// Those that bind where each literal has an exponent, and none is an integer.
+const FLOAT_REQUIREMENTS: u128 = REQUIREMENTS & !masks::NO_INTEGER_LEADING_ZEROS;
+
 // The flags on leading zeros.
 const ZEROS: u128 = masks::NO_INTEGER_LEADING_ZEROS | masks::NO_FLOAT_LEADING_ZEROS;
 
-// A cause, and the flags that are to blame.
+// A kind of error, and the flags that are to blame.
 #[derive(Clone, Copy)]
 struct Blame {
-    cause: Cause,
+    kind: ReadErrorKind,
     mask: u128,
 }
 
@@ -185,7 +211,7 @@ impl Stop {
     // Returns the flags that are set and require something.
     const fn binding(self) -> u128 {
         if needs_exponent(self.grammar) {
-            self.grammar.word & (REQUIREMENTS & !masks::NO_INTEGER_LEADING_ZEROS)
+            self.grammar.word & FLOAT_REQUIREMENTS
         } else {
             self.grammar.word & REQUIREMENTS
         }
@@ -272,20 +298,20 @@ impl Stop {
     const fn wrong(self, byte: u8) -> Blame {
         let separators = self.separators();
         if separators != 0 {
-            return Blame { cause: Cause::Separator(self.read.part, self.place()), mask: separators };
+            return Blame { kind: ReadErrorKind::Separator(self.read.part, self.place()), mask: separators };
         }
         let mask = self.case_flag(byte);
-        let cause = if mask == 0 { Cause::Byte } else { Cause::Case };
-        Blame { cause, mask }
+        let kind = if mask == 0 { ReadErrorKind::Byte } else { ReadErrorKind::Case };
+        Blame { kind, mask }
     }
 
-    // Returns the cause, and the flags that are to blame.
+    // Returns the kind, and the flags that are to blame.
     const fn blame(self, next: Option<u8>) -> Blame {
         if self.allows(self.bare()) {
-            return Blame { cause: Cause::Requirement, mask: self.requirements() };
+            return Blame { kind: ReadErrorKind::Requirement, mask: self.requirements() };
         }
         match next {
-            None => Blame { cause: Cause::Missing(self.read.part), mask: 0 },
+            None => Blame { kind: ReadErrorKind::Missing(self.read.part), mask: 0 },
             Some(byte) => self.wrong(byte),
         }
     }
@@ -324,20 +350,4 @@ const fn other_case(byte: u8) -> u8 {
         b'a'..=b'z' => byte - 32,
         _ => byte,
     }
-}
-
-// Returns the byte behind the first `size`, if there is one.
-const fn byte_at(text: &[u8], size: usize) -> Option<u8> {
-    if size < text.len() {
-        Some(text[size])
-    } else {
-        None
-    }
-}
-
-// Returns the error of `text`, of which `size` bytes can be read, which makes `read` of them.
-#[inline(always)]
-pub(crate) const fn refusal(grammar: Grammar, text: &[u8], size: usize, read: Summary) -> ReadError {
-    let byte = byte_at(text, size);
-    ReadError { spot: Spot { grammar, read, byte, marks: marks(grammar, text, size, byte) } }
 }

@@ -3,7 +3,9 @@
 use core::{fmt, ops::Range};
 
 use crate::edits::{Edit, FlagSetter};
-use crate::literal::{Cause, Place, ReadError};
+use crate::format_flags::{NO_FLOAT_LEADING_ZEROS, NO_INTEGER_LEADING_ZEROS};
+use crate::literal::cause::Refusal;
+use crate::literal::{Place, ReadError, ReadErrorKind};
 use crate::short_text::ShortText;
 
 impl ReadError {
@@ -27,54 +29,98 @@ impl ReadError {
     /// wrong byte and for missing digits.
     ///
     /// ```
-    /// use peltzivar::literal::Syntax;
+    /// use peltzivar::literal::{Reader, Syntax};
     /// use peltzivar::{Format, FormatError, NumberFormatBuilder};
     ///
-    /// let error = Syntax::new(Format::default(), b'e', b'.')?.read(b"1e").unwrap_err();
+    /// let reader = Reader::new(Syntax::new(Format::default(), b'e', b'.')?);
+    /// let error = reader.read(b"1e").unwrap_err();
     /// assert!(error.is_incomplete());
     /// let mut builder = NumberFormatBuilder::from(Format::default());
     /// builder.extend(error.settings()); // required_exponent_digits=false
-    /// assert!(Syntax::new(builder.build_format()?, b'e', b'.')?.read(b"1e").is_ok());
+    /// let reader = Reader::new(Syntax::new(builder.build_format()?, b'e', b'.')?);
+    /// assert!(reader.read(b"1e").is_ok());
     /// # Ok::<(), FormatError>(())
     /// ```
     pub fn settings(&self) -> impl Iterator<Item = Edit> + Clone {
-        let is_separator = matches!(self.cause(), Cause::Separator(..));
-        self.blamed().map(move |flag| Edit::Flag(flag, is_separator))
+        let Refusal { kind, mask, .. } = self.explain();
+        let is_separator = matches!(kind, ReadErrorKind::Separator(..));
+        let blamed = FlagSetter::FLAGS.iter().copied().filter(move |flag| flag.is_set(mask));
+        blamed.map(move |flag| Edit::Flag(flag, is_separator))
     }
 
-    /// Returns the flags to blame.
-    fn blamed(&self) -> impl Iterator<Item = FlagSetter> + Clone {
-        let mask = self.mask();
-        FlagSetter::FLAGS.iter().copied().filter(move |flag| flag.is_set(mask))
+    /// Returns the text that `Display` prints. A `const fn` can panic with it, so that a constant that is not a literal
+    /// does not compile, and the compiler prints why:
+    ///
+    /// ```compile_fail,E0080
+    /// use peltzivar::literal::{Literal, Reader, Syntax};
+    /// use peltzivar::{format::STANDARD, Format};
+    ///
+    /// const READER: Reader = Reader::new(Syntax::new_or_panic(Format::of::<STANDARD>(), b'e', b'.'));
+    /// const LITERAL: Literal = match READER.read(b"1e") {
+    ///     Ok(literal) => literal,
+    ///     Err(error) => panic!("{}", error.text().as_str()), // expected a digit after the exponent character, ..
+    /// };
+    /// ```
+    #[must_use]
+    pub const fn text(&self) -> ShortText {
+        let Refusal { kind, mask, byte, .. } = self.explain();
+        match kind {
+            ReadErrorKind::Requirement | ReadErrorKind::Case => requirement(mask),
+            ReadErrorKind::Separator(_, place) => {
+                let text = ShortText::of(separator(place)).and(", which requires ");
+                names(text, mask, " or ")
+            }
+            ReadErrorKind::Missing(part) => ShortText::of("expected a digit of the ").and(part.name()),
+            ReadErrorKind::Byte => {
+                let byte = match byte {
+                    Some(byte) => byte,
+                    None => 0,
+                };
+                ShortText::of("no literal has the byte ").quoted(byte).and(" here")
+            }
+        }
     }
+}
+
+/// Appends the names of the flags of a mask.
+const fn names(mut text: ShortText, mask: u128, between: &str) -> ShortText {
+    let (mut index, mut is_first) = (0, true);
+    while index < FlagSetter::FLAGS.len() {
+        let flag = FlagSetter::FLAGS[index];
+        if flag.is_set(mask) {
+            text = if is_first { text } else { text.and(between) }.and(flag.name());
+            is_first = false;
+        }
+        index += 1;
+    }
+    text
+}
+
+/// Returns the sentence for flags that require or forbid something. It names the lowest, or both flags on leading zeros.
+const fn requirement(mask: u128) -> ShortText {
+    const ZEROS: u128 = NO_INTEGER_LEADING_ZEROS | NO_FLOAT_LEADING_ZEROS;
+    let lowest = mask & mask.wrapping_neg();
+    let named = if lowest & ZEROS == 0 { lowest } else { mask & ZEROS };
+    // Flags below bit 18 are at the index of their bit.
+    let flag = FlagSetter::FLAGS[lowest.trailing_zeros() as usize];
+    let verb = match flag.name().as_bytes().first_chunk() {
+        Some(b"required") => " requires",
+        _ if named == ZEROS => " forbid",
+        _ => " forbids",
+    };
+    let text = ShortText::of(required_by(flag)).and(", which ");
+    names(text, named, " and ").and(verb)
 }
 
 impl core::error::Error for ReadError {}
 
-/// Prints the cause as a sentence without a full stop, such as `a leading zero, which no_integer_leading_zeros forbids`.
-/// If several flags are to blame for a requirement, the sentence names the lowest. For users of a language, who know no
-/// flags, `{:#}` prints the sentence without them, such as `a leading zero` or `a digit separator before digits`.
+/// Prints the cause as a sentence without a full stop, such as `a plus sign, which no_positive_mantissa_sign forbids`. If
+/// several flags are to blame for a requirement, the sentence names the lowest, or both flags on leading zeros. For users
+/// of a language, who know no flags, `{:#}` prints the sentence without them, such as `a plus sign` or `a digit separator
+/// before digits`.
 impl fmt::Display for ReadError {
     fn fmt(&self, f: &mut fmt::Formatter<'_>) -> fmt::Result {
-        let mut blamed = self.blamed();
-        let text = match (self.cause(), blamed.next()) {
-            (Cause::Missing(part), _) => ShortText::of("expected a digit of the ").and(part.name()),
-            (Cause::Separator(_, place), Some(flag)) => {
-                let text = ShortText::of(separator(place)).and(", which requires ");
-                let join = |text: ShortText, other: FlagSetter| text.and(" or ").and(other.name());
-                blamed.fold(text.and(flag.name()), join)
-            }
-            (_, Some(flag)) => {
-                let is_required = flag.name().starts_with("required");
-                let verb = if is_required { " requires" } else { " forbids" };
-                let text = ShortText::of(requirement(flag)).and(", which ");
-                text.and(flag.name()).and(verb)
-            }
-            (_, None) => {
-                let text = ShortText::of("no literal has the byte ");
-                text.quoted(self.byte().unwrap_or(0)).and(" here")
-            }
-        };
+        let text = self.text();
         f.pad(match text.as_str().split_once(", which ") {
             Some((front, _)) if f.alternate() => front,
             _ => text.as_str(),
@@ -82,7 +128,17 @@ impl fmt::Display for ReadError {
     }
 }
 
-fn separator(place: Place) -> &'static str {
+/// Writes the answers, and what `Display` prints.
+impl fmt::Debug for ReadError {
+    fn fmt(&self, f: &mut fmt::Formatter<'_>) -> fmt::Result {
+        let Refusal { valid_up_to, kind, start, end, .. } = self.explain();
+        let mut text = f.debug_struct("ReadError");
+        text.field("valid_up_to", &valid_up_to).field("kind", &kind).field("span", &(start..end));
+        text.field("message", &format_args!("\"{self}\"")).finish()
+    }
+}
+
+const fn separator(place: Place) -> &'static str {
     match place {
         Place::BeforeDigits => "a digit separator before digits",
         Place::AfterDigit => "a digit separator after a digit",
@@ -90,8 +146,8 @@ fn separator(place: Place) -> &'static str {
     }
 }
 
-/// Returns what a flag requires or forbids. If a flag has no text here, its name without the first word is true, too.
-fn requirement(flag: FlagSetter) -> &'static str {
+/// Returns what a flag requires or forbids.
+const fn required_by(flag: FlagSetter) -> &'static str {
     match flag {
         FlagSetter::RequiredIntegerDigits => "expected a digit of the integer",
         FlagSetter::RequiredFractionDigits => "expected a digit after the decimal point",
@@ -108,6 +164,6 @@ fn requirement(flag: FlagSetter) -> &'static str {
         FlagSetter::CaseSensitiveBasePrefix => "the other case of the base prefix",
         FlagSetter::CaseSensitiveBaseSuffix => "the other case of the base suffix",
         FlagSetter::NoIntegerLeadingZeros | FlagSetter::NoFloatLeadingZeros => "a leading zero",
-        _ => flag.name().split_once('_').map_or("", |(_, what)| what),
+        _ => flag.name(),
     }
 }

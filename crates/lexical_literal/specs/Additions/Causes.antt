@@ -29,6 +29,23 @@ kind_set m kinds.NotSeparator byte = not (m.separator byte)
 kind_set m kinds.Body byte = not (m.separator byte || signs byte)
 kind_set m kinds.Mark byte = is_mark m byte
 
+-- `is_role role other` is true if `other` is the role `role`.
+abbrev pub is_role : Role → Option Role → Bool
+is_role roles.Digit (Some roles.Digit) = true
+is_role roles.Exponent (Some roles.Exponent) = true
+is_role roles.Suffix (Some roles.Suffix) = true
+is_role roles.Sign (Some roles.Sign) = true
+is_role roles.Point (Some roles.Point) = true
+is_role roles.Separator (Some roles.Separator) = true
+is_role _ _ = false
+
+-- `has_role kind role` is true if bytes that play `role` in the integer are of `kind`.
+abbrev pub has_role : Kind → Option Role → Bool
+has_role kinds.Digit role = is_role roles.Digit role
+has_role kinds.NotSeparator role = not (is_role roles.Separator role)
+has_role kinds.Body role = not (is_role roles.Separator role || is_role roles.Sign role)
+has_role kinds.Mark role = is_role roles.Separator role || (is_role roles.Point role || is_role roles.Exponent role)
+
 -- `IsWeaker m A` holds if the flags for which `A` is true require no more than those of `m`, and are no less otherwise.
 pub record IsWeaker (m : Notation) (A : Flag → Bool) : Type 0 where
   pub no_more : (f : Flag) → IsTrue (A f && is_one_of requirement_flags f) → IsTrue (m.flag f)
@@ -59,15 +76,6 @@ role_of_next s (Some class) = in_part s.part class
 abbrev pub is_plus_next : Option Class → Bool
 is_plus_next None = false
 is_plus_next (Some class) = is_plus class
-
--- `is_role role other` is true if `other` is the role `role`.
-abbrev pub is_role : Role → Option Role → Bool
-is_role roles.Exponent (Some roles.Exponent) = true
-is_role roles.Suffix (Some roles.Suffix) = true
-is_role roles.Sign (Some roles.Sign) = true
-is_role roles.Point (Some roles.Point) = true
-is_role roles.Separator (Some roles.Separator) = true
-is_role _ _ = false
 
 -- `place_of m s role` is where `m` does not allow a separator after `s`, before a byte with the role `role`.
 abbrev pub place_of : Notation → Summary → Option Role → Place

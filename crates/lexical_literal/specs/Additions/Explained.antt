@@ -7,10 +7,11 @@ use Rattle.lexical_util.specs.Roles.{other_case}
 use Rattle.lexical_util.specs.declared.feature_format.roles.Role.TheVariants as roles
 use Rattle.lexical_literal.specs.Additions.Causes.{allows, class_of_next, is_own, is_role, place_of, role_of_next}
 use Rattle.lexical_literal.specs.Additions.Summary.{class_of}
-use Rattle.lexical_literal.specs.Cause.{Explained, Refusal, adding, bare, binds, case_set, error_of, is_one_of, leading_zero_flags, lowest, span_of}
+use Rattle.lexical_literal.specs.Cause.{Explained, adding, bare, binds, case_set, error_of, is_one_of, leading_zero_flags, lowest, span_of}
 use Rattle.lexical_literal.specs.Notation.{Notation, notation_of}
-use Rattle.lexical_literal.specs.declared.cause.Cause.{Cause}
-use Rattle.lexical_literal.specs.declared.cause.Cause.TheVariants as causes
+use Rattle.lexical_literal.specs.declared.cause.ReadErrorKind.{ReadErrorKind}
+use Rattle.lexical_literal.specs.declared.cause.ReadErrorKind.TheVariants as causes
+use Rattle.lexical_literal.specs.declared.cause.Refusal.{Refusal}
 use Rattle.lexical_literal.specs.declared.cause.Spot.{Spot}
 use Rattle.lexical_literal.specs.declared.steps.Class.{Class}
 use Rattle.lexical_literal.specs.declared.steps.Summary.{Summary}
@@ -35,41 +36,41 @@ separators m s next f = (s.gap || is_role roles.Separator (role_of_next s next))
 abbrev pub cases : Notation → Summary → ℕ → Flag → Bool
 cases m s byte f = allows (bare m) s (Some (class_of m (other_case byte))) && case_set f m (other_case byte)
 
--- `Blamed` has a cause and the flags that are to blame.
+-- `Blamed` has a kind of error and the flags that are to blame.
 pub record Blamed : Type 0 where
-  pub cause : Cause
+  pub kind : ReadErrorKind
   pub flags : Flag → Bool
 
 -- `wrong m s byte` is why `byte` cannot follow `s`, if no requirement is the cause.
 abbrev pub wrong : Notation → Summary → ℕ → Blamed
 wrong m s byte =
     if list_any (separators m s (Some (class_of m byte))) flags then record {
-      cause = causes.Separator s.part (place_of m s (role_of_next s (Some (class_of m byte))));
+      kind = causes.Separator s.part (place_of m s (role_of_next s (Some (class_of m byte))));
       flags = separators m s (Some (class_of m byte));
-    } else (if list_any (cases m s byte) flags then record { cause = causes.Case; flags = cases m s byte }
-    else record { cause = causes.Byte; flags = λ f. false })
+    } else (if list_any (cases m s byte) flags then record { kind = causes.Case; flags = cases m s byte }
+    else record { kind = causes.Byte; flags = λ f. false })
 
 -- `otherwise m s next` is the cause if it is no requirement.
 abbrev pub otherwise : Notation → Summary → Option ℕ → Blamed
-otherwise m s None = record { cause = causes.Missing s.part; flags = λ f. false }
+otherwise m s None = record { kind = causes.Missing s.part; flags = λ f. false }
 otherwise m s (Some byte) = wrong m s byte
 
 -- `blame m s next` is why the byte `next` cannot follow `s`, or why `s` is not a literal, where `next` is `None`.
 abbrev pub blame : Notation → Summary → Option ℕ → Blamed
 blame m s next =
     if allows (bare m) s (class_of_next m next)
-    then record { cause = causes.Requirement; flags = requirements m s (class_of_next m next) } else otherwise m s next
+    then record { kind = causes.Requirement; flags = requirements m s (class_of_next m next) } else otherwise m s next
 
 -- `answers m spot b f` has the answers for the cause of `b`, its flags, and the lowest of them, which is `f`.
 abbrev pub answers : Notation → Spot → Blamed → Flag → Refusal
 answers m spot b f = record {
   valid_up_to = spot.marks.size;
   byte = spot.byte;
-  cause = b.cause;
+  kind = b.kind;
   mask = mask_of b.flags;
-  start = (span_of m spot.marks spot.byte b.cause f).0;
-  end = (span_of m spot.marks spot.byte b.cause f).1;
-  code = error_of m spot.marks b.cause f (span_of m spot.marks spot.byte b.cause f).0;
+  start = (span_of m spot.marks spot.byte b.kind f).0;
+  end = (span_of m spot.marks spot.byte b.kind f).1;
+  code = error_of m spot.marks b.kind f (span_of m spot.marks spot.byte b.kind f).0;
 }
 
 -- `refusal_of m spot` is what an error answers that was made at `spot`.

@@ -2,4 +2,4 @@ use Rattle.lexical_literal.proofs.CauseLemmas.{masked}
 use Rattle.lexical_literal.proofs.cause.Spot.blame.Goals as goal
 
 pub returns-clause-mask : goal.returns-clause-mask
-returns-clause-mask c = masked c.blame-cause.result.mask _ c.blame-cause.ensures.flags
+returns-clause-mask c = masked c.blame-kind.result.mask _ c.blame-kind.ensures.flags

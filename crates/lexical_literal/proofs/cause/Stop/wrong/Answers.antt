@@ -8,7 +8,7 @@ use Rattle.lexical_literal.specs.Additions.Explained.{Blamed, cases, separators,
 use Rattle.lexical_literal.specs.Additions.Summary.{class_of}
 use Rattle.lexical_literal.specs.Cause.{bare}
 use Rattle.lexical_literal.specs.Notation.{Notation, notation_of}
-use Rattle.lexical_literal.specs.declared.cause.Cause.TheVariants as causes
+use Rattle.lexical_literal.specs.declared.cause.ReadErrorKind.TheVariants as causes
 use Rattle.lexical_literal.specs.declared.cause.Stop.{Stop}
 use Rattle.lexical_literal.specs.declared.steps.Class.{Class}
 use Rattle.lexical_literal.proofs.CauseLemmas.{HasFlag, any_flag, flag_zero, no_flag}
@@ -28,10 +28,10 @@ module _ (stop : Stop) (byte mask : ℕ) where
   abbrev by_tests : Bool → Bool → Blamed
   by_tests s t =
       if s then record {
-        cause = causes.Separator stop.read.part (place_of m stop.read (role_of_next stop.read (Some class)));
+        kind = causes.Separator stop.read.part (place_of m stop.read (role_of_next stop.read (Some class)));
         flags = separators m stop.read (Some class);
-      } else (if t then record { cause = causes.Case; flags = cases m stop.read byte }
-      else record { cause = causes.Byte; flags = λ f. false })
+      } else (if t then record { kind = causes.Case; flags = cases m stop.read byte }
+      else record { kind = causes.Byte; flags = λ f. false })
 
   module _ (is_next : stop.next ≡ Some class) (of_mask : (f : Flag) → (raw mask).flag f ≡ separators m stop.read stop.next f) where
     each : (f : Flag) → (raw mask).flag f ≡ separators m stop.read (Some class) f
@@ -43,13 +43,13 @@ module _ (stop : Stop) (byte mask : ℕ) where
     no_separator : mask ≡ 0 → (t : Bool) → list_any (cases m stop.read byte) flags ≡ t → wrong m stop.read byte ≡ by_tests false t
     no_separator zero t is = λ j. by_tests (no_flag _ mask each zero j) (is j)
 
-pub returns-then-separators-ne0-clause-cause : goal.returns-then-separators-ne0-clause-cause
-returns-then-separators-ne0-clause-cause c =
+pub returns-then-separators-ne0-clause-kind : goal.returns-then-separators-ne0-clause-kind
+returns-then-separators-ne0-clause-kind c =
     let s = c.args.self.read in
     let is = is_separator c.args.self c.args.byte _ c.requires.next c.separators-separators.ensures.each c.separators-separators.ensures.some
     c.if-separators-ne0.true in
     ap (causes.Separator s.part) (c.place.ensures ∙ ap (λ next. place_of (notation_of c.args.self.grammar) s (role_of_next s next)) c.requires.next)
-    ∙ sym (ap (λ (b : Blamed). b.cause) is)
+    ∙ sym (ap (λ (b : Blamed). b.kind) is)
 
 pub returns-then-separators-ne0-clause-flags : goal.returns-then-separators-ne0-clause-flags
 returns-then-separators-ne0-clause-flags c f =
@@ -57,11 +57,11 @@ returns-then-separators-ne0-clause-flags c f =
     c.if-separators-ne0.true in
     each c.args.self c.args.byte _ c.requires.next c.separators-separators.ensures.each f ∙ sym (ap (λ (b : Blamed). b.flags f) is)
 
-pub returns-then-mask-eq0-clause-cause : goal.returns-then-mask-eq0-clause-cause
-returns-then-mask-eq0-clause-cause c =
+pub returns-then-mask-eq0-clause-kind : goal.returns-then-mask-eq0-clause-kind
+returns-then-mask-eq0-clause-kind c =
     let is = no_separator c.args.self c.args.byte _ c.requires.next c.separators-separators.ensures.each c.if-separators-ne0.false false
     (no_flag _ _ c.case_flag-mask.ensures.each c.if-mask-eq0.true) in
-    sym (ap (λ (b : Blamed). b.cause) is)
+    sym (ap (λ (b : Blamed). b.kind) is)
 
 pub returns-then-mask-eq0-clause-flags : goal.returns-then-mask-eq0-clause-flags
 returns-then-mask-eq0-clause-flags c f =
@@ -69,11 +69,11 @@ returns-then-mask-eq0-clause-flags c f =
     (no_flag _ _ c.case_flag-mask.ensures.each c.if-mask-eq0.true) in
     ap (λ n. (raw n).flag f) c.if-mask-eq0.true ∙ flag_zero f ∙ sym (ap (λ (b : Blamed). b.flags f) is)
 
-pub returns-else-mask-eq0-clause-cause : goal.returns-else-mask-eq0-clause-cause
-returns-else-mask-eq0-clause-cause c =
+pub returns-else-mask-eq0-clause-kind : goal.returns-else-mask-eq0-clause-kind
+returns-else-mask-eq0-clause-kind c =
     let is = no_separator c.args.self c.args.byte _ c.requires.next c.separators-separators.ensures.each c.if-separators-ne0.false true
     (any_flag _ _ c.case_flag-mask.ensures.each c.case_flag-mask.ensures.some c.if-mask-eq0.false) in
-    sym (ap (λ (b : Blamed). b.cause) is)
+    sym (ap (λ (b : Blamed). b.kind) is)
 
 pub returns-else-mask-eq0-clause-flags : goal.returns-else-mask-eq0-clause-flags
 returns-else-mask-eq0-clause-flags c f =
