@@ -6,9 +6,9 @@ use peltzivar::format::{
     BASE_PREFIX, BASE_SUFFIX, CONSECUTIVE_DIGIT_SEPARATOR, DIGIT_SEPARATOR, DIGIT_SEPARATOR_FLAG_MASK, EXPONENT_BASE,
     EXPONENT_RADIX, FLAG_MASK, MANTISSA_RADIX, SPECIAL_DIGIT_SEPARATOR,
 };
-use peltzivar::literal::{Cause, ReadError, Specials, Syntax};
+use peltzivar::literal::{ReadError, ReadErrorKind, Reader, Specials, Syntax};
 use peltzivar::reasons::Byte;
-use peltzivar::{Cause as Problem, FormatView, Reason};
+use peltzivar::{Cause, FormatView, Reason};
 
 /// The spellings of special values that are read.
 pub const SPECIALS: Specials = Specials { nan: Some(b"NaN"), inf: Some(b"inf"), infinity: Some(b"infinity") };
@@ -92,7 +92,8 @@ impl State {
 
     /// Returns how many of the lines are as expected.
     pub fn as_expected(self, lines: &[u8]) -> usize {
-        let is_accepted = |text| self.syntax().is_some_and(|it| read(&it, text).is_ok());
+        let reader = self.syntax().map(Reader::new);
+        let is_accepted = |text| reader.as_ref().is_some_and(|it| read(it, text).is_ok());
         lines_of(lines).filter(|line| is_accepted(line.text) != line.is_refused).count()
     }
 }
@@ -113,9 +114,9 @@ pub fn lines_of(text: &[u8]) -> impl Iterator<Item = Line<'_>> {
 }
 
 /// Returns why a text is neither a number nor a special value.
-pub fn read(syntax: &Syntax, text: &[u8]) -> Result<(), ReadError> {
-    match syntax.read(text) {
-        Err(error) if SPECIALS.read(syntax, text).is_none() => Err(error),
+pub fn read(reader: &Reader, text: &[u8]) -> Result<(), ReadError> {
+    match reader.read(text) {
+        Err(error) if SPECIALS.read(&reader.syntax(), text).is_none() => Err(error),
         _ => Ok(()),
     }
 }
@@ -197,7 +198,7 @@ fn refusing(state: State, text: &[u8], found: &mut Found<'_>) {
         // Consecutive separators need another flag of their part.
         let single = State { word: other.word & !CONSECUTIVE_DIGIT_SEPARATOR, ..other };
         let other = other.syntax().map_or(single, |_| other);
-        let is_refused = other.syntax().is_some_and(|it| read(&it, text).is_err());
+        let is_refused = other.syntax().is_some_and(|it| read(&Reader::new(it), text).is_err());
         if is_refused && problems(other).count() <= problems(state).count() {
             found.push(other);
         }
@@ -224,12 +225,14 @@ fn settled(mut state: State, text: &[u8]) -> Result<State, usize> {
         state.word |= SEPARATORS;
     }
     let read_in = |state: State| match state.exact() {
-        Some(syntax) => read(&syntax, text).map_err(Some),
+        Some(syntax) => read(&Reader::new(syntax), text).map_err(Some),
         None => Err(None),
     };
     while let Err(error) = read_in(state) {
         match error {
-            Some(error) if matches!(error.cause(), Cause::Requirement | Cause::Case) => state.word &= !error.mask(),
+            Some(error) if matches!(error.kind(), ReadErrorKind::Requirement | ReadErrorKind::Case) => {
+                state.word &= !error.mask()
+            }
             error => return Err(error.map_or(text.len(), |it| it.valid_up_to())),
         }
     }
@@ -343,8 +346,8 @@ pub fn problems(state: State) -> impl Iterator<Item = Reason> {
 /// Returns whether a reason blames the exponent character, and whether it blames the decimal point.
 pub fn blamed_options(reason: Reason) -> [bool; 2] {
     let (first, second) = match reason.cause() {
-        Problem::NotText(byte) | Problem::IsSign(byte) | Problem::IsDigit(byte, _) => (byte, byte),
-        Problem::Same(first, second) | Problem::DifferInCase { first, second, .. } => (first, second),
+        Cause::NotText(byte) | Cause::IsSign(byte) | Cause::IsDigit(byte, _) => (byte, byte),
+        Cause::Same(first, second) | Cause::DifferInCase { first, second, .. } => (first, second),
         _ => return [false; 2],
     };
     [Byte::ExponentCharacter, Byte::DecimalPoint].map(|it| first.name == it || second.name == it)
@@ -359,7 +362,7 @@ pub fn repairs(state: State, reason: Reason) -> impl Iterator<Item = State> {
     let fields = bytes.into_iter().chain([(MANTISSA_RADIX, 10), (RESERVED, 0)]);
     let fields = fields.filter(move |it| reason.mask() & it.0 != 0).map(move |(field, byte)| state.with(field, byte));
     let is_alike = move |it: Reason| match (it.cause(), reason.cause()) {
-        (Problem::IsDigit(byte, _), Problem::IsDigit(other, _)) => byte.name == other.name,
+        (Cause::IsDigit(byte, _), Cause::IsDigit(other, _)) => byte.name == other.name,
         (cause, other) => cause == other,
     };
     let is_better = move |it: &State| problems(*it).count() < problems(state).count() && !problems(*it).any(is_alike);

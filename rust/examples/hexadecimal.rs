@@ -1,15 +1,16 @@
 //! Reads hexadecimal integers, such as `1_FF`. A format that is not lawful does not compile.
 
 use core::num::NonZeroU8;
-use peltzivar::{literal::Syntax, NumberFormatBuilder, Part};
+use peltzivar::literal::{Reader, Syntax};
+use peltzivar::{NumberFormatBuilder, Part};
 
-const INTEGERS: Syntax = Syntax::integers(
+static INTEGERS: Reader = Reader::new(Syntax::integers(
     NumberFormatBuilder::new()
         .mantissa_radix(16)
         .digit_separator(NonZeroU8::new(b'_'))
         .internal_digit_separator(true)
         .build_format_or_panic(),
-);
+));
 
 fn main() {
     let literal = INTEGERS.read(b"1_FF").unwrap();

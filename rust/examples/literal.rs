@@ -7,7 +7,7 @@
 //! E and P do not fit it, and 2 if the arguments are malformed.
 
 use peltzivar::edits::byte_from_decimal;
-use peltzivar::literal::{Literal, Syntax};
+use peltzivar::literal::{Literal, Reader, Syntax};
 use peltzivar::{Format, FormatError, FormatView};
 use std::ffi::OsString;
 use std::io::{self, Write};
@@ -36,7 +36,7 @@ fn main() -> io::Result<ExitCode> {
 /// Returns the literal, or the line that the program prints instead.
 fn read(syntax: Result<Syntax, FormatError>, text: &[u8]) -> Result<Literal<'_>, String> {
     let syntax = syntax.map_err(|error| error.code().to_string())?;
-    let literal = syntax.read(text);
+    let literal = Reader::new(syntax).read(text);
     literal.map_err(|error| format!("{}: {error}", error.valid_up_to()))
 }
 

@@ -90,8 +90,9 @@ impl fmt::Debug for Syntax {
     }
 }
 
+/// Writes the syntax.
 impl fmt::Debug for Reader {
     fn fmt(&self, f: &mut fmt::Formatter<'_>) -> fmt::Result {
-        f.debug_struct("Reader").finish_non_exhaustive()
+        f.debug_tuple("Reader").field(&self.syntax()).finish()
     }
 }

@@ -18,7 +18,7 @@
 //! | write a format as a constant | [`NumberFormatBuilder`] and its [`build_format_or_panic`][NumberFormatBuilder::build_format_or_panic], or [`build_or_panic`][NumberFormatBuilder::build_or_panic] for the word |
 //! | take a checked format as an argument | [`Format`] |
 //! | read numbers of a language | [`Language`][literal::Language] |
-//! | read numbers of a format | [`Syntax`][literal::Syntax], or a [`Reader`][literal::Reader] for many texts; [`Specials`][literal::Specials] for NaN and infinity |
+//! | read numbers of a format | a [`Reader`][literal::Reader] of its [`Syntax`][literal::Syntax]; [`Specials`][literal::Specials] for NaN and infinity |
 //! | compute values | [`Literal::digits`][literal::Literal::digits] and [`radix`][literal::Literal::radix] |
 //! | report why a text is not a number | [`ReadError`][literal::ReadError] |
 //! | write numbers | the example of [`literal`], and [`digit_to_char`][digit::digit_to_char] |
@@ -57,8 +57,8 @@
 //! All other files are written by hand. They have [`Format`], [`FormatError`], [`Settings`], [`NumberFormat`] with the
 //! calls of [`mod@format`], [`Language`][literal::Language], the iterators and conversions, the names and texts of values
 //! (`name`, `condition`, `Display`, `FromStr` and `Debug`), absent bytes as `None`, the syntax of a [`Format`] and the
-//! format of a syntax, [`Literal`][literal::Literal] around the parts that the proved code finds, `is_incomplete`, `span`
-//! and `settings` of [`ReadError`][literal::ReadError], the methods that panic, and the tests of slices in [`ascii`]. A
+//! format of a syntax, [`Literal`][literal::Literal] around the parts that the proved code finds, `is_incomplete`, `span`,
+//! `settings` and `text` of [`ReadError`][literal::ReadError], the methods that panic, and the tests of slices in [`ascii`]. A
 //! build of this crate proves nothing. You trust the program that generated the files, the handwritten parts, and
 //! `rustc`.
 #![no_std]

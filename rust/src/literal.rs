@@ -1,9 +1,9 @@
 //! Literals: the texts that are numbers of a format, their parts, the calls that read them, and why a text is not one.
 //!
 //! A [`Syntax`] is a lawful format with an exponent character and a decimal point or, for integers alone, without both.
-//! A [`Reader`] has tables of a syntax, so that it reads a text in less time. A [`Literal`] has the parts of a text and
-//! the values of its digits. A [`ReadError`] has the cause of a refusal, and the flags to blame. NaN and infinity are not
-//! literals: [`Specials`] reads them. A [`Language`] has a reader and the special values of a language.
+//! A [`Reader`] has tables of a syntax, and reads its literals. A [`Literal`] has the parts of a text and the values of
+//! its digits. A [`ReadError`] finds the cause of a refusal, and the flags to blame. NaN and infinity are not literals:
+//! [`Specials`] reads them. A [`Language`] has a reader and the special values of a language.
 //!
 //! ```
 //! use peltzivar::format::{Format, STANDARD};
@@ -22,7 +22,7 @@
 //! assert_eq!((literal.as_bytes(), rest), (&b"1.25"[..], &b".3"[..]));
 //! ```
 //!
-//! [`Literal`] has examples that compute values, and [`Syntax::read_prefix`] one that splits a text into numbers.
+//! [`Literal`] has examples that compute values, and [`Reader::read_prefix`] one that splits a text into numbers.
 //!
 //! # Writing numbers
 //!
@@ -48,9 +48,9 @@
 //!     text.reverse();
 //!     text
 //! }
-//! let syntax = Language::RUST_HEX_INTEGER.syntax();
-//! let text = write(0xC0FFEE, syntax.format());
-//! assert_eq!((text.as_slice(), syntax.read(&text).is_ok()), (&b"0xC0F_FEE"[..], true));
+//! let reader = Language::RUST_HEX_INTEGER.reader();
+//! let text = write(0xC0FFEE, reader.syntax().format());
+//! assert_eq!((text.as_slice(), reader.read(&text).is_ok()), (&b"0xC0F_FEE"[..], true));
 //! ```
 
 #[allow(clippy::redundant_pattern_matching, reason = "as it is proved")]
@@ -74,7 +74,7 @@ mod syntax;
 mod tables;
 mod text;
 
-pub use cause::{Cause, Place, ReadError};
+pub use cause::{Place, ReadError, ReadErrorKind};
 pub use language::{Language, Number};
 pub use number::{Digits, Literal};
 pub use read::Reader;

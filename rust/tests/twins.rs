@@ -3,7 +3,7 @@
 
 use peltzivar::format::{self, NumberFormatBuilder, STANDARD};
 use peltzivar::literal::{
-    Cause, Digits, Language, Literal, Number, Place, ReadError, Reader, Special, Specials, Syntax,
+    Digits, Language, Literal, Number, Place, ReadError, ReadErrorKind, Reader, Special, Specials, Syntax,
 };
 use peltzivar::{
     with_setters, word, Edit, Error, Finding, FlagSetter, Format, FormatError, FormatView, Note, NumberFormat, Part,
@@ -23,7 +23,7 @@ const _: () = {
     const fn is_shared<T: Clone + Debug + Send + Sync + Unpin>() {}
     are_values::<(Edit, Error, FlagSetter, Format, FormatError, FormatView, Note, NumberFormat<STANDARD>)>();
     are_values::<(NumberFormatBuilder, Reason, Rule, SettingError, SettingErrorKind, Finding, SettingsError)>();
-    are_values::<(Cause, Language, Literal<'_>, Number<'_>, Place, ReadError, Special, Specials<'_>, Syntax)>();
+    are_values::<(ReadErrorKind, Language, Literal<'_>, Number<'_>, Place, ReadError, Special, Specials<'_>, Syntax)>();
     is_shared::<(Digits<'_>, Reader, Settings)>();
     are_ordered::<(Edit, Error, FlagSetter, Format, FormatView, Rule)>();
     is_error::<Error>();

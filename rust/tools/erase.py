@@ -77,10 +77,7 @@ REPLACED = [
     ("read.rt", "\nfn split_front<", "\nconst fn split_front<"),
     ("read.rt", "pub(crate) fn front_of<", "pub(crate) const fn front_of<"),
     ("read.rt", "pub(crate) fn cut<", "pub(crate) const fn cut<"),
-    ("read.rt", "\nfn find_front(", "\nconst fn find_front("),
     # Calls with these names are written by hand: they take or return a `Format`, a `Literal` or a range.
-    ("read.rt", "Reader {\n    grammar: Grammar,\n    tables", "Reader {\n    pub(crate) grammar: Grammar,\n    tables"),
-    ("syntax.rt", "Syntax {\n    grammar: Grammar,", "Syntax {\n    pub(crate) grammar: Grammar,"),
     ("syntax.rt", "pub const fn options(&self)", "pub(crate) const fn options(&self)"),
     ("syntax.rt", "pub const fn new(word", "#[doc(hidden)] pub const fn of_word(word"),
     ("syntax.rt", "pub const fn integers(word", "#[doc(hidden)] pub const fn integers_of_word(word"),
@@ -97,7 +94,7 @@ EVERYWHERE = [
 
 # Types that may grow. In plain Rust, a match outside the crate has to have an arm for what they lack today.
 GROWS = {
-    "enum": "ArgumentKind Byte Cause Class Edit Error FlagSetter Note Part Place Radixes Role Rule Setter SettingErrorKind",
+    "enum": "ArgumentKind Byte Cause Class Edit Error FlagSetter Note Part Place Radixes ReadErrorKind Role Rule Setter SettingErrorKind",
     "struct": "NamedByte Separators",
 }
 for kind, types in GROWS.items():
@@ -122,7 +119,8 @@ ATTRIBUTES = [
     ("short_text.rt", "#[derive(Drop)]\n#[doc(hidden)]", "#[derive(Clone,\nCopy)]"),
     ("read.rt", "#[derive(Drop)]", "#[derive(Clone)]"),
     ("tables.rt", "#[derive(Drop)]", "#[derive(Clone)]"),
-    ("cause.rt", "Eq)]\npub struct ReadError", "Eq, Hash)]\npub struct ReadError"),
+    # `Debug` prints the answers.
+    ("cause.rt", "#[derive(Debug, Clone, Copy, PartialEq, Eq, Hash)]\npub struct ReadError {", "#[derive(Clone, Copy, PartialEq, Eq, Hash)]\npub struct ReadError {"),
     ("syntax.rt", "Hash)]\npub struct Options", "Hash, PartialOrd, Ord)]\npub struct Options"),
     ("syntax.rt", "Hash)]\npub struct Grammar", "Hash, PartialOrd, Ord)]\npub struct Grammar"),
     ("syntax.rt", "Hash)]\npub struct Syntax", "Hash, PartialOrd, Ord)]\npub struct Syntax"),

@@ -19,6 +19,7 @@ ghost use Rattle.lexical_literal.specs.Notation.{notation_of};
 ghost use Rattle.callers.specs.Magnitude.{magnitude};
 
 use crate::magnitude::magnitude;
+use lexical_literal::read::Reader;
 use lexical_literal::syntax::Syntax;
 
 /// The format of decimal numbers with `_` between digits, such as `1_000.000_1e1_0`.
@@ -60,22 +61,22 @@ pub fn octal_facts()
     ensures options { OptionsFit OCTAL EXPONENT POINT }
 {}
 
-/// Returns the syntax of the integers of [`DECIMAL`].
-pub fn decimal() -> Syntax
+/// Returns a reader of the integers of [`DECIMAL`].
+pub fn decimal() -> Reader
     ensures { result ≡ record { word = DECIMAL; options = None } }
 {
     decimal_facts();
     match Syntax::integers(DECIMAL) {
-        Ok(syntax) => syntax,
+        Ok(syntax) => Reader::new(syntax),
         Err(_) => unreachable!(),
     }
 }
 
-/// Returns whether `text` is a literal of `syntax`.
-pub fn is_literal(syntax: &Syntax, text: &[u8]) -> bool
-    ensures { IsTrue result ↔ ((l : Literal) × Reads (notation_of syntax.now) l text.now) }
+/// Returns whether `text` is a literal of the syntax of `reader`.
+pub fn is_literal(reader: &Reader, text: &[u8]) -> bool
+    ensures { IsTrue result ↔ ((l : Literal) × Reads (notation_of reader.now) l text.now) }
 {
-    match syntax.read(text) {
+    match reader.read(text) {
         Ok(_) => true,
         Err(_) => false,
     }

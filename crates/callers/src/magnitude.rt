@@ -10,18 +10,18 @@ ghost use Rattle.lexical_literal.specs.Literal.{Literal, Reads};
 ghost use Rattle.lexical_literal.specs.Notation.{notation_of};
 ghost use Rattle.callers.specs.Magnitude.{is_mantissa_digit, magnitude};
 
-use lexical_literal::syntax::Syntax;
+use lexical_literal::read::Reader;
 use lexical_util::format::NumberFormat;
 
 /// Returns the number that the integer digits of the literal `text` represent, without its sign and its fraction, or
 /// `None` if `text` is not a literal, or if the number is 2^64 or more.
-pub fn magnitude(syntax: &Syntax, text: &[u8]) -> Option<u64>
-    ensures literal { (l : Literal) → Reads (notation_of syntax.now) l text.now
-        → SomeIff result (magnitude (raw syntax.now.word) l.integer < 2 ^ 64) (magnitude (raw syntax.now.word) l.integer) }
-    ensures other { NoLiteral (notation_of syntax.now) text.now → IsNone result }
+pub fn magnitude(reader: &Reader, text: &[u8]) -> Option<u64>
+    ensures literal { (l : Literal) → Reads (notation_of reader.now) l text.now
+        → SomeIff result (magnitude (raw reader.now.word) l.integer < 2 ^ 64) (magnitude (raw reader.now.word) l.integer) }
+    ensures other { NoLiteral (notation_of reader.now) text.now → IsNone result }
 {
-    match syntax.read(text) {
-        Ok(parts) => number(syntax.format(), parts.integer),
+    match reader.read(text) {
+        Ok(parts) => number(reader.syntax().format(), parts.integer),
         Err(_) => None,
     }
 }

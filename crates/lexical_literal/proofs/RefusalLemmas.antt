@@ -4,14 +4,14 @@ use Rattle.std.proofs.Common.{Option, Some, None, refl, sym, ap, subst, ◌∙�
 use Rattle.std.proofs.lemmas.Bool.{false≢true, and_parts, and_from}
 use Rattle.std.specs.Prelude.{is_some}
 use Rattle.lexical_util.specs.Layout as layout
-use Rattle.lexical_util.specs.Layout.{Flag, bit, separators_in}
+use Rattle.lexical_util.specs.Layout.{Flag, separators_in}
 use Rattle.lexical_util.specs.declared.format_flags.Part.{Part}
 use Rattle.lexical_util.specs.declared.format_flags.Part.TheVariants as parts
 use Rattle.lexical_literal.specs.Notation.{Notation}
 use Rattle.lexical_literal.specs.Run.{is_place, is_fit, are_fit}
 use Rattle.lexical_literal.specs.Literal.{Literal, IsLiteral, requirement}
 use Rattle.lexical_literal.specs.Front.{IsFront}
-use Rattle.lexical_literal.specs.Cause.{Allows, flag_at, is_one_of, requirement_flags, separator_flags, with_flags}
+use Rattle.lexical_literal.specs.Cause.{Allows, is_one_of, requirement_flags, separator_flags, with_flags}
 use Rattle.lexical_literal.specs.Additions.Causes.{class_of_next, IsWeaker, allows}
 use Rattle.lexical_literal.specs.Additions.Summary.{after, scan, class_of, step, is_accepted, start}
 use Rattle.lexical_literal.specs.declared.steps.Summary.{Summary}
@@ -21,14 +21,6 @@ use Rattle.lexical_literal.proofs.FrontLemmas.{front_from, front_is_read}
 use Rattle.lexical_literal.proofs.PartOfLemmas.{none_after}
 
 -- FLAGS
-
-flag_at_bit : (f : Flag) → flag_at (bit f) ≡ f
-flag_at_bit layout.required_integer_digits = refl
-flag_at_bit _ = refl
-
--- Two flags with the same bit are one.
-pub same_flag : (g f : Flag) → bit g ≡ bit f → g ≡ f
-same_flag g f same = sym (flag_at_bit g) ∙ ap flag_at same ∙ flag_at_bit f
 
 -- A flag that requires something allows no separator.
 pub apart : (f : Flag) → (is_one_of requirement_flags f && is_one_of separator_flags f) ≡ false

@@ -43,7 +43,7 @@ pub(crate) enum Piece {
 }
 
 // The digits of a part that have been read.
-#[derive(Clone, Copy)]
+#[derive(Debug, Clone, Copy, PartialEq, Eq, Hash)]
 pub(crate) enum Stage {
     Start, // Nothing of the number.
     Empty, // No digits of the integer.
@@ -57,7 +57,7 @@ pub(crate) enum Stage {
 }
 
 // What has been read of a number.
-#[derive(Clone, Copy)]
+#[derive(Debug, Clone, Copy, PartialEq, Eq, Hash)]
 pub(crate) struct Summary {
     pub(crate) part: Part, // The part that a digit belongs to.
     pub(crate) stage: Stage,

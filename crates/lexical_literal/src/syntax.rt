@@ -26,7 +26,7 @@ pub struct Options {
 }
 
 // Any format, with any options. Without options, literals are integers alone.
-#[derive(Clone, Copy, PartialEq, Eq, Hash)]
+#[derive(Debug, Clone, Copy, PartialEq, Eq, Hash)]
 pub struct Grammar {
     pub(crate) word: u128,
     pub(crate) options: Option<Options>,
@@ -45,7 +45,7 @@ impl Grammar {
 /// both. Without both, literals are integers.
 #[derive(Clone, Copy, PartialEq, Eq, Hash)]
 pub struct Syntax {
-    grammar: Grammar,
+    pub(crate) grammar: Grammar,
 }
 
 impl Model for Syntax {

@@ -210,13 +210,13 @@ impl Tables {
         self.classes[byte as usize]
     }
 
-    // Returns what a byte of `class` makes of a row.
+    // Returns what `byte` makes of a row.
     #[inline(always)]
-    pub(crate) const fn step(&self, row: u8, class: Class) -> Option<Step>
+    pub(crate) const fn step(&self, row: u8, byte: u8) -> Option<Step>
         requires { row < 108 }
-        ensures { (m : Notation) → HasTables m self.now → IsStep m row class result }
+        ensures { (m : Notation) → HasTables m self.now → IsStep m row (class_of m byte) result }
     {
-        self.rows[row as usize].steps[column(class)]
+        self.rows[row as usize].steps[column(self.class(byte))]
     }
 
     // Returns whether a row is that of a literal.

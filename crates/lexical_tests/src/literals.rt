@@ -40,10 +40,6 @@ fn texts_are_literals_where_grammars_and_flags_say_so(rt: HostRuntime) {
             return;
         };
         assert!(rt;
-            row.syntax.read(row.text).is_ok() == row.is_literal,
-            "{line}"
-        );
-        assert!(rt;
             Reader::new(row.syntax).read(row.text).is_ok() == row.is_literal,
             "{line}"
         );

@@ -1,5 +1,6 @@
 use callers::formats::read_decimal;
 use callers::magnitude::magnitude;
+use lexical_literal::read::Reader;
 use lexical_literal::syntax::Syntax;
 
 // A word, a text, and the magnitude of the integer that the text is, if it is one below 2^64.
@@ -23,7 +24,10 @@ fn a_magnitude_is_the_sum_of_the_digits(rt: HostRuntime) {
             assert!(rt; false, "{word:#034X}");
             return;
         };
-        assert!(rt; magnitude(&syntax, text.as_bytes()) == *want, "{text}");
+        assert!(rt;
+            magnitude(&Reader::new(syntax), text.as_bytes()) == *want,
+            "{text}"
+        );
     }
     assert!(rt; read_decimal(b"1_000") == Some(1000));
     assert!(rt; read_decimal(b"1.5").is_none());

@@ -3,7 +3,7 @@
 use crate::arguments::{input, write_text, Out};
 use crate::numbers::{ErrorNumber, Setter, Word, NO_PART, NO_SETTER};
 use core::ops::Range;
-use peltzivar::literal::{self, Cause};
+use peltzivar::literal::{self, ReadErrorKind, Reader};
 use peltzivar::{Error, Format, FormatError};
 
 /// A word with an exponent character and a decimal point, which may not pass the check. If both are 0, literals are
@@ -88,12 +88,12 @@ pub struct ReadError {
 
 impl From<literal::ReadError> for ReadError {
     fn from(error: literal::ReadError) -> ReadError {
-        let (cause, part) = match error.cause() {
-            Cause::Requirement => (1, None),
-            Cause::Separator(part, _) => (2, Some(part)),
-            Cause::Case => (3, None),
-            Cause::Byte => (4, None),
-            Cause::Missing(part) => (5, Some(part)),
+        let (cause, part) = match error.kind() {
+            ReadErrorKind::Requirement => (1, None),
+            ReadErrorKind::Separator(part, _) => (2, Some(part)),
+            ReadErrorKind::Case => (3, None),
+            ReadErrorKind::Byte => (4, None),
+            ReadErrorKind::Missing(part) => (5, Some(part)),
             _ => (0, None),
         };
         let Range { start, end } = error.span();
@@ -142,20 +142,20 @@ calls! {
     fn peltzivar_read(
         syntax: &Syntax, text: *const u8, len: usize, literal: Out<Literal>, error: Out<ReadError>
     ) -> ErrorNumber {
-        read_by((syntax, text, len), (literal, error), |syntax, text| syntax.read(text))
+        read_by((syntax, text, len), (literal, error), |syntax, text| Reader::new(syntax).read(text))
     }
 
     fn peltzivar_read_prefix(
         syntax: &Syntax, text: *const u8, len: usize, literal: Out<Literal>, error: Out<ReadError>
     ) -> ErrorNumber {
-        read_by((syntax, text, len), (literal, error), |syntax, text| Ok(syntax.read_prefix(text)?.0))
+        read_by((syntax, text, len), (literal, error), |syntax, text| Ok(Reader::new(syntax).read_prefix(text)?.0))
     }
 
     fn peltzivar_read_error_text(syntax: &Syntax, text: *const u8, len: usize, to: *mut u8, to_len: usize) -> usize {
         match (syntax.checked(), input(text, len)) {
             (Err(refused), _) => write_text(to, to_len, Some(refused)),
             (_, None) => write_text(to, to_len, Some(Error::Overflow(0))),
-            (Ok(syntax), Some(text)) => write_text(to, to_len, syntax.read(text).err()),
+            (Ok(syntax), Some(text)) => write_text(to, to_len, Reader::new(syntax).read(text).err()),
         }
     }
 }

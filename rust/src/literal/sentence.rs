@@ -4,7 +4,9 @@ use core::{fmt, ops::Range, slice, str};
 
 use crate::digit::digit_to_char;
 use crate::edits::{Edit, FlagSetter};
-use crate::literal::{Cause, Place, ReadError};
+use crate::format_flags::{NO_FLOAT_LEADING_ZEROS, NO_INTEGER_LEADING_ZEROS};
+use crate::literal::cause::Refusal;
+use crate::literal::{Place, ReadError, ReadErrorKind};
 use crate::short_text::ShortText;
 
 impl ReadError {
@@ -19,16 +21,16 @@ impl ReadError {
     /// so `&text[span]` does not panic for the `str` that was read.
     #[must_use]
     pub const fn span(&self) -> Range<usize> {
-        let (start, end) = self.bounds();
-        match self.cause() {
-            Cause::Byte => start..start + self.wrong().len(),
+        let Refusal { kind, start, end, .. } = self.explain();
+        match kind {
+            ReadErrorKind::Byte => start..start + self.wrong().len(),
             _ => start..end,
         }
     }
 
     /// Returns the bytes of the character that cannot follow, or none if bytes are missing.
     const fn wrong(&self) -> &[u8] {
-        match &self.byte {
+        match &self.spot.byte {
             Some(byte) => first_character(slice::from_ref(byte)),
             None => &[],
         }
@@ -40,86 +42,122 @@ impl ReadError {
     /// wrong byte and for missing digits.
     ///
     /// ```
-    /// use peltzivar::literal::Syntax;
+    /// use peltzivar::literal::{Reader, Syntax};
     /// use peltzivar::{Format, FormatError, NumberFormatBuilder};
     ///
-    /// let error = Syntax::new(Format::default(), b'e', b'.')?.read(b"1e").unwrap_err();
+    /// let reader = Reader::new(Syntax::new(Format::default(), b'e', b'.')?);
+    /// let error = reader.read(b"1e").unwrap_err();
     /// assert!(error.is_incomplete());
     /// let mut builder = NumberFormatBuilder::from(Format::default());
     /// builder.extend(error.settings()); // required_exponent_digits=false
-    /// assert!(Syntax::new(builder.build_format()?, b'e', b'.')?.read(b"1e").is_ok());
+    /// let reader = Reader::new(Syntax::new(builder.build_format()?, b'e', b'.')?);
+    /// assert!(reader.read(b"1e").is_ok());
     /// # Ok::<(), FormatError>(())
     /// ```
     pub fn settings(&self) -> impl Iterator<Item = Edit> + Clone {
-        let is_separator = matches!(self.cause(), Cause::Separator(..));
-        self.blamed().map(move |flag| Edit::Flag(flag, is_separator))
+        let Refusal { kind, mask, .. } = self.explain();
+        let is_separator = matches!(kind, ReadErrorKind::Separator(..));
+        let blamed = FlagSetter::FLAGS.iter().copied().filter(move |flag| flag.is_set(mask));
+        blamed.map(move |flag| Edit::Flag(flag, is_separator))
     }
 
-    /// Returns the flags to blame.
-    fn blamed(&self) -> impl Iterator<Item = FlagSetter> + Clone {
-        let mask = self.mask();
-        FlagSetter::FLAGS.iter().copied().filter(move |flag| flag.is_set(mask))
+    /// Returns the text that `Display` prints. A `const fn` can panic with it, so that a constant that is not a literal
+    /// does not compile, and the compiler prints why:
+    ///
+    /// ```compile_fail,E0080
+    /// use peltzivar::literal::{Literal, Reader, Syntax};
+    /// use peltzivar::{format::STANDARD, Format};
+    ///
+    /// const READER: Reader = Reader::new(Syntax::new_or_panic(Format::of::<STANDARD>(), b'e', b'.'));
+    /// const LITERAL: Literal = match READER.read(b"1e") {
+    ///     Ok(literal) => literal,
+    ///     Err(error) => panic!("{}", error.text().as_str()), // expected a digit after the exponent character, ..
+    /// };
+    /// ```
+    #[must_use]
+    pub const fn text(&self) -> ShortText {
+        self.sentence(true)
+    }
+
+    /// Returns the sentence, with the flags to blame or without them.
+    const fn sentence(&self, with_flags: bool) -> ShortText {
+        let Refusal { kind, mask, .. } = self.explain();
+        let shown = if with_flags { mask } else { 0 };
+        match kind {
+            ReadErrorKind::Requirement | ReadErrorKind::Case => requirement(mask, with_flags),
+            ReadErrorKind::Separator(part, place) => {
+                let text = ShortText::of("unexpected digit separator in the ").and(part.name());
+                let text = text.and(match place {
+                    Place::BeforeDigits => " before digits",
+                    Place::AfterDigit => " after a digit",
+                    Place::Consecutive => " after another",
+                });
+                names(text, ", which requires ", shown, " or ")
+            }
+            ReadErrorKind::Missing(part) => ShortText::of("expected a digit of the ").and(part.name()),
+            ReadErrorKind::Byte => unexpected(self.wrong()),
+        }
+    }
+}
+
+/// Appends the names of the flags of a mask, with a text before the first one, and one between two.
+const fn names(mut text: ShortText, before: &str, mask: u128, between: &str) -> ShortText {
+    let (mut index, mut link) = (0, before);
+    while index < FlagSetter::FLAGS.len() {
+        let flag = FlagSetter::FLAGS[index];
+        if flag.is_set(mask) {
+            text = text.and(link).and(flag.name());
+            link = between;
+        }
+        index += 1;
+    }
+    text
+}
+
+/// Returns the sentence for flags that require or forbid something. It names the lowest, or both flags on leading zeros.
+const fn requirement(mask: u128, with_flags: bool) -> ShortText {
+    const ZEROS: u128 = NO_INTEGER_LEADING_ZEROS | NO_FLOAT_LEADING_ZEROS;
+    let lowest = mask & mask.wrapping_neg();
+    let named = if lowest & ZEROS == 0 { lowest } else { mask & ZEROS };
+    // Flags below bit 18 are at the index of their bit.
+    let flag = FlagSetter::FLAGS[lowest.trailing_zeros() as usize];
+    let (start, verb) = match flag.name().as_bytes() {
+        [b'r', ..] => ("expected ", " requires"),
+        _ if named == ZEROS => ("unexpected ", " forbid"),
+        _ => ("unexpected ", " forbids"),
+    };
+    let text = ShortText::of(start).and(what(flag));
+    if with_flags {
+        names(text, ", which ", named, " and ").and(verb)
+    } else {
+        text
     }
 }
 
 impl core::error::Error for ReadError {}
 
 /// Prints `expected` and what is missing, or `unexpected` and what must not be there, and then the flags to blame, such as
-/// `unexpected leading zero, which no_integer_leading_zeros forbids`. If several flags are to blame for a requirement, the
-/// sentence names the lowest. For users of a language, who know no flags, `{:#}` leaves out the flags, as in `unexpected
-/// leading zero` or `unexpected digit separator in the fraction after another`.
+/// `unexpected plus sign, which no_positive_mantissa_sign forbids`. If several flags are to blame for a requirement, the
+/// sentence names the lowest, or both flags on leading zeros. For users of a language, who know no flags, `{:#}` leaves
+/// out the flags, as in `unexpected leading zero` or `unexpected digit separator in the fraction after another`.
 impl fmt::Display for ReadError {
     fn fmt(&self, f: &mut fmt::Formatter<'_>) -> fmt::Result {
         f.pad(self.sentence(!f.alternate()).as_str())
     }
 }
 
-impl ReadError {
-    /// Returns the sentence, with the flags to blame or without them.
-    const fn sentence(&self, with_flags: bool) -> ShortText {
-        let (cause, mut mask) = (self.cause(), self.mask());
-        let Some(flag) = lowest(mask) else {
-            return match cause {
-                Cause::Missing(part) => ShortText::of("expected a digit of the ").and(part.name()),
-                _ => unexpected(self.wrong()),
-            };
-        };
-        let Cause::Separator(part, place) = cause else {
-            let is_required = matches!(flag.name().as_bytes(), [b'r', ..]);
-            let text = ShortText::of(if is_required { "expected " } else { "unexpected " }).and(requirement(flag));
-            let verb = if is_required { " requires" } else { " forbids" };
-            return if with_flags { text.and(", which ").and(flag.name()).and(verb) } else { text };
-        };
-        let text = ShortText::of("unexpected digit separator in the ").and(part.name());
-        let mut text = text.and(match place {
-            Place::BeforeDigits => " before digits",
-            Place::AfterDigit => " after a digit",
-            Place::Consecutive => " after another",
-        });
-        let mut link = ", which requires ";
-        while let (true, Some(flag)) = (with_flags, lowest(mask)) {
-            text = text.and(link).and(flag.name());
-            link = " or ";
-            mask &= mask - 1;
-        }
-        text
+/// Writes the answers, and what `Display` prints.
+impl fmt::Debug for ReadError {
+    fn fmt(&self, f: &mut fmt::Formatter<'_>) -> fmt::Result {
+        let Refusal { valid_up_to, kind, start, end, .. } = self.explain();
+        let mut text = f.debug_struct("ReadError");
+        text.field("valid_up_to", &valid_up_to).field("kind", &kind).field("span", &(start..end));
+        text.field("message", &format_args!("\"{self}\"")).finish()
     }
-}
-
-/// Returns the flag with the lowest bit of a mask of flags.
-const fn lowest(mask: u128) -> Option<FlagSetter> {
-    let mut index = 0;
-    while index < FlagSetter::FLAGS.len() {
-        if FlagSetter::FLAGS[index].is_set(mask) {
-            return Some(FlagSetter::FLAGS[index]);
-        }
-        index += 1;
-    }
-    None
 }
 
 /// Returns what a flag requires or forbids.
-const fn requirement(flag: FlagSetter) -> &'static str {
+const fn what(flag: FlagSetter) -> &'static str {
     match flag {
         FlagSetter::RequiredIntegerDigits => "a digit of the integer",
         FlagSetter::RequiredFractionDigits => "a digit after the decimal point",

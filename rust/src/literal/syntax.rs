@@ -17,7 +17,7 @@ pub struct Options {
 }
 
 // Any format, with any options. Without options, literals are integers alone.
-#[derive(Clone, Copy, PartialEq, Eq, Hash, PartialOrd, Ord)]
+#[derive(Debug, Clone, Copy, PartialEq, Eq, Hash, PartialOrd, Ord)]
 pub struct Grammar {
     pub(crate) word: u128,
     pub(crate) options: Option<Options>,

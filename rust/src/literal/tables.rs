@@ -157,10 +157,10 @@ impl Tables {
         self.classes[byte as usize]
     }
 
-    // Returns what a byte of `class` makes of a row.
+    // Returns what `byte` makes of a row.
     #[inline(always)]
-    pub(crate) const fn step(&self, row: u8, class: Class) -> Option<Step> {
-        self.rows[row as usize].steps[column(class)]
+    pub(crate) const fn step(&self, row: u8, byte: u8) -> Option<Step> {
+        self.rows[row as usize].steps[column(self.class(byte))]
     }
 
     // Returns whether a row is that of a literal.

@@ -3,30 +3,35 @@ use Rattle.std.proofs.Common.{◌<◌, ◌+◌, length, length-set, get_or, set,
 use Rattle.std.proofs.lemmas.Option.{slice_get-get_or}
 use Rattle.std.specs.Prelude.{is_some}
 use Rattle.lexical_literal.specs.Notation.{notation_of}
-use Rattle.lexical_literal.specs.Additions.Tables.{summary_at, cuts_of}
+use Rattle.lexical_literal.specs.Additions.Tables.{HasTables, summary_at, cuts_of}
 use Rattle.lexical_literal.proofs.RoleLemmas.{ready}
 use Rattle.lexical_literal.proofs.TableLemmas.{no_counts, count_one, small_more}
+use Rattle.lexical_literal.proofs.ScanLemmas.{IsReady}
 use Rattle.lexical_literal.proofs.LongestLemmas.{HasRead, read_nothing, read_more, wrong_at, wrong_at_end, is_scanned}
-use Rattle.lexical_literal.proofs.read.scan.Goals as goal
-use Rattle.lexical_literal.proofs.read.scan.Goals.{then-is_sought, else-is_sought}
+use Rattle.lexical_literal.proofs.read.Reader.scan.Goals as goal
+use Rattle.lexical_literal.proofs.read.Reader.scan.Goals.{then-is_sought, else-is_sought}
 
-pub step_by-requires-clause-row : goal.step_by-requires-clause-row
-step_by-requires-clause-row c = c.loop-index.invariant.is_row
+pub step-requires : goal.step-requires
+step-requires c = c.loop-index.invariant.is_row
+
+pub is_sought-requires : goal.is_sought-requires
+is_sought-requires c = (c.in-Some.ensures (notation_of c.self.inside.grammar) c.self.invariant.1).1
 
 pub loop-index-init : goal.loop-index-init
 loop-index-init c =
-    let m = notation_of c.args.grammar in
-    let is_ready = ready c.role_facts.ensures.disjoint c.role_facts.ensures.five c.role_facts.ensures.lawful c.args.grammar c.requires.syntax in
+    let m = notation_of c.args.self.now in
+    let is_ready : IsReady m = rw (← c.self.view_is) (ready c.role_facts.ensures.disjoint c.role_facts.ensures.five c.role_facts.ensures.lawful c.self.inside.grammar c.self.invariant.0) in
     record { is_row = omega arith; size = refl; small = search rules; has = rw (← no_counts) (read_nothing m is_ready c.args.text.now c.args.seeks) }
 
 pub loop-index-preserved : goal.loop-index-preserved
 loop-index-preserved c =
-    let m = notation_of c.args.grammar in
+    let m = notation_of c.args.self.now in
     let i = c.loop-index.index in
     let counts = c.loop-index.counts in
     let old = c.loop-index.literal in
     let now = c.loop-index.invariant in
-    let next = c.in-Some.ensures in
+    let holds : HasTables m c.self.inside.tables = rw (← c.self.view_is) c.self.invariant.1 in
+    let next = c.in-Some.ensures m holds in
     let t = summary_at c.in-Some.next.row in
     let inside : c.piece_number.result < length counts = omega (arith, c.piece_number.ensures.small, now.size) in
     record {
@@ -45,10 +50,13 @@ loop-index-preserved c =
 
 pub returns-in_default : goal.returns-in_default
 returns-in_default c =
+    let m = notation_of c.args.self.now in
     let has = c.loop-index.invariant.has in
+    let holds : HasTables m c.self.inside.tables = rw (← c.self.view_is) c.self.invariant.1 in
+    let none = c.in_default.ensures m holds in
     is_scanned _ has.ready _ _ _ _ _ _ has _ _ c.loop-index.invariant.is_row refl refl
-    (wrong_at _ has.ready _ _ _ _ _ _ has c.loop-index-test.true c.in_default.ensures)
-    (λ inside. rw (slice_get-get_or c.args.text.now c.loop-index.index 0 c.loop-index-test.true) (ap is_some c.in_default.ensures))
+    (wrong_at _ has.ready _ _ _ _ _ _ has c.loop-index-test.true none)
+    (λ inside. rw (slice_get-get_or c.args.text.now c.loop-index.index 0 c.loop-index-test.true) (ap is_some none))
 
 pub returns : goal.returns
 returns c =
