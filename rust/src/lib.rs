@@ -104,11 +104,9 @@ pub use feature_format::NumberFormat;
 #[doc(no_inline)]
 pub use format_builder::NumberFormatBuilder;
 #[doc(inline)]
-pub use format_error::FormatError;
-#[doc(inline)]
 pub use format_flags::{Part, Rule};
 #[doc(inline)]
-pub use lawful::Format;
+pub use lawful::{Format, FormatError};
 #[doc(inline)]
 pub use reasons::{Byte, Cause, NamedByte, Note, Radixes, Reason};
 #[doc(inline)]

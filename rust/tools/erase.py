@@ -78,13 +78,8 @@ REPLACED = [
     ("read.rt", "pub(crate) fn front_of<", "pub(crate) const fn front_of<"),
     ("read.rt", "pub(crate) fn cut<", "pub(crate) const fn cut<"),
     ("read.rt", "\nfn find_front(", "\nconst fn find_front("),
-    # Calls with these names are written by hand: they take or return a `Format`, a `Literal` or a range.
-    ("read.rt", "Reader {\n    grammar: Grammar,\n    tables", "Reader {\n    pub(crate) grammar: Grammar,\n    tables"),
-    ("syntax.rt", "Syntax {\n    grammar: Grammar,", "Syntax {\n    pub(crate) grammar: Grammar,"),
+    # Calls with these names are written by hand: they return a byte or a range.
     ("syntax.rt", "pub const fn options(&self)", "pub(crate) const fn options(&self)"),
-    ("syntax.rt", "pub const fn new(word", "#[doc(hidden)] pub const fn of_word(word"),
-    ("syntax.rt", "pub const fn integers(word", "#[doc(hidden)] pub const fn integers_of_word(word"),
-    ("syntax.rt", "pub const fn format(&self)", "#[doc(hidden)] pub const fn view(&self)"),
     ("cause.rt", "pub const fn span(&self)", "#[doc(hidden)] pub const fn bounds(&self)"),
 ]
 
@@ -121,10 +116,8 @@ ATTRIBUTES = [
     ("short_text.rt", "#[derive(Drop)]", "#[derive(Clone, Copy)]"),
     ("read.rt", "#[derive(Drop)]", "#[derive(Clone)]"),
     ("tables.rt", "#[derive(Drop)]", "#[derive(Clone)]"),
+    ("lawful.rt", "Eq)]\npub struct FormatError", "Eq, Hash)]\npub struct FormatError"),
     ("cause.rt", "Eq)]\npub struct ReadError", "Eq, Hash)]\npub struct ReadError"),
-    ("syntax.rt", "Hash)]\npub struct Options", "Hash, PartialOrd, Ord)]\npub struct Options"),
-    ("syntax.rt", "Hash)]\npub struct Grammar", "Hash, PartialOrd, Ord)]\npub struct Grammar"),
-    ("syntax.rt", "Hash)]\npub struct Syntax", "Hash, PartialOrd, Ord)]\npub struct Syntax"),
 ]
 
 # Words that plain Rust must not contain. If one is left, a ghost form was not removed.

@@ -21,7 +21,7 @@ pub fn magnitude(syntax: &Syntax, text: &[u8]) -> Option<u64>
     ensures other { NoLiteral (notation_of syntax.now) text.now → IsNone result }
 {
     match syntax.read(text) {
-        Ok(parts) => number(syntax.format(), parts.integer),
+        Ok(parts) => number(syntax.format().view(), parts.integer),
         Err(_) => None,
     }
 }

@@ -73,7 +73,7 @@ impl Syntax {
 /// makes it.
 #[derive(Drop)]
 pub struct Reader {
-    grammar: Grammar,
+    syntax: Syntax,
     tables: Tables,
 }
 
@@ -83,12 +83,11 @@ impl Model for Reader {
     ghost Value = { Grammar };
 
     ghost use Rattle.lexical_literal.specs.Notation.{notation_of};
-    ghost use Rattle.lexical_literal.specs.Syntax.{IsSyntax};
     ghost use Rattle.lexical_literal.specs.Additions.Tables.{HasTables};
 
-    ghost view = { λ reader. reader.grammar };
+    ghost view = { λ reader. reader.syntax };
 
-    ghost invariant = { λ reader. IsSyntax reader.grammar × HasTables (notation_of reader.grammar) reader.tables };
+    ghost invariant = { λ reader. HasTables (notation_of reader.syntax) reader.tables };
 }
 
 impl Reader {
@@ -97,11 +96,18 @@ impl Reader {
     pub const fn new(syntax: Syntax) -> Reader
         ensures { result ≡ syntax }
     {
-        let grammar = syntax.grammar();
         Reader {
-            grammar,
-            tables: Tables::new(grammar),
+            syntax,
+            tables: Tables::new(syntax.grammar()),
         }
+    }
+
+    /// Returns the syntax.
+    #[must_use]
+    pub const fn syntax(&self) -> Syntax
+        ensures { result ≡ self.now }
+    {
+        self.syntax
     }
 
     // Returns the lengths of the parts of the literal `text`, or why it is not one.
@@ -109,7 +115,7 @@ impl Reader {
     pub(crate) const fn find(&self, text: &[u8]) -> Result<[usize; 9], ReadError>
         ensures { IsFound (notation_of self.now) text.now result }
     {
-        find(self.grammar, Some(&self.tables), text)
+        find(self.syntax.grammar(), Some(&self.tables), text)
     }
 
     // Returns the longest front of `text` that is a literal, or why there is none.
@@ -117,7 +123,7 @@ impl Reader {
     pub(crate) fn find_front(&self, text: &[u8]) -> Result<Found, ReadError>
         ensures { IsFoundFront (notation_of self.now) text.now result }
     {
-        find_front(self.grammar, Some(&self.tables), text)
+        find_front(self.syntax.grammar(), Some(&self.tables), text)
     }
 }
 

@@ -66,20 +66,13 @@ impl Syntax {
 }
 
 impl Reader {
-    /// Returns the syntax.
-    #[must_use]
-    pub const fn syntax(&self) -> Syntax {
-        let grammar = self.grammar;
-        Syntax { grammar }
-    }
-
     /// Returns `text` as a literal, as [`Syntax::read`] does.
     ///
     /// # Errors
     ///
     /// If `text` is not a literal, returns why, and how far it is right.
     pub const fn read<'a>(&self, text: &'a [u8]) -> Result<Literal<'a>, ReadError> {
-        literal(self.grammar, text, self.find(text))
+        literal(self.syntax().grammar(), text, self.find(text))
     }
 
     /// Returns the longest literal that `text` begins with, and the rest of `text`, as [`Syntax::read_prefix`] does.
@@ -88,7 +81,7 @@ impl Reader {
     ///
     /// If `text` does not begin with a literal, returns the error of [`read`][Self::read].
     pub const fn read_prefix<'a>(&self, text: &'a [u8]) -> Result<(Literal<'a>, &'a [u8]), ReadError> {
-        front(self.grammar, text, self.find_front(text))
+        front(self.syntax().grammar(), text, self.find_front(text))
     }
 }
 

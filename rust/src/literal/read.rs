@@ -56,7 +56,7 @@ impl Syntax {
 /// makes it.
 #[derive(Clone)]
 pub struct Reader {
-    pub(crate) grammar: Grammar,
+    syntax: Syntax,
     tables: Tables,
 }
 
@@ -64,20 +64,25 @@ impl Reader {
     /// Returns a reader of the literals of `syntax`.
     #[must_use]
     pub const fn new(syntax: Syntax) -> Reader {
-        let grammar = syntax.grammar();
-        Reader { grammar, tables: Tables::new(grammar) }
+        Reader { syntax, tables: Tables::new(syntax.grammar()) }
+    }
+
+    /// Returns the syntax.
+    #[must_use]
+    pub const fn syntax(&self) -> Syntax {
+        self.syntax
     }
 
     // Returns the lengths of the parts of the literal `text`, or why it is not one.
     #[inline(always)]
     pub(crate) const fn find(&self, text: &[u8]) -> Result<[usize; 9], ReadError> {
-        find(self.grammar, Some(&self.tables), text)
+        find(self.syntax.grammar(), Some(&self.tables), text)
     }
 
     // Returns the longest front of `text` that is a literal, or why there is none.
     #[inline(always)]
     pub(crate) const fn find_front(&self, text: &[u8]) -> Result<Found, ReadError> {
-        find_front(self.grammar, Some(&self.tables), text)
+        find_front(self.syntax.grammar(), Some(&self.tables), text)
     }
 }
 

@@ -4,7 +4,7 @@ use Rattle.lexical_literal.proofs.TableLemmas.{lent}
 use Rattle.lexical_literal.proofs.read.Reader.find_front.Goals as goal
 
 pub find_front-requires-clause-tables : goal.find_front-requires-clause-tables
-find_front-requires-clause-tables c = lent (HasTables (notation_of c.self.inside.grammar)) _ c.self.invariant.1
+find_front-requires-clause-tables c = rw c.grammar.ensures.value (lent (HasTables (notation_of c.self.inside.syntax)) _ c.self.invariant)
 
 pub returns : goal.returns
-returns c = rw (← c.self.view_is) c.find_front.ensures
+returns c = rw (← c.self.view_is, ← c.grammar.ensures.value) c.find_front.ensures
