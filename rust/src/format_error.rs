@@ -20,16 +20,12 @@ impl FormatError {
 
     const fn candidates(&self) -> [Option<Reason>; MAX_REASONS] {
         let mut all = [None; MAX_REASONS];
-        match self.rejected {
-            Rejected::Text | Rejected::Bytes => all,
-            Rejected::Word(word) => reasons(word),
-            Rejected::Options(word, exponent, decimal_point) => {
-                if let Some(front) = all.first_chunk_mut() {
-                    *front = options_reasons(word, exponent, decimal_point);
-                }
-                all
-            }
+        match (self.rejected, all.first_chunk_mut()) {
+            (Rejected::Word(word), _) => all = reasons(word),
+            (Rejected::Options(word, exponent, point), Some(front)) => *front = options_reasons(word, exponent, point),
+            _ => (),
         }
+        all
     }
 
     const fn first_reason(&self) -> Option<Reason> {
