@@ -8,7 +8,7 @@ use peltzivar::format::{
 };
 use peltzivar::literal::{ReadError, ReadErrorKind, Reader, Specials, Syntax};
 use peltzivar::reasons::Byte;
-use peltzivar::{Cause, FormatView, Reason};
+use peltzivar::{Cause, Format, FormatView, Reason};
 
 /// The spellings of special values that are read.
 pub const SPECIALS: Specials = Specials { nan: Some(b"NaN"), inf: Some(b"inf"), infinity: Some(b"infinity") };
@@ -48,9 +48,10 @@ impl State {
 
     /// Returns the syntax if the word is lawful and the options fit.
     fn exact(self) -> Option<Syntax> {
+        let format = Format::new(self.word).ok()?;
         match self.is_integers() {
-            true => Syntax::integers_of_word(self.word).ok(),
-            false => Syntax::of_word(self.word, self.exponent, self.point).ok(),
+            true => Some(Syntax::integers(format)),
+            false => Syntax::new(format, self.exponent, self.point).ok(),
         }
     }
 

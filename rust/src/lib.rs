@@ -54,11 +54,11 @@
 //! contract. From this code, a program in the repository generated the files that begin with `Made by`. In the
 //! documentation, `Proved of the source` heads what the contracts of a call state.
 //!
-//! All other files are written by hand. They have [`Format`], [`FormatError`], [`Settings`], [`NumberFormat`] with the
-//! calls of [`mod@format`], [`Language`][literal::Language], the iterators and conversions, the names and texts of values
-//! (`name`, `condition`, `Display`, `FromStr` and `Debug`), absent bytes as `None`, the syntax of a [`Format`] and the
-//! format of a syntax, [`Literal`][literal::Literal] around the parts that the proved code finds, `is_incomplete`, `span`,
-//! `settings` and `text` of [`ReadError`][literal::ReadError], the methods that panic, and the tests of slices in [`ascii`]. A
+//! All other files are written by hand. They have [`Settings`], [`NumberFormat`] with the calls of [`mod@format`],
+//! [`Language`][literal::Language], the iterators and conversions, the names and texts of values (`name`, `condition`,
+//! `text`, `Display`, `FromStr` and `Debug`), absent bytes as `None`, the getters of [`Format`], which call those of its
+//! view, [`Literal`][literal::Literal] around the parts that the proved code finds, `is_incomplete`, `span`, `settings`
+//! and `text` of [`ReadError`][literal::ReadError], the methods that panic, and the tests of slices in [`ascii`]. A
 //! build of this crate proves nothing. You trust the program that generated the files, the handwritten parts, and
 //! `rustc`.
 #![no_std]
@@ -104,11 +104,9 @@ pub use feature_format::NumberFormat;
 #[doc(no_inline)]
 pub use format_builder::NumberFormatBuilder;
 #[doc(inline)]
-pub use format_error::FormatError;
-#[doc(inline)]
 pub use format_flags::{Part, Rule};
 #[doc(inline)]
-pub use lawful::Format;
+pub use lawful::{Format, FormatError};
 #[doc(inline)]
 pub use reasons::{Byte, Cause, NamedByte, Note, Radixes, Reason};
 #[doc(inline)]

@@ -3,6 +3,7 @@
 use crate::edits::{apply, edits_of, Edit, FlagSetter, Setter, ALL_SETTERS, FLAG_COUNT, SETTERS};
 use crate::format_builder::NumberFormatBuilder;
 use crate::format_flags::{Rule, RULES};
+use crate::lawful::Format;
 use crate::reasons::{notes, notes_of_fields, options_reasons, reasons, Note, Reason};
 use crate::view::FormatView;
 
@@ -58,6 +59,21 @@ impl FormatView {
     pub fn edits(&self) -> impl Iterator<Item = Edit> + Clone {
         let (edits, count) = edits_of(self.word());
         edits.into_iter().take(count)
+    }
+}
+
+impl Format {
+    /// Returns notes on the fields that are set but have no effect on any number, as [`FormatView::notes`] does.
+    ///
+    /// A builder drops a digit separator that no flag allows, so a format that one built never has the note on it. It is
+    /// in [`NumberFormatBuilder::notes`] and in [`Settings::notes`][crate::Settings::notes].
+    pub fn notes(&self) -> impl Iterator<Item = Note> + Clone {
+        self.view().notes()
+    }
+
+    /// Returns the edits that give a new builder the fields of the format, as [`FormatView::edits`] does.
+    pub fn edits(&self) -> impl Iterator<Item = Edit> + Clone {
+        self.view().edits()
     }
 }
 

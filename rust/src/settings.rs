@@ -5,7 +5,8 @@ use core::str::from_utf8;
 
 use crate::edits::{apply, Edit, Fault, Setter, SettingError, SettingErrorKind, FIELD_COUNT};
 use crate::format::{NumberFormatBuilder, EXPONENT_BASE, EXPONENT_RADIX, MANTISSA_RADIX};
-use crate::format_error::{self, ONE_OPTION};
+use crate::format_error::ONE_OPTION;
+use crate::lawful::Rejected;
 use crate::literal::Syntax;
 use crate::reasons::{Byte, Cause, NamedByte, Note, Reason};
 use crate::{Format, FormatError};
@@ -191,8 +192,7 @@ impl Settings {
             [0, 0] => Ok(Syntax::integers(format)),
             [exponent, point] => Syntax::new(format, exponent, point).map_err(|error| {
                 // The reasons of the fields as they are set, and not as the normal form has them.
-                let cause = format_error::Cause::Options(format.word(), exponent, point);
-                FormatError::new(error.code(), cause)
+                FormatError::new(error.code(), Rejected::Options(format.word(), exponent, point))
             }),
         }
     }

@@ -5,9 +5,8 @@ use core::str::FromStr;
 
 use crate::edits::{Edit, Fault, FlagSetter, Setter, SettingError};
 use crate::error::Error;
-use crate::format_error::{Cause, FormatError};
 use crate::format_flags::{Part, Rule};
-use crate::lawful::Format;
+use crate::lawful::{Format, FormatError, Rejected};
 use crate::reasons::Reason;
 use crate::short_text::ShortText;
 use crate::view::{FormatView, Role};
@@ -35,7 +34,7 @@ impl FromStr for Format {
 
     fn from_str(text: &str) -> Result<Self, FormatError> {
         let word = parse_word(text);
-        Format::new(word.map_err(|error| FormatError::new(error, Cause::Text))?)
+        Format::new(word.map_err(|error| FormatError::new(error, Rejected::Text))?)
     }
 }
 

@@ -33,7 +33,7 @@ fn word(settings: &str) -> u128 {
 
 /// Returns the syntax of a word, with the exponent character and the decimal point of the page.
 fn syntax(word: u128) -> Syntax {
-    Syntax::of_word(word, b'e', b'.').unwrap()
+    Syntax::new(Format::new(word).unwrap(), b'e', b'.').unwrap()
 }
 
 /// Returns the parts that are present, one after another.

@@ -267,8 +267,9 @@ fn answer(read: Result<Literal<'_>, ReadError>, has_failures: bool) -> Result<[&
 /// `eighths` of eight of those with one more byte.
 fn compare(word: u128, options: Option<(u8, u8)>, bytes: &[u8], longest: usize, has_failures: bool, eighths: u64) {
     let (syntax, name) = (Syntax::new(word, options), format!("{word:#034X} {options:?}"));
-    let float = |(exponent, point)| literal::Syntax::of_word(word, exponent, point);
-    let library = options.map_or_else(|| literal::Syntax::integers_of_word(word), float).unwrap();
+    let format = Format::new(word).unwrap();
+    let float = |(exponent, point)| literal::Syntax::new(format, exponent, point).unwrap();
+    let library = options.map_or_else(|| literal::Syntax::integers(format), float);
     let differs = |&byte: &u8| library.role_of(byte) != syntax.roles[usize::from(byte)];
     assert_eq!((0..=255).find(differs), None, "the first byte with another role in {name}");
     let (reader, mut random) = (Reader::new(library), 1);
@@ -302,8 +303,9 @@ fn compare_all(language_eighths: u64, words: usize, eighths: u64) {
     }
     let mut random = 2;
     for at in 0..words {
-        let word = iter::repeat_with(|| random_word(&mut random)).find(|&word| Format::new(word).is_ok()).unwrap();
-        let fits = |&(exponent, point): &(u8, u8)| literal::Syntax::of_word(word, exponent, point).is_ok();
+        let format = iter::repeat_with(|| random_word(&mut random)).find_map(|word| Format::new(word).ok()).unwrap();
+        let word = format.word();
+        let fits = |&(exponent, point): &(u8, u8)| literal::Syntax::new(format, exponent, point).is_ok();
         let some_options = || (below(&mut random, 127) as u8, below(&mut random, 127) as u8);
         let options = iter::repeat_with(some_options).find(fits);
         for options in [options, None] {

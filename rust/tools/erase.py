@@ -77,11 +77,8 @@ REPLACED = [
     ("read.rt", "\nfn split_front<", "\nconst fn split_front<"),
     ("read.rt", "pub(crate) fn front_of<", "pub(crate) const fn front_of<"),
     ("read.rt", "pub(crate) fn cut<", "pub(crate) const fn cut<"),
-    # Calls with these names are written by hand: they take or return a `Format`, a `Literal` or a range.
+    # Calls with these names are written by hand: they return a byte, a `Literal` or a range.
     ("syntax.rt", "pub const fn options(&self)", "pub(crate) const fn options(&self)"),
-    ("syntax.rt", "pub const fn new(word", "#[doc(hidden)] pub const fn of_word(word"),
-    ("syntax.rt", "pub const fn integers(word", "#[doc(hidden)] pub const fn integers_of_word(word"),
-    ("syntax.rt", "pub const fn format(&self)", "#[doc(hidden)] pub const fn view(&self)"),
     ("cause.rt", "pub const fn span(&self)", "#[doc(hidden)] pub const fn bounds(&self)"),
 ]
 
@@ -121,9 +118,7 @@ ATTRIBUTES = [
     ("tables.rt", "#[derive(Drop)]", "#[derive(Clone)]"),
     # `Debug` prints the answers.
     ("cause.rt", "#[derive(Debug, Clone, Copy, PartialEq, Eq, Hash)]\npub struct ReadError {", "#[derive(Clone, Copy, PartialEq, Eq, Hash)]\npub struct ReadError {"),
-    ("syntax.rt", "Hash)]\npub struct Options", "Hash, PartialOrd, Ord)]\npub struct Options"),
-    ("syntax.rt", "Hash)]\npub struct Grammar", "Hash, PartialOrd, Ord)]\npub struct Grammar"),
-    ("syntax.rt", "Hash)]\npub struct Syntax", "Hash, PartialOrd, Ord)]\npub struct Syntax"),
+    ("lawful.rt", "Eq)]\npub struct FormatError", "Eq, Hash)]\npub struct FormatError"),
 ]
 
 # Words that plain Rust must not contain. If one is left, a ghost form was not removed.

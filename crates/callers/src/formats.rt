@@ -21,6 +21,7 @@ ghost use Rattle.callers.specs.Magnitude.{magnitude};
 use crate::magnitude::magnitude;
 use lexical_literal::read::Reader;
 use lexical_literal::syntax::Syntax;
+use lexical_util::format::Format;
 
 /// The format of decimal numbers with `_` between digits, such as `1_000.000_1e1_0`.
 pub const DECIMAL: u128 = 0x0A0A0A00_0000005F_00000007_0000000C;
@@ -66,8 +67,8 @@ pub fn decimal() -> Reader
     ensures { result ≡ record { word = DECIMAL; options = None } }
 {
     decimal_facts();
-    match Syntax::integers(DECIMAL) {
-        Ok(syntax) => Reader::new(syntax),
+    match Format::new(DECIMAL) {
+        Ok(format) => Reader::new(Syntax::integers(format)),
         Err(_) => unreachable!(),
     }
 }

@@ -21,7 +21,7 @@ pub fn magnitude(reader: &Reader, text: &[u8]) -> Option<u64>
     ensures other { NoLiteral (notation_of reader.now) text.now → IsNone result }
 {
     match reader.read(text) {
-        Ok(parts) => number(reader.syntax().format(), parts.integer),
+        Ok(parts) => number(reader.syntax().format().view(), parts.integer),
         Err(_) => None,
     }
 }

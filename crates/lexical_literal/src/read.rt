@@ -12,7 +12,7 @@ ghost use Rattle.lexical_literal.specs.Notation.{notation_of};
 ghost use Rattle.lexical_literal.specs.Parts.{literal_of};
 
 use crate::cause::{ReadError, Spot};
-use crate::syntax::{Grammar, Syntax};
+use crate::syntax::Syntax;
 use crate::tables::{START, Tables, piece_number, summary_at};
 use lexical_util::laws::flags::role_facts;
 use std::marker::Model;
@@ -51,7 +51,7 @@ pub(crate) struct Found {
 /// with it. For a `static`, as in the first example of this module, the compiler makes it.
 #[derive(Drop)]
 pub struct Reader {
-    pub(crate) grammar: Grammar,
+    pub(crate) syntax: Syntax,
     pub(crate) tables: Tables,
 }
 
@@ -64,9 +64,9 @@ impl Model for Reader {
     ghost use Rattle.lexical_literal.specs.Syntax.{IsSyntax};
     ghost use Rattle.lexical_literal.specs.Additions.Tables.{HasTables};
 
-    ghost view = { λ reader. reader.grammar };
+    ghost view = { λ reader. reader.syntax };
 
-    ghost invariant = { λ reader. IsSyntax reader.grammar × HasTables (notation_of reader.grammar) reader.tables };
+    ghost invariant = { λ reader. IsSyntax reader.syntax × HasTables (notation_of reader.syntax) reader.tables };
 }
 
 impl Reader {
@@ -75,10 +75,9 @@ impl Reader {
     pub const fn new(syntax: Syntax) -> Reader
         ensures { result ≡ syntax }
     {
-        let grammar = syntax.grammar();
         Reader {
-            grammar,
-            tables: Tables::new(grammar),
+            syntax,
+            tables: Tables::new(syntax.grammar()),
         }
     }
 
@@ -87,9 +86,7 @@ impl Reader {
     pub const fn syntax(&self) -> Syntax
         ensures { result ≡ self.now }
     {
-        Syntax {
-            grammar: self.grammar,
-        }
+        self.syntax
     }
 
     // Returns the lengths of the parts of the literal `text`, or why it is not one.
@@ -192,7 +189,7 @@ impl Reader {
         let byte = byte_at(text, size);
         ReadError {
             spot: Spot {
-                grammar: self.grammar,
+                grammar: self.syntax.grammar(),
                 read: summary_at(scanned.row),
                 byte,
                 marks: self.marks(text, size, byte),

@@ -2,6 +2,7 @@ use callers::formats::read_decimal;
 use callers::magnitude::magnitude;
 use lexical_literal::read::Reader;
 use lexical_literal::syntax::Syntax;
+use lexical_util::format::Format;
 
 // A word, a text, and the magnitude of the integer that the text is, if it is one below 2^64.
 #[rattlefmt::skip]
@@ -20,14 +21,12 @@ const NUMBERS: [(u128, &str, Option<u64>); 8] = [
 #[test]
 fn a_magnitude_is_the_sum_of_the_digits(rt: HostRuntime) {
     for (word, text, want) in &NUMBERS {
-        let Ok(syntax) = Syntax::integers(*word) else {
+        let Ok(format) = Format::new(*word) else {
             assert!(rt; false, "{word:#034X}");
             return;
         };
-        assert!(rt;
-            magnitude(&Reader::new(syntax), text.as_bytes()) == *want,
-            "{text}"
-        );
+        let reader = Reader::new(Syntax::integers(format));
+        assert!(rt; magnitude(&reader, text.as_bytes()) == *want, "{text}");
     }
     assert!(rt; read_decimal(b"1_000") == Some(1000));
     assert!(rt; read_decimal(b"1.5").is_none());

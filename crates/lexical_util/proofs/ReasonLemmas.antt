@@ -17,7 +17,7 @@ use lib.Bits.{and_self, and_zero_l}
 use Rattle.lexical_base.specs.Ascii.{between, allowed_ascii}
 use Rattle.lexical_base.specs.Digits.{digits_of}
 use Rattle.lexical_flags.specs.Layout as layout
-use Rattle.lexical_flags.specs.Layout.{Flag, IsClean, separator_flags}
+use Rattle.lexical_flags.specs.Layout.{Flag, IsClean, separator_flags_in}
 use Rattle.lexical_flags.specs.Record.{Record, raw, effective}
 use Rattle.lexical_flags.specs.Roles.{cased, digits, signs, Disjoint, other_case}
 use Rattle.lexical_flags.specs.Rules.{IsRadix, IsAbsentOrPunctuation, IsPunctuation, Holds, Lawful, rules_in_order, Shape}
@@ -35,7 +35,7 @@ use Rattle.lexical_flags.proofs.ReservedBits.{reserved_bits}
 use Rattle.lexical_util.specs.Edits.{flags_of}
 use Rattle.lexical_util.specs.Groups.{any_flag}
 use Rattle.lexical_util.specs.Additions.EditMasks.{mask_of_setter}
-use Rattle.lexical_util.specs.Additions.FieldEdits.{setter_of}
+use Rattle.lexical_util.specs.Additions.FieldEdits.{flag_setter}
 use Rattle.lexical_util.specs.Additions.Reasons.{value_of, mask_of_byte, Has, IsUnset, IsTrueOf, Breaks, Blames}
 use Rattle.lexical_util.specs.Additions.Reasons.{AreDigits, BlamesForOptions, EachReason, NoReason}
 use Rattle.lexical_util.specs.Private.{named, case_flag, is_cased, unset_flag, if_present, radix_cause, radixes_where}
@@ -89,14 +89,14 @@ flag_agrees v w s same =
     λ n. any_by_mask n (mask_of_setter s) (flags_of s) refl (flags_ascend s) in
     sym (test v) ∙ ap (λ n. not (n == 0)) same ∙ test w
 
-lacks_agrees : (v w : ℕ) (part : Part) → SameUnder (mask_of (separator_flags part)) v w
+lacks_agrees : (v w : ℕ) (part : Part) → SameUnder (mask_of (separator_flags_in part)) v w
     → lacks_position (raw v) part ≡ lacks_position (raw w) part
 lacks_agrees v w part same = agree part (each part same) where
-  each : (part : Part) → SameUnder (mask_of (separator_flags part)) v w → AllByRecursion (SameFlag v w) (separator_flags part)
-  each parts.Integer same = flags_agree v w _ same (separator_flags parts.Integer) refl
-  each part same = flags_agree v w _ same (separator_flags part) refl
+  each : (part : Part) → SameUnder (mask_of (separator_flags_in part)) v w → AllByRecursion (SameFlag v w) (separator_flags_in part)
+  each parts.Integer same = flags_agree v w _ same (separator_flags_in parts.Integer) refl
+  each part same = flags_agree v w _ same (separator_flags_in part) refl
 
-  agree : (part : Part) → AllByRecursion (SameFlag v w) (separator_flags part)
+  agree : (part : Part) → AllByRecursion (SameFlag v w) (separator_flags_in part)
       → lacks_position (raw v) part ≡ lacks_position (raw w) part
   agree part (between, (before, (after, (several, none)))) = λ i. several i && not (between i || before i || after i)
 
@@ -235,7 +235,7 @@ clash_facts ac a bc b clash =
     let apart : (a ≢ 0 → (a ≢ b) × (b ≢ other_case a)) → ⊥ = λ h. clash (differ_apart ac a bc b h) in grind (arith, nat_tests)
 
 -- The flag of a setter is set if and only if the setter's test says so.
-set_is : (w : ℕ) (f : Flag) → any_flag w (flags_of (setter_of f)) ≡ (raw w).flag f
+set_is : (w : ℕ) (f : Flag) → any_flag w (flags_of (flag_setter f)) ≡ (raw w).flag f
 unfolding any_flag
 set_is w f = ap (any_flag w) (setter_alone f) ∙ or-false _
 
@@ -243,10 +243,10 @@ set_is w f = ap (any_flag w) (setter_alone f) ∙ or-false _
 -- not case-sensitive in `w` either.
 unset_is : (v w : ℕ) (b : Byte) → IsUnset w (unset_flag (raw v) b) ↔ (is_cased (raw v) b ≡ false → is_cased (raw w) b ≡ false)
 unset_is v w b = is (case_flag b) where
-  own : (f : Flag) (set : Bool) → IsUnset w (if set then None else Some (setter_of f)) ↔ (set ≡ false → (raw w).flag f ≡ false)
+  own : (f : Flag) (set : Bool) → IsUnset w (if set then None else Some (flag_setter f)) ↔ (set ≡ false → (raw w).flag f ≡ false)
   own f set = let is = set_is w f in grind arith
 
-  is : (flag : Option Flag) → IsUnset w (if (option_map_or (raw v).flag flag true) then None else option_map setter_of flag)
+  is : (flag : Option Flag) → IsUnset w (if (option_map_or (raw v).flag flag true) then None else option_map flag_setter flag)
       ↔ (option_map_or (raw v).flag flag true ≡ false → option_map_or (raw w).flag flag true ≡ false)
   is None = (λ h off. off, λ h. tt)
   is (Some f) = own f _
@@ -338,8 +338,8 @@ causes_of (absent_or_punctuation b) word =
     let byte = named (raw word) 0 0 (byte_of b) in if_present byte (byte_cause (raw word) byte) ∷ []
 causes_of roles_differ word = clashes (raw word) 0 0 format_pairs
 causes_of (not_both a b) word =
-    let first = setter_of a in
-    let second = setter_of b in
+    let first = flag_setter a in
+    let second = flag_setter b in
     then_some (any_flag word (flags_of first) && any_flag word (flags_of second)) (causes.BothSet first second) ∷ []
 causes_of (position_allowed part) word =
     then_some (lacks_position (raw word) part) (causes.NeedsPosition part) ∷ []
@@ -395,7 +395,7 @@ shape_settled roles_differ word =
     (λ w d. (assumption d, (assumption d, (assumption d, tt)))) in
     (all.0, λ none. let apart = all.1 none in ((apart.0, (assumption apart, tt)), ((assumption apart, tt), (tt, tt))))
 shape_settled (not_both a b) word =
-    alone _ _ _ (settled word (Own (not_both a b)) _ (causes.BothSet (setter_of a) (setter_of b)) (and_parts _ _)
+    alone _ _ _ (settled word (Own (not_both a b)) _ (causes.BothSet (flag_setter a) (flag_setter b)) (and_parts _ _)
     (λ w is d. true≢false (sym (and_from _ _ (sym (set_is w a) ∙ is.0) (sym (set_is w b) ∙ is.1)) ∙ d))
     (λ h. sym (λ i. set_is word a i && set_is word b i) ∙ h))
 shape_settled (position_allowed part) word =

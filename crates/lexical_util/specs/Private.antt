@@ -7,7 +7,7 @@ use Rattle.std.specs.Option.{option_map_or}
 use Rattle.lexical_base.specs.Ascii.{ByteSet, between, allowed_ascii}
 use Rattle.lexical_base.specs.Digits.{digits_of}
 use Rattle.lexical_flags.specs.Layout as layout
-use Rattle.lexical_flags.specs.Layout.{Flag, separator_flags}
+use Rattle.lexical_flags.specs.Layout.{Flag, separator_flags_in}
 use Rattle.lexical_flags.specs.Record.{Record, separator_allowed}
 use Rattle.lexical_flags.specs.Roles.{are_disjoint, cased, signs, other_case}
 use Rattle.lexical_flags.specs.Additions.Masks.{byte_mask, mask_of, reserved_mask}
@@ -16,7 +16,7 @@ use Rattle.lexical_flags.specs.declared.format_flags.rule.Rule.TheVariants as ru
 use Rattle.lexical_builder.specs.Writes.{new_record, changes}
 use Rattle.lexical_util.specs.Edits.{writes_of}
 use Rattle.lexical_util.specs.Additions.EditMasks.{mask_of_setter}
-use Rattle.lexical_util.specs.Additions.FieldEdits.{setter_of}
+use Rattle.lexical_util.specs.Additions.FieldEdits.{flag_setter}
 use Rattle.lexical_util.specs.Additions.Reasons.{value_of, mask_of_byte}
 use Rattle.lexical_util.specs.Additions.Notes.{mask_of_note}
 use Rattle.lexical_util.specs.declared.edits.setters.Edit.{Edit}
@@ -53,7 +53,7 @@ is_cased r byte = option_map_or r.flag (case_flag byte) true
 
 -- `unset_flag r byte` is the setter of the case flag of `byte` if the flag is not set.
 abbrev pub unset_flag : Record → Byte → Option FlagSetter
-unset_flag r byte = if is_cased r byte then None else option_map setter_of (case_flag byte)
+unset_flag r byte = if is_cased r byte then None else option_map flag_setter (case_flag byte)
 
 -- `if_present byte cause` is `cause` if `byte` is present, and `None` if it is absent.
 abbrev pub if_present : NamedByte → Option Cause → Option Cause
@@ -143,7 +143,7 @@ mask_of_cause r (causes.Same first second) = bit_or (mask_of_byte first.name) (m
 mask_of_cause r (causes.DifferInCase first first_flag second second_flag) =
     bit_or (bit_or (bit_or (mask_of_byte first.name) (mask_of_byte second.name)) (flag_mask first_flag)) (flag_mask second_flag)
 mask_of_cause r (causes.BothSet first second) = bit_or (mask_of_setter first) (mask_of_setter second)
-mask_of_cause r (causes.NeedsPosition part) = mask_of (separator_flags part)
+mask_of_cause r (causes.NeedsPosition part) = mask_of (separator_flags_in part)
 mask_of_cause r (causes.ReservedBits bits) = bits
 
 -- `reason_of r rule cause` is the reason why `r` breaks `rule` for `cause`, or why options do not fit if `rule` is `None`.

@@ -9,7 +9,7 @@ ghost use Rattle.lexical_flags.specs.Rules.{Holds, Lawful, lacks_position};
 ghost use Rattle.lexical_flags.specs.declared.format_flags.rule.Rule.{Rule};
 ghost use Rattle.lexical_util.specs.Groups.{any_flag};
 ghost use Rattle.lexical_util.specs.Edits.{flags_of};
-ghost use Rattle.lexical_util.specs.Additions.FieldEdits.{setter_of};
+ghost use Rattle.lexical_util.specs.Additions.FieldEdits.{flag_setter};
 ghost use Rattle.lexical_util.specs.Additions.Reasons.{EachReason, NoReason, Breaks, Blames, BlamesForOptions};
 ghost use Rattle.lexical_util.specs.Private.{named, case_flag, is_cased, unset_flag, if_present, radix_cause, digit_cause};
 ghost use Rattle.lexical_util.specs.Private.{byte_cause, clash, clash_cause, reserved_cause, followers, reason_of};
@@ -427,7 +427,7 @@ impl Characters {
 
 // Returns the flag that makes a byte case-sensitive, if there is one.
 const fn case_flag(byte: Byte) -> Option<FlagSetter>
-    ensures { result ≡ option_map setter_of (case_flag byte) }
+    ensures { result ≡ option_map flag_setter (case_flag byte) }
 {
     match byte {
         Byte::BasePrefix => Some(FlagSetter::CaseSensitiveBasePrefix),

@@ -35,7 +35,7 @@ impl Reader {
     ///
     /// If `text` is not a literal, returns why, and how far it is right.
     pub const fn read<'a>(&self, text: &'a [u8]) -> Result<Literal<'a>, ReadError> {
-        let view = self.grammar.view();
+        let view = self.syntax.format().view();
         match self.find(text) {
             Ok(counts) => Ok(Literal { text, counts, view }),
             Err(error) => Err(error),
@@ -67,7 +67,7 @@ impl Reader {
     /// before it may have an error that states what is missing, as above. A text such as `1e;` begins with the literal
     /// `1`. To refuse it, the example `tokenizer` first finds the end of the token, and reads all of it.
     pub const fn read_prefix<'a>(&self, text: &'a [u8]) -> Result<(Literal<'a>, &'a [u8]), ReadError> {
-        let view = self.grammar.view();
+        let view = self.syntax.format().view();
         match self.find_front(text) {
             Ok(Found { size, counts }) => {
                 let (text, rest) = text.split_at(size);
@@ -88,7 +88,7 @@ impl From<Syntax> for Reader {
 /// Readers are equal if they have the same syntax.
 impl PartialEq for Reader {
     fn eq(&self, other: &Self) -> bool {
-        self.grammar == other.grammar
+        self.syntax == other.syntax
     }
 }
 

@@ -3,7 +3,7 @@
 //! How literals are found, and the lengths of their parts.
 
 use crate::literal::cause::{ReadError, Spot};
-use crate::literal::syntax::{Grammar, Syntax};
+use crate::literal::syntax::Syntax;
 use crate::literal::tables::{piece_number, summary_at, Tables, START};
 
 /// The parts of a literal, in the order of the text. An absent part has no bytes.
@@ -40,7 +40,7 @@ pub(crate) struct Found {
 /// with it. For a `static`, as in the first example of this module, the compiler makes it.
 #[derive(Clone)]
 pub struct Reader {
-    pub(crate) grammar: Grammar,
+    pub(crate) syntax: Syntax,
     pub(crate) tables: Tables,
 }
 
@@ -48,14 +48,13 @@ impl Reader {
     /// Returns a reader of the literals of `syntax`.
     #[must_use]
     pub const fn new(syntax: Syntax) -> Reader {
-        let grammar = syntax.grammar();
-        Reader { grammar, tables: Tables::new(grammar) }
+        Reader { syntax, tables: Tables::new(syntax.grammar()) }
     }
 
     /// Returns the syntax.
     #[must_use]
     pub const fn syntax(&self) -> Syntax {
-        Syntax { grammar: self.grammar }
+        self.syntax
     }
 
     // Returns the lengths of the parts of the literal `text`, or why it is not one.
@@ -128,7 +127,7 @@ impl Reader {
         let byte = byte_at(text, size);
         ReadError {
             spot: Spot {
-                grammar: self.grammar,
+                grammar: self.syntax.grammar(),
                 read: summary_at(scanned.row),
                 byte,
                 marks: self.marks(text, size, byte),

@@ -19,12 +19,12 @@ returns-clause-refusal c =
     let front = take size c.args.text.now in
     let s = c.summary_at.result in
     let read : scan m (Some start) front ≡ Some s = rw (c.summary_at.ensures) scanned.read in
-    let is_ready : IsReady m = rw (← c.self.view_is) (ready c.role_facts.ensures.disjoint c.role_facts.ensures.five c.role_facts.ensures.lawful c.self.inside.grammar c.self.invariant.0) in
+    let is_ready : IsReady m = rw (← c.self.view_is) (ready c.role_facts.ensures.disjoint c.role_facts.ensures.five c.role_facts.ensures.lawful c.self.inside.syntax c.self.invariant.0) in
     let is_read : IsReadOf m s front = record {
       decides = λ next A weaker. decided m A is_ready weaker front s read next;
       part = ends_in m is_ready.roles start front s read;
     } in
-    rw c.self.view_is (refusal_at c.args.self.now c.args.text.now s c.marks.result size scanned.error.within scanned.error is_read
+    rw (c.grammar.ensures.value, c.self.view_is) (refusal_at c.args.self.now c.args.text.now s c.marks.result size scanned.error.within scanned.error is_read
     (rw (c.summary_at.ensures) c.requires.refused) c.byte_at-byte.result c.byte_at-byte.ensures c.marks.ensures)
 
 pub returns-clause-none : goal.returns-clause-none
