@@ -108,6 +108,7 @@ def languages():
     documented = re.findall(r"((?:^ +///.*\n)+) +(\w+) = \w+\(", LANGUAGES, re.M)
     yield '"""How a language, or a file, writes numbers. `languages` is another name of this class.'
     yield from ("", "`read(text)` returns a `Literal` of `syntax`, or a `Special` with a spelling of `specials`.")
+    yield from ("", "No format rejects `-`, or requires a prefix, a suffix or a decimal point. So `C_FLOAT` reads `1`.")
     for text, name in documented:
         about = " ".join(text.replace("///", " ").replace("×", "*").split())
         yield from ("", *textwrap.wrap(f"{name}: {about}", 115, subsequent_indent="    "))

@@ -1221,6 +1221,8 @@ class Language(_Named):
 
     `read(text)` returns a `Literal` of `syntax`, or a `Special` with a spelling of `specials`.
 
+    No format rejects `-`, or requires a prefix, a suffix or a decimal point. So `C_FLOAT` reads `1`.
+
     ADA: Ada's decimal literals (Reference Manual 2012, 2.4.1). A format cannot accept `1.0E-3` but reject `1E-3`.
 
     C_FLOAT: C's decimal floating constants (C23, Floating constants). A format cannot accept both `1.0f` and `1.0L`.
