@@ -2,7 +2,6 @@
 
 use core::{fmt, ops::Range, slice, str};
 
-use crate::digit::digit_to_char;
 use crate::edits::{Edit, FlagSetter};
 use crate::literal::{Cause, Place, ReadError};
 use crate::short_text::ShortText;
@@ -85,6 +84,7 @@ impl ReadError {
             };
         };
         let Cause::Separator(part, place) = cause else {
+            // The names of other flags begin with `no` or `case`.
             let is_required = matches!(flag.name().as_bytes(), [b'r', ..]);
             let text = ShortText::of(if is_required { "expected " } else { "unexpected " }).and(requirement(flag));
             let verb = if is_required { " requires" } else { " forbids" };
@@ -155,8 +155,8 @@ const fn first_character(text: &[u8]) -> &[u8] {
     }
 }
 
-/// Returns the sentence for a character, or for a byte that begins none. Characters that cannot be seen, or change the
-/// order of others, have a name or a number.
+/// Returns the sentence for a character, or for a byte that begins none. It has no character that cannot be seen or that
+/// changes the order of others.
 const fn unexpected(wrong: &[u8]) -> ShortText {
     let text = ShortText::of("unexpected ");
     match wrong {
@@ -167,30 +167,15 @@ const fn unexpected(wrong: &[u8]) -> ShortText {
         b"'" => text.and("character \"'\""),
         [byte] if byte.is_ascii_graphic() => text.and("character ").quoted(*byte),
         [byte] => text.and("byte ").decimal(*byte as usize),
-        [0xC2, 0x80..=0xA0 | 0xAD]
-        | [0xE2, 0x80, 0x80..=0x8F | 0xA8..=0xAF]
+        b"\xC2\xA0" | b"\xE2\x80\xAF" => text.and("no-break space"),
+        [0xC2, 0x80..=0x9F | 0xAD]
+        | [0xE2, 0x80, 0x80..=0x8F | 0xA8..=0xAE]
         | [0xE2, 0x81, 0x9F..=0xAF]
         | [0xE3, 0x80, 0x80]
-        | [0xEF, 0xBB, 0xBF] => code_point(text.and("character U+"), wrong),
+        | [0xEF, 0xBB, 0xBF] => text.and("invisible character"),
         _ => match str::from_utf8(wrong) {
             Ok(character) => text.and("character '").and(character).and("'"),
             Err(_) => text,
         },
-    }
-}
-
-/// Appends the number of a character of two or three bytes, as four hexadecimal digits.
-const fn code_point(text: ShortText, character: &[u8]) -> ShortText {
-    let (mut number, mut index) = (character[0] as u32 & 0x7F >> character.len(), 1);
-    while index < character.len() {
-        number = number << 6 | character[index] as u32 & 0x3F;
-        index += 1;
-    }
-    let digits = [number >> 12, number >> 8 & 15, number >> 4 & 15, number & 15];
-    let digits =
-        [digit_to_char(digits[0]), digit_to_char(digits[1]), digit_to_char(digits[2]), digit_to_char(digits[3])];
-    match str::from_utf8(&digits) {
-        Ok(digits) => text.and(digits),
-        Err(_) => text,
     }
 }
