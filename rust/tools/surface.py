@@ -17,8 +17,7 @@ import textwrap
 RUST = pathlib.Path(__file__).resolve().parents[1]
 TARGET = pathlib.Path(os.environ.get("CARGO_TARGET_DIR", RUST.parent / "target"))
 COMMAND = ("cargo", "rustdoc", "--quiet", "--package=peltzivar", "--lib", "--", "-Zunstable-options")
-HEAD = """\
-// Made by rust/tools/surface.py from what rustdoc lists: run that program.
+HEAD = """// Made by rust/tools/surface.py from what rustdoc lists: run that program.
 
 //! What does not change until 2.0: the path and the type of each public item. If this program compiles, so do programs
 //! that use them.
@@ -77,11 +76,15 @@ def walk(module, path=""):
             yield path + item["name"], item
 
 
+def argument(parameter):
+    return re.sub(r"'(?!_)\w+", "'static", parameter).replace("FORMAT", "STANDARD")
+
+
 def arguments(path, more=()):
     """Returns the arguments of a path, and more associated types, in angle brackets."""
     inner = (path["args"] or {}).get("angle_bracketed", {"args": [], "constraints": []})
     pairs = map(kind_of, inner["args"])
-    texts = [text_of(it) if kind == "type" else it["expr"] if kind == "const" else it for kind, it in pairs]
+    texts = [text_of(it) if kind == "type" else argument(it["expr"] if kind == "const" else it) for kind, it in pairs]
     texts += [f"{it['name']} = {text_of(it['binding']['equality']['type'])}" for it in inner["constraints"]]
     texts += [f"{item['name']} = {text_of(it['type'])}" for item, _, it in more]
     return f"<{', '.join(texts)}>" if texts else ""
@@ -99,30 +102,25 @@ def text_of(node):
         is_own = DOCUMENTATION["paths"].get(str(inner["id"]), {"crate_id": 0})["crate_id"] == 0
         return (PATHS[inner["id"]] if is_own else inner["path"].rpartition("::")[2]) + arguments(inner)
     if kind == "borrowed_ref":
-        words = (inner["lifetime"], "mut" * inner["is_mutable"], text_of(inner["type"]))
+        words = (argument(inner["lifetime"] or ""), "mut" * inner["is_mutable"], text_of(inner["type"]))
         return "&" + " ".join(filter(None, words))
     if kind == "tuple":
         return f"({', '.join(map(text_of, inner))})"
     return f"[{text_of(inner)}]" if kind == "slice" else f"impl {bounds(inner)}" if kind == "impl_trait" else inner
 
 
-def fixed(text, own=""):
-    """Returns a text with arguments in place of generic parameters."""
-    return re.sub(r"\bSelf\b", own, re.sub(r"'(?!_|static)\w+", "'static", text).replace("FORMAT>", "STANDARD>"))
-
-
 def types_of(fields):
-    return ", ".join(fixed(text_of(it)) for _, _, it in shown(fields))
+    return ", ".join(text_of(inner) for _, _, inner in shown(fields))
 
 
-def add_function(owner, own, item, inner):
+def add_function(owner, item, inner):
     """Puts a function below its type."""
-    result = fixed(text_of(inner["sig"]["output"]), own)
-    inputs = zip("abcd", inner["sig"]["inputs"])
-    parameters = ", ".join(f"{name}: {fixed(text_of(it), own)}" for name, (_, it) in inputs)
+    own, inputs = owner.removeprefix("mod "), zip("abcd", inner["sig"]["inputs"])
+    result = text_of(inner["sig"]["output"]).replace("Self", own)
+    parameters = ", ".join(f"{name}: {text_of(it)}" for name, (_, it) in inputs).replace("Self", own)
     for name, (kind, it) in ((it["name"], kind_of(it["kind"])) for it in inner["generics"]["params"]):
         if kind == "const":
-            return LINES.append(f"const _: {result} = {owner.removeprefix('mod ')}::{item['name']}::<STANDARD>();")
+            return LINES.append(f"const _: {result} = {own}::{item['name']}::<STANDARD>();")
         if kind == "type" and not it["is_synthetic"]:
             parameters = re.sub(rf"\b{name}\b", f"impl {bounds(it['bounds'])}", parameters)
     kind = "const fn" if inner["header"]["is_const"] else "fn"
@@ -143,8 +141,8 @@ def add_shape(own, path, shape, put, rest="", others=""):
 
 def add_type(path, item, kind, inner):
     """Puts what a structure or an enum has below its type."""
-    generics = ", ".join(it["name"] for it in inner["generics"]["params"])
-    own, is_open = fixed(f"{path}<{generics}>".replace("<>", "")), "non_exhaustive" in item["attrs"]
+    generics = ", ".join(argument(it["name"]) for it in inner["generics"]["params"])
+    own, is_open = f"{path}<{generics}>".replace("<>", ""), "non_exhaustive" in item["attrs"]
     if kind == "struct":
         add_shape(own, path, inner["kind"], lambda text: LINES.append(f"const _: {text} = {path};"), ", .." * is_open)
     variants = [*shown(inner.get("variants", []))]
@@ -158,21 +156,21 @@ def add_type(path, item, kind, inner):
     for _, _, it in shown(inner["impls"]):
         for member, member_kind, has in shown(it["items"] if it["trait"] is None else []):
             if member_kind == "function":
-                add_function(own, own, member, has)
+                add_function(own, member, has)
             else:
-                NAMES[own][fixed(text_of(has["type"]), own)].append(member["name"])
+                NAMES[own][text_of(has["type"])].append(member["name"])
 
 
 def add_trait(inner):
     """Puts a trait to the type that has it, unless the type is hidden or the trait is not stable."""
     try:
-        own, name = fixed(text_of(inner["for"])), inner["trait"]["path"].rpartition("::")[2]
+        own, name = text_of(inner["for"]), inner["trait"]["path"].rpartition("::")[2]
         types = (it for it in shown(inner["items"]) if it[1] == "assoc_type")
         trait = ("std::error::" if name == "Error" else "") + name + arguments(inner["trait"], types)
     except LookupError:
         return
     if name not in ("StructuralPartialEq", "TrivialClone"):
-        TRAITS[own].append(fixed(trait, own))
+        TRAITS[own].append(trait)
 
 
 def add_items():
@@ -182,7 +180,7 @@ def add_items():
         if kind in ("", "type_alias") or PATHS[item["id"]] != path:
             LINES.append(f"use peltzivar::{path} as _;")
         elif kind == "function":
-            add_function(owner, "", item, inner)
+            add_function(owner, item, inner)
         elif kind == "constant":
             NAMES[owner][text_of(inner["type"])].append(item["name"])
         else:
