@@ -426,6 +426,7 @@ names! { literal::ReadError:
     [const fn(a: &literal::ReadError) -> bool] is_incomplete;
     [const fn(a: &literal::ReadError) -> Range<usize>] span;
     [fn(a: &literal::ReadError) -> impl Iterator<Item = Edit> + Clone] settings;
+    [const fn(a: &literal::ReadError) -> ShortText] text;
 }
 names! { literal::Reader:
     [const fn(a: &literal::Reader) -> literal::Syntax] syntax;

@@ -3,6 +3,7 @@
 use core::{fmt, ops::Range, slice, str};
 
 use crate::edits::{Edit, FlagSetter};
+use crate::format_flags::{NO_FLOAT_LEADING_ZEROS, NO_INTEGER_LEADING_ZEROS};
 use crate::literal::{Cause, Place, ReadError};
 use crate::short_text::ShortText;
 
@@ -50,92 +51,113 @@ impl ReadError {
     /// # Ok::<(), FormatError>(())
     /// ```
     pub fn settings(&self) -> impl Iterator<Item = Edit> + Clone {
-        let is_separator = matches!(self.cause(), Cause::Separator(..));
-        self.blamed().map(move |flag| Edit::Flag(flag, is_separator))
+        let (cause, mask) = (self.cause(), self.mask());
+        let is_separator = matches!(cause, Cause::Separator(..));
+        let blamed = FlagSetter::FLAGS.iter().copied().filter(move |flag| flag.is_set(mask));
+        blamed.map(move |flag| Edit::Flag(flag, is_separator))
     }
 
-    /// Returns the flags to blame.
-    fn blamed(&self) -> impl Iterator<Item = FlagSetter> + Clone {
-        let mask = self.mask();
-        FlagSetter::FLAGS.iter().copied().filter(move |flag| flag.is_set(mask))
+    /// Returns the text that `Display` prints. A `const fn` can panic with it, so that a constant that is not a literal
+    /// does not compile, and the compiler prints why:
+    ///
+    /// ```compile_fail,E0080
+    /// use peltzivar::literal::{Literal, Reader, Syntax};
+    /// use peltzivar::{format::STANDARD, Format};
+    ///
+    /// const READER: Reader = Reader::new(Syntax::new_or_panic(Format::of::<STANDARD>(), b'e', b'.'));
+    /// const LITERAL: Literal = match READER.read(b"1e") {
+    ///     Ok(literal) => literal,
+    ///     Err(error) => panic!("{}", error.text().as_str()), // expected a digit after the exponent character, ..
+    /// };
+    /// ```
+    #[must_use]
+    pub const fn text(&self) -> ShortText {
+        let (cause, mask) = (self.cause(), self.mask());
+        match cause {
+            Cause::Requirement | Cause::Case => requirement(mask),
+            Cause::Separator(part, place) => {
+                let text = ShortText::of("unexpected digit separator in the ").and(part.name());
+                names(text.and(behind(place)).and(", which requires "), mask, " or ")
+            }
+            Cause::Missing(part) => ShortText::of("expected a digit of the ").and(part.name()),
+            Cause::Byte => unexpected(self.wrong()),
+        }
     }
+}
+
+/// Appends the names of the flags of a mask.
+const fn names(mut text: ShortText, mask: u128, between: &str) -> ShortText {
+    let (mut index, mut is_first) = (0, true);
+    while index < FlagSetter::FLAGS.len() {
+        let flag = FlagSetter::FLAGS[index];
+        if flag.is_set(mask) {
+            text = if is_first { text } else { text.and(between) }.and(flag.name());
+            is_first = false;
+        }
+        index += 1;
+    }
+    text
+}
+
+/// Returns the sentence for flags that require or forbid something. It names the lowest, or both flags on leading zeros.
+const fn requirement(mask: u128) -> ShortText {
+    const ZEROS: u128 = NO_INTEGER_LEADING_ZEROS | NO_FLOAT_LEADING_ZEROS;
+    let lowest = mask & mask.wrapping_neg();
+    let named = if lowest & ZEROS == 0 { lowest } else { mask & ZEROS };
+    // Flags below bit 18 are at the index of their bit.
+    let flag = FlagSetter::FLAGS[lowest.trailing_zeros() as usize];
+    let verb = match flag.name().as_bytes().first_chunk() {
+        Some(b"required") => " requires",
+        _ if named == ZEROS => " forbid",
+        _ => " forbids",
+    };
+    let text = ShortText::of(required_by(flag)).and(", which ");
+    names(text, named, " and ").and(verb)
 }
 
 impl core::error::Error for ReadError {}
 
 /// Prints `expected` and what is missing, or `unexpected` and what must not be there, and then the flags to blame, such as
-/// `unexpected leading zero, which no_integer_leading_zeros forbids`. If several flags are to blame for a requirement, the
-/// sentence names the lowest. For users of a language, who know no flags, `{:#}` leaves out the flags, as in `unexpected
-/// leading zero` or `unexpected digit separator in the fraction after another`.
+/// `unexpected plus sign, which no_positive_mantissa_sign forbids`. If several flags are to blame for a requirement, the
+/// sentence names the lowest, or both flags on leading zeros. For users of a language, who know no flags, `{:#}` leaves
+/// out the flags, as in `unexpected plus sign` or `unexpected digit separator in the fraction after another`.
 impl fmt::Display for ReadError {
     fn fmt(&self, f: &mut fmt::Formatter<'_>) -> fmt::Result {
-        f.pad(self.sentence(!f.alternate()).as_str())
+        let text = self.text();
+        f.pad(match text.as_str().split_once(", which ") {
+            Some((front, _)) if f.alternate() => front,
+            _ => text.as_str(),
+        })
     }
 }
 
-impl ReadError {
-    /// Returns the sentence, with the flags to blame or without them.
-    const fn sentence(&self, with_flags: bool) -> ShortText {
-        let (cause, mut mask) = (self.cause(), self.mask());
-        let Some(flag) = lowest(mask) else {
-            return match cause {
-                Cause::Missing(part) => ShortText::of("expected a digit of the ").and(part.name()),
-                _ => unexpected(self.wrong()),
-            };
-        };
-        let Cause::Separator(part, place) = cause else {
-            // The names of other flags begin with `no` or `case`.
-            let is_required = matches!(flag.name().as_bytes(), [b'r', ..]);
-            let text = ShortText::of(if is_required { "expected " } else { "unexpected " }).and(requirement(flag));
-            let verb = if is_required { " requires" } else { " forbids" };
-            return if with_flags { text.and(", which ").and(flag.name()).and(verb) } else { text };
-        };
-        let text = ShortText::of("unexpected digit separator in the ").and(part.name());
-        let mut text = text.and(match place {
-            Place::BeforeDigits => " before digits",
-            Place::AfterDigit => " after a digit",
-            Place::Consecutive => " after another",
-        });
-        let mut link = ", which requires ";
-        while let (true, Some(flag)) = (with_flags, lowest(mask)) {
-            text = text.and(link).and(flag.name());
-            link = " or ";
-            mask &= mask - 1;
-        }
-        text
+/// Returns what is before a separator.
+const fn behind(place: Place) -> &'static str {
+    match place {
+        Place::BeforeDigits => " before digits",
+        Place::AfterDigit => " after a digit",
+        Place::Consecutive => " after another",
     }
-}
-
-/// Returns the flag with the lowest bit of a mask of flags.
-const fn lowest(mask: u128) -> Option<FlagSetter> {
-    let mut index = 0;
-    while index < FlagSetter::FLAGS.len() {
-        if FlagSetter::FLAGS[index].is_set(mask) {
-            return Some(FlagSetter::FLAGS[index]);
-        }
-        index += 1;
-    }
-    None
 }
 
 /// Returns what a flag requires or forbids.
-const fn requirement(flag: FlagSetter) -> &'static str {
+const fn required_by(flag: FlagSetter) -> &'static str {
     match flag {
-        FlagSetter::RequiredIntegerDigits => "a digit of the integer",
-        FlagSetter::RequiredFractionDigits => "a digit after the decimal point",
-        FlagSetter::RequiredExponentDigits => "a digit after the exponent character",
-        FlagSetter::RequiredMantissaDigits => "a digit of the integer or the fraction",
-        FlagSetter::NoPositiveMantissaSign => "plus sign",
-        FlagSetter::RequiredMantissaSign => "a sign",
-        FlagSetter::NoExponentNotation => "exponent",
-        FlagSetter::NoPositiveExponentSign => "plus sign in the exponent",
-        FlagSetter::RequiredExponentSign => "a sign of the exponent",
-        FlagSetter::NoExponentWithoutFraction => "exponent without a decimal point",
-        FlagSetter::RequiredExponentNotation => "an exponent",
-        FlagSetter::CaseSensitiveExponent => "case of the exponent character",
-        FlagSetter::CaseSensitiveBasePrefix => "case of the base prefix",
-        FlagSetter::CaseSensitiveBaseSuffix => "case of the base suffix",
-        FlagSetter::NoIntegerLeadingZeros | FlagSetter::NoFloatLeadingZeros => "leading zero",
+        FlagSetter::RequiredIntegerDigits => "expected a digit of the integer",
+        FlagSetter::RequiredFractionDigits => "expected a digit after the decimal point",
+        FlagSetter::RequiredExponentDigits => "expected a digit after the exponent character",
+        FlagSetter::RequiredMantissaDigits => "expected a digit of the integer or the fraction",
+        FlagSetter::NoPositiveMantissaSign => "unexpected plus sign",
+        FlagSetter::RequiredMantissaSign => "expected a sign",
+        FlagSetter::NoExponentNotation => "unexpected exponent",
+        FlagSetter::NoPositiveExponentSign => "unexpected plus sign in the exponent",
+        FlagSetter::RequiredExponentSign => "expected a sign of the exponent",
+        FlagSetter::NoExponentWithoutFraction => "unexpected exponent without a decimal point",
+        FlagSetter::RequiredExponentNotation => "expected an exponent",
+        FlagSetter::CaseSensitiveExponent => "unexpected case of the exponent character",
+        FlagSetter::CaseSensitiveBasePrefix => "unexpected case of the base prefix",
+        FlagSetter::CaseSensitiveBaseSuffix => "unexpected case of the base suffix",
+        FlagSetter::NoIntegerLeadingZeros | FlagSetter::NoFloatLeadingZeros => "unexpected leading zero",
         _ => flag.name(),
     }
 }
