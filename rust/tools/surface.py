@@ -195,7 +195,7 @@ def program():
     wrap = textwrap.TextWrapper(120, initial_indent="    ", subsequent_indent="        ", break_on_hyphens=False)
     lines = [*sorted(LINES, reverse=True), ""]
     for owner, kinds in sorted(NAMES.items()):
-        rows = (wrap.fill(f"[{kind}] {' '.join(names)};") for kind, names in kinds.items())
+        rows = (wrap.fill(f"[{kind}] {' '.join(sorted(names))};") for kind, names in sorted(kinds.items()))
         lines += [f"names! {{ {owner}:", *rows, "}"]
     for own, traits in sorted(TRAITS.items()):
         lines += textwrap.wrap(f"has! {{ {own}: {' + '.join(sorted(traits))} }}", 120, subsequent_indent="    ")
