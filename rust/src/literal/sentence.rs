@@ -2,7 +2,6 @@
 
 use core::{fmt, ops::Range, slice, str};
 
-use crate::digit::digit_to_char;
 use crate::edits::{Edit, FlagSetter};
 use crate::format_flags::{NO_FLOAT_LEADING_ZEROS, NO_INTEGER_LEADING_ZEROS};
 use crate::literal::cause::Refusal;
@@ -76,23 +75,12 @@ impl ReadError {
     /// ```
     #[must_use]
     pub const fn text(&self) -> ShortText {
-        self.sentence(true)
-    }
-
-    /// Returns the sentence, with the flags to blame or without them.
-    const fn sentence(&self, with_flags: bool) -> ShortText {
         let Refusal { kind, mask, .. } = self.explain();
-        let shown = if with_flags { mask } else { 0 };
         match kind {
-            ReadErrorKind::Requirement | ReadErrorKind::Case => requirement(mask, with_flags),
+            ReadErrorKind::Requirement | ReadErrorKind::Case => requirement(mask),
             ReadErrorKind::Separator(part, place) => {
                 let text = ShortText::of("unexpected digit separator in the ").and(part.name());
-                let text = text.and(match place {
-                    Place::BeforeDigits => " before digits",
-                    Place::AfterDigit => " after a digit",
-                    Place::Consecutive => " after another",
-                });
-                names(text, ", which requires ", shown, " or ")
+                names(text.and(behind(place)).and(", which requires "), mask, " or ")
             }
             ReadErrorKind::Missing(part) => ShortText::of("expected a digit of the ").and(part.name()),
             ReadErrorKind::Byte => unexpected(self.wrong()),
@@ -100,14 +88,14 @@ impl ReadError {
     }
 }
 
-/// Appends the names of the flags of a mask, with a text before the first one, and one between two.
-const fn names(mut text: ShortText, before: &str, mask: u128, between: &str) -> ShortText {
-    let (mut index, mut link) = (0, before);
+/// Appends the names of the flags of a mask.
+const fn names(mut text: ShortText, mask: u128, between: &str) -> ShortText {
+    let (mut index, mut is_first) = (0, true);
     while index < FlagSetter::FLAGS.len() {
         let flag = FlagSetter::FLAGS[index];
         if flag.is_set(mask) {
-            text = text.and(link).and(flag.name());
-            link = between;
+            text = if is_first { text } else { text.and(between) }.and(flag.name());
+            is_first = false;
         }
         index += 1;
     }
@@ -115,23 +103,19 @@ const fn names(mut text: ShortText, before: &str, mask: u128, between: &str) -> 
 }
 
 /// Returns the sentence for flags that require or forbid something. It names the lowest, or both flags on leading zeros.
-const fn requirement(mask: u128, with_flags: bool) -> ShortText {
+const fn requirement(mask: u128) -> ShortText {
     const ZEROS: u128 = NO_INTEGER_LEADING_ZEROS | NO_FLOAT_LEADING_ZEROS;
     let lowest = mask & mask.wrapping_neg();
     let named = if lowest & ZEROS == 0 { lowest } else { mask & ZEROS };
     // Flags below bit 18 are at the index of their bit.
     let flag = FlagSetter::FLAGS[lowest.trailing_zeros() as usize];
-    let (start, verb) = match flag.name().as_bytes() {
-        [b'r', ..] => ("expected ", " requires"),
-        _ if named == ZEROS => ("unexpected ", " forbid"),
-        _ => ("unexpected ", " forbids"),
+    let verb = match flag.name().as_bytes().first_chunk() {
+        Some(b"required") => " requires",
+        _ if named == ZEROS => " forbid",
+        _ => " forbids",
     };
-    let text = ShortText::of(start).and(what(flag));
-    if with_flags {
-        names(text, ", which ", named, " and ").and(verb)
-    } else {
-        text
-    }
+    let text = ShortText::of(required_by(flag)).and(", which ");
+    names(text, named, " and ").and(verb)
 }
 
 impl core::error::Error for ReadError {}
@@ -139,10 +123,14 @@ impl core::error::Error for ReadError {}
 /// Prints `expected` and what is missing, or `unexpected` and what must not be there, and then the flags to blame, such as
 /// `unexpected plus sign, which no_positive_mantissa_sign forbids`. If several flags are to blame for a requirement, the
 /// sentence names the lowest, or both flags on leading zeros. For users of a language, who know no flags, `{:#}` leaves
-/// out the flags, as in `unexpected leading zero` or `unexpected digit separator in the fraction after another`.
+/// out the flags, as in `unexpected plus sign` or `unexpected digit separator in the fraction after another`.
 impl fmt::Display for ReadError {
     fn fmt(&self, f: &mut fmt::Formatter<'_>) -> fmt::Result {
-        f.pad(self.sentence(!f.alternate()).as_str())
+        let text = self.text();
+        f.pad(match text.as_str().split_once(", which ") {
+            Some((front, _)) if f.alternate() => front,
+            _ => text.as_str(),
+        })
     }
 }
 
@@ -156,24 +144,33 @@ impl fmt::Debug for ReadError {
     }
 }
 
+/// Returns what is before a separator.
+const fn behind(place: Place) -> &'static str {
+    match place {
+        Place::BeforeDigits => " before digits",
+        Place::AfterDigit => " after a digit",
+        Place::Consecutive => " after another",
+    }
+}
+
 /// Returns what a flag requires or forbids.
-const fn what(flag: FlagSetter) -> &'static str {
+const fn required_by(flag: FlagSetter) -> &'static str {
     match flag {
-        FlagSetter::RequiredIntegerDigits => "a digit of the integer",
-        FlagSetter::RequiredFractionDigits => "a digit after the decimal point",
-        FlagSetter::RequiredExponentDigits => "a digit after the exponent character",
-        FlagSetter::RequiredMantissaDigits => "a digit of the integer or the fraction",
-        FlagSetter::NoPositiveMantissaSign => "plus sign",
-        FlagSetter::RequiredMantissaSign => "a sign",
-        FlagSetter::NoExponentNotation => "exponent",
-        FlagSetter::NoPositiveExponentSign => "plus sign in the exponent",
-        FlagSetter::RequiredExponentSign => "a sign of the exponent",
-        FlagSetter::NoExponentWithoutFraction => "exponent without a decimal point",
-        FlagSetter::RequiredExponentNotation => "an exponent",
-        FlagSetter::CaseSensitiveExponent => "case of the exponent character",
-        FlagSetter::CaseSensitiveBasePrefix => "case of the base prefix",
-        FlagSetter::CaseSensitiveBaseSuffix => "case of the base suffix",
-        FlagSetter::NoIntegerLeadingZeros | FlagSetter::NoFloatLeadingZeros => "leading zero",
+        FlagSetter::RequiredIntegerDigits => "expected a digit of the integer",
+        FlagSetter::RequiredFractionDigits => "expected a digit after the decimal point",
+        FlagSetter::RequiredExponentDigits => "expected a digit after the exponent character",
+        FlagSetter::RequiredMantissaDigits => "expected a digit of the integer or the fraction",
+        FlagSetter::NoPositiveMantissaSign => "unexpected plus sign",
+        FlagSetter::RequiredMantissaSign => "expected a sign",
+        FlagSetter::NoExponentNotation => "unexpected exponent",
+        FlagSetter::NoPositiveExponentSign => "unexpected plus sign in the exponent",
+        FlagSetter::RequiredExponentSign => "expected a sign of the exponent",
+        FlagSetter::NoExponentWithoutFraction => "unexpected exponent without a decimal point",
+        FlagSetter::RequiredExponentNotation => "expected an exponent",
+        FlagSetter::CaseSensitiveExponent => "unexpected case of the exponent character",
+        FlagSetter::CaseSensitiveBasePrefix => "unexpected case of the base prefix",
+        FlagSetter::CaseSensitiveBaseSuffix => "unexpected case of the base suffix",
+        FlagSetter::NoIntegerLeadingZeros | FlagSetter::NoFloatLeadingZeros => "unexpected leading zero",
         _ => flag.name(),
     }
 }
@@ -193,8 +190,8 @@ const fn first_character(text: &[u8]) -> &[u8] {
     }
 }
 
-/// Returns the sentence for a character, or for a byte that begins none. Characters that cannot be seen, or change the
-/// order of others, have a name or a number.
+/// Returns the sentence for a character, or for a byte that begins none. It has no character that cannot be seen or that
+/// changes the order of others.
 const fn unexpected(wrong: &[u8]) -> ShortText {
     let text = ShortText::of("unexpected ");
     match wrong {
@@ -205,30 +202,15 @@ const fn unexpected(wrong: &[u8]) -> ShortText {
         b"'" => text.and("character \"'\""),
         [byte] if byte.is_ascii_graphic() => text.and("character ").quoted(*byte),
         [byte] => text.and("byte ").decimal(*byte as usize),
-        [0xC2, 0x80..=0xA0 | 0xAD]
-        | [0xE2, 0x80, 0x80..=0x8F | 0xA8..=0xAF]
+        b"\xC2\xA0" | b"\xE2\x80\xAF" => text.and("no-break space"),
+        [0xC2, 0x80..=0x9F | 0xAD]
+        | [0xE2, 0x80, 0x80..=0x8F | 0xA8..=0xAE]
         | [0xE2, 0x81, 0x9F..=0xAF]
         | [0xE3, 0x80, 0x80]
-        | [0xEF, 0xBB, 0xBF] => code_point(text.and("character U+"), wrong),
+        | [0xEF, 0xBB, 0xBF] => text.and("invisible character"),
         _ => match str::from_utf8(wrong) {
             Ok(character) => text.and("character '").and(character).and("'"),
             Err(_) => text,
         },
-    }
-}
-
-/// Appends the number of a character of two or three bytes, as four hexadecimal digits.
-const fn code_point(text: ShortText, character: &[u8]) -> ShortText {
-    let (mut number, mut index) = (character[0] as u32 & 0x7F >> character.len(), 1);
-    while index < character.len() {
-        number = number << 6 | character[index] as u32 & 0x3F;
-        index += 1;
-    }
-    let digits = [number >> 12, number >> 8 & 15, number >> 4 & 15, number & 15];
-    let digits =
-        [digit_to_char(digits[0]), digit_to_char(digits[1]), digit_to_char(digits[2]), digit_to_char(digits[3])];
-    match str::from_utf8(&digits) {
-        Ok(digits) => text.and(digits),
-        Err(_) => text,
     }
 }
