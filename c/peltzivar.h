@@ -381,8 +381,8 @@ typedef struct {
 } peltzivar_read_error;
 
 /* Reads a text of len bytes. If it is a literal, writes its parts to *literal and returns true. Otherwise, writes where
- * reading stopped to *error and returns false. It also returns false if no call has made *reader, if `reader` is null,
- * and if the text has more than PTRDIFF_MAX bytes. */
+ * reading stopped to *error and returns false. Also refuses a reader that is null or that no call has made, and a text of
+ * more than PTRDIFF_MAX bytes. Then `valid_up_to` is 0. */
 PELTZIVAR_MUST_USE bool peltzivar_read(const peltzivar_reader *reader, const char *text, size_t len,
     peltzivar_literal *literal, peltzivar_read_error *error);
 
@@ -420,8 +420,8 @@ typedef struct {
     peltzivar_part part;
 } peltzivar_explanation;
 
-/* Writes why the text that *error comes from is not a literal to *out and returns true. Returns false and leaves *out
- * unchanged if no call has written *error, or if there was no reader, or a text of more than PTRDIFF_MAX bytes. */
+/* Writes why a text is not a literal to *out and returns true. If no call has written *error, or if the reader or the
+ * length was refused, leaves *out unchanged and returns false. */
 PELTZIVAR_MUST_USE bool peltzivar_explain(const peltzivar_read_error *error, peltzivar_explanation *out);
 
 /* SPECIAL VALUES AND LANGUAGES
@@ -439,9 +439,8 @@ enum { PELTZIVAR_SPELLING_NAN = 1, PELTZIVAR_SPELLING_INF = 2, PELTZIVAR_SPELLIN
 
 /* Reads a text of len bytes as a special value: an optional sign, and the first of the spellings that matches. The
  * flags of the reader's syntax decide which signs, cases and digit separators match. If the text is a special value,
- * writes it to *out and returns true. Otherwise, and without a reader or with a text that is
- * too long for peltzivar_read, leaves *out unchanged and returns false. A text can also be a literal, such as `inf` in
- * radix 36. So call peltzivar_read first. */
+ * writes it to *out and returns true. Otherwise, or if peltzivar_read refuses the reader or the length, leaves *out
+ * unchanged and returns false. A text can also be a literal, such as `inf` in radix 36. So call peltzivar_read first. */
 PELTZIVAR_MUST_USE bool peltzivar_read_special(const peltzivar_reader *reader, const peltzivar_specials *specials,
     const char *text, size_t len, peltzivar_special *out);
 

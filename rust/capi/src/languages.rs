@@ -1,7 +1,7 @@
 //! Calls that find languages, and that read special values.
 
 use crate::arguments::{input, Out};
-use crate::literals::{given, Reader};
+use crate::literals::{given, reader, Reader};
 use crate::names::{at, texts};
 use core::ffi::CStr;
 use core::ptr;
@@ -49,9 +49,9 @@ const COUNT: usize = Language::ALL.len();
 
 /// The readers of the languages.
 static READERS: [Reader; COUNT] = {
-    let (mut readers, mut index) = ([const { Reader::new(Language::JSON.syntax()) }; COUNT], 0);
+    let (mut readers, mut index) = ([const { reader(Language::JSON.syntax()) }; COUNT], 0);
     while index < COUNT {
-        readers[index] = Reader::new(Language::ALL[index].syntax());
+        readers[index] = reader(Language::ALL[index].syntax());
         index += 1;
     }
     readers

@@ -2,8 +2,8 @@
 
 use crate::arguments::{input, write_text, Out};
 use crate::numbers::{error_number, ErrorNumber, Setter, Word, NO_PART, NO_SETTER};
-use core::fmt::{self, Display};
-use core::mem::MaybeUninit;
+use core::fmt::Display;
+use core::mem::ManuallyDrop;
 use core::ops::Range;
 use peltzivar::literal::{self, Cause};
 use peltzivar::{Error, Format, FormatError};
@@ -42,33 +42,54 @@ impl From<literal::Syntax> for Syntax {
     }
 }
 
-/// A reader of the literals of a syntax. It has no pointer, so that a copy is a reader, too. A later version may need
-/// the room.
+/// A value that calls make, and that C sees as a number that tells it from other memory, what `shown` has, and words.
 #[repr(C)]
-pub struct Reader {
+pub struct Made<Shown, T, const WORDS: usize> {
     magic: u64,
-    syntax: Syntax,
-    reader: MaybeUninit<literal::Reader>,
-    room: [u64; READER_ROOM],
+    shown: Shown,
+    words: Words<T, WORDS>,
 }
 
-const READER_ROOM: usize = (4096 - 32 - size_of::<literal::Reader>()) / 8;
+/// A value in words of C.
+#[repr(C)]
+union Words<T, const WORDS: usize> {
+    value: ManuallyDrop<T>,
+    _words: [u64; WORDS],
+}
 
-impl Reader {
-    /// The number by which a reader is told from other memory.
-    const MAGIC: u64 = u64::from_le_bytes(*b"\xB6reader\xB6");
+impl<Shown, T, const WORDS: usize> Made<Shown, T, WORDS> {
+    const MAGIC: u64 = u64::from_le_bytes(*b"\0\0zivar\xB6") + WORDS as u64;
 
-    /// Returns the reader of a syntax.
-    pub const fn new(syntax: literal::Syntax) -> Reader {
-        let reader = MaybeUninit::new(literal::Reader::new(syntax));
-        Reader { magic: Reader::MAGIC, syntax: Syntax::of(syntax), reader, room: [0; READER_ROOM] }
+    const fn new(shown: Shown, value: T) -> Self {
+        Made { magic: Self::MAGIC, shown, words: Words { value: ManuallyDrop::new(value) } }
     }
 
-    /// Returns the reader, or `None` if no call has made it.
-    fn made(&self) -> Option<&literal::Reader> {
-        // SAFETY: with this number, the value is one that `new` returns, as the header requires.
-        (self.magic == Reader::MAGIC).then(|| unsafe { self.reader.assume_init_ref() })
+    /// Returns the value, or `None` if no call has made it.
+    fn value(&self) -> Option<&T> {
+        // SAFETY: with this number, `new` made the value, as the header requires.
+        (self.magic == Self::MAGIC).then(|| unsafe { &*self.words.value })
     }
+}
+
+/// A reader. It has no pointer, so a copy is a reader, too.
+pub type Reader = Made<Syntax, literal::Reader, 508>;
+
+/// Where reading stopped, with the length of what is valid.
+pub type ReadError = Made<usize, Refusal, 12>;
+
+// The sizes and the alignment in the header.
+const _: () = assert!(size_of::<Reader>() == 4096 && align_of::<Reader>() <= 16);
+const _: () = assert!(size_of::<ReadError>() == 112 && align_of::<ReadError>() <= 16);
+
+/// Why a call refuses a text: a sentence on its other arguments, or where reading stopped.
+pub enum Refusal {
+    Argument(&'static str),
+    Text(literal::ReadError),
+}
+
+/// Returns the reader of a syntax.
+pub const fn reader(syntax: literal::Syntax) -> Reader {
+    Made::new(Syntax::of(syntax), literal::Reader::new(syntax))
 }
 
 /// The range of a piece of a text.
@@ -111,60 +132,6 @@ impl From<literal::Literal<'_>> for Literal {
         Literal { parts, size, is_float }
     }
 }
-
-/// Why a call does not read a text.
-#[derive(Clone, Copy)]
-pub enum Refusal {
-    /// No call has made the reader.
-    NoReader,
-    /// No object in C has so many bytes.
-    TooLong,
-    /// The text is not a literal.
-    Text(literal::ReadError),
-}
-
-impl Display for Refusal {
-    fn fmt(&self, f: &mut fmt::Formatter<'_>) -> fmt::Result {
-        match self {
-            Refusal::NoReader => f.write_str("no call has made this reader"),
-            Refusal::TooLong => Error::Overflow(0).fmt(f),
-            Refusal::Text(error) => error.fmt(f),
-        }
-    }
-}
-
-/// Where reading stopped, from which the reason follows. A later version may need the room.
-#[repr(C)]
-pub struct ReadError {
-    magic: u64,
-    valid_up_to: usize,
-    refusal: MaybeUninit<Refusal>,
-    room: [u64; ERROR_ROOM],
-}
-
-const ERROR_ROOM: usize = (96 - size_of::<Refusal>()) / 8;
-
-impl ReadError {
-    /// The number by which an error is told from other memory.
-    const MAGIC: u64 = u64::from_le_bytes(*b"\xB6error1\xB6");
-
-    /// Returns why the text was refused, or `None` if no call has written the error.
-    fn refusal(&self) -> Option<Refusal> {
-        // SAFETY: with this number, the value is one that `from` returns, as the header requires.
-        (self.magic == ReadError::MAGIC).then(|| unsafe { self.refusal.assume_init() })
-    }
-}
-
-impl From<Refusal> for ReadError {
-    fn from(refusal: Refusal) -> ReadError {
-        let valid_up_to = if let Refusal::Text(error) = refusal { error.valid_up_to() } else { 0 };
-        ReadError { magic: ReadError::MAGIC, valid_up_to, refusal: MaybeUninit::new(refusal), room: [0; ERROR_ROOM] }
-    }
-}
-
-// The sizes and the alignment in the header.
-const _: () = assert!(size_of::<Reader>() == 4096 && align_of::<Reader>() <= 16);
-const _: () = assert!(size_of::<ReadError>() == 112 && align_of::<ReadError>() <= 16);
 
 /// Why a text is not a literal, and the bytes to show.
 #[repr(C)]
@@ -211,8 +178,8 @@ pub unsafe fn given(
     text: *const u8,
     len: usize,
 ) -> Result<(&literal::Reader, &[u8]), Refusal> {
-    let reader = reader.and_then(Reader::made).ok_or(Refusal::NoReader)?;
-    Ok((reader, input(text, len).ok_or(Refusal::TooLong)?))
+    let reader = reader.and_then(Reader::value).ok_or(Refusal::Argument("no call has made this reader"))?;
+    Ok((reader, input(text, len).ok_or(Refusal::Argument("the text has more than PTRDIFF_MAX bytes"))?))
 }
 
 /// Writes what `read` returns for a text, and returns whether it is a literal.
@@ -221,23 +188,23 @@ unsafe fn read_by<'a>(
     (literal, error): (Out<Literal>, Out<ReadError>),
     read: impl Fn(&'a literal::Reader, &'a [u8]) -> Result<literal::Literal<'a>, literal::ReadError>,
 ) -> bool {
-    let refusal = match given(reader, text, len) {
-        Err(refusal) => refusal,
+    let (valid_up_to, refusal) = match given(reader, text, len) {
+        Err(refusal) => (0, refusal),
         Ok((reader, text)) => match read(reader, text) {
-            Err(error) => Refusal::Text(error),
+            Err(error) => (error.valid_up_to(), Refusal::Text(error)),
             Ok(found) => {
                 literal.write(found.into());
                 return true;
             }
         },
     };
-    error.write(refusal.into());
+    error.write(Made::new(valid_up_to, refusal));
     false
 }
 
 calls! {
     fn peltzivar_reader_init(reader: Out<Reader>, syntax: &Syntax) -> ErrorNumber {
-        reader.write_ok(syntax.checked().map(Reader::new).map_err(Error::from))
+        reader.write_ok(syntax.checked().map(self::reader).map_err(Error::from))
     }
 
     fn peltzivar_syntax_error_text(syntax: &Syntax, text: *mut u8, len: usize) -> usize {
@@ -257,13 +224,15 @@ calls! {
     }
 
     fn peltzivar_explain(error: &ReadError, out: Out<Explanation>) -> bool {
-        match error.refusal() {
-            Some(Refusal::Text(error)) => out.write_some(Some(error)),
-            _ => false,
-        }
+        out.write_some(if let Some(Refusal::Text(error)) = error.value() { Some(*error) } else { None })
     }
 
     fn peltzivar_read_error_text(error: &ReadError, text: *mut u8, len: usize) -> usize {
-        write_text(text, len, error.refusal())
+        write_text(text, len, error.value().map(|refusal| -> &dyn Display {
+            match refusal {
+                Refusal::Argument(sentence) => sentence,
+                Refusal::Text(error) => error,
+            }
+        }))
     }
 }
