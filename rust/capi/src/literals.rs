@@ -155,14 +155,14 @@ impl From<literal::ReadError> for Explanation {
             Cause::Missing(part) => (5, Some(part)),
             _ => (0, None),
         };
-        let Range { start, end } = error.span();
+        let (Range { start, end }, code, mask) = (error.span(), error.code(), error.mask());
         Explanation {
             span: Span { start, end },
-            index: error.code().index().copied().unwrap_or(0),
-            mask: error.mask().into(),
-            code: error_number(error.code()),
+            index: code.index().copied().unwrap_or(0),
+            mask: mask.into(),
+            code: error_number(code),
             kind,
-            number: if error.mask() == 0 { NO_SETTER } else { error.mask().trailing_zeros() as Setter },
+            number: if mask == 0 { NO_SETTER } else { mask.trailing_zeros() as Setter },
             part: part.map_or(NO_PART, |part| part as u8),
         }
     }
