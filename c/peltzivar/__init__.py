@@ -23,17 +23,19 @@ import operator
 import os
 import reprlib
 from ctypes import CDLL, POINTER, Structure, c_bool, c_char_p, c_size_t, c_uint8, c_uint32, c_uint64
-from ctypes import create_string_buffer
+from ctypes import create_string_buffer, sizeof
 from dataclasses import dataclass, field
 from enum import Enum
 from itertools import count, repeat, takewhile
 from pathlib import Path
+from struct import Struct
 from types import SimpleNamespace
 from typing import Any, AnyStr, Callable, Dict, Generic, Iterable, List, Optional, Tuple, Type, TypeVar, Union, cast
 
-__all__ = ["STANDARD", "Byte", "Cause", "Edit", "Error", "Format", "FormatError", "FormatView", "Language", "Literal"]
-__all__ += ["LiteralError", "Note", "OptionsError", "Part", "Reason", "ReasonsError", "Role", "Rule", "Separators"]
-__all__ += ["Setter", "SettingsError", "Special", "Specials", "Spelling", "Syntax", "Value", "languages", "notes_of"]
+__all__ = ["STANDARD", "Byte", "Edit", "Error", "Format", "FormatError", "FormatView", "Language", "Literal"]
+__all__ += ["LiteralError", "Note", "OptionsError", "Part", "ReadErrorKind", "Reason", "ReasonsError", "Role", "Rule"]
+__all__ += ["Separators", "Setter", "SettingsError", "Special", "Specials", "Spelling", "Syntax", "Value", "languages"]
+__all__ += ["notes_of"]
 
 class _Named(Enum):
     def __str__(self) -> str:
@@ -211,7 +213,7 @@ class Role(_Named):
     POINT = 7
 
 
-class Cause(_Named):
+class ReadErrorKind(_Named):
     """The kinds of causes why a text is not a literal."""
 
     REQUIREMENT = 1
@@ -272,6 +274,14 @@ class _Syntax(Structure):
     ]
 
 
+class _Reader(Structure):
+    _fields_ = [
+        ("magic", c_uint64),
+        ("syntax", _Syntax),
+        ("tables", c_uint64 * 508),
+    ]
+
+
 class _Span(Structure):
     _fields_ = [
         ("start", c_size_t),
@@ -297,11 +307,19 @@ class _Literal(Structure):
 
 class _ReadError(Structure):
     _fields_ = [
+        ("magic", c_uint64),
         ("valid_up_to", c_size_t),
+        ("stop", c_uint64 * 12),
+    ]
+
+
+class _Explanation(Structure):
+    _fields_ = [
         ("span", _Span),
         ("index", c_size_t),
         ("mask", _Word),
-        ("cause", c_uint8),
+        ("code", c_uint32),
+        ("kind", c_uint8),
         ("number", c_uint8),
         ("part", c_uint8),
     ]
@@ -367,12 +385,14 @@ _CALLS: Dict[str, Tuple[Any, List[Any]]] = {
     "is_base_suffix": (c_bool, [_Word, c_uint8]),
     "role_of": (c_uint8, [_Word, c_uint8, c_uint8, c_uint8]),
     "role_name": (c_char_p, [c_uint8]),
-    "syntax_check": (c_uint32, [_Word, c_uint8, c_uint8, POINTER(_Syntax)]),
-    "read": (c_uint32, [POINTER(_Syntax), c_char_p, c_size_t, POINTER(_Literal), POINTER(_ReadError)]),
-    "read_prefix": (c_uint32, [POINTER(_Syntax), c_char_p, c_size_t, POINTER(_Literal), POINTER(_ReadError)]),
-    "read_error_text": (c_size_t, [POINTER(_Syntax), c_char_p, c_size_t, c_char_p, c_size_t]),
-    "read_special": (c_uint32, [POINTER(_Syntax), POINTER(_Specials), c_char_p, c_size_t, POINTER(_Special)]),
-    "language": (c_bool, [c_char_p, c_size_t, POINTER(_Syntax), POINTER(_Specials)]),
+    "reader_init": (c_uint32, [POINTER(_Reader), POINTER(_Syntax)]),
+    "syntax_error_text": (c_size_t, [POINTER(_Syntax), c_char_p, c_size_t]),
+    "read": (c_bool, [POINTER(_Reader), c_char_p, c_size_t, POINTER(_Literal), POINTER(_ReadError)]),
+    "read_prefix": (c_bool, [POINTER(_Reader), c_char_p, c_size_t, POINTER(_Literal), POINTER(_ReadError)]),
+    "read_error_text": (c_size_t, [POINTER(_ReadError), c_char_p, c_size_t]),
+    "explain": (c_bool, [POINTER(_ReadError), POINTER(_Explanation)]),
+    "read_special": (c_bool, [POINTER(_Reader), POINTER(_Specials), c_char_p, c_size_t, POINTER(_Special)]),
+    "language": (POINTER(_Reader), [c_char_p, c_size_t, POINTER(_Specials)]),
     "language_name": (c_char_p, [c_size_t]),
     "read_settings": (c_size_t, [c_char_p, c_size_t, POINTER(_Syntax)]),
     "settings_text": (c_size_t, [c_char_p, c_size_t, c_size_t, c_char_p, c_size_t]),
@@ -638,7 +658,7 @@ class LiteralError(ValueError):
 
     `valid_up_to` is the length of the longest beginning of the text that some literal begins with. If it is the length
     of the text, characters are missing. `span` is the first index and the end of the characters to show, maybe none, as
-    in `text[slice(*span)]`. `cause` is the kind of the cause, and `part` the part of a separator or of missing digits.
+    in `text[slice(*span)]`. `kind` is the kind of the cause, and `part` the part of a separator or of missing digits.
     `mask` has the flags to blame as bits of a word. A wrong byte and missing digits blame none. `error` is the error of
     `lexical-util`.
     """
@@ -647,7 +667,7 @@ class LiteralError(ValueError):
     text: Union[str, bytes]
     valid_up_to: int
     span: Tuple[int, int]
-    cause: Cause
+    kind: ReadErrorKind
     part: Optional[Part]
     mask: int
     error: Error
@@ -655,7 +675,7 @@ class LiteralError(ValueError):
     @property
     def edits(self) -> Tuple[Edit, ...]:
         """The edits of the format that end the cause: each alone for a separator, and otherwise all together."""
-        return tuple(Edit.of(it, self.cause is Cause.SEPARATOR) for it in _members(Setter, self.mask))
+        return tuple(Edit.of(it, self.kind is ReadErrorKind.SEPARATOR) for it in _members(Setter, self.mask))
 
     def __str__(self) -> str:
         return self.sentence
@@ -1080,7 +1100,7 @@ class Syntax:
     format: Format
     exponent: Optional[Byte] = "e"
     point: Optional[Byte] = "."
-    _numbers: _Syntax = field(init=False, repr=False, compare=False)
+    _reader: _Reader = field(init=False, repr=False, compare=False)
 
     def __post_init__(self) -> None:
         format, options = _typed("format", self.format, Format).normal_form(), (0, 0)
@@ -1088,7 +1108,12 @@ class Syntax:
             options = _byte("exponent", self.exponent), _byte("point", self.point)
             format.check_options(*options)
         exponent, point = (chr(it) if it else None for it in options)
-        vars(self).update(format=format, exponent=exponent, point=point, _numbers=_Syntax(format._halves, *options))
+        vars(self).update(format=format, exponent=exponent, point=point, _reader=_Reader())
+        _library.reader_init(self._reader, _Syntax(format._halves, *options))
+
+    def __reduce__(self) -> Tuple[Any, ...]:
+        """Returns what makes the syntax again, since a reader is of this build of the library."""
+        return type(self), (self.format, self.exponent, self.point)
 
     @classmethod
     def integers(cls, format: Format) -> Syntax:
@@ -1131,7 +1156,7 @@ class Syntax:
 
         Each index is one of the text: of characters in a `str`, and of bytes in `bytes`.
         """
-        return self._read(_library.read, text)
+        return _accepted(text, self._read(_library.read, text))
 
     def read_prefix(self, text: AnyStr) -> Tuple[Literal[AnyStr], AnyStr]:
         """Returns the longest literal that a text begins with, and the rest. Raises LiteralError if there is none.
@@ -1140,27 +1165,46 @@ class Syntax:
             >>> literal.text, rest
             ('1.25', '.3')
         """
-        literal = self._read(_library.read_prefix, text)
+        literal = _accepted(text, self._read(_library.read_prefix, text))
         return literal, text[len(literal.text) :]
 
-    def _read(self, call: Any, text: AnyStr) -> Literal[AnyStr]:
-        """Calls peltzivar_read or peltzivar_read_prefix."""
-        literal, refused, data, numbers = _Literal(), _ReadError(), _readable(text), self._numbers
-        if error := call(numbers, data, len(data), literal, refused):
-            sentence, index = _text(_library.read_error_text, numbers, data, len(data)), refused.valid_up_to
-            if isinstance(text, str) and data[index : index + 1] == b"\xff":
-                sentence = f"unexpected character {text[index]!r}"
-            part = Part(refused.part) if refused.part != _NO_PART else None
-            span, cause, mask = (refused.span.start, refused.span.end), Cause(refused.cause), _joined(refused.mask)
-            raise LiteralError(sentence, text, index, span, cause, part, mask, Error(error))
-        parts = (getattr(literal, name) for name, kind in _Literal._fields_ if kind is _Span)
-        return Literal(self, text[: literal.size], *(text[part.start : part.end] for part in parts))
+    def _read(self, call: Any, text: AnyStr) -> Union[Literal[AnyStr], _ReadError]:
+        """Returns the literal of peltzivar_read or peltzivar_read_prefix, or where it stopped."""
+        parts, stopped, data = _Literal(), _ReadError(), _readable(text)
+        if not call(self._reader, data, len(data), parts, stopped):
+            return stopped
+        a, b, c, d, e, f, g, h, size = _ENDS(parts)
+        literal: Literal[AnyStr] = Literal.__new__(Literal)
+        # Without `__init__`, which is slow in a frozen class.
+        literal.__dict__.update(
+            syntax=self, text=text[:size], sign=text[:a], prefix=text[a:b], integer=text[b:c], point=text[c:d],
+            fraction=text[d:e], exponent_character=text[e:f], exponent_sign=text[f:g], exponent=text[g:h],
+            suffix=text[h:size],
+        )  # fmt: skip
+        return literal
+
+
+# The ends of the nine parts of a literal, each of which begins where that before it ends.
+_ENDS = Struct(f"{sizeof(c_size_t)}xN" * 9).unpack_from
+
+
+def _accepted(text: AnyStr, found: Union[Literal[AnyStr], _ReadError]) -> Literal[AnyStr]:
+    """Returns the literal that was found. Raises LiteralError if there is none."""
+    if isinstance(found, Literal):
+        return found
+    why, index = _Explanation(), found.valid_up_to
+    _library.explain(found, why)
+    is_byte = isinstance(text, bytes) or text[index : index + 1].isascii()
+    sentence = _text(_library.read_error_text, found) if is_byte else f"unexpected character {text[index]!r}"
+    part = Part(why.part) if why.part != _NO_PART else None
+    span, kind, mask = (why.span.start, why.span.end), ReadErrorKind(why.kind), _joined(why.mask)
+    raise LiteralError(sentence, text, index, span, kind, part, mask, Error(why.code))
 
 
 def _readable(text: object) -> bytes:
     """Returns a text as bytes, up to the first character that is not ASCII, for which it has a byte that is not."""
     try:
-        return text if isinstance(text, bytes) else _typed("a text", text, str, "a str or bytes").encode("ascii")
+        return text.encode("ascii") if isinstance(text, str) else _typed("a text", text, bytes, "a str or bytes")
     except UnicodeEncodeError as error:
         return error.object[: error.start].encode("ascii") + b"\xff"
 
@@ -1206,11 +1250,11 @@ class Specials:
     def read(self, syntax: Syntax, text: Union[str, bytes]) -> Optional[Special]:
         """Returns the special value that a text is, or None. The flags of the syntax decide which signs, cases of
         letters and digit separators it may have. A text can also be a literal, such as `inf` in radix 36."""
-        data, special, numbers = _encoded("a text", text), _Special(), _typed("syntax", syntax, Syntax)._numbers
+        data, special, reader = _encoded("a text", text), _Special(), _typed("syntax", syntax, Syntax)._reader
         spellings = [_encoded("a spelling", "" if it is None else it) for it in (self.nan, self.inf, self.infinity)]
         if any(b"\0" in it for it in spellings):
             raise ValueError(f"a spelling has a null character: {self}")
-        if _library.read_special(numbers, _Specials(*spellings), data, len(data), special):
+        if not _library.read_special(reader, _Specials(*spellings), data, len(data), special):
             return None
         return Special(chr(special.sign) if special.sign else "", Spelling(special.spelling))
 
@@ -1315,10 +1359,10 @@ class Language(_Named):
 
     @functools.cached_property
     def _definition(self) -> Tuple[Syntax, Specials]:
-        syntax, specials = _Syntax(), _Specials()
-        _library.language(self.name.encode(), len(self.name), syntax, specials)
+        specials = _Specials()
+        reader = _library.language(self.name.encode(), len(self.name), specials).contents
         spellings = (getattr(specials, it) for it, _ in _Specials._fields_)
-        return Syntax._of_numbers(syntax), Specials(*(it.decode() if it else None for it in spellings))
+        return Syntax._of_numbers(reader.syntax), Specials(*(it.decode() if it else None for it in spellings))
 
     @property
     def syntax(self) -> Syntax:
@@ -1332,12 +1376,11 @@ class Language(_Named):
 
     def read(self, text: AnyStr) -> Union[Literal[AnyStr], Special]:
         """Returns the number that a text is: a literal or a special value. Raises LiteralError if it is neither."""
-        try:
-            return self.syntax.read(text)
-        except LiteralError:
-            if special := self.specials.read(self.syntax, text):
-                return special
-            raise
+        syntax, specials = self._definition
+        found = syntax._read(_library.read, text)
+        if isinstance(found, Literal):
+            return found
+        return specials.read(syntax, text) or _accepted(text, found)
 
 
 languages = Language

@@ -20,8 +20,8 @@ TESTS = pathlib.Path(__file__).resolve().parent
 TOP = TESTS.parent.parent
 sys.path.insert(0, str(TESTS.parent))
 import peltzivar
-from peltzivar import Cause, Edit, Error, Format, FormatError, FormatView, Language, LiteralError, OptionsError, Part, Role
-from peltzivar import Rule, Setter, SettingsError, Special, Specials, Spelling, Syntax, notes_of
+from peltzivar import Edit, Error, Format, FormatError, FormatView, Language, LiteralError, OptionsError, Part, ReadErrorKind
+from peltzivar import Role, Rule, Setter, SettingsError, Special, Specials, Spelling, Syntax, notes_of
 
 PAGE = (TOP / "docs/FORMAT.md").read_text()
 FLAGS = re.findall(r"^\| (\d+) \| `(\w+)` \| (?:true|false) \|", PAGE, re.M)
@@ -198,8 +198,8 @@ class Literals(unittest.TestCase):
                 with self.assertRaises(LiteralError) as caught:
                     Syntax(FormatView.of(*settings.split()).check()).read(given)
                 error = pickle.loads(pickle.dumps(caught.exception))
-                got = error.text, error.cause, [error.valid_up_to, *error.span]
-                self.assertEqual(got, (given, Cause[cause.upper()], [*map(int, numbers)]), settings)
+                got = error.text, error.kind, [error.valid_up_to, *error.span]
+                self.assertEqual(got, (given, ReadErrorKind[cause.upper()], [*map(int, numbers)]), settings)
                 if cause == "missing":
                     self.assertEqual((error.part, error.edits), (Part[blamed.upper()], ()))
                 else:
@@ -220,6 +220,8 @@ class Literals(unittest.TestCase):
         for syntax in syntaxes:
             copies = eval(repr(syntax)), pickle.loads(pickle.dumps(syntax)), copy.deepcopy(syntax)
             self.assertEqual({syntax, *copies}, {syntaxes[3] if syntax is syntaxes[3] else syntaxes[0]})
+            self.assertEqual([it.read("-1").integer for it in copies], ["1"] * 3)
+            self.assertLess(len(pickle.dumps(syntax)), 200)  # Another build must make its own reader.
 
     def test_languages_read_the_texts_of_their_grammars(self):
         rows = [row.split()[:3] for row in (TOP / "rust/tests/literals.txt").read_text().splitlines() if row and row[0] != "#"]
