@@ -17,7 +17,7 @@ pub use setters::{
     field_edits_of, ArgumentKind, Edit, FlagSetter, Setter, ALL_SETTERS, FIELD_COUNT, FLAG_COUNT, SETTERS,
 };
 pub(crate) use settings::Fault;
-pub use settings::{byte_from_decimal, SettingError, SettingErrorKind};
+pub use settings::{byte_from_decimal, EditError, EditErrorKind};
 
 /// Calls the setter of `edit` on `builder`, and returns the new builder.
 #[inline(always)]

@@ -3,7 +3,7 @@
 use core::fmt::{self, Write};
 use core::str::from_utf8;
 
-use crate::edits::{apply, Edit, Fault, Setter, SettingError, SettingErrorKind, FIELD_COUNT};
+use crate::edits::{apply, Edit, EditError, EditErrorKind, Fault, Setter, FIELD_COUNT};
 use crate::format::{NumberFormatBuilder, EXPONENT_BASE, EXPONENT_RADIX, MANTISSA_RADIX};
 use crate::format_error::{self, ONE_OPTION};
 use crate::literal::Syntax;
@@ -114,7 +114,7 @@ impl Settings {
     /// # Errors
     ///
     /// Returns the error of the first text that is refused.
-    pub fn read<T: AsRef<[u8]>>(texts: impl IntoIterator<Item = T>) -> Result<Self, SettingsError> {
+    pub fn read<T: AsRef<[u8]>>(texts: impl IntoIterator<Item = T>) -> Result<Self, LineError> {
         let mut settings = Settings::new();
         let mut texts = texts.into_iter();
         texts.try_for_each(|text| settings.add(text))?;
@@ -133,7 +133,7 @@ impl Settings {
     /// # Errors
     ///
     /// Returns an error if the text has no `=`, if its name is unknown, or if the name does not take the value.
-    pub fn add(&mut self, text: impl AsRef<[u8]>) -> Result<(), SettingsError> {
+    pub fn add(&mut self, text: impl AsRef<[u8]>) -> Result<(), LineError> {
         let (index, text) = (self.count, text.as_ref());
         self.count += 1;
         let text = match text.strip_prefix(b"\xEF\xBB\xBF") {
@@ -243,12 +243,12 @@ fn filled<T: Copy, const N: usize>(items: impl Iterator<Item = T>) -> [Option<T>
 }
 
 /// Returns the edit of a text. If it sets an option, returns the number of the option, and the edit sets a separator.
-fn parse(index: usize, text: &[u8]) -> Result<(Option<usize>, Edit), SettingsError> {
+fn parse(index: usize, text: &[u8]) -> Result<(Option<usize>, Edit), LineError> {
     let refuse = |fault, option, refused: &[u8]| {
-        let (error, length, mut piece) = (SettingError(fault), refused.len(), [0; SHOWN]);
+        let (error, length, mut piece) = (EditError(fault), refused.len(), [0; SHOWN]);
         let pairs = piece.iter_mut().zip(refused);
         pairs.for_each(|(to, byte)| *to = *byte);
-        SettingsError { index, error, option, piece, length }
+        LineError { index, error, option, piece, length }
     };
     let equals = text.iter().position(|byte| *byte == b'=');
     let equals = equals.ok_or_else(|| refuse(Fault::NoEquals, None, text))?;
@@ -353,16 +353,16 @@ impl fmt::Display for Finding {
 /// `Display` prints a sentence without the index. It names the text, or the name or value in it that is refused, by at
 /// most 40 bytes. A byte that is not printable ASCII is escaped, as in `\x1b`.
 #[derive(Debug, Clone, Copy, PartialEq, Eq, Hash)]
-pub struct SettingsError {
+pub struct LineError {
     index: usize,
-    error: SettingError,
+    error: EditError,
     option: Option<usize>,
     /// The first bytes of what is refused, and its length.
     piece: [u8; SHOWN],
     length: usize,
 }
 
-impl SettingsError {
+impl LineError {
     /// Returns the index of the text.
     #[must_use]
     pub const fn index(&self) -> usize {
@@ -371,17 +371,17 @@ impl SettingsError {
 
     /// Returns what is wrong with the text.
     #[must_use]
-    pub const fn kind(&self) -> SettingErrorKind {
+    pub const fn kind(&self) -> EditErrorKind {
         self.error.kind()
     }
 }
 
-impl core::error::Error for SettingsError {}
+impl core::error::Error for LineError {}
 
-impl fmt::Display for SettingsError {
+impl fmt::Display for LineError {
     fn fmt(&self, f: &mut fmt::Formatter<'_>) -> fmt::Result {
         match (self.kind(), self.option) {
-            (SettingErrorKind::UnknownName, _) => f.write_str("unknown setting `")?,
+            (EditErrorKind::UnknownName, _) => f.write_str("unknown setting `")?,
             (_, None) => write!(f, "{}, not `", self.error)?,
             (_, Some(option)) => {
                 let (name, default) = (OPTIONS[option], char::from(DEFAULTS[option]));
@@ -398,7 +398,7 @@ impl fmt::Display for SettingsError {
         }
         f.write_str(if self.length > SHOWN { "..`" } else { "`" })?;
         match (self.kind(), nearest(shown)) {
-            (SettingErrorKind::UnknownName, Some(name)) => write!(f, "; did you mean `{name}`?"),
+            (EditErrorKind::UnknownName, Some(name)) => write!(f, "; did you mean `{name}`?"),
             _ => Ok(()),
         }
     }

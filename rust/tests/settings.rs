@@ -5,7 +5,7 @@
 #[allow(dead_code)]
 mod settings;
 
-use peltzivar::{SettingErrorKind, Settings};
+use peltzivar::{EditErrorKind, Settings};
 use settings::load;
 
 /// The syntax of a file, and the lines that are printed for it. The word of a syntax is in normal form.
@@ -111,7 +111,7 @@ fn files_give_a_syntax_and_what_is_found() {
 fn reading_ends_at_the_first_error() {
     let texts = ["", "radix=16", "no_special=yes", "radix=8", "?"];
     let error = Settings::read(texts).unwrap_err();
-    assert_eq!((error.index(), error.kind()), (2, SettingErrorKind::BadValue));
+    assert_eq!((error.index(), error.kind()), (2, EditErrorKind::BadValue));
     let settings = Settings::read(&texts[..2]).unwrap();
     // The options do not matter to the format.
     assert_eq!(settings.build_format().unwrap().word(), 0x00001000_00000000_00000000_0000000C);

@@ -6,8 +6,8 @@ use peltzivar::literal::{
     Cause, Digits, Language, Literal, Number, Place, ReadError, Reader, Special, Specials, Syntax,
 };
 use peltzivar::{
-    with_setters, word, Edit, Error, Finding, FlagSetter, Format, FormatError, FormatView, Note, NumberFormat, Part,
-    Reason, Rule, Setter, SettingError, SettingErrorKind, Settings, SettingsError,
+    with_setters, word, Edit, EditError, EditErrorKind, Error, Finding, FlagSetter, Format, FormatError, FormatView,
+    LineError, Note, NumberFormat, Part, Reason, Rule, Setter, Settings,
 };
 use std::error::Error as StdError;
 use std::fmt::Debug;
@@ -22,7 +22,7 @@ const _: () = {
     const fn is_error<T: StdError>() {}
     const fn is_shared<T: Clone + Debug + Send + Sync + Unpin>() {}
     are_values::<(Edit, Error, FlagSetter, Format, FormatError, FormatView, Note, NumberFormat<STANDARD>)>();
-    are_values::<(NumberFormatBuilder, Reason, Rule, SettingError, SettingErrorKind, Finding, SettingsError)>();
+    are_values::<(NumberFormatBuilder, Reason, Rule, EditError, EditErrorKind, Finding, LineError)>();
     are_values::<(Cause, Language, Literal<'_>, Number<'_>, Place, ReadError, Special, Specials<'_>, Syntax)>();
     is_shared::<(Digits<'_>, Reader, Settings)>();
     are_ordered::<(Edit, Error, FlagSetter, Format, FormatView, Rule)>();
@@ -30,8 +30,8 @@ const _: () = {
     is_error::<FormatError>();
     is_error::<ReadError>();
     is_error::<Reason>();
-    is_error::<SettingError>();
-    is_error::<SettingsError>();
+    is_error::<EditError>();
+    is_error::<LineError>();
 };
 
 macro_rules! constants {

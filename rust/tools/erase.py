@@ -97,7 +97,7 @@ EVERYWHERE = [
 
 # Types that may grow. In plain Rust, a match outside the crate has to have an arm for what they lack today.
 GROWS = {
-    "enum": "ArgumentKind Byte Cause Class Edit Error FlagSetter Note Part Place Radixes Role Rule Setter SettingErrorKind",
+    "enum": "ArgumentKind Byte Cause Class Edit Error FlagSetter Note Part Place Radixes Role Rule Setter EditErrorKind",
     "struct": "NamedByte Separators",
 }
 for kind, types in GROWS.items():

@@ -28,7 +28,7 @@ pub use setters::{
     field_edits_of,
 };
 pub(crate) use settings::Fault;
-pub use settings::{SettingError, SettingErrorKind, byte_from_decimal};
+pub use settings::{EditError, EditErrorKind, byte_from_decimal};
 
 /// Calls the setter of `edit` on `builder`, and returns the new builder.
 #[inline(always)]

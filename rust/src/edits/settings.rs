@@ -11,7 +11,7 @@ use core::fmt;
 ///
 /// The error message never repeats any part of the string, since the string may come from an untrusted file.
 #[derive(Debug, Clone, Copy, PartialEq, Eq, Hash)]
-pub struct SettingError(pub(crate) Fault);
+pub struct EditError(pub(crate) Fault);
 
 // What is wrong with a string that is not a setting. `BadValue` has the setter that does not take the value.
 #[derive(Debug, Clone, Copy, PartialEq, Eq, Hash)]
@@ -24,7 +24,7 @@ pub(crate) enum Fault {
 /// What is wrong with a string that is not a setting.
 #[derive(Debug, Clone, Copy, PartialEq, Eq, Hash)]
 #[non_exhaustive]
-pub enum SettingErrorKind {
+pub enum EditErrorKind {
     /// The string has no `=`.
     NoEquals,
     /// No setter has the name.
@@ -33,14 +33,14 @@ pub enum SettingErrorKind {
     BadValue,
 }
 
-impl SettingError {
+impl EditError {
     /// Returns what is wrong.
     #[must_use]
-    pub const fn kind(&self) -> SettingErrorKind {
+    pub const fn kind(&self) -> EditErrorKind {
         match self.0 {
-            Fault::NoEquals => SettingErrorKind::NoEquals,
-            Fault::UnknownName => SettingErrorKind::UnknownName,
-            Fault::BadValue(_) => SettingErrorKind::BadValue,
+            Fault::NoEquals => EditErrorKind::NoEquals,
+            Fault::UnknownName => EditErrorKind::UnknownName,
+            Fault::BadValue(_) => EditErrorKind::BadValue,
         }
     }
 
@@ -55,7 +55,7 @@ impl SettingError {
 }
 
 /// Prints the error message, such as ``no_special takes `true` or `false` `` or `unknown setting name`.
-impl fmt::Display for SettingError {
+impl fmt::Display for EditError {
     fn fmt(&self, f: &mut fmt::Formatter<'_>) -> fmt::Result {
         match self.0 {
             Fault::NoEquals => f.write_str("expected NAME=VALUE"),
@@ -91,8 +91,8 @@ impl Setter {
     ///
     /// # Errors
     ///
-    /// Returns a [`SettingError`] if the setter does not take the value.
-    pub fn parse(self, value: &str) -> Result<Edit, SettingError> {
+    /// Returns a [`EditError`] if the setter does not take the value.
+    pub fn parse(self, value: &str) -> Result<Edit, EditError> {
         let byte = match (self.kind(), value) {
             (ArgumentKind::Flag, "true") => Some(1),
             (ArgumentKind::Flag, "false") | (ArgumentKind::OptionalByte, "none") => Some(0),
@@ -106,16 +106,16 @@ impl Setter {
     }
 
     // Returns the error for a value that the setter does not take.
-    const fn refusal(self) -> SettingError {
-        SettingError(Fault::BadValue(self))
+    const fn refusal(self) -> EditError {
+        EditError(Fault::BadValue(self))
     }
 }
 
 // Returns the setter with a name.
-fn setter_named(name: &str) -> Result<Setter, SettingError> {
+fn setter_named(name: &str) -> Result<Setter, EditError> {
     match Setter::from_name(name) {
         Some(setter) => Ok(setter),
-        None => Err(SettingError(Fault::UnknownName)),
+        None => Err(EditError(Fault::UnknownName)),
     }
 }
 
@@ -124,8 +124,8 @@ impl Edit {
     ///
     /// # Errors
     ///
-    /// Returns a [`SettingError`] if no setter has the name, or if the setter takes a byte.
-    pub fn flag(name: &str, flag: bool) -> Result<Edit, SettingError> {
+    /// Returns a [`EditError`] if no setter has the name, or if the setter takes a byte.
+    pub fn flag(name: &str, flag: bool) -> Result<Edit, EditError> {
         match setter_named(name)? {
             Setter::Flag(setter) => Ok(Edit::Flag(setter, flag)),
             setter => Err(setter.refusal()),
@@ -136,8 +136,8 @@ impl Edit {
     ///
     /// # Errors
     ///
-    /// Returns a [`SettingError`] if no setter has the name, or if the setter takes a flag.
-    pub fn byte(name: &str, byte: u8) -> Result<Edit, SettingError> {
+    /// Returns a [`EditError`] if no setter has the name, or if the setter takes a flag.
+    pub fn byte(name: &str, byte: u8) -> Result<Edit, EditError> {
         match setter_named(name)? {
             setter @ Setter::Flag(_) => Err(setter.refusal()),
             setter => Ok(setter.with_byte(byte)),
@@ -148,8 +148,8 @@ impl Edit {
     ///
     /// # Errors
     ///
-    /// Returns a [`SettingError`] if no setter has the name, or if the setter does not take the value.
-    pub fn from_setting(name: &str, value: &str) -> Result<Edit, SettingError> {
+    /// Returns a [`EditError`] if no setter has the name, or if the setter does not take the value.
+    pub fn from_setting(name: &str, value: &str) -> Result<Edit, EditError> {
         setter_named(name)?.parse(value)
     }
 
@@ -159,13 +159,13 @@ impl Edit {
     ///
     /// # Errors
     ///
-    /// Returns a [`SettingError`] if `text` has no `=`, if no setter has the name, or if the setter does not take the
+    /// Returns a [`EditError`] if `text` has no `=`, if no setter has the name, or if the setter does not take the
     /// value.
     #[doc(hidden)]
-    pub fn from_text(text: &str) -> Result<Edit, SettingError> {
+    pub fn from_text(text: &str) -> Result<Edit, EditError> {
         match text.split_once('=') {
             Some((name, value)) => Edit::from_setting(name, value),
-            None => Err(SettingError(Fault::NoEquals)),
+            None => Err(EditError(Fault::NoEquals)),
         }
     }
 }

@@ -1,7 +1,7 @@
 //! Settings as text.
 
 use peltzivar::edits::{ArgumentKind, Edit, FlagSetter, Setter};
-use peltzivar::SettingErrorKind::{BadValue, NoEquals, UnknownName};
+use peltzivar::EditErrorKind::{BadValue, NoEquals, UnknownName};
 use std::num::NonZeroU8;
 
 /// Each edit is printed as `NAME=VALUE`, and is parsed from this text.

@@ -1,4 +1,4 @@
--- The names of setters, and the settings that call them, for `Setter`, `Edit` and `SettingError`.
+-- The names of setters, and the settings that call them, for `Setter`, `Edit` and `EditError`.
 use Rattle.std.specs.Prelude.{ℕ, ◌≡◌, ◌≢◌, ◌==◌, ◌&&◌, Bool, true, false, nat_lt, if◌then◌else◌, Option, Some, None}
 use Rattle.std.specs.Prelude.{Result, Ok, Err, List, [], ◌∷◌, codes, take, drop, slice_index, bytes_eq}
 use Rattle.std.specs.Bool.{then_some}
@@ -14,7 +14,7 @@ use Rattle.lexical_util.specs.declared.edits.setters.FlagSetter.TheVariants as f
 use Rattle.lexical_util.specs.declared.edits.setters.Setter.{Setter}
 use Rattle.lexical_util.specs.declared.edits.setters.Setter.TheVariants as setters
 use Rattle.lexical_util.specs.declared.edits.settings.Fault.TheVariants as faults
-use Rattle.lexical_util.specs.declared.edits.settings.SettingError.{SettingError}
+use Rattle.lexical_util.specs.declared.edits.settings.EditError.{EditError}
 
 -- `name_of setter` is the name of `setter`.
 unfoldable pub name_of : Setter → List ℕ
@@ -115,18 +115,18 @@ is_equals byte = byte == 61
 
 -- `no_equals`, `unknown_name` and `bad_value setter` are the errors of a text without `=`, of a name that no setter has,
 -- and of a value that `setter` does not take.
-abbrev pub no_equals : SettingError
+abbrev pub no_equals : EditError
 no_equals = record { 0 = faults.NoEquals }
 
-abbrev pub unknown_name : SettingError
+abbrev pub unknown_name : EditError
 unknown_name = record { 0 = faults.UnknownName }
 
-abbrev pub bad_value : Setter → SettingError
+abbrev pub bad_value : Setter → EditError
 bad_value setter = record { 0 = faults.BadValue setter }
 
 -- `IsParsed setter value result` holds if `result` is an edit that calls `setter` with the argument that `value`
 -- represents, or the error `bad_value setter` if it represents none.
-abbrev pub IsParsed : Setter → List ℕ → Result Edit SettingError → Type 0
+abbrev pub IsParsed : Setter → List ℕ → Result Edit EditError → Type 0
 IsParsed setter value (Ok edit) =
     (setter_of edit ≡ setter) × (byte_of_value (kind_of setter) value ≡ Some (argument_byte edit))
 IsParsed setter value (Err error) = (error ≡ bad_value setter) × (byte_of_value (kind_of setter) value ≡ None)
@@ -137,6 +137,6 @@ IsNoName name = (setter : Setter) → name_of setter ≢ name
 
 -- `IsSetting name value result` holds if `result` is what the setter with the name `name` makes of `value`, or the error
 -- `unknown_name` if no setter has the name.
-pub record IsSetting (name value : List ℕ) (result : Result Edit SettingError) : Type 0 where
+pub record IsSetting (name value : List ℕ) (result : Result Edit EditError) : Type 0 where
   pub unknown : IsNoName name → result ≡ Err unknown_name
   pub known : (setter : Setter) → name_of setter ≡ name → IsParsed setter value result

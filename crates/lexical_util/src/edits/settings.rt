@@ -17,7 +17,7 @@ use std::fmt;
 ///
 /// The error message never repeats any part of the string, since the string may come from an untrusted file.
 #[derive(Debug, Clone, Copy, PartialEq, Eq, Hash)]
-pub struct SettingError(pub(crate) Fault);
+pub struct EditError(pub(crate) Fault);
 
 // What is wrong with a string that is not a setting. `BadValue` has the setter that does not take the value.
 #[derive(Debug, Clone, Copy, PartialEq, Eq, Hash)]
@@ -29,7 +29,7 @@ pub(crate) enum Fault {
 
 /// What is wrong with a string that is not a setting.
 #[derive(Debug, Clone, Copy, PartialEq, Eq, Hash)]
-pub enum SettingErrorKind {
+pub enum EditErrorKind {
     /// The string has no `=`.
     NoEquals,
     /// No setter has the name.
@@ -38,18 +38,18 @@ pub enum SettingErrorKind {
     BadValue,
 }
 
-impl SettingError {
+impl EditError {
     /// Returns what is wrong.
     #[must_use]
-    pub const fn kind(&self) -> SettingErrorKind
-        ensures no_equals { self.now ≡ no_equals → result ≡ SettingErrorKind.NoEquals }
-        ensures unknown_name { self.now ≡ unknown_name → result ≡ SettingErrorKind.UnknownName }
-        ensures bad_value { (setter : Setter) → self.now ≡ bad_value setter → result ≡ SettingErrorKind.BadValue }
+    pub const fn kind(&self) -> EditErrorKind
+        ensures no_equals { self.now ≡ no_equals → result ≡ EditErrorKind.NoEquals }
+        ensures unknown_name { self.now ≡ unknown_name → result ≡ EditErrorKind.UnknownName }
+        ensures bad_value { (setter : Setter) → self.now ≡ bad_value setter → result ≡ EditErrorKind.BadValue }
     {
         match self.0 {
-            Fault::NoEquals => SettingErrorKind::NoEquals,
-            Fault::UnknownName => SettingErrorKind::UnknownName,
-            Fault::BadValue(_) => SettingErrorKind::BadValue,
+            Fault::NoEquals => EditErrorKind::NoEquals,
+            Fault::UnknownName => EditErrorKind::UnknownName,
+            Fault::BadValue(_) => EditErrorKind::BadValue,
         }
     }
 
@@ -67,7 +67,7 @@ impl SettingError {
 }
 
 /// Prints the error message, such as ``no_special takes `true` or `false` `` or `unknown setting name`.
-impl fmt::Display for SettingError {
+impl fmt::Display for EditError {
     fn fmt<W: fmt::Write>(&self, f: &mut fmt::Formatter<W>) -> fmt::Result {
         match self.0 {
             Fault::NoEquals => f.write_str("expected NAME=VALUE"),
@@ -105,8 +105,8 @@ impl Setter {
     ///
     /// # Errors
     ///
-    /// Returns a [`SettingError`] if the setter does not take the value.
-    pub fn parse(self, value: &str) -> Result<Edit, SettingError>
+    /// Returns a [`EditError`] if the setter does not take the value.
+    pub fn parse(self, value: &str) -> Result<Edit, EditError>
         ensures { IsParsed self value.now result }
     {
         let byte = match (self.kind(), value) {
@@ -122,21 +122,21 @@ impl Setter {
     }
 
     // Returns the error for a value that the setter does not take.
-    const fn refusal(self) -> SettingError
+    const fn refusal(self) -> EditError
         ensures { result ≡ bad_value self }
     {
-        SettingError(Fault::BadValue(self))
+        EditError(Fault::BadValue(self))
     }
 }
 
 // Returns the setter with a name.
-fn setter_named(name: &str) -> Result<Setter, SettingError>
+fn setter_named(name: &str) -> Result<Setter, EditError>
     ensures known { (setter : Setter) → name_of setter ≡ name.now → result ≡ Ok setter }
     ensures unknown { IsNoName name.now → result ≡ Err unknown_name }
 {
     match Setter::from_name(name) {
         Some(setter) => Ok(setter),
-        None => Err(SettingError(Fault::UnknownName)),
+        None => Err(EditError(Fault::UnknownName)),
     }
 }
 
@@ -145,8 +145,8 @@ impl Edit {
     ///
     /// # Errors
     ///
-    /// Returns a [`SettingError`] if no setter has the name, or if the setter takes a byte.
-    pub fn flag(name: &str, flag: bool) -> Result<Edit, SettingError>
+    /// Returns a [`EditError`] if no setter has the name, or if the setter takes a byte.
+    pub fn flag(name: &str, flag: bool) -> Result<Edit, EditError>
         ensures flag { (setter : FlagSetter) → name_of (Setter.Flag setter) ≡ name.now
             → result ≡ Ok (Edit.Flag setter flag) }
         ensures byte { (setter : Setter) → name_of setter ≡ name.now → IsFalse (takes_flag setter)
@@ -163,8 +163,8 @@ impl Edit {
     ///
     /// # Errors
     ///
-    /// Returns a [`SettingError`] if no setter has the name, or if the setter takes a flag.
-    pub fn byte(name: &str, byte: u8) -> Result<Edit, SettingError>
+    /// Returns a [`EditError`] if no setter has the name, or if the setter takes a flag.
+    pub fn byte(name: &str, byte: u8) -> Result<Edit, EditError>
         ensures byte { (setter : Setter) → name_of setter ≡ name.now → IsFalse (takes_flag setter)
             → MatchResult result (λ edit. (setter_of edit ≡ setter) × (argument_byte edit ≡ byte)) (λ error. ⊥) }
         ensures flag { (setter : FlagSetter) → name_of (Setter.Flag setter) ≡ name.now
@@ -181,8 +181,8 @@ impl Edit {
     ///
     /// # Errors
     ///
-    /// Returns a [`SettingError`] if no setter has the name, or if the setter does not take the value.
-    pub fn from_setting(name: &str, value: &str) -> Result<Edit, SettingError>
+    /// Returns a [`EditError`] if no setter has the name, or if the setter does not take the value.
+    pub fn from_setting(name: &str, value: &str) -> Result<Edit, EditError>
         ensures { IsSetting name.now value.now result }
     {
         setter_named(name)?.parse(value)
@@ -194,17 +194,17 @@ impl Edit {
     ///
     /// # Errors
     ///
-    /// Returns a [`SettingError`] if `text` has no `=`, if no setter has the name, or if the setter does not take the
+    /// Returns a [`EditError`] if `text` has no `=`, if no setter has the name, or if the setter does not take the
     /// value.
     #[doc(hidden)]
-    pub fn from_text(text: &str) -> Result<Edit, SettingError>
+    pub fn from_text(text: &str) -> Result<Edit, EditError>
         ensures setting { position_or_len is_equals text.now < length text.now
             → IsSetting (before_first is_equals text.now) (after_first is_equals text.now) result }
         ensures no_equals { position_or_len is_equals text.now ≡ length text.now → result ≡ Err no_equals }
     {
         match text.split_once('=') {
             Some((name, value)) => Edit::from_setting(name, value),
-            None => Err(SettingError(Fault::NoEquals)),
+            None => Err(EditError(Fault::NoEquals)),
         }
     }
 }
