@@ -3,7 +3,7 @@
 use core::fmt::{self, Write};
 use core::str::from_utf8;
 
-use crate::edits::{apply, Edit, EditError, EditErrorKind, Fault, Setter, FIELD_COUNT};
+use crate::edits::{apply, likeness, Edit, EditError, EditErrorKind, Fault, Setter, FIELD_COUNT};
 use crate::format::{NumberFormatBuilder, EXPONENT_BASE, EXPONENT_RADIX, MANTISSA_RADIX};
 use crate::format_error::{self, ONE_OPTION};
 use crate::literal::Syntax;
@@ -13,11 +13,6 @@ use crate::{Format, FormatError};
 /// The settings of options: the exponent character and the decimal point.
 const OPTIONS: [&str; 2] = ["exponent", "point"];
 const DEFAULTS: [u8; 2] = *b"e.";
-
-/// The bits that stand for the options in masks. They hold no field of a word.
-const EXPONENT: u128 = 1 << 18;
-const POINT: u128 = 1 << 19;
-const MASKS: [u128; 2] = [EXPONENT, POINT];
 
 /// The number of fields and options, and thereby the largest number of settings that are not overridden.
 const LIVE: usize = FIELD_COUNT + OPTIONS.len();
@@ -33,12 +28,11 @@ const SHOWN: usize = 40;
 
 /// Settings that are read from texts, such as the lines of a file, and the format or syntax that they build.
 ///
-/// A setting has the form `NAME=VALUE`. NAME is one of [`Edit::NAMES`], or `exponent` or `point` for the exponent
-/// character and the decimal point. VALUE is a value that [`Setter::parse`] takes, but quotes are refused for the
-/// mantissa radix, the exponent base and the exponent radix. `exponent` and `point` take what `digit_separator` takes.
-/// A text that is blank or begins with `#` sets nothing. White space around the text, NAME and VALUE is skipped, as by
-/// [`trim_ascii`][slice::trim_ascii], such as the carriage return at the end of a line, but not a vertical tab. A byte
-/// order mark is skipped only at the start of the first text, and `#` begins a comment only at the start of a text.
+/// A setting is what an [`Edit`] is parsed from, or has the name `exponent` or `point`, for the exponent character and the
+/// decimal point, and a value that `digit_separator` takes. A text that is blank or begins with `#` sets nothing. White
+/// space is skipped as by [`trim_ascii`][slice::trim_ascii], such as the carriage return at the end of a line, but not a
+/// vertical tab. A byte order mark is skipped only at the start of the first text, and `#` begins a comment only at the
+/// start of a text.
 ///
 /// A setting overrides those before it. Fields without a setting have the values of a new builder, the exponent
 /// character is `e`, and the decimal point is `.`. A radix above 14 needs another exponent character, since `e` is one
@@ -71,8 +65,8 @@ pub struct Settings {
     builder: NumberFormatBuilder,
     /// The exponent character and the decimal point. A character that is `none` is 0.
     options: [u8; 2],
-    /// The bits of the settings that were refused, and that no later setting writes.
-    refused: u128,
+    /// What the settings would write that were refused, and no later setting writes.
+    refused: Mask,
     /// The number of texts.
     count: usize,
     /// The settings of which a field is not overridden, sorted by their indexes.
@@ -81,12 +75,38 @@ pub struct Settings {
     overridden: [Option<(Setting, usize)>; OVERRIDDEN],
 }
 
-/// The index of a text, the name that it sets, and the bits that it writes and that no later setting writes.
+/// The index of a text, the name that it sets, and what it writes and no later setting writes.
 #[derive(Debug, Clone, Copy, PartialEq, Eq, Hash)]
 struct Setting {
     index: usize,
     name: &'static str,
-    mask: u128,
+    mask: Mask,
+}
+
+/// The bits of fields of a word, and a bit for each option, by its index in [`OPTIONS`].
+#[derive(Debug, Clone, Copy, PartialEq, Eq, Hash)]
+struct Mask {
+    word: u128,
+    options: u8,
+}
+
+impl Mask {
+    const EMPTY: Mask = Mask { word: 0, options: 0 };
+
+    const fn of(option: Option<usize>, setter: Setter) -> Mask {
+        match option {
+            Some(option) => Mask { options: 1 << option, ..Mask::EMPTY },
+            None => Mask { word: setter.mask(), ..Mask::EMPTY },
+        }
+    }
+
+    const fn without(self, other: Mask) -> Mask {
+        Mask { word: self.word & !other.word, options: self.options & !other.options }
+    }
+
+    const fn meets(self, other: Mask) -> bool {
+        self.word & other.word != 0 || self.options & other.options != 0
+    }
 }
 
 impl Default for Settings {
@@ -102,7 +122,7 @@ impl Settings {
         Settings {
             builder: NumberFormatBuilder::new(),
             options: DEFAULTS,
-            refused: 0,
+            refused: Mask::EMPTY,
             count: 0,
             live: [None; LIVE],
             overridden: [None; OVERRIDDEN],
@@ -145,29 +165,34 @@ impl Settings {
         }
         let (option, edit) = parse(index, text).inspect_err(|it| {
             if let Fault::BadValue(setter) = it.error.0 {
-                self.refused |= it.option.map_or(setter.mask(), |option| MASKS[option]);
+                let mask = Mask::of(it.option, setter);
+                self.refused.word |= mask.word;
+                self.refused.options |= mask.options;
             }
         })?;
-        let (name, mask) = match option {
-            Some(option) => (OPTIONS[option], MASKS[option]),
-            None => (edit.name(), edit.mask()),
+        let mask = Mask::of(option, edit.setter());
+        self.refused = self.refused.without(mask);
+        let name = match option {
+            Some(option) => {
+                self.options[option] = edit.argument_byte();
+                OPTIONS[option]
+            }
+            None => {
+                self.builder = apply(self.builder, edit);
+                edit.name()
+            }
         };
-        self.refused &= !mask;
-        match option {
-            Some(option) => self.options[option] = edit.argument_byte(),
-            None => self.builder = apply(self.builder, edit),
-        }
         self.push(Setting { index, name, mask });
         Ok(())
     }
 
     /// Adds a setting, and moves the settings that it overrides completely.
     fn push(&mut self, new: Setting) {
-        let old = self.live.into_iter().flatten().map(|old| Setting { mask: old.mask & !new.mask, ..old });
-        let gone = old.clone().filter(|old| old.mask == 0);
+        let old = self.live.into_iter().flatten().map(|old| Setting { mask: old.mask.without(new.mask), ..old });
+        let gone = old.clone().filter(|old| old.mask == Mask::EMPTY);
         let gone = gone.map(|old| (old, new.index));
         self.overridden = filled(self.overridden.into_iter().flatten().chain(gone));
-        self.live = filled(old.filter(|old| old.mask != 0).chain([new]));
+        self.live = filled(old.filter(|old| old.mask != Mask::EMPTY).chain([new]));
     }
 
     /// Returns the format. The exponent character and the decimal point do not matter.
@@ -203,7 +228,7 @@ impl Settings {
         let error = self.build_syntax().err().into_iter();
         let reasons = error.flat_map(|error| error.reasons());
         reasons.filter_map(|reason| {
-            let mask = reason.mask() | options_of(reason.cause());
+            let mask = Mask { word: reason.mask(), options: options_of(reason.cause()) };
             self.finding(FindingKind::Reason(reason), mask)
         })
     }
@@ -217,20 +242,21 @@ impl Settings {
             Finding::new(kind, [old.index, *by].into_iter())
         });
         let notes = self.builder.notes();
-        let notes = notes.filter_map(|note| self.finding(FindingKind::Note(note), note.mask()));
+        let mask = |note: Note| Mask { word: note.mask(), ..Mask::EMPTY };
+        let notes = notes.filter_map(move |note| self.finding(FindingKind::Note(note), mask(note)));
         overridden.chain(notes)
     }
 
-    /// Returns a finding with the indexes of the settings that write bits of `mask`, unless a refused one would do so. The
-    /// exponent bytes only follow a mantissa radix that is to blame.
-    fn finding(&self, kind: FindingKind, mask: u128) -> Option<Finding> {
+    /// Returns a finding with the indexes of the settings that write what `mask` has, unless a refused one would do so.
+    /// The exponent bytes only follow a mantissa radix that is to blame.
+    fn finding(&self, kind: FindingKind, mask: Mask) -> Option<Finding> {
         let live = self.live.iter().flatten();
-        let blamed = live.filter(|it| it.mask & mask != 0);
-        let own = match mask & MANTISSA_RADIX {
+        let blamed = live.filter(|it| it.mask.meets(mask));
+        let own = match mask.word & MANTISSA_RADIX {
             0 => mask,
-            _ => mask & !(EXPONENT_BASE | EXPONENT_RADIX),
+            _ => mask.without(Mask { word: EXPONENT_BASE | EXPONENT_RADIX, options: 0 }),
         };
-        (own & self.refused == 0).then(|| Finding::new(kind, blamed.map(|it| it.index)))
+        (!own.meets(self.refused)).then(|| Finding::new(kind, blamed.map(|it| it.index)))
     }
 }
 
@@ -244,29 +270,27 @@ fn filled<T: Copy, const N: usize>(items: impl Iterator<Item = T>) -> [Option<T>
 
 /// Returns the edit of a text. If it sets an option, returns the number of the option, and the edit sets a separator.
 fn parse(index: usize, text: &[u8]) -> Result<(Option<usize>, Edit), LineError> {
-    let refuse = |fault, option, refused: &[u8]| {
-        let (error, length, mut piece) = (EditError(fault), refused.len(), [0; SHOWN]);
+    let refuse = |error, option, refused: &[u8]| {
+        let (length, mut piece) = (refused.len(), [0; SHOWN]);
         let pairs = piece.iter_mut().zip(refused);
         pairs.for_each(|(to, byte)| *to = *byte);
         LineError { index, error, option, piece, length }
     };
     let equals = text.iter().position(|byte| *byte == b'=');
-    let equals = equals.ok_or_else(|| refuse(Fault::NoEquals, None, text))?;
-    let name = text[..equals].trim_ascii_end();
+    let equals = equals.ok_or_else(|| refuse(EditError(Fault::NoEquals), None, text))?;
+    let (name, value) = (text[..equals].trim_ascii(), text[equals + 1..].trim_ascii());
     let option = OPTIONS.iter().position(|it| it.as_bytes() == name);
-    let setter = match option {
-        Some(_) => Some(Setter::DigitSeparator),
-        None => from_utf8(name).ok().and_then(Setter::from_name),
+    // Bytes that are not UTF-8 are read as an empty text, which is neither a name nor a value.
+    let argument = from_utf8(value).unwrap_or_default();
+    let edit = match option {
+        Some(_) => Setter::DigitSeparator.parse(argument),
+        None => Edit::from_setting(from_utf8(name).unwrap_or_default(), argument),
     };
-    let setter = setter.ok_or_else(|| refuse(Fault::UnknownName, None, name))?;
-    let value = text[equals + 1..].trim_ascii_start();
-    let edit = match (setter, value) {
-        (Setter::MantissaRadix | Setter::Radix, [b'\'', ..]) => None,
-        (Setter::ExponentBase | Setter::ExponentRadix, [b'\'', ..]) => None,
-        _ => from_utf8(value).ok().and_then(|it| setter.parse(it).ok()),
-    };
-    let edit = edit.ok_or_else(|| refuse(Fault::BadValue(setter), option, value))?;
-    Ok((option, edit))
+    let edit = edit.map_err(|error| match error.kind() {
+        EditErrorKind::UnknownName => refuse(error, None, name),
+        _ => refuse(error, option, value),
+    });
+    Ok((option, edit?))
 }
 
 /// Returns whether an option is `none`. This is a cause if the other is not.
@@ -274,15 +298,15 @@ const fn is_one_option(cause: Cause) -> bool {
     matches!(cause, Cause::NotText(byte) if byte.value == 0)
 }
 
-/// Returns the masks of the options that a cause names, or of both if one is `none`.
-fn options_of(cause: Cause) -> u128 {
+/// Returns the bits of the options that a cause names, or of both if one is `none`.
+fn options_of(cause: Cause) -> u8 {
     let mask = |byte: NamedByte| match byte.name {
-        Byte::ExponentCharacter => EXPONENT,
-        Byte::DecimalPoint => POINT,
+        Byte::ExponentCharacter => 1,
+        Byte::DecimalPoint => 2,
         _ => 0,
     };
     match cause {
-        _ if is_one_option(cause) => EXPONENT | POINT,
+        _ if is_one_option(cause) => 3,
         Cause::NotText(byte) | Cause::IsSign(byte) | Cause::IsDigit(byte, _) => mask(byte),
         Cause::Same(first, second) | Cause::DifferInCase { first, second, .. } => mask(first) | mask(second),
         _ => 0,
@@ -374,6 +398,17 @@ impl LineError {
     pub const fn kind(&self) -> EditErrorKind {
         self.error.kind()
     }
+
+    /// Returns the option or the setter whose name is most like an unknown one.
+    fn suggestion(&self, name: &[u8]) -> Option<&'static str> {
+        let Fault::UnknownName(nearest) = self.error.0 else { return None };
+        if name.starts_with(b"decimal") {
+            return Some("point");
+        }
+        let (nearest, alike) = (nearest.map(Setter::name), |other: &&str| likeness(name, other.as_bytes()));
+        let least = nearest.as_ref().map_or(50, alike).max(50);
+        OPTIONS.into_iter().filter(|it| alike(it) >= least).max_by_key(alike).or(nearest)
+    }
 }
 
 impl core::error::Error for LineError {}
@@ -397,21 +432,9 @@ impl fmt::Display for LineError {
             }
         }
         f.write_str(if self.length > SHOWN { "..`" } else { "`" })?;
-        match (self.kind(), nearest(shown)) {
-            (EditErrorKind::UnknownName, Some(name)) => write!(f, "; did you mean `{name}`?"),
-            _ => Ok(()),
+        match self.suggestion(shown) {
+            Some(name) => write!(f, "; did you mean `{name}`?"),
+            None => Ok(()),
         }
     }
-}
-
-/// Returns the name that has most pairs of adjacent letters in common with this one, if these are half of the pairs.
-fn nearest(name: &[u8]) -> Option<&'static str> {
-    let rated = Edit::NAMES.iter().chain(&OPTIONS).map(|other| {
-        let pairs = other.as_bytes().windows(2);
-        let shared = pairs.filter(|pair| name.windows(2).any(|it| it == *pair));
-        let size = name.len() + other.len() - 2;
-        (200 * shared.count() / size, *other)
-    });
-    let nearest = rated.max_by_key(|it| it.0).filter(|it| it.0 >= 50);
-    nearest.map(|it| it.1)
 }

@@ -3,7 +3,7 @@
 use core::fmt;
 use core::str::FromStr;
 
-use crate::edits::{Edit, EditError, Fault, FlagSetter, Setter};
+use crate::edits::{nearest, Edit, EditError, Fault, FlagSetter, Setter};
 use crate::error::Error;
 use crate::format_error::{Cause, FormatError};
 use crate::format_flags::{Part, Rule};
@@ -152,8 +152,9 @@ texts! {
     }
 }
 
-/// Parses `NAME=VALUE`, split at the first `=`. The name and the value are parsed as in [`Edit::from_setting`]. Parsing
-/// the text that `Display` prints gives the same edit.
+/// Parses `NAME=VALUE`, split at the first `=`. White space at both ends of the name and of the value is skipped, as by
+/// [`trim_ascii`][str::trim_ascii]. Then they are parsed as in [`Edit::from_setting`]. Parsing the text that `Display`
+/// prints gives the same edit.
 impl FromStr for Edit {
     type Err = EditError;
 
@@ -169,7 +170,8 @@ impl FromStr for FlagSetter {
     fn from_str(name: &str) -> Result<Self, EditError> {
         match Setter::from_name(name) {
             Some(Setter::Flag(setter)) => Ok(setter),
-            _ => Err(EditError(Fault::UnknownName)),
+            Some(_) => Err(EditError(Fault::UnknownName(None))),
+            None => Err(EditError(Fault::UnknownName(nearest(name)))),
         }
     }
 }

@@ -27,7 +27,7 @@ pub use setters::{
     ALL_SETTERS, ArgumentKind, Edit, FIELD_COUNT, FLAG_COUNT, FlagSetter, SETTERS, Setter,
     field_edits_of,
 };
-pub(crate) use settings::Fault;
+pub(crate) use settings::{Fault, likeness, nearest};
 pub use settings::{EditError, EditErrorKind, byte_from_decimal};
 
 /// Calls the setter of `edit` on `builder`, and returns the new builder.

@@ -1,8 +1,10 @@
 -- The names of setters, and the settings that call them, for `Setter`, `Edit` and `EditError`.
-use Rattle.std.specs.Prelude.{ℕ, ◌≡◌, ◌≢◌, ◌==◌, ◌&&◌, Bool, true, false, nat_lt, if◌then◌else◌, Option, Some, None}
-use Rattle.std.specs.Prelude.{Result, Ok, Err, List, [], ◌∷◌, codes, take, drop, slice_index, bytes_eq}
+use Rattle.std.specs.Prelude.{ℕ, ◌≡◌, ◌≢◌, ◌==◌, ◌&&◌, ◌-◌, Bool, true, false, nat_lt, if◌then◌else◌, Option, Some, None}
+use Rattle.std.specs.Prelude.{Result, Ok, Err, MatchResult, List, [], ◌∷◌, codes, length, take, drop, slice_index, bytes_eq}
 use Rattle.std.specs.Bool.{then_some}
-use Rattle.lexical_base.specs.Ascii.{ByteSet}
+use Rattle.std.specs.Char.{is_ascii_whitespace}
+use Rattle.std.specs.List.{prefix_len, suffix_len}
+use Rattle.lexical_base.specs.Ascii.{ByteSet, between}
 use Rattle.lexical_base.specs.Digits.{numeral}
 use Rattle.lexical_util.specs.Additions.EditMasks.{argument_byte}
 use Rattle.lexical_util.specs.Additions.Numeral.{is_numeral}
@@ -80,9 +82,11 @@ setter_of (edits.ExponentRadix radix) = setters.ExponentRadix
 -- `kind_of setter` is the kind of argument that `setter` takes.
 abbrev pub kind_of : Setter → ArgumentKind
 kind_of (setters.Flag setter) = kinds.Flag
-kind_of setters.MantissaRadix = kinds.Byte
-kind_of setters.Radix = kinds.Byte
-kind_of _ = kinds.OptionalByte
+kind_of setters.MantissaRadix = kinds.Number
+kind_of setters.Radix = kinds.Number
+kind_of setters.ExponentBase = kinds.OptionalNumber
+kind_of setters.ExponentRadix = kinds.OptionalNumber
+kind_of _ = kinds.OptionalCharacter
 
 -- `takes_flag setter` is true if `setter` takes a flag.
 abbrev pub takes_flag : Setter → Bool
@@ -95,31 +99,50 @@ abbrev pub byte_of_digits : ℕ → ℕ → List ℕ → Option ℕ
 byte_of_digits radix most digits =
     then_some (is_numeral radix most digits && nat_lt (numeral radix digits) 256) (numeral radix digits)
 
--- `byte_of_text text` is the byte that `text` represents: the character between two single quotes, one or two
--- hexadecimal digits after `0x`, or one to three decimal digits.
-abbrev pub byte_of_text : List ℕ → Option ℕ
-byte_of_text text =
-    if bytes_eq text (39 ∷ slice_index text 1 ∷ 39 ∷ []) then Some (slice_index text 1)
-    else if bytes_eq (take 2 text) (codes "0x") then byte_of_digits 16 2 (drop 2 text) else byte_of_digits 10 3 text
+-- `byte_of_number text` is the number that `text` represents in one or two hexadecimal digits after `0x`, or in one to
+-- three decimal digits.
+abbrev pub byte_of_number : List ℕ → Option ℕ
+byte_of_number text =
+    if bytes_eq (take 2 text) (codes "0x") then byte_of_digits 16 2 (drop 2 text) else byte_of_digits 10 3 text
+
+-- `byte_of_character text` is the character between two single quotes, which is ASCII and not a control character, or
+-- the byte that `text` represents as a number.
+abbrev pub byte_of_character : List ℕ → Option ℕ
+byte_of_character text =
+    if bytes_eq text (39 ∷ slice_index text 1 ∷ 39 ∷ []) && between 32 126 (slice_index text 1)
+    then Some (slice_index text 1) else byte_of_number text
+
+-- `or_none byte value` is 0 if the text `value` is `none`, and otherwise what `byte` makes of it.
+abbrev pub or_none : (List ℕ → Option ℕ) → List ℕ → Option ℕ
+or_none byte value = if bytes_eq value (codes "none") then Some 0 else byte value
 
 -- `byte_of_value kind value` is the argument of this kind, as a byte, that the text `value` represents.
 abbrev pub byte_of_value : ArgumentKind → List ℕ → Option ℕ
 byte_of_value kinds.Flag value =
     if bytes_eq value (codes "true") then Some 1 else if bytes_eq value (codes "false") then Some 0 else None
-byte_of_value kinds.Byte value = byte_of_text value
-byte_of_value kinds.OptionalByte value = if bytes_eq value (codes "none") then Some 0 else byte_of_text value
+byte_of_value kinds.OptionalCharacter value = or_none byte_of_character value
+byte_of_value kinds.Number value = byte_of_number value
+byte_of_value kinds.OptionalNumber value = or_none byte_of_number value
+
+-- `unindented text` is `text` without the white space at its start, and `trimmed text` also without that at its end:
+-- tabs, line feeds, form feeds, carriage returns and spaces.
+abbrev pub unindented : List ℕ → List ℕ
+unindented text = drop (prefix_len is_ascii_whitespace text) text
+
+abbrev pub trimmed : List ℕ → List ℕ
+trimmed text = take (length (unindented text) - suffix_len is_ascii_whitespace (unindented text)) (unindented text)
 
 -- `is_equals` is the set that contains only the byte of the character `=`.
 abbrev pub is_equals : ByteSet
 is_equals byte = byte == 61
 
--- `no_equals`, `unknown_name` and `bad_value setter` are the errors of a text without `=`, of a name that no setter has,
--- and of a value that `setter` does not take.
+-- `no_equals`, `unknown_name nearest` and `bad_value setter` are the errors of a text without `=`, of a name that no setter
+-- has, with the setter that the message suggests, if any, and of a value that `setter` does not take.
 abbrev pub no_equals : EditError
 no_equals = record { 0 = faults.NoEquals }
 
-abbrev pub unknown_name : EditError
-unknown_name = record { 0 = faults.UnknownName }
+abbrev pub unknown_name : Option Setter → EditError
+unknown_name nearest = record { 0 = faults.UnknownName nearest }
 
 abbrev pub bad_value : Setter → EditError
 bad_value setter = record { 0 = faults.BadValue setter }
@@ -135,8 +158,12 @@ IsParsed setter value (Err error) = (error ≡ bad_value setter) × (byte_of_val
 abbrev pub IsNoName : List ℕ → Type 0
 IsNoName name = (setter : Setter) → name_of setter ≢ name
 
+-- `IsUnknownName result` holds if `result` is the error of a name that no setter has, whatever its message suggests.
+abbrev pub IsUnknownName : Result Edit EditError → Type 0
+IsUnknownName result = MatchResult result (λ edit. ⊥) (λ error. (nearest : Option Setter) × (error ≡ unknown_name nearest))
+
 -- `IsSetting name value result` holds if `result` is what the setter with the name `name` makes of `value`, or the error
--- `unknown_name` if no setter has the name.
+-- of an unknown name if no setter has the name.
 pub record IsSetting (name value : List ℕ) (result : Result Edit EditError) : Type 0 where
-  pub unknown : IsNoName name → result ≡ Err unknown_name
+  pub unknown : IsNoName name → IsUnknownName result
   pub known : (setter : Setter) → name_of setter ≡ name → IsParsed setter value result

@@ -1,29 +1,32 @@
 //! Settings, which are edits written as text: `NAME=VALUE`.
 
-ghost use Rattle.std.specs.Prelude.{◌≡◌, ◌≢◌, ◌≤◌, ◌<◌, length, MatchOption, MatchResult};
+ghost use Rattle.std.specs.Prelude.{◌≡◌, ◌≢◌, ◌≤◌, ◌<◌, length, Option, MatchOption, MatchResult};
 ghost use Rattle.std.specs.Bool.{IsFalse};
 ghost use Rattle.std.specs.List.{position_or_len, before_first, after_first};
 ghost use Rattle.lexical_util.specs.Additions.EditMasks.{argument_byte};
-ghost use Rattle.lexical_util.specs.Additions.Settings.{name_of, setter_of, takes_flag, byte_of_digits, byte_of_text, is_equals};
-ghost use Rattle.lexical_util.specs.Additions.Settings.{no_equals, unknown_name, bad_value, IsNoName, IsParsed, IsSetting};
+ghost use Rattle.lexical_util.specs.Additions.Settings.{name_of, setter_of, takes_flag, byte_of_digits, byte_of_number, byte_of_character};
+ghost use Rattle.lexical_util.specs.Additions.Settings.{is_equals, trimmed, no_equals, unknown_name, bad_value};
+ghost use Rattle.lexical_util.specs.Additions.Settings.{IsNoName, IsUnknownName, IsParsed, IsSetting};
 ghost use Rattle.lexical_util.specs.declared.edits.setters.FlagSetter.{FlagSetter};
 
-use crate::edits::{ArgumentKind, Edit, Setter};
+use crate::edits::{ALL_SETTERS, ArgumentKind, Edit, Setter};
 use crate::numeral::read_numeral;
 use std::fmt;
 
 /// The error for a string that is not a setting. A setting has the form `NAME=VALUE`, where `NAME` is the name of a
 /// setter and `VALUE` is a value that the setter takes.
 ///
-/// The error message never repeats any part of the string, since the string may come from an untrusted file.
+/// The error message never repeats any part of the string, since the string may come from an untrusted file. If the
+/// name is unknown, it suggests the setter with the most similar name.
 #[derive(Debug, Clone, Copy, PartialEq, Eq, Hash)]
 pub struct EditError(pub(crate) Fault);
 
-// What is wrong with a string that is not a setting. `BadValue` has the setter that does not take the value.
+// What is wrong with a string that is not a setting. `UnknownName` has the setter that the message suggests, and
+// `BadValue` the one that does not take the value.
 #[derive(Debug, Clone, Copy, PartialEq, Eq, Hash)]
 pub(crate) enum Fault {
     NoEquals,
-    UnknownName,
+    UnknownName(Option<Setter>),
     BadValue(Setter),
 }
 
@@ -43,12 +46,13 @@ impl EditError {
     #[must_use]
     pub const fn kind(&self) -> EditErrorKind
         ensures no_equals { self.now ≡ no_equals → result ≡ EditErrorKind.NoEquals }
-        ensures unknown_name { self.now ≡ unknown_name → result ≡ EditErrorKind.UnknownName }
+        ensures unknown_name { (nearest : Option Setter) → self.now ≡ unknown_name nearest
+            → result ≡ EditErrorKind.UnknownName }
         ensures bad_value { (setter : Setter) → self.now ≡ bad_value setter → result ≡ EditErrorKind.BadValue }
     {
         match self.0 {
             Fault::NoEquals => EditErrorKind::NoEquals,
-            Fault::UnknownName => EditErrorKind::UnknownName,
+            Fault::UnknownName(_) => EditErrorKind::UnknownName,
             Fault::BadValue(_) => EditErrorKind::BadValue,
         }
     }
@@ -60,7 +64,7 @@ impl EditError {
             (λ name. (setter : Setter) → self.now ≡ bad_value setter → name.now ≡ name_of setter) }
     {
         match self.0 {
-            Fault::NoEquals | Fault::UnknownName => None,
+            Fault::NoEquals | Fault::UnknownName(_) => None,
             Fault::BadValue(setter) => Some(setter.name()),
         }
     }
@@ -71,7 +75,14 @@ impl fmt::Display for EditError {
     fn fmt<W: fmt::Write>(&self, f: &mut fmt::Formatter<W>) -> fmt::Result {
         match self.0 {
             Fault::NoEquals => f.write_str("expected NAME=VALUE"),
-            Fault::UnknownName => f.write_str("unknown setting name"),
+            Fault::UnknownName(None) => f.write_str("unknown setting name"),
+            Fault::UnknownName(Some(nearest)) => {
+                write!(
+                    f,
+                    "unknown setting name; did you mean `{}`?",
+                    nearest.name()
+                )
+            }
             Fault::BadValue(setter) => write!(f, "{} takes {}", setter.name(), taken(setter)),
         }
     }
@@ -79,41 +90,39 @@ impl fmt::Display for EditError {
 
 // Returns the words that state which values the setter takes.
 const fn taken(setter: Setter) -> &'static str {
-    match setter {
-        Setter::Flag(_) => "`true` or `false`",
-        Setter::DigitSeparator | Setter::BasePrefix | Setter::BaseSuffix => {
-            "a character such as '_', a number from 0 to 255, or `none`"
-        }
-        Setter::MantissaRadix | Setter::Radix => "a number, 2 to 36 in a lawful format",
-        Setter::ExponentBase | Setter::ExponentRadix => {
-            "a number, 2 to 36 in a lawful format, or `none`"
-        }
+    match setter.kind() {
+        ArgumentKind::Flag => "`true` or `false`",
+        ArgumentKind::OptionalCharacter =>
+            "a character such as '_', a number from 0 to 255, or `none`",
+        ArgumentKind::Number => "a number, 2 to 36 in a lawful format",
+        ArgumentKind::OptionalNumber => "a number, 2 to 36 in a lawful format, or `none`",
     }
 }
 
 impl Setter {
     /// Parses `value` as the argument of the setter, and returns the edit that calls the setter with it.
     ///
-    /// A flag setter or group setter takes `true` or `false`. A byte setter takes a byte in one of three forms:
+    /// - A flag setter or group setter takes `true` or `false`.
+    /// - Every byte setter takes a number from 0 to 255: one to three decimal digits, or `0x` followed by one or two
+    ///   hexadecimal digits. All except `mantissa_radix` and `radix` also take `none`, which is the same as 0.
+    /// - `digit_separator`, `base_prefix` and `base_suffix` also take a character in single quotes, such as `'_'`: any
+    ///   that is ASCII and not a control character. The single quote is `'''`.
     ///
-    /// - an ASCII character in single quotes, such as `'_'`
-    /// - `0x` followed by one or two hexadecimal digits
-    /// - one to three decimal digits with a value of at most 255
-    ///
-    /// Every byte setter except `mantissa_radix` and `radix` also takes `none`, which is the same as 0. Spaces are not
-    /// ignored.
+    /// Spaces are not skipped.
     ///
     /// # Errors
     ///
-    /// Returns a [`EditError`] if the setter does not take the value.
+    /// Returns an [`EditError`] if the setter does not take the value.
     pub fn parse(self, value: &str) -> Result<Edit, EditError>
         ensures { IsParsed self value.now result }
     {
         let byte = match (self.kind(), value) {
             (ArgumentKind::Flag, "true") => Some(1),
-            (ArgumentKind::Flag, "false") | (ArgumentKind::OptionalByte, "none") => Some(0),
+            (ArgumentKind::Flag, "false") => Some(0),
             (ArgumentKind::Flag, _) => None,
-            (_, value) => byte_from_text(value),
+            (ArgumentKind::OptionalCharacter | ArgumentKind::OptionalNumber, "none") => Some(0),
+            (ArgumentKind::OptionalCharacter, value) => byte_from_character(value),
+            (_, value) => byte_from_number(value),
         };
         match byte {
             Some(byte) => Ok(self.with_byte(byte)),
@@ -132,12 +141,46 @@ impl Setter {
 // Returns the setter with a name.
 fn setter_named(name: &str) -> Result<Setter, EditError>
     ensures known { (setter : Setter) → name_of setter ≡ name.now → result ≡ Ok setter }
-    ensures unknown { IsNoName name.now → result ≡ Err unknown_name }
+    ensures unknown { IsNoName name.now
+        → MatchResult result (λ setter. ⊥) (λ error. (nearest : Option Setter) × (error ≡ unknown_name nearest)) }
 {
     match Setter::from_name(name) {
         Some(setter) => Ok(setter),
-        None => Err(EditError(Fault::UnknownName)),
+        None => Err(EditError(Fault::UnknownName(nearest(name)))),
     }
+}
+
+// Returns the setter whose name is most like `name`, if they have at least half of their pairs of letters in common. A
+// separator of thousands is the digit separator, and the decimal point has no setter.
+pub(crate) fn nearest(name: &str) -> Option<Setter> {
+    if name.starts_with("thousand") {
+        return Some(Setter::DigitSeparator);
+    }
+    if name.starts_with("decimal") {
+        return None;
+    }
+    let mut nearest = None;
+    let mut most = 50;
+    for setter in ALL_SETTERS {
+        let likeness = likeness(name.as_bytes(), setter.name().as_bytes());
+        if likeness >= most {
+            nearest = Some(setter);
+            most = likeness;
+        }
+    }
+    nearest
+}
+
+// Returns how much of two names are pairs of adjacent letters that they have in common, in percent.
+pub(crate) fn likeness(name: &[u8], other: &[u8]) -> usize {
+    let mut shared: usize = 0;
+    for pair in other.windows(2) {
+        if name.windows(2).any(|it| it == pair) {
+            shared = shared.saturating_add(1);
+        }
+    }
+    let pairs = name.len().saturating_add(other.len()).saturating_sub(2);
+    shared.saturating_mul(200) / pairs.max(1)
 }
 
 impl Edit {
@@ -145,13 +188,13 @@ impl Edit {
     ///
     /// # Errors
     ///
-    /// Returns a [`EditError`] if no setter has the name, or if the setter takes a byte.
+    /// Returns an [`EditError`] if no setter has the name, or if the setter takes a byte.
     pub fn flag(name: &str, flag: bool) -> Result<Edit, EditError>
         ensures flag { (setter : FlagSetter) → name_of (Setter.Flag setter) ≡ name.now
             → result ≡ Ok (Edit.Flag setter flag) }
         ensures byte { (setter : Setter) → name_of setter ≡ name.now → IsFalse (takes_flag setter)
             → result ≡ Err (bad_value setter) }
-        ensures unknown { IsNoName name.now → result ≡ Err unknown_name }
+        ensures unknown { IsNoName name.now → IsUnknownName result }
     {
         match setter_named(name)? {
             Setter::Flag(setter) => Ok(Edit::Flag(setter, flag)),
@@ -163,13 +206,13 @@ impl Edit {
     ///
     /// # Errors
     ///
-    /// Returns a [`EditError`] if no setter has the name, or if the setter takes a flag.
+    /// Returns an [`EditError`] if no setter has the name, or if the setter takes a flag.
     pub fn byte(name: &str, byte: u8) -> Result<Edit, EditError>
         ensures byte { (setter : Setter) → name_of setter ≡ name.now → IsFalse (takes_flag setter)
             → MatchResult result (λ edit. (setter_of edit ≡ setter) × (argument_byte edit ≡ byte)) (λ error. ⊥) }
         ensures flag { (setter : FlagSetter) → name_of (Setter.Flag setter) ≡ name.now
             → result ≡ Err (bad_value (Setter.Flag setter)) }
-        ensures unknown { IsNoName name.now → result ≡ Err unknown_name }
+        ensures unknown { IsNoName name.now → IsUnknownName result }
     {
         match setter_named(name)? {
             setter @ Setter::Flag(_) => Err(setter.refusal()),
@@ -181,29 +224,30 @@ impl Edit {
     ///
     /// # Errors
     ///
-    /// Returns a [`EditError`] if no setter has the name, or if the setter does not take the value.
+    /// Returns an [`EditError`] if no setter has the name, or if the setter does not take the value.
     pub fn from_setting(name: &str, value: &str) -> Result<Edit, EditError>
         ensures { IsSetting name.now value.now result }
     {
         setter_named(name)?.parse(value)
     }
 
-    /// Parses `text` as `NAME=VALUE`, split at the first `=`.
+    /// Parses `text` as `NAME=VALUE`, split at the first `=`. White space at both ends of the name and of the value is
+    /// skipped.
     ///
     /// The name and the value are parsed as in [`Edit::from_setting`].
     ///
     /// # Errors
     ///
-    /// Returns a [`EditError`] if `text` has no `=`, if no setter has the name, or if the setter does not take the
+    /// Returns an [`EditError`] if `text` has no `=`, if no setter has the name, or if the setter does not take the
     /// value.
     #[doc(hidden)]
     pub fn from_text(text: &str) -> Result<Edit, EditError>
         ensures setting { position_or_len is_equals text.now < length text.now
-            → IsSetting (before_first is_equals text.now) (after_first is_equals text.now) result }
+            → IsSetting (trimmed (before_first is_equals text.now)) (trimmed (after_first is_equals text.now)) result }
         ensures no_equals { position_or_len is_equals text.now ≡ length text.now → result ≡ Err no_equals }
     {
         match text.split_once('=') {
-            Some((name, value)) => Edit::from_setting(name, value),
+            Some((name, value)) => Edit::from_setting(name.trim_ascii(), value.trim_ascii()),
             None => Err(EditError(Fault::NoEquals)),
         }
     }
@@ -216,18 +260,29 @@ impl fmt::Display for Edit {
         f.write_str(self.name())?;
         match (self.setter().kind(), self.argument_byte()) {
             (ArgumentKind::Flag, byte) => f.write_str(if byte != 0 { "=true" } else { "=false" }),
-            (ArgumentKind::OptionalByte, 0) => f.write_str("=none"),
+            (ArgumentKind::OptionalCharacter | ArgumentKind::OptionalNumber, 0) => f.write_str(
+                "=none",
+            ),
             (_, byte) => write!(f, "={byte}"),
         }
     }
 }
 
-// Parses a byte: a character in single quotes, `0x` followed by hexadecimal digits, or decimal digits.
-fn byte_from_text(text: &str) -> Option<u8>
-    ensures { result ≡ byte_of_text text.now }
+// Parses a byte: a character in single quotes, or a number.
+fn byte_from_character(text: &str) -> Option<u8>
+    ensures { result ≡ byte_of_character text.now }
 {
     match text.as_bytes() {
-        [b'\'', byte, b'\''] => Some(*byte),
+        [b'\'', byte @ b' '..=b'~', b'\''] => Some(*byte),
+        _ => byte_from_number(text),
+    }
+}
+
+// Parses a number: `0x` followed by hexadecimal digits, or decimal digits.
+fn byte_from_number(text: &str) -> Option<u8>
+    ensures { result ≡ byte_of_number text.now }
+{
+    match text.as_bytes() {
         [b'0', b'x', digits @ ..] => byte_from_digits(digits, 16, 2),
         digits => byte_from_digits(digits, 10, 3),
     }
