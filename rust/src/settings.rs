@@ -405,7 +405,7 @@ impl LineError {
         if name.starts_with(b"decimal") {
             return Some("point");
         }
-        let (nearest, alike) = (nearest.map(Setter::name), |other: &&str| likeness(name, other.as_bytes()));
+        let (nearest, alike) = (nearest.map(Setter::name), |other: &&str| likeness(name, other));
         let least = nearest.as_ref().map_or(50, alike).max(50);
         OPTIONS.into_iter().filter(|it| alike(it) >= least).max_by_key(alike).or(nearest)
     }

@@ -103,10 +103,11 @@ fn parse_byte(text: &String) -> Result<u8, Refusal> {
 
 // Parses NAME=VALUE. A byte has only its decimal form here, and no blank is skipped, unlike in a setting of the library.
 fn parse_edit(text: &String) -> Result<Edit, Refusal> {
-    match text.as_str().split_once('=') {
-        Some((name, value)) if !value.starts_with('\'') && !value.starts_with("0x") => {
-            Edit::from_setting(name, value).map_err(|_| Refusal::BadEdit)
-        }
+    let Some((name, value)) = text.as_str().split_once('=') else {
+        return Err(Refusal::BadEdit);
+    };
+    match Edit::from_setting(name, value) {
+        Ok(edit) if !value.starts_with('\'') && !value.starts_with("0x") => Ok(edit),
         _ => Err(Refusal::BadEdit),
     }
 }

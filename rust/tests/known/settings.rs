@@ -1,8 +1,7 @@
 //! Settings as text.
 
-use peltzivar::edits::{ArgumentKind, Edit, FlagSetter, Setter};
+use peltzivar::edits::{ArgumentKind, Edit, Setter};
 use peltzivar::EditErrorKind::{BadValue, NoEquals, UnknownName};
-use std::num::NonZeroU8;
 
 /// Each edit is printed as `NAME=VALUE`, and is parsed from this text.
 #[test]
@@ -97,26 +96,5 @@ fn a_refused_setting_has_a_sentence() {
             _ => BadValue,
         };
         assert_eq!(error.kind(), kind, "{text}");
-    }
-}
-
-#[test]
-fn edits_are_made_of_values() {
-    let byte = NonZeroU8::new;
-    #[rustfmt::skip]
-    let rows = [
-        (Edit::flag("no_special", true), Ok(Edit::Flag(FlagSetter::NoSpecial, true))),
-        (Edit::flag("required_digits", false), Ok(Edit::Flag(FlagSetter::RequiredDigits, false))),
-        (Edit::byte("base_prefix", b'x'), Ok(Edit::BasePrefix(byte(b'x')))),
-        (Edit::byte("exponent_base", 0), Ok(Edit::ExponentBase(None))),
-        (Edit::byte("radix", 0), Ok(Edit::Radix(0))),
-        (Edit::byte("mantissa_radix", 255), Ok(Edit::MantissaRadix(255))),
-        (Edit::flag("base_prefix", true), Err((BadValue, Some("base_prefix")))),
-        (Edit::byte("no_special", 1), Err((BadValue, Some("no_special")))),
-        (Edit::flag("no-special", true), Err((UnknownName, None))),
-        (Edit::byte("base_prefix ", b'x'), Err((UnknownName, None))),
-    ];
-    for (edit, wanted) in rows {
-        assert_eq!(edit.map_err(|error| (error.kind(), error.name())), wanted);
     }
 }

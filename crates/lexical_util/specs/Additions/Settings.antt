@@ -158,12 +158,9 @@ IsParsed setter value (Err error) = (error ≡ bad_value setter) × (byte_of_val
 abbrev pub IsNoName : List ℕ → Type 0
 IsNoName name = (setter : Setter) → name_of setter ≢ name
 
--- `IsUnknownName result` holds if `result` is the error of a name that no setter has, whatever its message suggests.
-abbrev pub IsUnknownName : Result Edit EditError → Type 0
-IsUnknownName result = MatchResult result (λ edit. ⊥) (λ error. (nearest : Option Setter) × (error ≡ unknown_name nearest))
-
 -- `IsSetting name value result` holds if `result` is what the setter with the name `name` makes of `value`, or the error
--- of an unknown name if no setter has the name.
+-- of an unknown name, whatever its message suggests, if no setter has the name.
 pub record IsSetting (name value : List ℕ) (result : Result Edit EditError) : Type 0 where
-  pub unknown : IsNoName name → IsUnknownName result
+  pub unknown : IsNoName name
+      → MatchResult result (λ edit. ⊥) (λ error. (nearest : Option Setter) × (error ≡ unknown_name nearest))
   pub known : (setter : Setter) → name_of setter ≡ name → IsParsed setter value result

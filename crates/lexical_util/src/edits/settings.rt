@@ -1,13 +1,10 @@
 //! Settings, which are edits written as text: `NAME=VALUE`.
 
-ghost use Rattle.std.specs.Prelude.{◌≡◌, ◌≢◌, ◌≤◌, ◌<◌, length, Option, MatchOption, MatchResult};
-ghost use Rattle.std.specs.Bool.{IsFalse};
+ghost use Rattle.std.specs.Prelude.{◌≡◌, ◌≢◌, ◌≤◌, ◌<◌, length, Option, MatchOption};
 ghost use Rattle.std.specs.List.{position_or_len, before_first, after_first};
-ghost use Rattle.lexical_util.specs.Additions.EditMasks.{argument_byte};
-ghost use Rattle.lexical_util.specs.Additions.Settings.{name_of, setter_of, takes_flag, byte_of_digits, byte_of_number, byte_of_character};
-ghost use Rattle.lexical_util.specs.Additions.Settings.{is_equals, trimmed, no_equals, unknown_name, bad_value};
-ghost use Rattle.lexical_util.specs.Additions.Settings.{IsNoName, IsUnknownName, IsParsed, IsSetting};
-ghost use Rattle.lexical_util.specs.declared.edits.setters.FlagSetter.{FlagSetter};
+ghost use Rattle.lexical_util.specs.Additions.Settings.{name_of, byte_of_digits, byte_of_number, byte_of_character};
+ghost use Rattle.lexical_util.specs.Additions.Settings.{no_equals, unknown_name, bad_value};
+ghost use Rattle.lexical_util.specs.Additions.Settings.{is_equals, trimmed, IsParsed, IsSetting};
 
 use crate::edits::{ALL_SETTERS, ArgumentKind, Edit, Setter};
 use crate::numeral::read_numeral;
@@ -76,13 +73,11 @@ impl fmt::Display for EditError {
         match self.0 {
             Fault::NoEquals => f.write_str("expected NAME=VALUE"),
             Fault::UnknownName(None) => f.write_str("unknown setting name"),
-            Fault::UnknownName(Some(nearest)) => {
-                write!(
-                    f,
-                    "unknown setting name; did you mean `{}`?",
-                    nearest.name()
-                )
-            }
+            Fault::UnknownName(Some(it)) => write!(
+                f,
+                "unknown setting name; did you mean `{}`?",
+                it.name()
+            ),
             Fault::BadValue(setter) => write!(f, "{} takes {}", setter.name(), taken(setter)),
         }
     }
@@ -126,27 +121,8 @@ impl Setter {
         };
         match byte {
             Some(byte) => Ok(self.with_byte(byte)),
-            None => Err(self.refusal()),
+            None => Err(EditError(Fault::BadValue(self))),
         }
-    }
-
-    // Returns the error for a value that the setter does not take.
-    const fn refusal(self) -> EditError
-        ensures { result ≡ bad_value self }
-    {
-        EditError(Fault::BadValue(self))
-    }
-}
-
-// Returns the setter with a name.
-fn setter_named(name: &str) -> Result<Setter, EditError>
-    ensures known { (setter : Setter) → name_of setter ≡ name.now → result ≡ Ok setter }
-    ensures unknown { IsNoName name.now
-        → MatchResult result (λ setter. ⊥) (λ error. (nearest : Option Setter) × (error ≡ unknown_name nearest)) }
-{
-    match Setter::from_name(name) {
-        Some(setter) => Ok(setter),
-        None => Err(EditError(Fault::UnknownName(nearest(name)))),
     }
 }
 
@@ -159,67 +135,24 @@ pub(crate) fn nearest(name: &str) -> Option<Setter> {
     if name.starts_with("decimal") {
         return None;
     }
-    let mut nearest = None;
-    let mut most = 50;
-    for setter in ALL_SETTERS {
-        let likeness = likeness(name.as_bytes(), setter.name().as_bytes());
-        if likeness >= most {
-            nearest = Some(setter);
-            most = likeness;
-        }
-    }
-    nearest
+    let alike = |setter: &Setter| likeness(name.as_bytes(), setter.name());
+    ALL_SETTERS
+        .into_iter()
+        .filter(|it| alike(it) >= 50)
+        .max_by_key(alike)
 }
 
 // Returns how much of two names are pairs of adjacent letters that they have in common, in percent.
-pub(crate) fn likeness(name: &[u8], other: &[u8]) -> usize {
-    let mut shared: usize = 0;
-    for pair in other.windows(2) {
-        if name.windows(2).any(|it| it == pair) {
-            shared = shared.saturating_add(1);
-        }
-    }
-    let pairs = name.len().saturating_add(other.len()).saturating_sub(2);
-    shared.saturating_mul(200) / pairs.max(1)
+pub(crate) fn likeness(name: &[u8], other: &str) -> usize {
+    let pairs = other.as_bytes().windows(2);
+    let shared = pairs
+        .filter(|pair| name.windows(2).any(|it| it == *pair))
+        .count();
+    let all = name.len().saturating_add(other.len()).saturating_sub(2);
+    shared.saturating_mul(200) / all.max(1)
 }
 
 impl Edit {
-    /// Returns the edit that calls the flag setter or group setter `name` with `flag`.
-    ///
-    /// # Errors
-    ///
-    /// Returns an [`EditError`] if no setter has the name, or if the setter takes a byte.
-    pub fn flag(name: &str, flag: bool) -> Result<Edit, EditError>
-        ensures flag { (setter : FlagSetter) → name_of (Setter.Flag setter) ≡ name.now
-            → result ≡ Ok (Edit.Flag setter flag) }
-        ensures byte { (setter : Setter) → name_of setter ≡ name.now → IsFalse (takes_flag setter)
-            → result ≡ Err (bad_value setter) }
-        ensures unknown { IsNoName name.now → IsUnknownName result }
-    {
-        match setter_named(name)? {
-            Setter::Flag(setter) => Ok(Edit::Flag(setter, flag)),
-            setter => Err(setter.refusal()),
-        }
-    }
-
-    /// Returns the edit that calls the byte setter `name` with `byte`. If the byte may be absent, 0 means absent.
-    ///
-    /// # Errors
-    ///
-    /// Returns an [`EditError`] if no setter has the name, or if the setter takes a flag.
-    pub fn byte(name: &str, byte: u8) -> Result<Edit, EditError>
-        ensures byte { (setter : Setter) → name_of setter ≡ name.now → IsFalse (takes_flag setter)
-            → MatchResult result (λ edit. (setter_of edit ≡ setter) × (argument_byte edit ≡ byte)) (λ error. ⊥) }
-        ensures flag { (setter : FlagSetter) → name_of (Setter.Flag setter) ≡ name.now
-            → result ≡ Err (bad_value (Setter.Flag setter)) }
-        ensures unknown { IsNoName name.now → IsUnknownName result }
-    {
-        match setter_named(name)? {
-            setter @ Setter::Flag(_) => Err(setter.refusal()),
-            setter => Ok(setter.with_byte(byte)),
-        }
-    }
-
     /// Parses `value` as the argument of the setter `name`, as [`Setter::parse`] does.
     ///
     /// # Errors
@@ -228,7 +161,10 @@ impl Edit {
     pub fn from_setting(name: &str, value: &str) -> Result<Edit, EditError>
         ensures { IsSetting name.now value.now result }
     {
-        setter_named(name)?.parse(value)
+        match Setter::from_name(name) {
+            Some(setter) => setter.parse(value),
+            None => Err(EditError(Fault::UnknownName(nearest(name)))),
+        }
     }
 
     /// Parses `text` as `NAME=VALUE`, split at the first `=`. White space at both ends of the name and of the value is
@@ -260,10 +196,8 @@ impl fmt::Display for Edit {
         f.write_str(self.name())?;
         match (self.setter().kind(), self.argument_byte()) {
             (ArgumentKind::Flag, byte) => f.write_str(if byte != 0 { "=true" } else { "=false" }),
-            (ArgumentKind::OptionalCharacter | ArgumentKind::OptionalNumber, 0) => f.write_str(
-                "=none",
-            ),
-            (_, byte) => write!(f, "={byte}"),
+            (ArgumentKind::Number, byte) | (_, byte @ 1..) => write!(f, "={byte}"),
+            (_, 0) => f.write_str("=none"),
         }
     }
 }
