@@ -27,7 +27,8 @@ pub struct FormatError {
 }
 
 /// The text for options of which one is 0, since both or neither are absent.
-pub(crate) const ONE_OPTION: &str = "only one of the exponent character and the decimal point is absent";
+pub(crate) const ONE_OPTION: &str = "only one of the exponent character and the decimal point is absent: for numbers \
+    without an exponent, keep both, and set no_exponent_notation";
 
 /// What is rejected.
 #[derive(Clone, Copy, PartialEq, Eq, Hash)]

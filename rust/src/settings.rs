@@ -91,13 +91,10 @@ struct Mask {
 }
 
 impl Mask {
-    const EMPTY: Mask = Mask { word: 0, options: 0 };
+    const EMPTY: Mask = Mask::of_word(0);
 
-    const fn of(option: Option<usize>, setter: Setter) -> Mask {
-        match option {
-            Some(option) => Mask { options: 1 << option, ..Mask::EMPTY },
-            None => Mask { word: setter.mask(), ..Mask::EMPTY },
-        }
+    const fn of_word(word: u128) -> Mask {
+        Mask { word, options: 0 }
     }
 
     const fn without(self, other: Mask) -> Mask {
@@ -163,25 +160,20 @@ impl Settings {
         if matches!(text, [] | [b'#', ..]) {
             return Ok(());
         }
-        let (option, edit) = parse(index, text).inspect_err(|it| {
-            if let Fault::BadValue(setter) = it.error.0 {
-                let mask = Mask::of(it.option, setter);
-                self.refused.word |= mask.word;
-                self.refused.options |= mask.options;
-            }
+        let (option, edit) = parse(index, text).inspect_err(|it| match (it.option, it.error.0) {
+            (Some(option), _) => self.refused.options |= 1 << option,
+            (None, Fault::BadValue(setter)) => self.refused.word |= setter.mask(),
+            _ => (),
         })?;
-        let mask = Mask::of(option, edit.setter());
-        self.refused = self.refused.without(mask);
-        let name = match option {
-            Some(option) => {
-                self.options[option] = edit.argument_byte();
-                OPTIONS[option]
-            }
-            None => {
-                self.builder = apply(self.builder, edit);
-                edit.name()
-            }
+        let (name, mask) = match option {
+            Some(option) => (OPTIONS[option], Mask { word: 0, options: 1 << option }),
+            None => (edit.name(), Mask::of_word(edit.mask())),
         };
+        self.refused = self.refused.without(mask);
+        match option {
+            Some(option) => self.options[option] = edit.argument_byte(),
+            None => self.builder = apply(self.builder, edit),
+        }
         self.push(Setting { index, name, mask });
         Ok(())
     }
@@ -242,8 +234,7 @@ impl Settings {
             Finding::new(kind, [old.index, *by].into_iter())
         });
         let notes = self.builder.notes();
-        let mask = |note: Note| Mask { word: note.mask(), ..Mask::EMPTY };
-        let notes = notes.filter_map(move |note| self.finding(FindingKind::Note(note), mask(note)));
+        let notes = notes.filter_map(|note| self.finding(FindingKind::Note(note), Mask::of_word(note.mask())));
         overridden.chain(notes)
     }
 
@@ -254,7 +245,7 @@ impl Settings {
         let blamed = live.filter(|it| it.mask.meets(mask));
         let own = match mask.word & MANTISSA_RADIX {
             0 => mask,
-            _ => mask.without(Mask { word: EXPONENT_BASE | EXPONENT_RADIX, options: 0 }),
+            _ => mask.without(Mask::of_word(EXPONENT_BASE | EXPONENT_RADIX)),
         };
         (!own.meets(self.refused)).then(|| Finding::new(kind, blamed.map(|it| it.index)))
     }
@@ -286,11 +277,11 @@ fn parse(index: usize, text: &[u8]) -> Result<(Option<usize>, Edit), LineError> 
         Some(_) => Setter::DigitSeparator.parse(argument),
         None => Edit::from_setting(from_utf8(name).unwrap_or_default(), argument),
     };
-    let edit = edit.map_err(|error| match error.kind() {
-        EditErrorKind::UnknownName => refuse(error, None, name),
-        _ => refuse(error, option, value),
-    });
-    Ok((option, edit?))
+    match edit {
+        Ok(edit) => Ok((option, edit)),
+        Err(error) if error.name().is_none() => Err(refuse(error, option, name)),
+        Err(error) => Err(refuse(error, option, value)),
+    }
 }
 
 /// Returns whether an option is `none`. This is a cause if the other is not.

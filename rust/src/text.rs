@@ -170,8 +170,7 @@ impl FromStr for FlagSetter {
     fn from_str(name: &str) -> Result<Self, EditError> {
         match Setter::from_name(name) {
             Some(Setter::Flag(setter)) => Ok(setter),
-            Some(_) => Err(EditError(Fault::UnknownName(None))),
-            None => Err(EditError(Fault::UnknownName(nearest(name)))),
+            found => Err(EditError(Fault::UnknownName(nearest(name).filter(|_| found.is_none())))),
         }
     }
 }

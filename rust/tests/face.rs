@@ -211,8 +211,9 @@ fn setters_of_flags_are_parsed() {
     }
     // Byte setters have no flag.
     for name in ["digit_separator", "radix", "no_special ", "NO_SPECIAL", ""] {
-        let error = name.parse::<FlagSetter>().map_err(|error| error.to_string());
-        assert_eq!(error, Err("unknown setting name".to_string()), "{name}");
+        let error = name.parse::<FlagSetter>().unwrap_err().to_string();
+        let suggestion = if name == "no_special " { "; did you mean `no_special`?" } else { "" };
+        assert_eq!(error, format!("unknown setting name{suggestion}"), "{name}");
     }
     assert_eq!(format!("{:>12}", FlagSetter::NoSpecial), "  no_special");
 }
@@ -252,6 +253,12 @@ fn syntaxes_are_parsed() {
         ("0x0A0A0A0000000000000000000000000C", Ok(INTEGERS)),
         ("0x00000a0000000000000000000000000c 101 046", Ok(NUMBERS)),
         ("0x00000A0000000000000000000000000C 'e' 0x2e", Ok(NUMBERS)),
+        ("0x00000A0000000000000000000000000C none 0", Ok(INTEGERS)),
+        // A space between quotes is a character.
+        ("0x00000A0000000000000000000000000C 'e' ' '", Ok("0x0A0A0A0000000000000000000000000C 101 32")),
+        ("0x00000A0000000000000000000000000C ' ' '.'", Ok("0x0A0A0A0000000000000000000000000C 32 46")),
+        ("0x00000A0000000000000000000000000C ' ' ' '", Err((Error::InvalidPunctuation,
+            "the exponent character 32 and the decimal point 32 are the same"))),
         // No flag allows the separator, so that it may be the decimal point.
         ("0x00000A000000002E000000000000000C 101 46", Ok(NUMBERS)),
         ("0x00000A0000000000000000000000000C 101", Err((Error::InvalidDigit(38), OPTION))),
@@ -264,6 +271,9 @@ fn syntaxes_are_parsed() {
         ("0x00000A0000000000000000000000000C 101 1000", Err((Error::InvalidDigit(39), OPTION))),
         ("0x00000A0000000000000000000000000C 101 101",
             Err((Error::InvalidPunctuation, "the exponent character 'e' and the decimal point 'e' are the same"))),
+        ("0x00000A0000000000000000000000000C none '.'", Err((Error::InvalidExponentSymbol,
+            "only one of the exponent character and the decimal point is absent: for numbers without an exponent, keep \
+             both, and set no_exponent_notation"))),
         ("0x0 101", Err((Error::InvalidMantissaRadix, "the mantissa radix 0 is not between 2 and 36"))),
         ("0x1g 101 46", Err((Error::InvalidDigit(3), "lexical parse error: 'invalid digit found' at index 3"))),
         (" 0xC", Err((Error::Empty(0), "a format word begins with `0x`"))),
