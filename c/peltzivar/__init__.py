@@ -512,11 +512,10 @@ def _takes_fields(call: Call) -> Call:
 class Edit:
     """An edit: a setter and its value, parsed from a text NAME=VALUE such as `Edit("digit_separator='_'")`.
 
-    A flag or a group takes `true` or `false`. A byte takes one to three decimal digits, or `0x` followed by one or two
-    hexadecimal digits. Every byte except `mantissa_radix` also takes `none`. A separator, prefix or suffix also takes
-    one ASCII character in single quotes. White space around the name and the value is skipped. `radix` is another name
-    of `mantissa_radix`. Raises ValueError if the text is not a setting. `value` is a bool, an ASCII character, a number,
-    or None. A byte of 128 or more is a number.
+    A flag or a group takes `true` or `false`, and a byte a number such as 95 or `0x5F`. Every byte except
+    `mantissa_radix` also takes `none`, and a separator, prefix or suffix a character in single quotes. White space around
+    the name and the value is skipped. `radix` is another name of `mantissa_radix`. Raises ValueError if the text is not a
+    setting. `value` is a bool, an ASCII character, a number, or None. A byte of 128 or more is a number.
     """
 
     setter: Setter
@@ -1029,7 +1028,7 @@ class Format(FormatView):
 class Literal(Generic[AnyStr]):
     """A text that is a literal of a syntax, and its parts in the order of the text. An absent part is empty. The prefix
     includes the zero before it, and a part with digits includes digit separators. `str(literal)` is the text. Literals
-    are equal if their syntaxes and their parts are equal.
+    are equal if their syntaxes and their parts are equal. In Rust, it is enough that the formats of the syntaxes are.
 
     If `is_float` is false, the number is `int(literal.sign + literal.digits(Part.INTEGER), radix)`, where the radix is
     `literal.syntax.format.mantissa_radix`. `int` raises a ValueError for more than 4300 digits, unless the radix is a

@@ -32,10 +32,7 @@ fn files_give_a_syntax_and_what_is_found() {
         (b"# caf\xC3\xA9 = 1\n  # no = yes\nno_special=true # no", "", &["line 3: no_special takes `true` or `false`, not `true # no`"]),
         (b"base_suffix='#'", "0x0A0A0A2300000000000000000000000C 101 46", &[]),
         // Radixes are numbers.
-        (b"radix='\x10'\nmantissa_radix='x'\nexponent_base='2'\nexponent_radix=0x0A", "", &[
-            r"line 1: radix takes a number, 2 to 36 in a lawful format, not `'\x10'`",
-            "line 2: mantissa_radix takes a number, 2 to 36 in a lawful format, not `'x'`",
-            "line 3: exponent_base takes a number, 2 to 36 in a lawful format, or `none`, not `'2'`"]),
+        (b"radix='\x10'", "", &[r"line 1: radix takes a number, 2 to 36 in a lawful format, not `'\x10'`"]),
         (b"radix=40", "", &["line 1: the mantissa radix 40 is not between 2 and 36"]),
         (b"exponent_base=none\nradix=40\nexponent_radix=10", "", &["lines 1, 2: the mantissa radix 40 is not between 2 and 36"]),
         (b"radix=10\nexponent_radix=16\nbase_prefix='b'", "", &["lines 2, 3: the base prefix 'b' is a digit in radix 16"]),

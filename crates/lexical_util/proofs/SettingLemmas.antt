@@ -1,16 +1,12 @@
--- Lemmas on the names of setters, and on settings with white space.
-use Rattle.std.proofs.Common.{ℕ, ◌≡◌, ◌∙◌, List, Option, Some, refl, sym, ap, subst}
-use Rattle.std.proofs.lemmas.Str.Ascii.{trim_ascii_is}
+-- Lemmas on the names of setters.
+use Rattle.std.proofs.Common.{ℕ, ◌≡◌, ◌∙◌, List, Option, Some, refl, sym, ap}
 use Rattle.std.specs.List.{AllByRecursion, find}
-use Rattle.std.specs.Prelude.{Result}
-use Rattle.std.specs.Str.{IsTrimAscii, bytes_eq}
-use Rattle.lexical_util.specs.declared.edits.setters.Edit.{Edit}
+use Rattle.std.specs.Str.{bytes_eq}
 use Rattle.lexical_util.specs.declared.edits.setters.FlagSetter.TheVariants as flags
 use Rattle.lexical_util.specs.declared.edits.setters.Setter.{Setter}
 use Rattle.lexical_util.specs.declared.edits.setters.Setter.TheVariants as setters
 use Rattle.lexical_util.specs.declared.edits.setters.TheConstants.{ALL_SETTERS}
-use Rattle.lexical_util.specs.declared.edits.settings.EditError.{EditError}
-use Rattle.lexical_util.specs.Additions.Settings.{IsSetting, name_of, trimmed, unindented}
+use Rattle.lexical_util.specs.Additions.Settings.{name_of}
 
 -- `named text` is the first setter with the name `text`.
 named : List ℕ → Option Setter
@@ -33,13 +29,3 @@ pub every : (P : Setter → Type 0) → AllByRecursion P ALL_SETTERS → (setter
 every P all (setters.Flag flags.RequiredIntegerDigits) = assumption all
 every P all (setters.Flag _) = assumption all
 every P all _ = assumption all
-
--- If `result` is what a setting makes of a name and a value without the white space at their ends, it is what the
--- setting makes of the trimmed name and value.
-pub trimmed_setting : (name value own argument : List ℕ) (result : Result Edit EditError)
-    → IsTrimAscii name own → IsTrimAscii value argument → IsSetting own argument result
-    → IsSetting (trimmed name) (trimmed value) result
-trimmed_setting name value own argument result of_name of_value setting =
-    let left : own ≡ trimmed name = trim_ascii_is name own (unindented name) refl of_name in
-    let right : argument ≡ trimmed value = trim_ascii_is value argument (unindented value) refl of_value in
-    subst (λ n. IsSetting n (trimmed value) result) left (subst (λ v. IsSetting own v result) right setting)

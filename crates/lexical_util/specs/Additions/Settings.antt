@@ -1,9 +1,8 @@
 -- The names of setters, and the settings that call them, for `Setter`, `Edit` and `EditError`.
-use Rattle.std.specs.Prelude.{ℕ, ◌≡◌, ◌≢◌, ◌==◌, ◌&&◌, ◌-◌, Bool, true, false, nat_lt, if◌then◌else◌, Option, Some, None}
-use Rattle.std.specs.Prelude.{Result, Ok, Err, MatchResult, List, [], ◌∷◌, codes, length, take, drop, slice_index, bytes_eq}
+use Rattle.std.specs.Prelude.{ℕ, ◌≡◌, ◌≢◌, ◌==◌, ◌&&◌, Bool, true, false, nat_lt, if◌then◌else◌, Option, Some, None}
+use Rattle.std.specs.Prelude.{Result, Ok, Err, MatchResult, List, [], ◌∷◌, codes, take, drop, slice_index, bytes_eq}
 use Rattle.std.specs.Bool.{then_some}
-use Rattle.std.specs.Char.{is_ascii_whitespace}
-use Rattle.std.specs.List.{prefix_len, suffix_len}
+use Rattle.std.specs.Str.{IsTrimAscii}
 use Rattle.lexical_base.specs.Ascii.{ByteSet, between}
 use Rattle.lexical_base.specs.Digits.{numeral}
 use Rattle.lexical_util.specs.Additions.EditMasks.{argument_byte}
@@ -112,25 +111,13 @@ byte_of_character text =
     if bytes_eq text (39 ∷ slice_index text 1 ∷ 39 ∷ []) && between 32 126 (slice_index text 1)
     then Some (slice_index text 1) else byte_of_number text
 
--- `or_none byte value` is 0 if the text `value` is `none`, and otherwise what `byte` makes of it.
-abbrev pub or_none : (List ℕ → Option ℕ) → List ℕ → Option ℕ
-or_none byte value = if bytes_eq value (codes "none") then Some 0 else byte value
-
 -- `byte_of_value kind value` is the argument of this kind, as a byte, that the text `value` represents.
 abbrev pub byte_of_value : ArgumentKind → List ℕ → Option ℕ
 byte_of_value kinds.Flag value =
     if bytes_eq value (codes "true") then Some 1 else if bytes_eq value (codes "false") then Some 0 else None
-byte_of_value kinds.OptionalCharacter value = or_none byte_of_character value
+byte_of_value kinds.OptionalCharacter value = if bytes_eq value (codes "none") then Some 0 else byte_of_character value
 byte_of_value kinds.Number value = byte_of_number value
-byte_of_value kinds.OptionalNumber value = or_none byte_of_number value
-
--- `unindented text` is `text` without the white space at its start, and `trimmed text` also without that at its end:
--- tabs, line feeds, form feeds, carriage returns and spaces.
-abbrev pub unindented : List ℕ → List ℕ
-unindented text = drop (prefix_len is_ascii_whitespace text) text
-
-abbrev pub trimmed : List ℕ → List ℕ
-trimmed text = take (length (unindented text) - suffix_len is_ascii_whitespace (unindented text)) (unindented text)
+byte_of_value kinds.OptionalNumber value = if bytes_eq value (codes "none") then Some 0 else byte_of_number value
 
 -- `is_equals` is the set that contains only the byte of the character `=`.
 abbrev pub is_equals : ByteSet
@@ -164,3 +151,9 @@ pub record IsSetting (name value : List ℕ) (result : Result Edit EditError) : 
   pub unknown : IsNoName name
       → MatchResult result (λ edit. ⊥) (λ error. (nearest : Option Setter) × (error ≡ unknown_name nearest))
   pub known : (setter : Setter) → name_of setter ≡ name → IsParsed setter value result
+
+-- `IsPadded name value result` holds if `result` is what the setting makes of `name` and `value` without the white space
+-- at both ends of each.
+abbrev pub IsPadded : List ℕ → List ℕ → Result Edit EditError → Type 0
+IsPadded name value result = (own argument : List ℕ) × IsTrimAscii name own × IsTrimAscii value argument
+    × IsSetting own argument result

@@ -4,7 +4,7 @@ ghost use Rattle.std.specs.Prelude.{◌≡◌, ◌≢◌, ◌≤◌, ◌<◌, le
 ghost use Rattle.std.specs.List.{position_or_len, before_first, after_first};
 ghost use Rattle.lexical_util.specs.Additions.Settings.{name_of, byte_of_digits, byte_of_number, byte_of_character};
 ghost use Rattle.lexical_util.specs.Additions.Settings.{no_equals, unknown_name, bad_value};
-ghost use Rattle.lexical_util.specs.Additions.Settings.{is_equals, trimmed, IsParsed, IsSetting};
+ghost use Rattle.lexical_util.specs.Additions.Settings.{is_equals, IsParsed, IsSetting, IsPadded};
 
 use crate::edits::{ALL_SETTERS, ArgumentKind, Edit, Setter};
 use crate::numeral::read_numeral;
@@ -179,7 +179,7 @@ impl Edit {
     #[doc(hidden)]
     pub fn from_text(text: &str) -> Result<Edit, EditError>
         ensures setting { position_or_len is_equals text.now < length text.now
-            → IsSetting (trimmed (before_first is_equals text.now)) (trimmed (after_first is_equals text.now)) result }
+            → IsPadded (before_first is_equals text.now) (after_first is_equals text.now) result }
         ensures no_equals { position_or_len is_equals text.now ≡ length text.now → result ≡ Err no_equals }
     {
         match text.split_once('=') {
