@@ -271,7 +271,6 @@ WRONG = [
     ("Format.of(\"digit_seperator='_'\")", ValueError, f"digit_seperator='_': {SUGGESTION}"),
     ("Edit(\"radix='x'\")", ValueError, "radix='x': radix takes a number, 2 to 36 in a lawful format"),
     ("Syntax(Format(), exponent=None)", ValueError, ONE_OPTION),
-    ("Syntax.of('point=none')", ValueError, ONE_OPTION),
     ("Format().check_options('e', b'')", ValueError, f"point is {BYTE}: b''"),
     ("Syntax.of('radix=16\\nradix=2')", ValueError, "a setting is one line: 'radix=16\\nradix=2'"),
     ("Specials('a\\0').read(Syntax(Format()), '')", ValueError, "a spelling has a null character: Specials(nan='a\\x00', inf=None, infinity=None)"),

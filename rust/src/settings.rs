@@ -30,9 +30,8 @@ const SHOWN: usize = 40;
 ///
 /// A setting is what an [`Edit`] is parsed from, or has the name `exponent` or `point`, for the exponent character and the
 /// decimal point, and a value that `digit_separator` takes. A text that is blank or begins with `#` sets nothing. White
-/// space is skipped as by [`trim_ascii`][slice::trim_ascii], such as the carriage return at the end of a line, but not a
-/// vertical tab. A byte order mark is skipped only at the start of the first text, and `#` begins a comment only at the
-/// start of a text.
+/// space is skipped as by [`trim_ascii`][slice::trim_ascii], such as the carriage return at the end of a line. A byte
+/// order mark is skipped only at the start of the first text, and `#` begins a comment only at the start of a text.
 ///
 /// A setting overrides those before it. Fields without a setting have the values of a new builder, the exponent
 /// character is `e`, and the decimal point is `.`. A radix above 14 needs another exponent character, since `e` is one
@@ -393,12 +392,12 @@ impl LineError {
     /// Returns the option or the setter whose name is most like an unknown one.
     fn suggestion(&self, name: &[u8]) -> Option<&'static str> {
         let Fault::UnknownName(nearest) = self.error.0 else { return None };
-        if name.starts_with(b"decimal") {
-            return Some("point");
-        }
         let (nearest, alike) = (nearest.map(Setter::name), |other: &&str| likeness(name, other));
-        let least = nearest.as_ref().map_or(50, alike).max(50);
-        OPTIONS.into_iter().filter(|it| alike(it) >= least).max_by_key(alike).or(nearest)
+        let names = nearest.into_iter().chain(OPTIONS).filter(|it| alike(it) >= 50);
+        match name {
+            [b'd', b'e', b'c', b'i', b'm', b'a', b'l', ..] => Some("point"),
+            _ => names.max_by_key(alike).or(nearest),
+        }
     }
 }
 

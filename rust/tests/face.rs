@@ -257,8 +257,6 @@ fn syntaxes_are_parsed() {
         // A space between quotes is a character.
         ("0x00000A0000000000000000000000000C 'e' ' '", Ok("0x0A0A0A0000000000000000000000000C 101 32")),
         ("0x00000A0000000000000000000000000C ' ' '.'", Ok("0x0A0A0A0000000000000000000000000C 32 46")),
-        ("0x00000A0000000000000000000000000C ' ' ' '", Err((Error::InvalidPunctuation,
-            "the exponent character 32 and the decimal point 32 are the same"))),
         // No flag allows the separator, so that it may be the decimal point.
         ("0x00000A000000002E000000000000000C 101 46", Ok(NUMBERS)),
         ("0x00000A0000000000000000000000000C 101", Err((Error::InvalidDigit(38), OPTION))),

@@ -100,10 +100,8 @@ impl Setter {
     /// - A flag setter or group setter takes `true` or `false`.
     /// - Every byte setter takes a number from 0 to 255: one to three decimal digits, or `0x` followed by one or two
     ///   hexadecimal digits. All except `mantissa_radix` and `radix` also take `none`, which is the same as 0.
-    /// - `digit_separator`, `base_prefix` and `base_suffix` also take a character in single quotes, such as `'_'`: any
-    ///   that is ASCII and not a control character. The single quote is `'''`.
-    ///
-    /// Spaces are not skipped.
+    /// - `digit_separator`, `base_prefix` and `base_suffix` also take a character in single quotes, such as `'_'`, that
+    ///   is ASCII and not a control character. White space is not skipped.
     ///
     /// # Errors
     ///
@@ -129,25 +127,19 @@ impl Setter {
 // Returns the setter whose name is most like `name`, if they have at least half of their pairs of letters in common. A
 // separator of thousands is the digit separator, and the decimal point has no setter.
 pub(crate) fn nearest(name: &str) -> Option<Setter> {
-    if name.starts_with("thousand") {
-        return Some(Setter::DigitSeparator);
-    }
-    if name.starts_with("decimal") {
-        return None;
-    }
     let alike = |setter: &Setter| likeness(name.as_bytes(), setter.name());
-    ALL_SETTERS
-        .into_iter()
-        .filter(|it| alike(it) >= 50)
-        .max_by_key(alike)
+    let setters = ALL_SETTERS.into_iter().filter(|it| alike(it) >= 50);
+    match name {
+        _ if name.starts_with("thousand") => Some(Setter::DigitSeparator),
+        _ if name.starts_with("decimal") => None,
+        _ => setters.max_by_key(alike),
+    }
 }
 
 // Returns how much of two names are pairs of adjacent letters that they have in common, in percent.
 pub(crate) fn likeness(name: &[u8], other: &str) -> usize {
-    let pairs = other.as_bytes().windows(2);
-    let shared = pairs
-        .filter(|pair| name.windows(2).any(|it| it == *pair))
-        .count();
+    let is_shared = |pair: &&[u8]| name.windows(2).any(|it| it == *pair);
+    let shared = other.as_bytes().windows(2).filter(is_shared).count();
     let all = name.len().saturating_add(other.len()).saturating_sub(2);
     shared.saturating_mul(200) / all.max(1)
 }
@@ -167,10 +159,8 @@ impl Edit {
         }
     }
 
-    /// Parses `text` as `NAME=VALUE`, split at the first `=`. White space at both ends of the name and of the value is
-    /// skipped.
-    ///
-    /// The name and the value are parsed as in [`Edit::from_setting`].
+    /// Parses `text` as `NAME=VALUE`, split at the first `=`. The name and the value are parsed as in
+    /// [`Edit::from_setting`], without the white space at both ends of each.
     ///
     /// # Errors
     ///
