@@ -210,10 +210,11 @@ fn setters_of_flags_are_parsed() {
         assert_eq!(setter.to_string().parse(), Ok(*setter));
     }
     // Byte setters have no flag.
-    for name in ["digit_separator", "radix", "no_special ", "NO_SPECIAL", ""] {
-        let error = name.parse::<FlagSetter>().unwrap_err().to_string();
-        let suggestion = if name == "no_special " { "; did you mean `no_special`?" } else { "" };
-        assert_eq!(error, format!("unknown setting name{suggestion}"), "{name}");
+    const NEAR: &str = "; did you mean `no_special`?";
+    for (name, near) in [("digit_separator", ""), ("radix", ""), ("no_special ", NEAR), ("NO_SPECIAL", NEAR), ("", "")]
+    {
+        let error = name.parse::<FlagSetter>().unwrap_err();
+        assert_eq!(error.to_string(), format!("unknown setting name{near}"), "{name}");
     }
     assert_eq!(format!("{:>12}", FlagSetter::NoSpecial), "  no_special");
 }

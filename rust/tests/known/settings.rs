@@ -79,12 +79,13 @@ fn a_refused_setting_has_a_sentence() {
         ("radix", None, "expected NAME=VALUE"),
         ("", None, "expected NAME=VALUE"),
         ("=7", None, "unknown setting name"),
-        ("RADIX=7", None, "unknown setting name"),
+        ("RADIX=7", None, "unknown setting name; did you mean `radix`?"),
         ("digit_seperator=_", None, "unknown setting name; did you mean `digit_separator`?"),
         ("no-special=true", None, "unknown setting name; did you mean `no_special`?"),
         ("prefix='x'", None, "unknown setting name; did you mean `base_prefix`?"),
         ("thousands=','", None, "unknown setting name; did you mean `digit_separator`?"),
         ("decimal_separator=','", None, "unknown setting name"),
+        ("exponent='p'", None, "unknown setting name"),
         ("colour=7", None, "unknown setting name"),
     ];
     for (text, name, sentence) in rows {

@@ -125,20 +125,20 @@ impl Setter {
 }
 
 // Returns the setter whose name is most like `name`, if they have at least half of their pairs of letters in common. A
-// separator of thousands is the digit separator, and the decimal point has no setter.
+// separator of thousands is the digit separator. The decimal point and the exponent character have no setter.
 pub(crate) fn nearest(name: &str) -> Option<Setter> {
     let alike = |setter: &Setter| likeness(name.as_bytes(), setter.name());
     let setters = ALL_SETTERS.into_iter().filter(|it| alike(it) >= 50);
     match name {
         _ if name.starts_with("thousand") => Some(Setter::DigitSeparator),
-        _ if name.starts_with("decimal") => None,
+        _ if name.starts_with("decimal") || name == "exponent" => None,
         _ => setters.max_by_key(alike),
     }
 }
 
 // Returns how much of two names are pairs of adjacent letters that they have in common, in percent.
 pub(crate) fn likeness(name: &[u8], other: &str) -> usize {
-    let is_shared = |pair: &&[u8]| name.windows(2).any(|it| it == *pair);
+    let is_shared = |pair: &&[u8]| name.windows(2).any(|it| it.eq_ignore_ascii_case(pair));
     let shared = other.as_bytes().windows(2).filter(is_shared).count();
     let all = name.len().saturating_add(other.len()).saturating_sub(2);
     shared.saturating_mul(200) / all.max(1)
