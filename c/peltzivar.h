@@ -190,20 +190,18 @@ peltzivar_word peltzivar_pack(const peltzivar_fields *fields);
 
 /* SETTINGS */
 
-/* Parses a setting: a string NAME=VALUE of len bytes, which need not be null-terminated. It is split at the first `=`.
- * If it is valid, writes its edit to *out and returns true. Otherwise, returns false and leaves *out unchanged.
- *
- * A flag or a group takes `true` or `false`. A byte takes one ASCII character in single quotes, `0x` followed by one or
- * two hexadecimal digits, or one to three decimal digits. Every byte except mantissa_radix also takes `none`, which
- * makes the byte absent, as 0 does. Spaces are not skipped. The name radix is read as mantissa_radix. Only
- * peltzivar_read_settings takes `exponent` and `point`, which are not fields. */
+/* Parses a setting: a string NAME=VALUE of len bytes, which need not be null-terminated. If it is valid, writes its edit
+ * to *out and returns true. Otherwise, returns false and leaves *out unchanged. FORMAT.md has a table of the settings.
+ * The name radix is read as mantissa_radix. Only peltzivar_read_settings takes `exponent` and `point`, which are not
+ * fields. */
 PELTZIVAR_MUST_USE bool peltzivar_parse_edit(const char *text, size_t len, peltzivar_edit *out);
 
-/* Does the same for the value of a byte alone, such as `'p'`, `0x70`, `112` or `none`, which is 0. */
+/* Does the same for the value of base_prefix alone, such as `'p'`, `0x70`, `112` or `none`, which is 0. */
 PELTZIVAR_MUST_USE bool peltzivar_parse_byte(const char *text, size_t len, uint8_t *out);
 
-/* Writes the reason why peltzivar_parse_edit rejects a string, such as "no_special takes `true` or `false`". The string
- * has len bytes, and the buffer `to` has to_len bytes. If peltzivar_parse_edit accepts it, writes an empty string. */
+/* Writes the reason why peltzivar_parse_edit rejects a string, such as "no_special takes `true` or `false`", or "unknown
+ * setting name; did you mean `base_suffix`?". The string has len bytes, and the buffer `to` has to_len bytes. If
+ * peltzivar_parse_edit accepts it, writes an empty string. */
 size_t peltzivar_setting_error_text(const char *text, size_t len, char *to, size_t to_len);
 
 /* Writes an edit as NAME=VALUE, where VALUE is `true`, `false`, `none` or a decimal number. peltzivar_parse_edit parses
@@ -455,10 +453,8 @@ const char *peltzivar_language_name(size_t index);
 
 /* SETTINGS OF A TEXT
  *
- * A text, such as a file, has one setting a line, in the form that peltzivar_parse_edit describes, or `exponent=VALUE`
- * or `point=VALUE` for the options, with a VALUE as for digit_separator. A character in quotes is not a radix or an
- * exponent base. Lines end with \n. Around names and values, spaces, horizontal tabs, \f and \r are skipped, and so are
- * a byte order mark at the start of the text, and lines that are then empty or begin with `#`. No comment can follow a
+ * A text, such as a file, has one setting a line, of a field, a group or an option. Lines end with \n. A byte order mark
+ * at the start of the text is skipped, and so are lines that are blank or begin with `#`. No comment can follow a
  * setting. A setting overrides those before it. Fields without a setting have the values of PELTZIVAR_NEW_FIELDS, the
  * exponent character is `e`, and the decimal point is `.`. In a mantissa or exponent radix above 14, `e` is a digit, so
  * `exponent` must be set. If both options are `none`, literals are integers. One alone cannot be `none`: for numbers

@@ -509,6 +509,12 @@ def _encoded(name: str, text: object, wanted: str = "a str or bytes") -> bytes:
     return text if isinstance(text, bytes) else _typed(name, text, str, wanted).encode("utf-8", "surrogatepass")
 
 
+def _refusal(setting: str) -> str:
+    """Returns the reason why a setting is refused."""
+    text = _encoded("a setting", setting)
+    return _text(_library.setting_error_text, text, len(text))
+
+
 def _takes_fields(call: Call) -> Call:
     """Makes a call pass its keyword arguments as edits, in order and behind its settings."""
 
@@ -516,7 +522,7 @@ def _takes_fields(call: Call) -> Call:
     def calling(*settings: Any, **fields: Any) -> Any:
         for name in fields:
             if name not in _SETTERS:
-                raise TypeError(f"{call.__name__}() got an unexpected keyword argument {name!r}")
+                raise TypeError(f"{call.__name__}() got an unexpected keyword argument {name!r}: {_refusal(name + '=')}")
         return call(*settings, *(Edit.of(name, value) for name, value in fields.items()))
 
     return cast(Call, calling)
@@ -526,10 +532,10 @@ def _takes_fields(call: Call) -> Call:
 class Edit:
     """An edit: a setter and its value, parsed from a text NAME=VALUE such as `Edit("digit_separator='_'")`.
 
-    A flag or a group takes `true` or `false`. A byte takes one ASCII character in single quotes, one to three decimal
-    digits, or `0x` followed by one or two hexadecimal digits. Every byte except `mantissa_radix` also takes `none`.
-    Spaces are not skipped. `radix` is another name of `mantissa_radix`. Raises ValueError if the text is not a setting.
-    `value` is a bool, an ASCII character, a number, or None. A byte of 128 or more is a number.
+    A flag or a group takes `true` or `false`, and a byte a number such as 95 or `0x5F`. Every byte except
+    `mantissa_radix` also takes `none`, and a separator, prefix or suffix a character in single quotes. White space around
+    the name and the value is skipped. `radix` is another name of `mantissa_radix`. Raises ValueError if the text is not a
+    setting. `value` is a bool, an ASCII character, a number, or None. A byte of 128 or more is a number.
     """
 
     setter: Setter
@@ -538,7 +544,7 @@ class Edit:
     def __init__(self, text: str) -> None:
         edit, setting = _Edit(), _encoded("a setting", _typed("a setting", text, str))
         if not _library.parse_edit(setting, len(setting), edit):
-            raise ValueError(f"{text}: {_text(_library.setting_error_text, setting, len(setting))}")
+            raise ValueError(f"{text}: {_refusal(text)}")
         vars(self).update(setter=Setter(edit.setter), value=_value(Setter(edit.setter), edit.value))
 
     @classmethod
@@ -547,7 +553,7 @@ class Edit:
         `Edit.of("digit_separator", "_")`. Raises TypeError or ValueError if the setter does not take the value."""
         named = _SETTERS.get(setter) if isinstance(setter, str) else _typed("setter", setter, Setter)
         if named is None:
-            raise ValueError(f"unknown setting name: {reprlib.repr(setter)}")
+            raise ValueError(f"setter {reprlib.repr(setter)}: {_refusal(f'{setter}=')}")
         edit = cls.__new__(cls)
         vars(edit).update(setter=named, value=_value(named, _number_of(named, value)))
         return edit
@@ -1041,7 +1047,8 @@ class Format(FormatView):
 @dataclass(frozen=True)
 class Literal(Generic[AnyStr]):
     """A text that is a literal of a syntax, and its parts in the order of the text. An absent part is empty. The prefix
-    includes the zero before it, and a part with digits includes digit separators. `str(literal)` is the text.
+    includes the zero before it, and a part with digits includes digit separators. `str(literal)` is the text. Literals
+    are equal if their syntaxes and their parts are equal. In Rust, it is enough that the formats of the syntaxes are.
 
     If `is_float` is false, the number is `int(literal.sign + literal.digits(Part.INTEGER), radix)`, where the radix is
     `literal.syntax.format.mantissa_radix`. `int` raises a ValueError for more than 4300 digits, unless the radix is a
@@ -1094,7 +1101,7 @@ class Syntax:
         ('1', '8', '3')
 
     The format is in normal form, so equivalent formats have the same syntax. Raises OptionsError if the exponent
-    character or the decimal point does not fit the normal form.
+    character or the decimal point does not fit the normal form, or if only one of them is None.
     """
 
     format: Format
@@ -1104,9 +1111,12 @@ class Syntax:
 
     def __post_init__(self) -> None:
         format, options = _typed("format", self.format, Format).normal_form(), (0, 0)
-        if self.exponent is not None or self.point is not None:
+        if self.exponent is not None and self.point is not None:
             options = _byte("exponent", self.exponent), _byte("point", self.point)
             format.check_options(*options)
+        elif self.exponent is not self.point:
+            sentence = _text(_library.settings_text, b"exponent=none", 13, 0)
+            raise OptionsError((Reason(sentence, options=(Role.EXPONENT, Role.POINT)),))
         exponent, point = (chr(it) if it else None for it in options)
         vars(self).update(format=format, exponent=exponent, point=point, _reader=_Reader())
         _library.reader_init(self._reader, _Syntax(format._halves, *options))
@@ -1128,8 +1138,8 @@ class Syntax:
 
         A setting has the form that `Edit` takes, and a setting of `exponent` or `point` that of `base_prefix`. If both
         are `none`, literals are integers, and one alone is refused: for floats without an exponent, keep its character
-        and set `no_exponent_notation`. White space around a name or a value is skipped, and so is a setting that is
-        blank or begins with `#`. A number is not in quotes. A setting overrides those before it.
+        and set `no_exponent_notation`. A setting that is blank or begins with `#` is skipped. A setting overrides those
+        before it.
         """
         text, made = _lines(settings), _Syntax()
         if problems := _library.read_settings(text, len(text), made):

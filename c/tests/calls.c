@@ -113,6 +113,7 @@ static void test_options(void) {
     const peltzivar_word hexadecimal = {0xC, 0x0000100000000000};
     uint8_t byte = 7;
     CHECK(peltzivar_parse_byte("'p'", 3, &byte) && byte == 'p' && peltzivar_parse_byte("0x2e", 4, &byte) && byte == '.');
+    CHECK(!peltzivar_parse_byte("'\t'", 3, &byte));
     CHECK(peltzivar_parse_byte("none", 4, &byte) && byte == 0 && !peltzivar_parse_byte("256", 3, &byte) && byte == 0);
     const uint32_t exponent = 1 << PELTZIVAR_ROLE_EXPONENT, point = 1 << PELTZIVAR_ROLE_POINT;
     CHECK(peltzivar_options_reason_roles(hexadecimal, 'e', '+', 0) == exponent);
@@ -151,7 +152,8 @@ static void test_readers(void) {
         const char *sentence;
     } rows[] = {{{{0, 0}, 0, 0}, PELTZIVAR_INVALID_MANTISSA_RADIX, "the mantissa radix 0 is not between 2 and 36"},
         {{PELTZIVAR_STANDARD_INIT, 'e', 0}, PELTZIVAR_INVALID_DECIMAL_POINT,
-            "only one of the exponent character and the decimal point is absent"},
+            "only one of the exponent character and the decimal point is absent: for numbers without an exponent, keep both, "
+            "and set no_exponent_notation"},
         {{PELTZIVAR_STANDARD_INIT, '5', '.'}, PELTZIVAR_INVALID_EXPONENT_SYMBOL,
             "the exponent character '5' is a digit in the mantissa radix 10 and the exponent radix 10"}};
     static const peltzivar_syntax integers = {PELTZIVAR_STANDARD_INIT, 0, 0};

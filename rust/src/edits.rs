@@ -15,8 +15,8 @@ pub(crate) use setters::mask_of;
 pub use setters::{
     field_edits_of, ArgumentKind, Edit, FlagSetter, Setter, ALL_SETTERS, FIELD_COUNT, FLAG_COUNT, SETTERS,
 };
-pub(crate) use settings::Fault;
-pub use settings::{byte_from_decimal, SettingError, SettingErrorKind};
+pub use settings::{byte_from_decimal, EditError, EditErrorKind};
+pub(crate) use settings::{likeness, nearest, Fault};
 
 /// Calls the setter of `edit` on `builder`, and returns the new builder.
 #[inline(always)]

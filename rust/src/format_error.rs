@@ -8,7 +8,8 @@ use crate::reasons::{options_reasons, reasons, Reason, MAX_REASONS};
 use crate::short_text::ShortText;
 
 /// The text for options of which one is 0, since both or neither are absent.
-pub(crate) const ONE_OPTION: &str = "only one of the exponent character and the decimal point is absent";
+pub(crate) const ONE_OPTION: &str = "only one of the exponent character and the decimal point is absent: for numbers \
+    without an exponent, keep both, and set no_exponent_notation";
 
 impl FormatError {
     /// Returns the reasons why the word is not lawful, as [`FormatView::reasons`][crate::FormatView::reasons] does, or why

@@ -96,7 +96,7 @@ pub mod word;
 pub mod word_text;
 
 #[doc(no_inline)]
-pub use edits::{Edit, FlagSetter, Setter, SettingError, SettingErrorKind};
+pub use edits::{Edit, EditError, EditErrorKind, FlagSetter, Setter};
 #[doc(no_inline)]
 pub use error::Error;
 #[doc(no_inline)]
@@ -110,7 +110,7 @@ pub use lawful::{Format, FormatError};
 #[doc(inline)]
 pub use reasons::{Byte, Cause, NamedByte, Note, Radixes, Reason};
 #[doc(inline)]
-pub use settings::{Finding, FindingKind, Settings, SettingsError};
+pub use settings::{Finding, FindingKind, LineError, Settings};
 #[doc(inline)]
 pub use short_text::ShortText;
 #[doc(inline)]

@@ -88,12 +88,12 @@ impl NumberFormatBuilder {
 /// Applies the edits to a new builder, in order.
 ///
 /// ```
-/// use peltzivar::{Edit, NumberFormatBuilder, SettingError};
+/// use peltzivar::{Edit, NumberFormatBuilder, EditError};
 ///
 /// let settings = ["mantissa_radix=16", "base_prefix='x'"];
 /// let builder: NumberFormatBuilder = settings.iter().map(|it| it.parse::<Edit>()).collect::<Result<_, _>>()?;
 /// assert_eq!(builder.get_mantissa_radix(), 16);
-/// # Ok::<(), SettingError>(())
+/// # Ok::<(), EditError>(())
 /// ```
 impl FromIterator<Edit> for NumberFormatBuilder {
     fn from_iter<I: IntoIterator<Item = Edit>>(edits: I) -> Self {

@@ -185,9 +185,11 @@ fn setters_of_flags_are_parsed() {
         assert_eq!(setter.to_string().parse(), Ok(*setter));
     }
     // Byte setters have no flag.
-    for name in ["digit_separator", "radix", "no_special ", "NO_SPECIAL", ""] {
-        let error = name.parse::<FlagSetter>().map_err(|error| error.to_string());
-        assert_eq!(error, Err("unknown setting name".to_string()), "{name}");
+    const NEAR: &str = "; did you mean `no_special`?";
+    for (name, near) in [("digit_separator", ""), ("radix", ""), ("no_special ", NEAR), ("NO_SPECIAL", NEAR), ("", "")]
+    {
+        let error = name.parse::<FlagSetter>().unwrap_err();
+        assert_eq!(error.to_string(), format!("unknown setting name{near}"), "{name}");
     }
     assert_eq!(format!("{:>12}", FlagSetter::NoSpecial), "  no_special");
 }
@@ -218,6 +220,10 @@ fn syntaxes_are_parsed() {
         ("0x0A0A0A0000000000000000000000000C", Ok(INTEGERS)),
         ("0x00000a0000000000000000000000000c 101 046", Ok(NUMBERS)),
         ("0x00000A0000000000000000000000000C 'e' 0x2e", Ok(NUMBERS)),
+        ("0x00000A0000000000000000000000000C none 0", Ok(INTEGERS)),
+        // A space between quotes is a character.
+        ("0x00000A0000000000000000000000000C 'e' ' '", Ok("0x0A0A0A0000000000000000000000000C 101 32")),
+        ("0x00000A0000000000000000000000000C ' ' '.'", Ok("0x0A0A0A0000000000000000000000000C 32 46")),
         // No flag allows the separator, so that it may be the decimal point.
         ("0x00000A000000002E000000000000000C 101 46", Ok(NUMBERS)),
         ("0x00000A0000000000000000000000000C 101", Err((Error::InvalidDigit(38), OPTION))),
@@ -230,6 +236,9 @@ fn syntaxes_are_parsed() {
         ("0x00000A0000000000000000000000000C 101 1000", Err((Error::InvalidDigit(39), OPTION))),
         ("0x00000A0000000000000000000000000C 101 101",
             Err((Error::InvalidPunctuation, "the exponent character 'e' and the decimal point 'e' are the same"))),
+        ("0x00000A0000000000000000000000000C none '.'", Err((Error::InvalidExponentSymbol,
+            "only one of the exponent character and the decimal point is absent: for numbers without an exponent, keep \
+             both, and set no_exponent_notation"))),
         ("0x0 101", Err((Error::InvalidMantissaRadix, "the mantissa radix 0 is not between 2 and 36"))),
         ("0x1g 101 46", Err((Error::InvalidDigit(3), "lexical parse error: 'invalid digit found' at index 3"))),
         (" 0xC", Err((Error::Empty(0), "a format word begins with `0x`"))),

@@ -50,11 +50,8 @@ fn examples_end_as_their_comments_state() {
         ("tokenizer -- 0x1__F", 1, "4..5: unexpected digit separator in the integer after another, which requires integer_consecutive_digit_separator\n"),
         ("literal -- 0x00000A0000000000000000000000000C none none 12", 0, "integer 12\n"),
         ("literal -- 0x00000A0000000000000000000000000C 101 46 1e", 1, "2: expected a digit after the exponent character, which required_exponent_digits requires\n"),
-        ("literal -- 0x000A10007800005F000000010000000C 101 46 1", 1, "lexical number format error: 'invalid exponent symbol: "),
-        ("literal -- 0x0 none none 1", 1, "lexical number format error: 'invalid radix for mantissa digits'\n"),
-        ("literal -- 0x00000A0000000000000000000000000C none 46 1", 2, "literal: the arguments are not WORD E P TEXT\n"),
-        ("literal -- 0x00000A0000000000000000000000000C 101 256 1", 2, "literal: the arguments are not WORD E P TEXT\n"),
-        ("literal -- 12 101 46 1", 2, "literal: the arguments are not WORD E P TEXT\n"),
+        ("literal -- 0x000A10007800005F000000010000000C 101 46 1", 2, "WORD E P: the exponent character 'e' is a digit in "),
+        ("literal -- 12 101 46 1", 2, "WORD E P: a format word begins with `0x`\n"),
         ("settings -- rust/examples/settings.txt", 0, "0x100A10007800005F000000010000000C 112 46\n"),
         ("settings", 1, "\"\": No such file or directory (os error 2)\n"),
     ];

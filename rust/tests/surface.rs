@@ -29,10 +29,10 @@ macro_rules! has {
 }
 
 use peltzivar::edits::Edit as _;
+use peltzivar::edits::EditError as _;
+use peltzivar::edits::EditErrorKind as _;
 use peltzivar::edits::FlagSetter as _;
 use peltzivar::edits::Setter as _;
-use peltzivar::edits::SettingError as _;
-use peltzivar::edits::SettingErrorKind as _;
 use peltzivar::error::Error as _;
 use peltzivar::feature_format::NumberFormat as _;
 use peltzivar::format::Format as _;
@@ -101,11 +101,16 @@ names! { Edit:
     [const fn(a: Edit) -> u128] mask;
     [const fn(a: Edit) -> u8] argument_byte;
     [fn(FlagSetter, bool) -> Edit] Flag;
-    [fn(a: &str, b: &str) -> Result<Edit, SettingError>] from_setting;
-    [fn(a: &str, b: bool) -> Result<Edit, SettingError>] flag;
-    [fn(a: &str, b: u8) -> Result<Edit, SettingError>] byte;
+    [fn(a: &str, b: &str) -> Result<Edit, EditError>] from_setting;
     [fn(format::OptionU8) -> Edit] BasePrefix BaseSuffix DigitSeparator ExponentBase ExponentRadix;
     [fn(u8) -> Edit] MantissaRadix Radix;
+}
+names! { EditError:
+    [const fn(a: &EditError) -> EditErrorKind] kind;
+    [const fn(a: &EditError) -> Option<&'static str>] name;
+}
+names! { EditErrorKind:
+    [EditErrorKind] BadValue NoEquals UnknownName;
 }
 names! { Error:
     [Error] InfStringTooLong InfinityStringTooLong InfinityStringTooShort InvalidBasePrefix InvalidBaseSuffix
@@ -226,6 +231,10 @@ names! { FormatView:
     [fn(a: &FormatView) -> impl Iterator<Item = Reason> + Clone] reasons;
     [fn(a: &FormatView) -> impl Iterator<Item = Rule> + Clone] broken_rules;
     [fn(a: &FormatView, b: u8, c: u8) -> impl Iterator<Item = Reason> + Clone] options_reasons;
+}
+names! { LineError:
+    [const fn(a: &LineError) -> EditErrorKind] kind;
+    [const fn(a: &LineError) -> usize] index;
 }
 names! { Note:
     [Note] FlagsWithoutSeparator;
@@ -351,26 +360,15 @@ names! { Setter:
     [const fn(a: Setter, b: u8) -> Edit] with_byte;
     [fn(FlagSetter) -> Setter] Flag;
     [fn(a: &str) -> Option<Setter>] from_name;
-    [fn(a: Setter, b: &str) -> Result<Edit, SettingError>] parse;
-}
-names! { SettingError:
-    [const fn(a: &SettingError) -> Option<&'static str>] name;
-    [const fn(a: &SettingError) -> SettingErrorKind] kind;
-}
-names! { SettingErrorKind:
-    [SettingErrorKind] BadValue NoEquals UnknownName;
+    [fn(a: Setter, b: &str) -> Result<Edit, EditError>] parse;
 }
 names! { Settings:
     [const fn() -> Settings] new;
     [const fn(a: &Settings) -> Result<Format, FormatError>] build_format;
     [fn(a: &Settings) -> Result<literal::Syntax, FormatError>] build_syntax;
     [fn(a: &Settings) -> impl Iterator<Item = Finding> + Clone + '_] notes reasons;
-    [fn(a: &mut Settings, b: impl AsRef<[u8]>) -> Result<(), SettingsError>] add;
-    [fn(a: impl IntoIterator<Item = impl AsRef<[u8]>>) -> Result<Settings, SettingsError>] read;
-}
-names! { SettingsError:
-    [const fn(a: &SettingsError) -> SettingErrorKind] kind;
-    [const fn(a: &SettingsError) -> usize] index;
+    [fn(a: &mut Settings, b: impl AsRef<[u8]>) -> Result<(), LineError>] add;
+    [fn(a: impl IntoIterator<Item = impl AsRef<[u8]>>) -> Result<Settings, LineError>] read;
 }
 names! { ShortText:
     [const fn(a: &ShortText) -> &str] as_str;
@@ -381,7 +379,7 @@ names! { ShortText:
     [const fn(a: ShortText, b: usize) -> ShortText] decimal;
 }
 names! { edits::ArgumentKind:
-    [edits::ArgumentKind] Byte Flag OptionalByte;
+    [edits::ArgumentKind] Flag Number OptionalCharacter OptionalNumber;
 }
 names! { error::Class:
     [error::Class] Format Options Parse Success;
@@ -500,18 +498,21 @@ names! { mod format:
 }
 has! { Byte: Clone + Copy + Debug + Eq + Hash + PartialEq }
 has! { Cause: Clone + Copy + Debug + Eq + Hash + PartialEq }
-has! { Edit: Clone + Copy + Debug + Display + Eq + FromStr<Err = SettingError> + Hash + Ord + PartialEq + PartialOrd }
+has! { Edit: Clone + Copy + Debug + Display + Eq + FromStr<Err = EditError> + Hash + Ord + PartialEq + PartialOrd }
+has! { EditError: Clone + Copy + Debug + Display + Eq + Hash + PartialEq + std::error::Error }
+has! { EditErrorKind: Clone + Copy + Debug + Eq + Hash + PartialEq }
 has! { Error: Clone + Copy + Debug + Display + Eq + From<FormatError> + Hash + Ord + PartialEq + PartialOrd +
 std::error::Error }
 has! { Finding: Clone + Copy + Debug + Display + Eq + Hash + PartialEq + std::error::Error }
 has! { FindingKind: Clone + Copy + Debug + Eq + Hash + PartialEq }
-has! { FlagSetter: Clone + Copy + Debug + Display + Eq + FromStr<Err = SettingError> + Hash + Ord + PartialEq +
-PartialOrd }
+has! { FlagSetter: Clone + Copy + Debug + Display + Eq + FromStr<Err = EditError> + Hash + Ord + PartialEq + PartialOrd
+}
 has! { Format: Clone + Copy + Debug + Default + Display + Eq + FromStr<Err = FormatError> + Hash + LowerHex + Ord +
 PartialEq + PartialOrd + TryFrom<u128, Error = FormatError> + UpperHex }
 has! { FormatError: Clone + Copy + Debug + Display + Eq + Hash + PartialEq + std::error::Error }
 has! { FormatView: Clone + Copy + Debug + Default + Display + Eq + From<Format> + From<NumberFormat<STANDARD>> +
 From<u128> + FromStr<Err = Error> + Hash + LowerHex + Ord + PartialEq + PartialOrd + UpperHex }
+has! { LineError: Clone + Copy + Debug + Display + Eq + Hash + PartialEq + std::error::Error }
 has! { NamedByte: Clone + Copy + Debug + Eq + Hash + PartialEq }
 has! { Note: Clone + Copy + Debug + Display + Eq + Hash + PartialEq }
 has! { NumberFormat<STANDARD>: Clone + Copy + Debug + Default + Eq + Hash + PartialEq }
@@ -524,10 +525,7 @@ has! { Role: Clone + Copy + Debug + Display + Eq + Hash + PartialEq }
 has! { Rule: Clone + Copy + Debug + Display + Eq + Hash + Ord + PartialEq + PartialOrd }
 has! { Separators: Clone + Copy + Debug + Eq + Hash + PartialEq }
 has! { Setter: Clone + Copy + Debug + Eq + Hash + Ord + PartialEq + PartialOrd }
-has! { SettingError: Clone + Copy + Debug + Display + Eq + Hash + PartialEq + std::error::Error }
-has! { SettingErrorKind: Clone + Copy + Debug + Eq + Hash + PartialEq }
 has! { Settings: Clone + Debug + Default + Eq + Hash + PartialEq }
-has! { SettingsError: Clone + Copy + Debug + Display + Eq + Hash + PartialEq + std::error::Error }
 has! { ShortText: Clone + Copy + Debug + Display }
 has! { edits::ArgumentKind: Clone + Copy + Debug + Eq + Hash + PartialEq }
 has! { error::Class: Clone + Copy + Debug + Eq + Hash + Ord + PartialEq + PartialOrd }

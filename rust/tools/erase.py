@@ -91,7 +91,7 @@ EVERYWHERE = [
 
 # Types that may grow. In plain Rust, a match outside the crate has to have an arm for what they lack today.
 GROWS = {
-    "enum": "ArgumentKind Byte Cause Class Edit Error FlagSetter Note Part Place Radixes ReadErrorKind Role Rule Setter SettingErrorKind",
+    "enum": "ArgumentKind Byte Cause Class Edit EditErrorKind Error FlagSetter Note Part Place Radixes ReadErrorKind Role Rule Setter",
     "struct": "NamedByte Separators",
 }
 for kind, types in GROWS.items():

@@ -26,8 +26,8 @@ pub use setters::{
     ALL_SETTERS, ArgumentKind, Edit, FIELD_COUNT, FLAG_COUNT, FlagSetter, SETTERS, Setter,
     field_edits_of,
 };
-pub(crate) use settings::Fault;
-pub use settings::{SettingError, SettingErrorKind, byte_from_decimal};
+pub(crate) use settings::{Fault, likeness, nearest};
+pub use settings::{EditError, EditErrorKind, byte_from_decimal};
 
 /// Calls the setter of `edit` on `builder`, and returns the new builder.
 #[inline(always)]

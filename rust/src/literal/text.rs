@@ -33,15 +33,10 @@ impl fmt::Display for Syntax {
     }
 }
 
-/// Parses a byte as in a setting.
-fn byte(text: &str) -> Option<u8> {
-    let edit = Setter::MantissaRadix.parse(text).ok()?;
-    Some(edit.argument_byte())
-}
-
-/// Parses a lawful word, as [`Format`] does, alone or with two options, with a space before each. An option is a byte as
-/// in a [setting][crate::Setter::parse], such as `'e'` or 101, but a space is not in quotes. For an option that is missing
-/// or not a byte, the error's [`code`][FormatError::code] has the index at which it begins.
+/// Parses a lawful word, as [`Format`] does, alone or with two options, with a space before each. An option is what the
+/// setter `digit_separator` [takes][crate::Setter::parse], such as `'e'` or 101. If both are `none`, literals are
+/// integers. For an option that is missing or not a byte, the error's [`code`][FormatError::code] has the index at which
+/// it begins.
 impl FromStr for Syntax {
     type Err = FormatError;
 
@@ -50,10 +45,17 @@ impl FromStr for Syntax {
             return text.parse().map(Syntax::integers);
         };
         let format = word.parse()?;
-        let (exponent, point) = options.split_once(' ').unwrap_or((options, ""));
-        let error = |rest| FormatError::new(Error::InvalidDigit(text.len() - rest), Rejected::Bytes);
-        let exponent = byte(exponent).ok_or(error(options.len()))?;
-        let point = byte(point).ok_or(error(point.len()))?;
-        Syntax::new(format, exponent, point)
+        let (exponent, point) = match options.strip_prefix("' ' ") {
+            Some(point) => ("' '", point),
+            None => options.split_once(' ').unwrap_or((options, "")),
+        };
+        let byte = |option: &str, rest: &str| match Setter::DigitSeparator.parse(option) {
+            Ok(edit) => Ok(edit.argument_byte()),
+            Err(_) => Err(FormatError::new(Error::InvalidDigit(text.len() - rest.len()), Rejected::Bytes)),
+        };
+        match (byte(exponent, options)?, byte(point, point)?) {
+            (0, 0) => Ok(Syntax::integers(format)),
+            (exponent, point) => Syntax::new(format, exponent, point),
+        }
     }
 }
