@@ -62,6 +62,18 @@ impl FormatError {
 
 impl core::error::Error for FormatError {}
 
+/// Prints the first of the [`reasons`][FormatError::reasons]. If there are none, prints that a word begins with `0x` if the
+/// text does not, or what options are, and otherwise the [`code`][FormatError::code].
+///
+/// ```
+/// use core::num::NonZeroU8;
+/// use peltzivar::{Error, NumberFormatBuilder};
+///
+/// let builder = NumberFormatBuilder::new().mantissa_radix(16).base_prefix(NonZeroU8::new(b'b'));
+/// let error = builder.build_format().unwrap_err();
+/// assert_eq!(error.to_string(), "the base prefix 'b' is a digit in radix 16");
+/// assert_eq!(error.code(), Error::InvalidBasePrefix);
+/// ```
 impl fmt::Display for FormatError {
     fn fmt(&self, f: &mut fmt::Formatter<'_>) -> fmt::Result {
         f.pad(self.text().as_str())

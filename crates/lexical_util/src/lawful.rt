@@ -177,20 +177,7 @@ impl NumberFormat {
     }
 }
 
-/// Why a word is not a [`Format`][crate::Format], why a text is not one, or why a format does not accept options.
-///
-/// `Display` prints the first of the [`reasons`][Self::reasons]. If there are none, it prints that a word begins with
-/// `0x` if the text does not, or what options are, and otherwise the [`code`][Self::code].
-///
-/// ```
-/// use core::num::NonZeroU8;
-/// use peltzivar::{Error, NumberFormatBuilder};
-///
-/// let builder = NumberFormatBuilder::new().mantissa_radix(16).base_prefix(NonZeroU8::new(b'b'));
-/// let error = builder.build_format().unwrap_err();
-/// assert_eq!(error.to_string(), "the base prefix 'b' is a digit in radix 16");
-/// assert_eq!(error.code(), Error::InvalidBasePrefix);
-/// ```
+/// Why a word is not a [`Format`], why a text is not one, or why a format does not accept options.
 #[derive(Clone, Copy, PartialEq, Eq)]
 pub struct FormatError {
     code: Error,
