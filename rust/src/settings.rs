@@ -362,7 +362,7 @@ impl fmt::Display for Finding {
     }
 }
 
-/// Why a text is refused.
+/// Why [`Settings`] refuse a text, such as a line of a file.
 ///
 /// `Display` prints a sentence without the index. It names the text, or the name or value in it that is refused, by at
 /// most 40 bytes. A byte that is not printable ASCII is escaped, as in `\x1b`.
