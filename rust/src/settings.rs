@@ -7,7 +7,7 @@ use crate::edits::{apply, Edit, Fault, Setter, SettingError, SettingErrorKind, F
 use crate::format::{NumberFormatBuilder, EXPONENT_BASE, EXPONENT_RADIX, MANTISSA_RADIX};
 use crate::format_error::{self, ONE_OPTION};
 use crate::literal::Syntax;
-use crate::reasons::{Byte, Cause, NamedByte, Note, Reason};
+use crate::reasons::{Byte, Cause, Note, Reason};
 use crate::{Format, FormatError};
 
 /// The settings of options: the exponent character and the decimal point.
@@ -276,17 +276,13 @@ const fn is_one_option(cause: Cause) -> bool {
 
 /// Returns the masks of the options that a cause names, or of both if one is `none`.
 fn options_of(cause: Cause) -> u128 {
-    let mask = |byte: NamedByte| match byte.name {
-        Byte::ExponentCharacter => EXPONENT,
-        Byte::DecimalPoint => POINT,
-        _ => 0,
-    };
-    match cause {
+    let bytes = cause.bytes().into_iter().flatten();
+    bytes.fold(0, |mask, byte| match byte.name {
         _ if is_one_option(cause) => EXPONENT | POINT,
-        Cause::NotText(byte) | Cause::IsSign(byte) | Cause::IsDigit(byte, _) => mask(byte),
-        Cause::Same(first, second) | Cause::DifferInCase { first, second, .. } => mask(first) | mask(second),
-        _ => 0,
-    }
+        Byte::ExponentCharacter => mask | EXPONENT,
+        Byte::DecimalPoint => mask | POINT,
+        _ => mask,
+    })
 }
 
 /// A reason or a note, and the indexes of the settings that cause it.
