@@ -8,7 +8,7 @@ use peltzivar::format::{
 };
 use peltzivar::literal::{ReadError, ReadErrorKind, Reader, Specials, Syntax};
 use peltzivar::reasons::Byte;
-use peltzivar::{Cause, Format, FormatView, Reason};
+use peltzivar::{Cause, Format, FormatView, Reason, Rule};
 
 /// The spellings of special values that are read.
 pub const SPECIALS: Specials = Specials { nan: Some(b"NaN"), inf: Some(b"inf"), infinity: Some(b"infinity") };
@@ -23,8 +23,7 @@ const MOST_ROLES: usize = 3;
 const SEPARATORS: u128 = DIGIT_SEPARATOR_FLAG_MASK & !SPECIAL_DIGIT_SEPARATOR;
 
 /// The bits of no field.
-const RESERVED: u128 =
-    !(FLAG_MASK | DIGIT_SEPARATOR | BASE_PREFIX | BASE_SUFFIX | MANTISSA_RADIX | EXPONENT_BASE | EXPONENT_RADIX);
+const RESERVED: u128 = Rule::ReservedBitsAreZero.mask();
 
 /// The bytes that stand for an exponent character and a decimal point that do not fit. No number has them.
 const NO_EXPONENT: u8 = 11;
@@ -346,12 +345,8 @@ pub fn problems(state: State) -> impl Iterator<Item = Reason> {
 
 /// Returns whether a reason blames the exponent character, and whether it blames the decimal point.
 pub fn blamed_options(reason: Reason) -> [bool; 2] {
-    let (first, second) = match reason.cause() {
-        Cause::NotText(byte) | Cause::IsSign(byte) | Cause::IsDigit(byte, _) => (byte, byte),
-        Cause::Same(first, second) | Cause::DifferInCase { first, second, .. } => (first, second),
-        _ => return [false; 2],
-    };
-    [Byte::ExponentCharacter, Byte::DecimalPoint].map(|it| first.name == it || second.name == it)
+    let bytes = reason.cause().bytes();
+    [Byte::ExponentCharacter, Byte::DecimalPoint].map(|name| bytes.iter().flatten().any(|byte| byte.name == name))
 }
 
 /// Returns the states in which one field that a reason blames is absent or cleared, or one option is another character.

@@ -8,7 +8,7 @@ use crate::format::{NumberFormatBuilder, EXPONENT_BASE, EXPONENT_RADIX, MANTISSA
 use crate::format_error::ONE_OPTION;
 use crate::lawful::Rejected;
 use crate::literal::Syntax;
-use crate::reasons::{Byte, Cause, NamedByte, Note, Reason};
+use crate::reasons::{Byte, Cause, Note, Reason};
 use crate::{Format, FormatError};
 
 /// The settings of options: the exponent character and the decimal point.
@@ -290,17 +290,13 @@ const fn is_one_option(cause: Cause) -> bool {
 
 /// Returns the bits of the options that a cause names, or of both if one is `none`.
 fn options_of(cause: Cause) -> u8 {
-    let mask = |byte: NamedByte| match byte.name {
-        Byte::ExponentCharacter => 1,
-        Byte::DecimalPoint => 2,
-        _ => 0,
-    };
-    match cause {
+    let bytes = cause.bytes().into_iter().flatten();
+    bytes.fold(0, |mask, byte| match byte.name {
         _ if is_one_option(cause) => 3,
-        Cause::NotText(byte) | Cause::IsSign(byte) | Cause::IsDigit(byte, _) => mask(byte),
-        Cause::Same(first, second) | Cause::DifferInCase { first, second, .. } => mask(first) | mask(second),
-        _ => 0,
-    }
+        Byte::ExponentCharacter => mask | 1,
+        Byte::DecimalPoint => mask | 2,
+        _ => mask,
+    })
 }
 
 /// A reason or a note, and the indexes of the settings that cause it.

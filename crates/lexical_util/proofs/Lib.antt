@@ -9,7 +9,6 @@ mod ImageLemmas
 mod Fewest
 mod FieldWrites
 pub mod ReasonLemmas
-mod NoteLemmas
 pub mod NumeralLemmas
 mod SettingLemmas
 mod WordTextLemmas
