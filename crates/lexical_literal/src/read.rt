@@ -10,10 +10,12 @@ ghost use Rattle.lexical_literal.specs.Front.{NoLiteral};
 ghost use Rattle.lexical_literal.specs.Literal.{Literal, text_of};
 ghost use Rattle.lexical_literal.specs.Notation.{notation_of};
 ghost use Rattle.lexical_literal.specs.Parts.{literal_of};
+ghost use Rattle.lexical_literal.specs.declared.tables.TheConstants.{ROWS};
 
 use crate::cause::{ReadError, Spot};
+use crate::span::marks;
 use crate::syntax::{Grammar, Syntax};
-use crate::tables::{START, Tables, piece_number, summary_at};
+use crate::tables::{START, Tables, piece_number};
 use lexical_util::laws::flags::role_facts;
 use std::marker::Model;
 
@@ -163,7 +165,7 @@ impl Reader {
     // Returns whether `seeks` is true and a row is that of a literal.
     #[inline(always)]
     const fn is_sought(&self, row: u8, seeks: bool) -> bool
-        requires { row < 108 }
+        requires { row < ROWS }
         ensures { result ≡ (seeks && is_complete (notation_of self.now) (summary_at row)) }
     {
         seeks && self.is_complete(row)
@@ -172,7 +174,7 @@ impl Reader {
     // Returns whether a row is that of a literal.
     #[inline(always)]
     const fn is_complete(&self, row: u8) -> bool
-        requires { row < 108 }
+        requires { row < ROWS }
         ensures { result ≡ is_complete (notation_of self.now) (summary_at row) }
     {
         self.tables.is_complete(row)
@@ -193,9 +195,9 @@ impl Reader {
         ReadError {
             spot: Spot {
                 grammar: self.grammar,
-                read: summary_at(scanned.row),
+                row: scanned.row,
                 byte,
-                marks: self.marks(text, size, byte),
+                marks: marks(self.grammar, text, size, byte),
             },
         }
     }

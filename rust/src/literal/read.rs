@@ -3,8 +3,9 @@
 //! How literals are found, and the lengths of their parts.
 
 use crate::literal::cause::{ReadError, Spot};
+use crate::literal::span::marks;
 use crate::literal::syntax::{Grammar, Syntax};
-use crate::literal::tables::{piece_number, summary_at, Tables, START};
+use crate::literal::tables::{piece_number, Tables, START};
 
 /// The parts of a literal, in the order of the text. An absent part has no bytes.
 #[derive(Debug, Clone, Copy, PartialEq, Eq, Hash)]
@@ -127,12 +128,7 @@ impl Reader {
         let size = scanned.valid_up_to;
         let byte = byte_at(text, size);
         ReadError {
-            spot: Spot {
-                grammar: self.grammar,
-                read: summary_at(scanned.row),
-                byte,
-                marks: self.marks(text, size, byte),
-            },
+            spot: Spot { grammar: self.grammar, row: scanned.row, byte, marks: marks(self.grammar, text, size, byte) },
         }
     }
 }

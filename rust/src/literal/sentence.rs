@@ -66,30 +66,25 @@ impl ReadError {
         let Refusal { kind, mask, byte, .. } = self.explain();
         match kind {
             ReadErrorKind::Requirement | ReadErrorKind::Case => requirement(mask),
-            ReadErrorKind::Separator(_, place) => {
-                let text = ShortText::of(separator(place)).and(", which requires ");
-                names(text, mask, " or ")
-            }
+            ReadErrorKind::Separator(_, place) => names(separator(place), " requires", mask, " or "),
             ReadErrorKind::Missing(part) => ShortText::of("expected a digit of the ").and(part.name()),
             ReadErrorKind::Byte => {
-                let byte = match byte {
-                    Some(byte) => byte,
-                    None => 0,
-                };
+                let byte = if let Some(byte) = byte { byte } else { 0 };
                 ShortText::of("no literal has the byte ").quoted(byte).and(" here")
             }
         }
     }
 }
 
-/// Appends the names of the flags of a mask.
-const fn names(mut text: ShortText, mask: u128, between: &str) -> ShortText {
-    let (mut index, mut is_first) = (0, true);
+/// Returns what is wrong, and the names of the flags of a mask.
+const fn names(wrong: &str, verb: &str, mask: u128, between: &str) -> ShortText {
+    let mut text = ShortText::of(wrong).and(", which").and(verb);
+    let (mut index, mut before) = (0, " ");
     while index < FlagSetter::FLAGS.len() {
         let flag = FlagSetter::FLAGS[index];
         if flag.is_set(mask) {
-            text = if is_first { text } else { text.and(between) }.and(flag.name());
-            is_first = false;
+            text = text.and(before).and(flag.name());
+            before = between;
         }
         index += 1;
     }
@@ -103,13 +98,12 @@ const fn requirement(mask: u128) -> ShortText {
     let named = if lowest & ZEROS == 0 { lowest } else { mask & ZEROS };
     // Flags below bit 18 are at the index of their bit.
     let flag = FlagSetter::FLAGS[lowest.trailing_zeros() as usize];
-    let verb = match flag.name().as_bytes().first_chunk() {
+    let text = names(required_by(flag), "", named, " and ");
+    text.and(match flag.name().as_bytes().first_chunk() {
         Some(b"required") => " requires",
         _ if named == ZEROS => " forbid",
         _ => " forbids",
-    };
-    let text = ShortText::of(required_by(flag)).and(", which ");
-    names(text, named, " and ").and(verb)
+    })
 }
 
 impl core::error::Error for ReadError {}

@@ -4,7 +4,7 @@
 
 use crate::edits::normal_form;
 use crate::error::Error;
-use crate::literal::steps::{class_of, role_of};
+use crate::literal::steps::{byte_class, role_of};
 use crate::word::{check, options_error, FormatView, Role};
 
 /// The bytes of numbers that a format does not define.
@@ -86,7 +86,7 @@ impl Syntax {
     /// Returns the only role of `byte`, or `None` if it plays no role.
     #[must_use]
     pub const fn role_of(&self, byte: u8) -> Option<Role> {
-        role_of(class_of(self.grammar(), byte))
+        role_of(byte_class(self.grammar(), byte))
     }
 
     // Returns the format and the options.

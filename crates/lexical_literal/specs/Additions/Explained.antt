@@ -6,7 +6,8 @@ use Rattle.lexical_util.specs.Record.{word_of}
 use Rattle.lexical_util.specs.Roles.{other_case}
 use Rattle.lexical_util.specs.declared.feature_format.roles.Role.TheVariants as roles
 use Rattle.lexical_literal.specs.Additions.Causes.{allows, class_of_next, is_own, is_role, place_of, role_of_next}
-use Rattle.lexical_literal.specs.Additions.Summary.{class_of}
+use Rattle.lexical_literal.specs.Additions.Summary.{byte_class}
+use Rattle.lexical_literal.specs.Additions.Tables.{summary_at}
 use Rattle.lexical_literal.specs.Cause.{Explained, adding, bare, binds, case_set, error_of, is_one_of, leading_zero_flags, lowest, span_of}
 use Rattle.lexical_literal.specs.Notation.{Notation, notation_of}
 use Rattle.lexical_literal.specs.declared.cause.ReadErrorKind.{ReadErrorKind}
@@ -34,7 +35,7 @@ separators m s next f = (s.gap || is_role roles.Separator (role_of_next s next))
 
 -- `cases m s byte f` is true if the other case of `byte` may follow `s`, and counts by the flag `f`.
 abbrev pub cases : Notation → Summary → ℕ → Flag → Bool
-cases m s byte f = allows (bare m) s (Some (class_of m (other_case byte))) && case_set f m (other_case byte)
+cases m s byte f = allows (bare m) s (Some (byte_class m (other_case byte))) && case_set f m (other_case byte)
 
 -- `Blamed` has a kind of error and the flags that are to blame.
 pub record Blamed : Type 0 where
@@ -44,9 +45,9 @@ pub record Blamed : Type 0 where
 -- `wrong m s byte` is why `byte` cannot follow `s`, if no requirement is the cause.
 abbrev pub wrong : Notation → Summary → ℕ → Blamed
 wrong m s byte =
-    if list_any (separators m s (Some (class_of m byte))) flags then record {
-      kind = causes.Separator s.part (place_of m s (role_of_next s (Some (class_of m byte))));
-      flags = separators m s (Some (class_of m byte));
+    if list_any (separators m s (Some (byte_class m byte))) flags then record {
+      kind = causes.Separator s.part (place_of m s (role_of_next s (Some (byte_class m byte))));
+      flags = separators m s (Some (byte_class m byte));
     } else (if list_any (cases m s byte) flags then record { kind = causes.Case; flags = cases m s byte }
     else record { kind = causes.Byte; flags = λ f. false })
 
@@ -75,7 +76,7 @@ answers m spot b f = record {
 
 -- `refusal_of m spot` is what an error answers that was made at `spot`.
 abbrev pub refusal_of : Notation → Spot → Refusal
-refusal_of m spot = let b = blame m spot.read spot.byte in answers m spot b (lowest (mask_of b.flags))
+refusal_of m spot = let b = blame m (summary_at spot.row) spot.byte in answers m spot b (lowest (mask_of b.flags))
 
 -- `explained spot` is the error that was made at `spot`.
 abbrev pub explained : Spot → Explained
