@@ -385,7 +385,8 @@ PELTZIVAR_MUST_USE bool peltzivar_read(const peltzivar_reader *reader, const cha
     peltzivar_literal *literal, peltzivar_read_error *error);
 
 /* Does the same for the longest beginning of the text that is a literal. What follows it may be anything. If there is
- * none, *error is that of peltzivar_read. Reads no byte behind the first that cannot follow. */
+ * none, *error is that of peltzivar_read. Reads no byte behind the first that cannot follow or, if it begins a character
+ * of UTF-8, behind this character. */
 PELTZIVAR_MUST_USE bool peltzivar_read_prefix(const peltzivar_reader *reader, const char *text, size_t len,
     peltzivar_literal *literal, peltzivar_read_error *error);
 

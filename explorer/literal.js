@@ -134,7 +134,6 @@ class Trial {
             return kind ? this.spans(kind, piece) : piece;
         }).flat();
         if (start === undefined) return cut(0, bytes.length);
-        while ((bytes[end] & 0xc0) === 0x80) end += 1;
         const marked = element("mark", {}, start < end ? cut(start, end) : "\u00a0");
         return [...cut(0, start), marked, ...cut(end, bytes.length)];
     }

@@ -453,7 +453,7 @@ class Walk(unittest.TestCase):
             "accepted: float = -12000",
             "at index 2: unexpected digit separator in the integer after a digit, which requires "
             "integer_internal_digit_separator or integer_trailing_digit_separator",
-            "at index 1: unexpected byte 195",
+            "at index 1: unexpected character '\u00e9'",
             "accepted as integer = 1, but it must be refused",
             "refused: at index 1: unexpected character 'x'"])
         self.assertEqual((self.text("#count"), self.text("#first-error").split(" ")[0]), ("2 of 5 as expected", "-1_000"))

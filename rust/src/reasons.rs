@@ -72,8 +72,7 @@ pub struct NamedByte {
     pub value: u8,
 }
 
-/// The cause of a [`Reason`]: the fields that are to blame, with their values. The `Cause` of a `ReadError` is another
-/// enum: why a text is not a literal.
+/// The cause of a [`Reason`]: the fields that are to blame, with their values.
 #[derive(Debug, Clone, Copy, PartialEq, Eq, Hash)]
 #[non_exhaustive]
 pub enum Cause {

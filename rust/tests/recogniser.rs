@@ -169,7 +169,7 @@ impl Syntax {
     }
 
     /// Returns why `stop` is not a literal. If `is_missing`, a literal begins with it. Otherwise, none does, but one begins
-    /// with it without its last byte.
+    /// with it without its last byte. The page names it S, and the syntax of the word `bare` B.
     fn failure(&self, stop: &[u8], is_missing: bool) -> Failure {
         let more = if is_missing { &self.more[..1] } else { &self.more };
         let bare = self.word & !0x7FFF; // Flags 10 and 11 do nothing to literals.
@@ -187,7 +187,7 @@ impl Syntax {
         (end, ReadErrorKind::Requirement, blamed, span, code, stop.get(end).copied())
     }
 
-    /// Returns why `text`, with which a literal begins, is not one of bare.
+    /// Returns why `text`, with which a literal begins, is not one of B.
     fn missing(&self, text: &[u8]) -> Failure {
         let has = |role: Role| text.iter().any(|&byte| self.plays(byte, role));
         let mut parts = [(Role::Exponent, Part::Exponent), (Role::Point, Part::Fraction)].into_iter();
@@ -198,10 +198,10 @@ impl Syntax {
         (end, ReadErrorKind::Missing(part), 0, end..end, code(end), None)
     }
 
-    /// Returns why no literal of bare begins with `stop`.
+    /// Returns why no literal of B begins with `stop`.
     fn misplaced(&self, stop: &[u8], bare: u128) -> Failure {
         let (last, begins) = (stop.len() - 1, |word, text: &[u8]| self.begun(word, text, &self.more).is_some());
-        // Without a separator in `stop`, no flag allows it: a literal is one of bare if you leave out its separators.
+        // Without a separator in `stop`, no flag allows it: a literal is one of B if you leave out its separators.
         let has_separator = stop.iter().any(|&byte| self.plays(byte, Role::Separator));
         let allowing = mask(32..44, |flag| has_separator && begins(bare | 1 << flag, stop));
         let mut changed = stop.to_vec();

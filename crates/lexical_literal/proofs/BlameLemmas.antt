@@ -12,7 +12,7 @@ use Rattle.lexical_util.specs.Record.{raw}
 use Rattle.lexical_util.specs.declared.feature_format.roles.Role.TheVariants as roles
 use Rattle.lexical_literal.specs.Notation.{Notation, notation_of}
 use Rattle.lexical_literal.specs.Cause.{Allows, IsCaseFlag, IsCause, IsRefusal, IsRequirement, Permits, RefusesAlone, adding, bare, binds, case_set, is_one_of}
-use Rattle.lexical_literal.specs.Cause.{error_of, flag_at, is_at, leading_zero_flags, lowest, marks_of, requirement_flags, span_of, separator_flags, with_flags}
+use Rattle.lexical_literal.specs.Cause.{error_of, flag_at, is_at, leading_zero_flags, lowest, marks_of, requirement_flags, span_of, number_separator_flags, with_flags}
 use Rattle.lexical_util.specs.Layout.{flags}
 use Rattle.lexical_util.specs.Roles.{other_case}
 use Rattle.std.proofs.lemmas.List.{length-take-le}
@@ -23,9 +23,10 @@ use Rattle.lexical_literal.specs.declared.cause.Marks.{Marks}
 use Rattle.lexical_literal.specs.declared.cause.Spot.{Spot}
 use Rattle.lexical_literal.specs.declared.syntax.Grammar.{Grammar}
 use Rattle.lexical_literal.specs.Additions.Causes.{Decides, IsReadOf, IsWeaker, allows, class_of_next, is_own, is_role, place_of}
+use Rattle.lexical_literal.specs.Additions.Tables.{summary_at}
 use Rattle.lexical_literal.specs.Additions.Explained.{Blamed, alone, blame, cases, mask_of, otherwise, refusal_of, requirements, separators, wrong}
 use Rattle.lexical_util.specs.declared.format_flags.Part.{Part}
-use Rattle.lexical_literal.specs.Additions.Summary.{class_of, in_part}
+use Rattle.lexical_literal.specs.Additions.Summary.{byte_class, in_part}
 use Rattle.lexical_literal.specs.declared.cause.Place.{Place}
 use Rattle.lexical_literal.specs.declared.steps.Class.{Class}
 use Rattle.lexical_literal.specs.declared.steps.Summary.{Summary}
@@ -74,7 +75,7 @@ module _ (m : Notation) where
     no_less = λ g is. grind arith;
   }
 
-  pub permits_weaker : (f : Flag) → is_one_of separator_flags f ≡ true → IsWeaker m (adding f (bare m)).flag
+  pub permits_weaker : (f : Flag) → is_one_of number_separator_flags f ≡ true → IsWeaker m (adding f (bare m)).flag
   permits_weaker f separates = adding_weaker f (λ requires. absurd (false≢true (sym (apart f) ∙ and_from _ _ requires separates)))
 
   -- REQUIREMENTS
@@ -143,11 +144,11 @@ module _ (m : Notation) where
     abbrev found : Flag → Bool
     found f = (s.gap || is_role roles.Separator (in_part s.part class)) && (is_own s.part f && allows (adding f (bare m)) s (Some class))
 
-    at_place : (f : Flag) → is_one_of separator_flags f ≡ true → allows (adding f (bare m)) s (Some class) ≡ true
+    at_place : (f : Flag) → is_one_of number_separator_flags f ≡ true → allows (adding f (bare m)) s (Some class) ≡ true
         → ((s.gap || is_role roles.Separator (in_part s.part class)) ≡ true) × (is_at (place_of m s (in_part s.part class)) s.part f ≡ true)
     at_place f separates allowed = and_parts (s.gap || is_role roles.Separator (in_part s.part class)) _ (at_next m f s class separates refused allowed)
 
-    owned : (f : Flag) → found f ≡ true → (is_one_of separator_flags f ≡ true) × (allows (adding f (bare m)) s (Some class) ≡ true)
+    owned : (f : Flag) → found f ≡ true → (is_one_of number_separator_flags f ≡ true) × (allows (adding f (bare m)) s (Some class) ≡ true)
     owned f is =
         let both = and_parts (is_own s.part f) _ (and_parts (s.gap || is_role roles.Separator (in_part s.part class)) _ is).1 in
         (let own = both.0 in grind (arith, nat_tests), both.1)
@@ -172,17 +173,17 @@ choose Q true x y is other = is refl
 choose Q false x y is other = other refl
 
 module _ (m : Notation) (s : Summary) (front : List ℕ) (read : IsReadOf m s front) where
-  module _ (byte : ℕ) (none : allows (bare m) s (Some (class_of m byte)) ≡ false) where
+  module _ (byte : ℕ) (none : allows (bare m) s (Some (byte_class m byte)) ≡ false) where
     not_allowed : Allows (bare m) front (Some byte) → ⊥
     not_allowed allowed = false≢true (sym none ∙ (read.decides (Some byte) (bare m).flag (bare_weaker m)).1 allowed)
 
-    permits : (f : Flag) → IsTrue (separators m s (Some (class_of m byte)) f) ↔ Permits m front byte f
-    permits = each_permits m s (class_of m byte) front byte (read.decides (Some byte)) none
+    permits : (f : Flag) → IsTrue (separators m s (Some (byte_class m byte)) f) ↔ Permits m front byte f
+    permits = each_permits m s (byte_class m byte) front byte (read.decides (Some byte)) none
 
     is_case : (f : Flag) → IsTrue (cases m s byte f) ↔ IsCaseFlag m front byte f
     is_case f =
         let other = read.decides (Some (other_case byte)) (bare m).flag (bare_weaker m) in (
-          λ is. let both = and_parts (allows (bare m) s (Some (class_of m (other_case byte)))) (case_set f m (other_case byte)) is in (both.1, other.0 both.0),
+          λ is. let both = and_parts (allows (bare m) s (Some (byte_class m (other_case byte)))) (case_set f m (other_case byte)) is in (both.1, other.0 both.0),
           λ is. and_from _ _ (other.1 is.1) is.0,
         )
 
@@ -190,12 +191,12 @@ module _ (m : Notation) (s : Summary) (front : List ℕ) (read : IsReadOf m s fr
     no_flag P each none f is = false≢true (sym (none_in P flags f none (all_flags f)) ∙ (each f).1 is)
 
     is_wrong : IsCause m front (Some byte) (wrong m s byte).kind (wrong m s byte).flags
-    is_wrong = choose (λ b. IsCause m front (Some byte) b.kind b.flags) (list_any (separators m s (Some (class_of m byte))) flags) _ _
+    is_wrong = choose (λ b. IsCause m front (Some byte) b.kind b.flags) (list_any (separators m s (Some (byte_class m byte))) flags) _ _
         (λ some. record {
           refused = not_allowed;
           some = found_in _ flags some;
           each = permits;
-          at = found_at m s (class_of m byte) front byte (read.decides (Some byte)) none;
+          at = found_at m s (byte_class m byte) front byte (read.decides (Some byte)) none;
         })
         (λ no_separators. choose (λ b. IsCause m front (Some byte) b.kind b.flags) (list_any (cases m s byte) flags) _ _
         (λ some. record { refused = not_allowed; no_separator = no_flag _ permits no_separators; some = found_in _ flags some; each = is_case })
@@ -222,12 +223,15 @@ module _ (m : Notation) (s : Summary) (front : List ℕ) (read : IsReadOf m s fr
 
 -- THE REFUSAL
 
-module _ (g : Grammar) (text : List ℕ) (s : Summary) (k : Marks) (size : ℕ) (within : size ≤ length text) where
+module _ (g : Grammar) (text : List ℕ) (row : ℕ) (tail : List ℕ) (k : Marks) (size : ℕ) (within : size ≤ length text) where
   abbrev n : Notation
   n = notation_of g
 
+  abbrev s : Summary
+  s = summary_at row
+
   abbrev spot : Option ℕ → Spot
-  spot next = record { grammar = g; read = s; byte = next; marks = k }
+  spot next = record { grammar = g; row = row; byte = next; tail = tail; marks = k }
 
   pub refusal_at : IsValidUpTo n text size → IsReadOf n s (take size text) → allows n s (class_of_next n (slice_get text size)) ≡ false
       → (next : Option ℕ) → next ≡ slice_get text size → k ≡ marks_of n (take size text) next

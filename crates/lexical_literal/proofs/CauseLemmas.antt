@@ -16,19 +16,11 @@ use Rattle.lexical_util.specs.Layout.{Flag, bit, part}
 use Rattle.lexical_util.specs.Record.{raw}
 use Rattle.lexical_util.proofs.ViewLemmas.{bits_by_mask}
 use Rattle.lexical_util.specs.Record.{Record, word_of}
-use Rattle.lexical_util.specs.Roles.{signs}
 use Rattle.lexical_flags.proofs.Packing.{raw-word_of}
 use Rattle.std.specs.List.{list_any}
-use Rattle.lexical_util.specs.declared.feature_format.roles.Role.{Role}
-use Rattle.lexical_util.specs.declared.feature_format.roles.Role.TheVariants as roles
-use Rattle.lexical_util.specs.declared.format_flags.Part.TheVariants as parts
-use Rattle.lexical_literal.specs.Additions.Causes.{has_role, is_role, kind_set}
 use Rattle.lexical_literal.specs.Additions.Explained.{mask_of}
-use Rattle.lexical_literal.specs.Notation.{Notation, role_set}
-use Rattle.lexical_literal.specs.declared.span.Kind.{Kind}
-use Rattle.lexical_literal.specs.declared.span.Kind.TheVariants as kinds
-use Rattle.lexical_literal.proofs.ScanLemmas.{HasRoles, as_digit, as_role, digit_role, role_in}
-use Rattle.lexical_literal.proofs.ScanLemmas as scans
+use Rattle.lexical_flags.specs.declared.format_flags.TheConstants.{FLAG_MASK}
+use Rattle.lexical_literal.specs.declared.cause.TheConstants.{FLOAT_REQUIREMENTS, REQUIREMENTS, ZEROS}
 use Rattle.lexical_literal.specs.Cause.{behind, flag_at, is_one_of, leading_zero_flags, requirement_flags}
 
 -- FLAGS
@@ -87,25 +79,25 @@ module _ (f : Flag) where
   pub flag_pow : (k : ℕ) → (raw (2 ^ k)).flag f ≡ (bit f == k)
   flag_pow k = let same = bit_at-pow_same k in let other = bit_at-pow_other k (bit f) in grind (arith, nat_tests)
 
-pub requirement_mask : (f : Flag) → (raw 0x73FF).flag f ≡ is_one_of requirement_flags f
+pub requirement_mask : (f : Flag) → (raw REQUIREMENTS).flag f ≡ is_one_of requirement_flags f
 requirement_mask layout.required_integer_digits = refl
 requirement_mask _ = refl
 
-pub binding_mask : (f : Flag) → (raw 0x63FF).flag f ≡ (is_one_of requirement_flags f && not ((bit f == 12) && true))
+pub binding_mask : (f : Flag) → (raw FLOAT_REQUIREMENTS).flag f ≡ (is_one_of requirement_flags f && not ((bit f == 12) && true))
 binding_mask layout.required_integer_digits = refl
 binding_mask _ = refl
 
-pub zeros_mask : (f : Flag) → (raw 0x3000).flag f ≡ is_one_of leading_zero_flags f
+pub zeros_mask : (f : Flag) → (raw ZEROS).flag f ≡ is_one_of leading_zero_flags f
 zeros_mask layout.required_integer_digits = refl
 zeros_mask _ = refl
 
-pub all_bind : (f : Flag) → (raw 0x73FF).flag f ≡ (is_one_of requirement_flags f && not ((bit f == 12) && false))
+pub all_bind : (f : Flag) → (raw REQUIREMENTS).flag f ≡ (is_one_of requirement_flags f && not ((bit f == 12) && false))
 all_bind layout.required_integer_digits = refl
 all_bind _ = refl
 
 -- The flags of a word without requirements.
-pub bare_flags : (word : ℕ) (f : Flag) → (raw (bit_and word (bit_not w128 0x73FF))).flag f ≡ ((raw word).flag f && not (is_one_of requirement_flags f))
-bare_flags word f = flag_and f word (bit_not w128 0x73FF) ∙ ap (λ t. (raw word).flag f && t) (flag_not f 0x73FF (omega arith) ∙ ap not (requirement_mask f))
+pub bare_flags : (word : ℕ) (f : Flag) → (raw (bit_and word (bit_not w128 REQUIREMENTS))).flag f ≡ ((raw word).flag f && not (is_one_of requirement_flags f))
+bare_flags word f = flag_and f word (bit_not w128 REQUIREMENTS) ∙ ap (λ t. (raw word).flag f && t) (flag_not f REQUIREMENTS (omega arith) ∙ ap not (requirement_mask f))
 
 -- The flags of the mask of some flags are these flags.
 pub mask_flags : (P : Flag → Bool) (f : Flag) → (raw (mask_of P)).flag f ≡ P f
@@ -120,9 +112,9 @@ unfolding bits_of
 only_mask P = sym (mask_sum P) ∙ (λ j. sum_by (λ f. if sym (mask_flags P f) j then 2 ^ bit f else 0) layout.flags)
 
 -- A mask without the bits that are not those of flags.
-pub masked : (mask : ℕ) (P : Flag → Bool) → ((f : Flag) → (raw mask).flag f ≡ P f) → bit_and mask 0x1FFF0003FFFF ≡ mask_of P
+pub masked : (mask : ℕ) (P : Flag → Bool) → ((f : Flag) → (raw mask).flag f ≡ P f) → bit_and mask FLAG_MASK ≡ mask_of P
 unfolding bits_of
-masked mask P each = bits_by_mask mask 0x1FFF0003FFFF layout.flags refl refl
+masked mask P each = bits_by_mask mask FLAG_MASK layout.flags refl refl
     ∙ (λ j. sum_by (λ f. if each f j then 2 ^ bit f else 0) layout.flags) ∙ mask_sum P
 
 -- A bit that a mask has, or has not.
@@ -191,29 +183,6 @@ pub has_one : (t : Bool) (g : Flag) (mask : ℕ) → mask ≡ (if t then 2 ^ bit
 has_one t g mask is some = (g, one_flag t (bit g) mask is g ∙ and_from _ _ (is_taken t _ (λ zero. some (is ∙ zero))) (eq-eqb (bit g) (bit g) refl))
 
 -- THE BYTES TO SHOW
-
-module _ (m : Notation) (h : HasRoles m) (b : ℕ) where
-  digit : is_role roles.Digit (role_in m parts.Integer b) ≡ m.digit parts.Integer b
-  digit = let yes = as_digit m h parts.Integer b in let no = digit_role m h parts.Integer b in grind arith
-
-  separator : is_role roles.Separator (role_in m parts.Integer b) ≡ m.separator b
-  separator = let yes = as_role m h parts.Integer roles.Separator b in let no = scans.is_role m h parts.Integer roles.Separator b (λ same. cc) in grind arith
-
-  sign : is_role roles.Sign (role_in m parts.Integer b) ≡ signs b
-  sign = let yes = as_role m h parts.Integer roles.Sign b in let no = scans.is_role m h parts.Integer roles.Sign b (λ same. cc) in grind arith
-
-  point : is_role roles.Point (role_in m parts.Integer b) ≡ m.point b
-  point = let yes = as_role m h parts.Integer roles.Point b in let no = scans.is_role m h parts.Integer roles.Point b (λ same. cc) in grind arith
-
-  exponent : is_role roles.Exponent (role_in m parts.Integer b) ≡ m.exponent_character b
-  exponent = let yes = as_role m h parts.Integer roles.Exponent b in let no = scans.is_role m h parts.Integer roles.Exponent b (λ same. cc) in grind arith
-
-  -- The role of a byte in the integer decides its kinds.
-  pub kind_is : (kind : Kind) → has_role kind (role_in m parts.Integer b) ≡ kind_set m kind b
-  kind_is kinds.Digit = digit
-  kind_is kinds.NotSeparator = ap not separator
-  kind_is kinds.Body = λ j. not (separator j || sign j)
-  kind_is kinds.Mark = λ j. separator j || (point j || exponent j)
 
 module _ (A : ByteSet) where
   pub behind_more : (text : List ℕ) (byte : ℕ) → behind A (text ++ byte ∷ []) ≡ (if A byte then length text + 1 else behind A text)

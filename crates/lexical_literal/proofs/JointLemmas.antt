@@ -10,9 +10,9 @@ use Rattle.lexical_util.specs.declared.format_flags.Part.{Part}
 use Rattle.lexical_util.specs.declared.format_flags.Part.TheVariants as parts
 use Rattle.lexical_literal.specs.Notation.{Notation}
 use Rattle.lexical_literal.specs.Run.{is_place}
-use Rattle.lexical_literal.specs.Cause.{adding, bare, binds, is_one_of, separator_flags}
+use Rattle.lexical_literal.specs.Cause.{adding, bare, binds, is_one_of, number_separator_flags}
 use Rattle.lexical_literal.specs.Additions.Causes.{allows, is_plus_next, is_role, role_of_next, separates}
-use Rattle.lexical_literal.specs.Additions.Summary.{has_digit, implies, in_part, is_plus, is_zero, may_follow, move, takes}
+use Rattle.lexical_literal.specs.Additions.Summary.{has_digit, implies, in_part, is_plus_class, is_zero, may_follow, move, takes}
 use Rattle.lexical_literal.specs.declared.steps.Class.{Class}
 use Rattle.lexical_literal.specs.declared.steps.Stage.{Stage}
 use Rattle.lexical_literal.specs.declared.steps.Stage.TheVariants as stages
@@ -34,8 +34,8 @@ moved n s ended plus zero o = grind arith
 pub allows_is : (n : Notation) (s : Summary) (next : Option Class) → s.ended ≡ false
     → allows n s next ≡ taken n (reading s.part s.stage s.gap) (is_plus_next next) (role_of_next s next)
 allows_is n s None going = grind arith
-allows_is n s (Some class) going = moved n s s.ended (is_plus class) (is_zero class) (in_part s.part class)
-    ∙ ap (λ e. not e && taken n (reading s.part s.stage s.gap) (is_plus class) (in_part s.part class)) going
+allows_is n s (Some class) going = moved n s s.ended (is_plus_class class) (is_zero class) (in_part s.part class)
+    ∙ ap (λ e. not e && taken n (reading s.part s.stage s.gap) (is_plus_class class) (in_part s.part class)) going
 
 module _ (m : Notation) where
   -- FLAGS THAT REFUSE TOGETHER
@@ -99,7 +99,7 @@ module _ (m : Notation) where
 
   -- SEPARATORS
 
-  at_role : (f : Flag) (part : Part) (stage : Stage) (gap plus : Bool) (o : Option Role) → is_one_of separator_flags f ≡ true
+  at_role : (f : Flag) (part : Part) (stage : Stage) (gap plus : Bool) (o : Option Role) → is_one_of number_separator_flags f ≡ true
       → taken (bare m) (reading part stage gap) plus o ≡ false → taken (adding f (bare m)) (reading part stage gap) plus o ≡ true
       → separates m (reading part stage gap) o f ≡ true
   at_role f part stage gap plus None is refused allowed = absurd (false≢true allowed)
@@ -111,7 +111,7 @@ module _ (m : Notation) where
   -- What is allowed without requirements, and refused with them, follows no suffix.
   pub going : (s : Summary) (next : Option Class) → allows (bare m) s next ≡ true → allows m s next ≡ false → s.ended ≡ false
   going s None free refused = (or_parts s.ended _ refused).0
-  going s (Some class) free refused = let is = sym (moved (bare m) s s.ended (is_plus class) (is_zero class) (in_part s.part class)) ∙ free in grind arith
+  going s (Some class) free refused = let is = sym (moved (bare m) s s.ended (is_plus_class class) (is_zero class) (in_part s.part class)) ∙ free in grind arith
 
   module _ (s : Summary) (next : Option Class) (unended : s.ended ≡ false) where
     abbrev o : Option Role
@@ -125,9 +125,9 @@ module _ (m : Notation) where
     joint = subst (λ P. Alone P → P m ≡ false → m.flag layout.no_float_leading_zeros ≡ true) same (joint_role s.part s.stage s.gap (is_plus_next next) o)
 
   -- A flag that allows the byte is of the place and the part.
-  pub at_next : (f : Flag) (s : Summary) (class : Class) → is_one_of separator_flags f ≡ true → allows (bare m) s (Some class) ≡ false
+  pub at_next : (f : Flag) (s : Summary) (class : Class) → is_one_of number_separator_flags f ≡ true → allows (bare m) s (Some class) ≡ false
       → allows (adding f (bare m)) s (Some class) ≡ true → separates m s (in_part s.part class) f ≡ true
   at_next f s class is refused allowed =
       subst (λ (P : Notation → Bool). P (bare m) ≡ false → P (adding f (bare m)) ≡ true → separates m s (in_part s.part class) f ≡ true)
-      (same s (Some class) (let is = sym (moved (adding f (bare m)) s s.ended (is_plus class) (is_zero class) (in_part s.part class)) ∙ allowed in grind arith))
-      (at_role f s.part s.stage s.gap (is_plus class) (in_part s.part class) is) refused allowed
+      (same s (Some class) (let is = sym (moved (adding f (bare m)) s s.ended (is_plus_class class) (is_zero class) (in_part s.part class)) ∙ allowed in grind arith))
+      (at_role f s.part s.stage s.gap (is_plus_class class) (in_part s.part class) is) refused allowed

@@ -38,9 +38,9 @@ requirement_flags =
 abbrev pub leading_zero_flags : List Flag
 leading_zero_flags = layout.no_integer_leading_zeros ∷ layout.no_float_leading_zeros ∷ []
 
--- `separator_flags` lists the flags that allow a digit separator in a number.
-abbrev pub separator_flags : List Flag
-separator_flags = layout.internal_digit_separator ++ layout.leading_digit_separator ++ layout.trailing_digit_separator ++ layout.consecutive_digit_separator
+-- `number_separator_flags` lists the flags that allow a digit separator in a number.
+abbrev pub number_separator_flags : List Flag
+number_separator_flags = layout.internal_digit_separator ++ layout.leading_digit_separator ++ layout.trailing_digit_separator ++ layout.consecutive_digit_separator
 
 -- `is_one_of fs f` is true if `f` is one of `fs`.
 abbrev pub is_one_of : List Flag → Flag → Bool
@@ -123,7 +123,7 @@ last_part m front =
 module _ (m : Notation) (front : List ℕ) (byte : ℕ) where
   -- `Permits f` holds if `f` allows digit separators, and `byte` may follow with this one flag more.
   abbrev pub Permits : Flag → Type 0
-  Permits f = IsTrue (is_one_of separator_flags f) × Allows (adding f (bare m)) front (Some byte)
+  Permits f = IsTrue (is_one_of number_separator_flags f) × Allows (adding f (bare m)) front (Some byte)
 
   -- `IsCaseFlag f` holds if the other case of `byte` may follow, and has a role whose case counts by `f`.
   abbrev pub IsCaseFlag : Flag → Type 0

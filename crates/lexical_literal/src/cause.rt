@@ -6,15 +6,18 @@ ghost use Rattle.lexical_util.specs.Record.{raw};
 ghost use Rattle.lexical_util.specs.Roles.{other_case};
 ghost use Rattle.lexical_literal.specs.Additions.Causes.{allows, class_of_next, is_role, place_of, role_of_next};
 ghost use Rattle.lexical_literal.specs.Additions.Explained.{blame, cases, mask_of, requirements, separators, wrong};
-ghost use Rattle.lexical_literal.specs.Additions.Summary.{class_of};
+ghost use Rattle.lexical_literal.specs.Additions.Summary.{byte_class};
+ghost use Rattle.lexical_literal.specs.Additions.Tables.{summary_at};
 ghost use Rattle.lexical_literal.specs.Cause.{SomeFlag, adding, bare, binds, case_set, is_one_of, requirement_flags, with_flags};
 ghost use Rattle.lexical_literal.specs.Notation.{notation_of};
+ghost use Rattle.lexical_literal.specs.declared.tables.TheConstants.{ROWS};
 
 use crate::span::{error, span};
 use crate::steps::{
-    self, Class, Summary, class_of, has_digit, in_part, is_exponent_character, needs_exponent,
+    self, Class, Summary, byte_class, has_digit, in_part, is_exponent_character, needs_exponent,
 };
 use crate::syntax::Grammar;
+use crate::tables::summary_at;
 use lexical_util::error::Error;
 use lexical_util::format as masks;
 use lexical_util::format::{Part, Role};
@@ -58,12 +61,14 @@ pub struct Marks {
     pub(crate) has_mark: bool,
 }
 
-// Where reading stopped: what has been read, and the byte that cannot follow, or `None` if bytes are missing.
+// Where reading stopped: the row of what has been read, the byte that cannot follow, or `None` if bytes are missing, and the
+// bytes that follow it in its character, or 0 for each that does not.
 #[derive(Debug, Clone, Copy, PartialEq, Eq, Hash)]
 pub struct Spot {
     pub(crate) grammar: Grammar,
-    pub(crate) read: Summary,
+    pub(crate) row: u8,
     pub(crate) byte: Option<u8>,
+    pub(crate) tail: [u8; 3],
     pub(crate) marks: Marks,
 }
 
@@ -84,8 +89,8 @@ pub struct Refusal {
 /// is not a literal either, its error says it.
 ///
 /// An error holds where reading stopped. Each call but `valid_up_to` and `byte` finds the cause anew. Two errors are
-/// equal if they have the same syntax, and if reading stopped at the same index, at the same byte, after bytes that the
-/// same may follow. Equal errors have equal answers. Errors of two syntaxes differ, even if their answers are the same.
+/// equal if they have the same syntax, and if reading stopped at the same index, at the same character, after bytes that
+/// the same may follow. Equal errors have equal answers. Errors of two syntaxes differ, even if their answers are the same.
 #[derive(Debug, Clone, Copy, PartialEq, Eq, Hash)]
 pub struct ReadError {
     pub(crate) spot: Spot,
@@ -98,10 +103,11 @@ impl Model for ReadError {
 
     ghost use Rattle.std.specs.Prelude.{◌<◌, ◌^◌};
     ghost use Rattle.lexical_literal.specs.Additions.Explained.{explained};
+    ghost use Rattle.lexical_literal.specs.declared.tables.TheConstants.{ROWS};
 
     ghost view = { λ error. explained error.spot };
 
-    ghost invariant = { λ error. error.spot.marks.size < 2 ^ 63 };
+    ghost invariant = { λ error. (error.spot.row < ROWS) × (error.spot.marks.size < 2 ^ 63) };
 
     ghost inverse = { λ error. record { spot = error.spot } };
 }
@@ -185,12 +191,13 @@ impl ReadError {
 impl Spot {
     // Returns the kind, and the mask of the flags that are to blame.
     const fn blame(self) -> Blame
-        ensures kind { result.kind ≡ (blame (notation_of self.grammar) self.read self.byte).kind }
-        ensures mask { result.mask ≡ mask_of (blame (notation_of self.grammar) self.read self.byte).flags }
+        requires { self.row < ROWS }
+        ensures kind { result.kind ≡ (blame (notation_of self.grammar) (summary_at self.row) self.byte).kind }
+        ensures mask { result.mask ≡ mask_of (blame (notation_of self.grammar) (summary_at self.row) self.byte).flags }
     {
         let stop = Stop {
             grammar: self.grammar,
-            read: self.read,
+            read: summary_at(self.row),
             next: class_of_next(self.grammar, self.byte),
         };
         let Blame { kind, mask } = stop.blame(self.byte);
@@ -208,7 +215,7 @@ const fn class_of_next(grammar: Grammar, next: Option<u8>) -> Option<Class>
 {
     match next {
         None => None,
-        Some(byte) => Some(class_of(grammar, byte)),
+        Some(byte) => Some(byte_class(grammar, byte)),
     }
 }
 
@@ -361,7 +368,7 @@ impl Stop {
 
     // Returns the flag by which the case of `byte` counts, if its other case may be next.
     const fn case_flag(self, byte: u8) -> u128
-        requires { allows (bare (notation_of self.grammar)) self.read (Some (class_of (notation_of self.grammar) byte)) ≡ false }
+        requires { allows (bare (notation_of self.grammar)) self.read (Some (byte_class (notation_of self.grammar) byte)) ≡ false }
         ensures each { (f : Flag) → (raw result).flag f ≡ cases (notation_of self.grammar) self.read byte f }
         ensures some { result ≢ 0 → SomeFlag (raw result).flag }
     {
@@ -376,7 +383,7 @@ impl Stop {
         let stop = Stop {
             grammar: self.grammar,
             read: self.read,
-            next: Some(class_of(self.grammar, other)),
+            next: Some(byte_class(self.grammar, other)),
         };
         flag_if(stop.allows(self.bare()), mask)
     }

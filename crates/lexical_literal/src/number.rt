@@ -31,7 +31,7 @@ impl Reader {
     }
 
     /// Returns the longest front of `text` that is a literal. What follows it may be anything. No byte behind the first
-    /// that no literal can have is looked at.
+    /// character that no literal can have is looked at.
     ///
     /// # Errors
     ///

@@ -1,7 +1,8 @@
 //! How literals are found, and the lengths of their parts.
 
-ghost use Rattle.std.specs.Prelude.{◌≡◌, ◌++◌, ◌&&◌, ◌<◌, ◌≤◌, Bool, ℕ, List, false, length, slice_get, take};
+ghost use Rattle.std.specs.Prelude.{◌≡◌, ◌++◌, ◌∷◌, ◌&&◌, ◌<◌, ◌≤◌, Bool, ℕ, List, [], false, length, slice_get, take};
 ghost use Rattle.lexical_literal.specs.Additions.Causes.{allows, class_of_next};
+ghost use Rattle.lexical_literal.specs.Additions.Explained.{tail_byte, tail_size};
 ghost use Rattle.lexical_literal.specs.Additions.Longest.{IsFound, IsFoundFront, IsScanned};
 ghost use Rattle.lexical_literal.specs.Additions.Summary.{HasLengths, is_complete};
 ghost use Rattle.lexical_literal.specs.Additions.Tables.{cuts_of, summary_at};
@@ -10,10 +11,12 @@ ghost use Rattle.lexical_literal.specs.Front.{NoLiteral};
 ghost use Rattle.lexical_literal.specs.Literal.{Literal, text_of};
 ghost use Rattle.lexical_literal.specs.Notation.{notation_of};
 ghost use Rattle.lexical_literal.specs.Parts.{literal_of};
+ghost use Rattle.lexical_literal.specs.declared.tables.TheConstants.{ROWS};
 
 use crate::cause::{ReadError, Spot};
+use crate::span::marks;
 use crate::syntax::Syntax;
-use crate::tables::{START, Tables, piece_number, summary_at};
+use crate::tables::{START, Tables, piece_number};
 use lexical_util::laws::flags::role_facts;
 use std::marker::Model;
 
@@ -160,7 +163,7 @@ impl Reader {
     // Returns whether `seeks` is true and a row is that of a literal.
     #[inline(always)]
     const fn is_sought(&self, row: u8, seeks: bool) -> bool
-        requires { row < 108 }
+        requires { row < ROWS }
         ensures { result ≡ (seeks && is_complete (notation_of self.now) (summary_at row)) }
     {
         seeks && self.is_complete(row)
@@ -169,7 +172,7 @@ impl Reader {
     // Returns whether a row is that of a literal.
     #[inline(always)]
     const fn is_complete(&self, row: u8) -> bool
-        requires { row < 108 }
+        requires { row < ROWS }
         ensures { result ≡ is_complete (notation_of self.now) (summary_at row) }
     {
         self.tables.is_complete(row)
@@ -185,14 +188,16 @@ impl Reader {
         ensures none { NoLiteral (notation_of self.now) text.now }
     {
         role_facts();
+        let grammar = self.syntax.grammar();
         let size = scanned.valid_up_to;
         let byte = byte_at(text, size);
         ReadError {
             spot: Spot {
-                grammar: self.syntax.grammar(),
-                read: summary_at(scanned.row),
+                grammar,
+                row: scanned.row,
                 byte,
-                marks: self.marks(text, size, byte),
+                tail: tail_at(text, size, byte),
+                marks: marks(grammar, text, size, byte),
             },
         }
     }
@@ -216,6 +221,44 @@ const fn byte_at(text: &[u8], size: usize) -> Option<u8>
         Some(text[size])
     } else {
         None
+    }
+}
+
+// Returns the number of bytes that follow `byte` in its character, if it begins one in UTF-8.
+const fn tail_size(byte: Option<u8>) -> usize
+    ensures { result ≡ tail_size byte }
+{
+    match byte {
+        Some(0xC2..=0xDF) => 1,
+        Some(0xE0..=0xEF) => 2,
+        Some(0xF0..=0xF4) => 3,
+        _ => 0,
+    }
+}
+
+// Returns the bytes that follow `byte`, the one behind the first `size`, in its character, and 0 for each that does not.
+const fn tail_at(text: &[u8], size: usize, byte: Option<u8>) -> [u8; 3]
+    requires { size ≤ length text.now }
+    ensures { let tail = tail_size byte in
+        result ≡ tail_byte text.now size tail 1 ∷ tail_byte text.now size tail 2 ∷ tail_byte text.now size tail 3 ∷ [] }
+{
+    let tail = tail_size(byte);
+    [
+        tail_byte(text, size, tail, 1),
+        tail_byte(text, size, tail, 2),
+        tail_byte(text, size, tail, 3),
+    ]
+}
+
+// Returns the byte behind the first `size + place` if `place` is at most `tail`, and 0 where there is none.
+const fn tail_byte(text: &[u8], size: usize, tail: usize, place: usize) -> u8
+    requires { size ≤ length text.now }
+    ensures { result ≡ tail_byte text.now size tail place }
+{
+    if place <= tail && place < text.len() - size {
+        text[size + place]
+    } else {
+        0
     }
 }
 

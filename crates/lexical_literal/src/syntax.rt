@@ -9,7 +9,7 @@ ghost use Rattle.lexical_literal.specs.declared.syntax.Options.{Options};
 ghost use Rattle.lexical_literal.specs.Notation.{notation_of, IsOnlyRole};
 ghost use Rattle.lexical_literal.specs.Syntax.{IsSyntax};
 
-use crate::steps::{class_of, role_of};
+use crate::steps::{byte_class, role_of};
 use lexical_util::format::{Format, FormatError, NumberFormat, Role};
 use lexical_util::laws::flags::role_facts;
 use std::marker::Model;
@@ -126,7 +126,7 @@ impl Syntax {
         ensures { IsOnlyRole (notation_of self.now) byte result }
     {
         role_facts();
-        role_of(class_of(self.grammar(), byte))
+        role_of(byte_class(self.grammar(), byte))
     }
 
     // Returns the format and the options.

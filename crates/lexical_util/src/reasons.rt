@@ -81,8 +81,7 @@ pub struct NamedByte {
     pub value: u8,
 }
 
-/// The cause of a [`Reason`]: the fields that are to blame, with their values. The `Cause` of a `ReadError` is another
-/// enum: why a text is not a literal.
+/// The cause of a [`Reason`]: the fields that are to blame, with their values.
 #[derive(Debug, Clone, Copy, PartialEq, Eq, Hash)]
 pub enum Cause {
     /// The mantissa radix, or an exponent base or exponent radix that is present, is not between 2 and 36.

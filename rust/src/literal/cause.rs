@@ -5,9 +5,10 @@
 use crate::error::Error;
 use crate::literal::span::{error, span};
 use crate::literal::steps::{
-    self, class_of, has_digit, in_part, is_exponent_character, needs_exponent, Class, Summary,
+    self, byte_class, has_digit, in_part, is_exponent_character, needs_exponent, Class, Summary,
 };
 use crate::literal::syntax::Grammar;
+use crate::literal::tables::summary_at;
 use crate::word as masks;
 use crate::word::{Part, Role};
 
@@ -51,12 +52,14 @@ pub struct Marks {
     pub(crate) has_mark: bool,
 }
 
-// Where reading stopped: what has been read, and the byte that cannot follow, or `None` if bytes are missing.
+// Where reading stopped: the row of what has been read, the byte that cannot follow, or `None` if bytes are missing, and the
+// bytes that follow it in its character, or 0 for each that does not.
 #[derive(Debug, Clone, Copy, PartialEq, Eq, Hash)]
 pub struct Spot {
     pub(crate) grammar: Grammar,
-    pub(crate) read: Summary,
+    pub(crate) row: u8,
     pub(crate) byte: Option<u8>,
+    pub(crate) tail: [u8; 3],
     pub(crate) marks: Marks,
 }
 
@@ -77,8 +80,8 @@ pub struct Refusal {
 /// is not a literal either, its error says it.
 ///
 /// An error holds where reading stopped. Each call but `valid_up_to` and `byte` finds the cause anew. Two errors are
-/// equal if they have the same syntax, and if reading stopped at the same index, at the same byte, after bytes that the
-/// same may follow. Equal errors have equal answers. Errors of two syntaxes differ, even if their answers are the same.
+/// equal if they have the same syntax, and if reading stopped at the same index, at the same character, after bytes that
+/// the same may follow. Equal errors have equal answers. Errors of two syntaxes differ, even if their answers are the same.
 #[derive(Clone, Copy, PartialEq, Eq, Hash)]
 pub struct ReadError {
     pub(crate) spot: Spot,
@@ -145,7 +148,8 @@ impl ReadError {
 impl Spot {
     // Returns the kind, and the mask of the flags that are to blame.
     const fn blame(self) -> Blame {
-        let stop = Stop { grammar: self.grammar, read: self.read, next: class_of_next(self.grammar, self.byte) };
+        let stop =
+            Stop { grammar: self.grammar, read: summary_at(self.row), next: class_of_next(self.grammar, self.byte) };
         let Blame { kind, mask } = stop.blame(self.byte);
         // No bit of the mask is set but those of flags.
         Blame { kind, mask: mask & masks::FLAG_MASK }
@@ -156,7 +160,7 @@ impl Spot {
 const fn class_of_next(grammar: Grammar, next: Option<u8>) -> Option<Class> {
     match next {
         None => None,
-        Some(byte) => Some(class_of(grammar, byte)),
+        Some(byte) => Some(byte_class(grammar, byte)),
     }
 }
 
@@ -290,7 +294,7 @@ impl Stop {
         if mask == 0 {
             return 0;
         }
-        let stop = Stop { grammar: self.grammar, read: self.read, next: Some(class_of(self.grammar, other)) };
+        let stop = Stop { grammar: self.grammar, read: self.read, next: Some(byte_class(self.grammar, other)) };
         flag_if(stop.allows(self.bare()), mask)
     }
 

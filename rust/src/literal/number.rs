@@ -43,7 +43,7 @@ impl Reader {
     }
 
     /// Returns the longest literal that `text` begins with, and the rest of `text`, which may be anything. It looks at
-    /// no byte behind the first one that cannot follow.
+    /// no byte behind the first character that cannot follow.
     ///
     /// ```
     /// use peltzivar::literal::{Reader, Syntax};

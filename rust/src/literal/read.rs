@@ -3,8 +3,9 @@
 //! How literals are found, and the lengths of their parts.
 
 use crate::literal::cause::{ReadError, Spot};
+use crate::literal::span::marks;
 use crate::literal::syntax::Syntax;
-use crate::literal::tables::{piece_number, summary_at, Tables, START};
+use crate::literal::tables::{piece_number, Tables, START};
 
 /// The parts of a literal, in the order of the text. An absent part has no bytes.
 #[derive(Debug, Clone, Copy, PartialEq, Eq, Hash)]
@@ -123,14 +124,16 @@ impl Reader {
     // Returns why `text` is not a literal.
     #[inline(always)]
     const fn refuse(&self, text: &[u8], scanned: Scanned) -> ReadError {
+        let grammar = self.syntax.grammar();
         let size = scanned.valid_up_to;
         let byte = byte_at(text, size);
         ReadError {
             spot: Spot {
-                grammar: self.syntax.grammar(),
-                read: summary_at(scanned.row),
+                grammar,
+                row: scanned.row,
                 byte,
-                marks: self.marks(text, size, byte),
+                tail: tail_at(text, size, byte),
+                marks: marks(grammar, text, size, byte),
             },
         }
     }
@@ -152,6 +155,31 @@ const fn byte_at(text: &[u8], size: usize) -> Option<u8> {
         Some(text[size])
     } else {
         None
+    }
+}
+
+// Returns the number of bytes that follow `byte` in its character, if it begins one in UTF-8.
+const fn tail_size(byte: Option<u8>) -> usize {
+    match byte {
+        Some(0xC2..=0xDF) => 1,
+        Some(0xE0..=0xEF) => 2,
+        Some(0xF0..=0xF4) => 3,
+        _ => 0,
+    }
+}
+
+// Returns the bytes that follow `byte`, the one behind the first `size`, in its character, and 0 for each that does not.
+const fn tail_at(text: &[u8], size: usize, byte: Option<u8>) -> [u8; 3] {
+    let tail = tail_size(byte);
+    [tail_byte(text, size, tail, 1), tail_byte(text, size, tail, 2), tail_byte(text, size, tail, 3)]
+}
+
+// Returns the byte behind the first `size + place` if `place` is at most `tail`, and 0 where there is none.
+const fn tail_byte(text: &[u8], size: usize, tail: usize, place: usize) -> u8 {
+    if place <= tail && place < text.len() - size {
+        text[size + place]
+    } else {
+        0
     }
 }
 

@@ -1,6 +1,6 @@
 //! What a caller makes of a [`ReadError`], and its text, which are written by hand.
 
-use core::{fmt, ops::Range, slice, str};
+use core::{fmt, ops::Range, str};
 
 use crate::edits::{Edit, FlagSetter};
 use crate::format_flags::{NO_FLOAT_LEADING_ZEROS, NO_INTEGER_LEADING_ZEROS};
@@ -22,17 +22,15 @@ impl ReadError {
     pub const fn span(&self) -> Range<usize> {
         let Refusal { kind, start, end, .. } = self.explain();
         match kind {
-            ReadErrorKind::Byte => start..start + self.wrong().len(),
+            ReadErrorKind::Byte => start..start + first_character(&self.wrong()).len(),
             _ => start..end,
         }
     }
 
-    /// Returns the bytes of the character that cannot follow, or none if bytes are missing.
-    const fn wrong(&self) -> &[u8] {
-        match &self.spot.byte {
-            Some(byte) => first_character(slice::from_ref(byte)),
-            None => &[],
-        }
+    /// Returns the byte that cannot follow, and what may follow it in its character. Other bytes are 0.
+    const fn wrong(&self) -> [u8; 4] {
+        let [second, third, fourth] = self.spot.tail;
+        [if let Some(byte) = self.spot.byte { byte } else { 0 }, second, third, fourth]
     }
 
     /// Returns the edits that end the cause, one for each flag to blame. Each edit that sets a separator flag ends it
@@ -80,22 +78,22 @@ impl ReadError {
             ReadErrorKind::Requirement | ReadErrorKind::Case => requirement(mask),
             ReadErrorKind::Separator(part, place) => {
                 let text = ShortText::of("unexpected digit separator in the ").and(part.name());
-                names(text.and(behind(place)).and(", which requires "), mask, " or ")
+                names(text.and(behind(place)).and(", which requires"), mask, " or ")
             }
             ReadErrorKind::Missing(part) => ShortText::of("expected a digit of the ").and(part.name()),
-            ReadErrorKind::Byte => unexpected(self.wrong()),
+            ReadErrorKind::Byte => unexpected(first_character(&self.wrong())),
         }
     }
 }
 
 /// Appends the names of the flags of a mask.
 const fn names(mut text: ShortText, mask: u128, between: &str) -> ShortText {
-    let (mut index, mut is_first) = (0, true);
+    let (mut index, mut before) = (0, " ");
     while index < FlagSetter::FLAGS.len() {
         let flag = FlagSetter::FLAGS[index];
         if flag.is_set(mask) {
-            text = if is_first { text } else { text.and(between) }.and(flag.name());
-            is_first = false;
+            text = text.and(before).and(flag.name());
+            before = between;
         }
         index += 1;
     }
@@ -109,13 +107,12 @@ const fn requirement(mask: u128) -> ShortText {
     let named = if lowest & ZEROS == 0 { lowest } else { mask & ZEROS };
     // Flags below bit 18 are at the index of their bit.
     let flag = FlagSetter::FLAGS[lowest.trailing_zeros() as usize];
-    let verb = match flag.name().as_bytes().first_chunk() {
+    let text = names(ShortText::of(required_by(flag)).and(", which"), named, " and ");
+    text.and(match flag.name().as_bytes().first_chunk() {
         Some(b"required") => " requires",
         _ if named == ZEROS => " forbid",
         _ => " forbids",
-    };
-    let text = ShortText::of(required_by(flag)).and(", which ");
-    names(text, named, " and ").and(verb)
+    })
 }
 
 impl core::error::Error for ReadError {}
@@ -137,9 +134,9 @@ impl fmt::Display for ReadError {
 /// Writes the answers, and what `Display` prints.
 impl fmt::Debug for ReadError {
     fn fmt(&self, f: &mut fmt::Formatter<'_>) -> fmt::Result {
-        let Refusal { valid_up_to, kind, start, end, .. } = self.explain();
+        let Refusal { valid_up_to, byte, kind, start, end, .. } = self.explain();
         let mut text = f.debug_struct("ReadError");
-        text.field("valid_up_to", &valid_up_to).field("kind", &kind).field("span", &(start..end));
+        text.field("valid_up_to", &valid_up_to).field("byte", &byte).field("kind", &kind).field("span", &(start..end));
         text.field("message", &format_args!("\"{self}\"")).finish()
     }
 }
@@ -175,18 +172,19 @@ const fn required_by(flag: FlagSetter) -> &'static str {
     }
 }
 
-/// Returns the first character of a text in UTF-8, or its first byte if that begins no character. An empty text has none.
-const fn first_character(text: &[u8]) -> &[u8] {
-    let size = match text {
-        [] => 0,
-        [0xC2..=0xDF, ..] => 2,
-        [0xE0..=0xEF, ..] => 3,
-        [0xF0..=0xF4, ..] => 4,
+/// Returns the first character of bytes in UTF-8, or the first byte alone if it begins none.
+const fn first_character(bytes: &[u8; 4]) -> &[u8] {
+    let size = match bytes[0] {
+        0xC2..=0xDF => 2,
+        0xE0..=0xEF => 3,
+        0xF0..=0xF4 => 4,
         _ => 1,
     };
-    match text.split_at_checked(size) {
-        Some((character, _)) if str::from_utf8(character).is_ok() => character,
-        _ => text.split_at(1).0,
+    let (character, _) = bytes.split_at(size);
+    if str::from_utf8(character).is_ok() {
+        character
+    } else {
+        bytes.split_at(1).0
     }
 }
 

@@ -4,10 +4,9 @@
 
 use crate::error::Error;
 use crate::literal::cause::{Marks, Place, ReadErrorKind};
-use crate::literal::read::Reader;
-use crate::literal::steps::{in_part, is_digit};
+use crate::literal::steps::{is_digit, is_exponent_character, is_point};
 use crate::literal::syntax::Grammar;
-use crate::word::{Part, Role};
+use crate::word::Part;
 
 // A set of bytes.
 #[derive(Clone, Copy)]
@@ -20,69 +19,62 @@ enum Kind {
     Mark,
 }
 
-// Returns whether bytes that play `role` in the integer are of a kind.
+// Returns whether `byte` is of a kind.
 #[inline(always)]
-const fn has_role(kind: Kind, role: Option<Role>) -> bool {
+const fn is_kind(grammar: Grammar, kind: Kind, byte: u8) -> bool {
+    let separator = grammar.view().is_separator(byte);
     match kind {
-        Kind::Digit => matches!(role, Some(Role::Digit)),
-        Kind::NotSeparator => !matches!(role, Some(Role::Separator)),
-        Kind::Body => !matches!(role, Some(Role::Separator | Role::Sign)),
-        Kind::Mark => matches!(role, Some(Role::Separator | Role::Point | Role::Exponent)),
+        Kind::Digit => is_digit(grammar, Part::Integer, byte),
+        Kind::NotSeparator => !separator,
+        Kind::Body => !(separator || byte == b'+' || byte == b'-'),
+        Kind::Mark => separator || is_point(grammar, byte) || is_exponent_character(grammar, byte),
     }
 }
 
-impl Reader {
-    // Returns whether `byte` is of a kind.
-    #[inline(always)]
-    const fn is_kind(&self, kind: Kind, byte: u8) -> bool {
-        has_role(kind, in_part(Part::Integer, self.tables.class(byte)))
-    }
-
-    // Returns the index behind the last byte of a kind among the first `end`, or 0 if there is none.
-    #[inline(always)]
-    const fn behind(&self, kind: Kind, text: &[u8], end: usize) -> usize {
-        let mut index = end;
-        while index > 0 {
-            if self.is_kind(kind, text[index - 1]) {
-                return index;
-            }
-            index -= 1;
+// Returns the index behind the last byte of a kind among the first `end`, or 0 if there is none.
+#[inline(always)]
+const fn behind(grammar: Grammar, kind: Kind, text: &[u8], end: usize) -> usize {
+    let mut index = end;
+    while index > 0 {
+        if is_kind(grammar, kind, text[index - 1]) {
+            return index;
         }
-        0
+        index -= 1;
     }
+    0
+}
 
-    // Returns the index of the first byte of a kind among the first `end`, or `end` if there is none.
-    #[inline(always)]
-    const fn first(&self, kind: Kind, text: &[u8], end: usize) -> usize {
-        let mut index = 0;
-        while index < end {
-            if self.is_kind(kind, text[index]) {
-                return index;
-            }
-            index += 1;
+// Returns the index of the first byte of a kind among the first `end`, or `end` if there is none.
+#[inline(always)]
+const fn first(grammar: Grammar, kind: Kind, text: &[u8], end: usize) -> usize {
+    let mut index = 0;
+    while index < end {
+        if is_kind(grammar, kind, text[index]) {
+            return index;
         }
-        index
+        index += 1;
     }
+    index
+}
 
-    // Returns whether a text of `size` bytes, which are missing some, has a separator, a point or an exponent character.
-    #[inline(always)]
-    const fn has_mark(&self, text: &[u8], size: usize, next: Option<u8>) -> bool {
-        match next {
-            None => self.behind(Kind::Mark, text, size) != 0,
-            Some(_) => false,
-        }
+// Returns whether a text of `size` bytes, which are missing some, has a separator, a point or an exponent character.
+#[inline(always)]
+const fn has_mark(grammar: Grammar, text: &[u8], size: usize, next: Option<u8>) -> bool {
+    match next {
+        None => behind(grammar, Kind::Mark, text, size) != 0,
+        Some(_) => false,
     }
+}
 
-    // Returns what spans and errors of `text` are made of, of which `size` bytes are right, and `next` cannot follow.
-    #[cold]
-    pub(crate) const fn marks(&self, text: &[u8], size: usize, next: Option<u8>) -> Marks {
-        Marks {
-            size,
-            exponent: self.behind(Kind::Body, text, size),
-            first: self.first(Kind::Digit, text, size),
-            run: self.behind(Kind::NotSeparator, text, size),
-            has_mark: self.has_mark(text, size, next),
-        }
+// Returns what spans and errors of `text` are made of, of which `size` bytes are right, and `next` cannot follow.
+#[inline(always)]
+pub(crate) const fn marks(grammar: Grammar, text: &[u8], size: usize, next: Option<u8>) -> Marks {
+    Marks {
+        size,
+        exponent: behind(grammar, Kind::Body, text, size),
+        first: first(grammar, Kind::Digit, text, size),
+        run: behind(grammar, Kind::NotSeparator, text, size),
+        has_mark: has_mark(grammar, text, size, next),
     }
 }
 

@@ -37,7 +37,7 @@ pub(crate) enum Piece {
 }
 
 // The digits of a part that have been read.
-#[derive(Debug, Clone, Copy, PartialEq, Eq, Hash)]
+#[derive(Clone, Copy)]
 pub(crate) enum Stage {
     Start,  // Nothing of the number.
     Empty,  // No digits of the integer.
@@ -51,7 +51,7 @@ pub(crate) enum Stage {
 }
 
 // What has been read of a number.
-#[derive(Debug, Clone, Copy, PartialEq, Eq, Hash)]
+#[derive(Clone, Copy)]
 pub(crate) struct Summary {
     pub(crate) part: Part, // The part that a digit belongs to.
     pub(crate) stage: Stage,
@@ -91,7 +91,7 @@ pub(crate) const fn is_exponent_character(grammar: Grammar, byte: u8) -> bool {
 }
 
 // Returns the class of `byte`.
-pub(crate) const fn class_of(grammar: Grammar, byte: u8) -> Class {
+pub(crate) const fn byte_class(grammar: Grammar, byte: u8) -> Class {
     let format = grammar.view();
     let mantissa = is_digit(grammar, Part::Integer, byte);
     let exponent = is_digit(grammar, Part::Exponent, byte);

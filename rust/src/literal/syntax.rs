@@ -2,7 +2,7 @@
 
 //! A lawful format with the bytes that a format does not define.
 
-use crate::literal::steps::{class_of, role_of};
+use crate::literal::steps::{byte_class, role_of};
 use crate::word::{Format, FormatError, FormatView, Role};
 
 /// The bytes of numbers that a format does not define.
@@ -77,7 +77,7 @@ impl Syntax {
     /// Returns the only role of `byte`, or `None` if it plays no role.
     #[must_use]
     pub const fn role_of(&self, byte: u8) -> Option<Role> {
-        role_of(class_of(self.grammar(), byte))
+        role_of(byte_class(self.grammar(), byte))
     }
 
     // Returns the format and the options.

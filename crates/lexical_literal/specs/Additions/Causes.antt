@@ -9,7 +9,7 @@ use Rattle.lexical_util.specs.declared.format_flags.Part.{Part}
 use Rattle.lexical_util.specs.declared.format_flags.Part.TheVariants as parts
 use Rattle.lexical_literal.specs.Cause.{Allows, is_at, is_mark, is_one_of, last_part, requirement_flags, with_flags}
 use Rattle.lexical_literal.specs.Notation.{Notation}
-use Rattle.lexical_literal.specs.Additions.Summary.{class_of, has_digit, in_part, is_complete, is_plus, step}
+use Rattle.lexical_literal.specs.Additions.Summary.{byte_class, has_digit, in_part, is_complete, is_plus_class, step}
 use Rattle.lexical_literal.specs.declared.span.Kind.{Kind}
 use Rattle.lexical_literal.specs.declared.span.Kind.TheVariants as kinds
 use Rattle.lexical_literal.specs.declared.cause.Place.{Place}
@@ -31,20 +31,12 @@ kind_set m kinds.Mark byte = is_mark m byte
 
 -- `is_role role other` is true if `other` is the role `role`.
 abbrev pub is_role : Role → Option Role → Bool
-is_role roles.Digit (Some roles.Digit) = true
 is_role roles.Exponent (Some roles.Exponent) = true
 is_role roles.Suffix (Some roles.Suffix) = true
 is_role roles.Sign (Some roles.Sign) = true
 is_role roles.Point (Some roles.Point) = true
 is_role roles.Separator (Some roles.Separator) = true
 is_role _ _ = false
-
--- `has_role kind role` is true if bytes that play `role` in the integer are of `kind`.
-abbrev pub has_role : Kind → Option Role → Bool
-has_role kinds.Digit role = is_role roles.Digit role
-has_role kinds.NotSeparator role = not (is_role roles.Separator role)
-has_role kinds.Body role = not (is_role roles.Separator role || is_role roles.Sign role)
-has_role kinds.Mark role = is_role roles.Separator role || (is_role roles.Point role || is_role roles.Exponent role)
 
 -- `IsWeaker m A` holds if the flags for which `A` is true require no more than those of `m`, and are no less otherwise.
 pub record IsWeaker (m : Notation) (A : Flag → Bool) : Type 0 where
@@ -59,7 +51,7 @@ Decides m s class front next = (A : Flag → Bool) → IsWeaker m A → (allows 
 -- `class_of_next m next` is the class of the byte `next`, if there is one.
 abbrev pub class_of_next : Notation → Option ℕ → Option Class
 class_of_next m None = None
-class_of_next m (Some byte) = Some (class_of m byte)
+class_of_next m (Some byte) = Some (byte_class m byte)
 
 -- `IsReadOf m s front` holds if what is allowed after `s` is what is allowed after `front`, and if `s` is in the part that
 -- `front` ends in, unless a suffix has been read.
@@ -75,7 +67,7 @@ role_of_next s (Some class) = in_part s.part class
 -- `is_plus_next next` is true if `next` is the class of plus signs.
 abbrev pub is_plus_next : Option Class → Bool
 is_plus_next None = false
-is_plus_next (Some class) = is_plus class
+is_plus_next (Some class) = is_plus_class class
 
 -- `place_of m s role` is where `m` does not allow a separator after `s`, before a byte with the role `role`.
 abbrev pub place_of : Notation → Summary → Option Role → Place

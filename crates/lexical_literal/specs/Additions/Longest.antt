@@ -11,6 +11,7 @@ use Rattle.lexical_literal.specs.Additions.Summary.{HasLengths, is_complete, sca
 use Rattle.lexical_literal.specs.Additions.Tables.{cuts_of, summary_at}
 use Rattle.lexical_literal.specs.declared.read.Found.{Found}
 use Rattle.lexical_literal.specs.declared.read.Scanned.{Scanned}
+use Rattle.lexical_literal.specs.declared.tables.TheConstants.{ROWS}
 
 -- `IsLongest m text bound longest` holds if `longest` is the length of the longest front of `text` that is a literal and has
 -- at most `bound` bytes, or `None` if there is none.
@@ -23,7 +24,7 @@ pub record IsLongest (m : Notation) (text : List ℕ) (bound : ℕ) (longest : O
 -- parts if it is a literal, and the length of the longest front that is a literal if `seeks` is true.
 pub record IsScanned (m : Notation) (seeks : Bool) (text : List ℕ) (scanned : Scanned) : Type 0 where
   pub error : IsValidUpTo m text scanned.valid_up_to
-  pub row : scanned.row < 108
+  pub row : scanned.row < ROWS
   pub read : scan m (Some start) (take scanned.valid_up_to text) ≡ Some (summary_at scanned.row)
   pub refused : scanned.valid_up_to < length text
       → allows m (summary_at scanned.row) (class_of_next m (slice_get text scanned.valid_up_to)) ≡ false

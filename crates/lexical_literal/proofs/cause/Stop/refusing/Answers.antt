@@ -4,6 +4,7 @@ use Rattle.std.proofs.lemmas.Nat.{or_lt}
 use Rattle.lexical_util.specs.Layout as layout
 use Rattle.lexical_util.specs.Layout.{Flag, bit}
 use Rattle.lexical_util.specs.Record.{raw}
+use Rattle.lexical_literal.specs.declared.cause.TheConstants.{REQUIREMENTS}
 use Rattle.lexical_literal.specs.Additions.Causes.{allows}
 use Rattle.lexical_literal.specs.Cause.{adding, bare, is_one_of, requirement_flags}
 use Rattle.lexical_literal.specs.Notation.{notation_of}
@@ -44,4 +45,4 @@ returns c f =
     let zeros = join f _ _ _ _ (c.permitted-12.type_inv, c.permitted-12.ensures.each layout.no_integer_leading_zeros refl f)
     (c.permitted-13.type_inv, c.permitted-13.ensures.each layout.no_float_leading_zeros refl f) in
     let all = join f _ _ _ _ (join f _ _ _ _ (join f _ _ _ _ digits signs) exponents) zeros in
-    flag_and f 0x73FF _ ∙ (λ j. requirement_mask f j && (flag_not f _ all.0 ∙ ap not all.1) j) ∙ decides P f
+    flag_and f REQUIREMENTS _ ∙ (λ j. requirement_mask f j && (flag_not f _ all.0 ∙ ap not all.1) j) ∙ decides P f

@@ -4,6 +4,7 @@ use Rattle.std.proofs.lemmas.Bool.{and_parts}
 use Rattle.std.proofs.lemmas.Nat.{and_le_l}
 use Rattle.lexical_util.specs.Layout.{Flag, flags}
 use Rattle.lexical_util.specs.Record.{raw}
+use Rattle.lexical_literal.specs.declared.cause.TheConstants.{ZEROS}
 use Rattle.lexical_literal.specs.Additions.Causes.{allows}
 use Rattle.lexical_literal.specs.Additions.Explained.{alone, requirements}
 use Rattle.lexical_literal.specs.Cause.{adding, bare, binds, is_one_of, leading_zero_flags, requirement_flags}
@@ -48,5 +49,5 @@ returns-else-alone-ne0 c f =
     let A = c.refusing.result in
     let B = c.binding-binding.result in
     let each = each_alone c.args.self A B c.refusing.ensures c.binding-binding.ensures.each in
-    flag_and f B 0x3000 ∙ (λ j. c.binding-binding.ensures.each f j && zeros_mask f j)
+    flag_and f B ZEROS ∙ (λ j. c.binding-binding.ensures.each f j && zeros_mask f j)
     ∙ sym (by_test c.args.self A B c.refusing.ensures c.binding-binding.ensures.each false f (no_flag _ (bit_and A B) each c.if-alone-ne0.false))

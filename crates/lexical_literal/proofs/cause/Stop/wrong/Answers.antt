@@ -5,7 +5,7 @@ use Rattle.lexical_util.specs.Layout.{Flag, flags}
 use Rattle.lexical_util.specs.Record.{raw}
 use Rattle.lexical_literal.specs.Additions.Causes.{allows, place_of, role_of_next}
 use Rattle.lexical_literal.specs.Additions.Explained.{Blamed, cases, separators, wrong}
-use Rattle.lexical_literal.specs.Additions.Summary.{class_of}
+use Rattle.lexical_literal.specs.Additions.Summary.{byte_class}
 use Rattle.lexical_literal.specs.Cause.{bare}
 use Rattle.lexical_literal.specs.Notation.{Notation, notation_of}
 use Rattle.lexical_literal.specs.declared.cause.ReadErrorKind.TheVariants as causes
@@ -22,7 +22,7 @@ module _ (stop : Stop) (byte mask : ℕ) where
   m = notation_of stop.grammar
 
   abbrev class : Class
-  class = class_of m byte
+  class = byte_class m byte
 
   -- `by_tests s t` is why the byte cannot follow, if `s` is true of separators and `t` of the other case.
   abbrev by_tests : Bool → Bool → Blamed

@@ -1,6 +1,6 @@
 use Rattle.std.proofs.Common.{sym}
 use Rattle.std.proofs.lemmas.List.{length-take-le}
-use Rattle.lexical_literal.proofs.read.Reader.marks.Goals as goal
+use Rattle.lexical_literal.proofs.span.marks.Goals as goal
 
 pub returns : goal.returns
 returns c = λ j. record {

@@ -6,7 +6,7 @@ use Rattle.lexical_literal.specs.Additions.Causes.{kind_set}
 use Rattle.lexical_literal.specs.Cause.{behind}
 use Rattle.lexical_literal.specs.Notation.{notation_of}
 use Rattle.lexical_literal.proofs.CauseLemmas.{behind_more}
-use Rattle.lexical_literal.proofs.read.Reader.behind.Goals as goal
+use Rattle.lexical_literal.proofs.span.behind.Goals as goal
 
 step : (A : ByteSet) (text : List ℕ) (i : ℕ) → 0 < i → i ≤ length text
     → behind A (take i text) ≡ (if A (get_or text (i - 1) 0) then i else behind A (take (i - 1) text))
@@ -19,13 +19,13 @@ step A text i some within =
 
 pub returns-then-is_kind : goal.returns-then-is_kind
 returns-then-is_kind c =
-    let now = step (kind_set (notation_of c.args.self.now) c.args.kind) c.args.text.now c.loop-index.index c.loop-index-test.true
+    let now = step (kind_set (notation_of c.args.grammar) c.args.kind) c.args.text.now c.loop-index.index c.loop-index-test.true
     (omega (arith, c.loop-index.invariant.within, c.requires)) in
     let last = c.loop-index.invariant.last in let is = sym c.is_kind.ensures ∙ c.if-is_kind.true in grind arith
 
 pub loop-index-preserved : goal.loop-index-preserved
 loop-index-preserved c =
-    let now = step (kind_set (notation_of c.args.self.now) c.args.kind) c.args.text.now c.loop-index.index c.loop-index-test.true
+    let now = step (kind_set (notation_of c.args.grammar) c.args.kind) c.args.text.now c.loop-index.index c.loop-index-test.true
     (omega (arith, c.loop-index.invariant.within, c.requires)) in
     let last = c.loop-index.invariant.last in let is = sym c.is_kind.ensures ∙ c.if-is_kind.false in
     record { within = omega (arith, c.loop-index.invariant.within); last = grind arith }
