@@ -197,7 +197,7 @@ impl Reader {
                 grammar: self.grammar,
                 row: scanned.row,
                 byte,
-                marks: marks(self.grammar, text, size, byte),
+                marks: marks(self.grammar, text, size),
             },
         }
     }

@@ -128,7 +128,7 @@ impl Reader {
         let size = scanned.valid_up_to;
         let byte = byte_at(text, size);
         ReadError {
-            spot: Spot { grammar: self.grammar, row: scanned.row, byte, marks: marks(self.grammar, text, size, byte) },
+            spot: Spot { grammar: self.grammar, row: scanned.row, byte, marks: marks(self.grammar, text, size) },
         }
     }
 }
