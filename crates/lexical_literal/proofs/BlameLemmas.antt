@@ -234,13 +234,13 @@ module _ (g : Grammar) (text : List ℕ) (row : ℕ) (tail : List ℕ) (k : Mark
   spot next = record { grammar = g; row = row; byte = next; tail = tail; marks = k }
 
   pub refusal_at : IsValidUpTo n text size → IsReadOf n s (take size text) → allows n s (class_of_next n (slice_get text size)) ≡ false
-      → (next : Option ℕ) → next ≡ slice_get text size → k ≡ marks_of n (take size text) next
+      → (next : Option ℕ) → next ≡ slice_get text size → k ≡ marks_of n (take size text)
       → IsRefusal n text (refusal_of n (spot next))
   refusal_at valid read refused next is_next is_marks =
       let b = blame n s next in
       let f = lowest (mask_of b.flags) in
       let is_size : size ≡ k.size = sym (length-take-le size text within) ∙ sym (ap (λ (k : Marks). k.size) is_marks) in
-      let same : k ≡ marks_of n (take k.size text) next = is_marks ∙ (λ j. marks_of n (take (is_size j) text) next) in
+      let same : k ≡ marks_of n (take k.size text) = is_marks ∙ (λ j. marks_of n (take (is_size j) text)) in
       let cause = is_blamed n s (take size text) read next (ap (λ o. allows n s (class_of_next n o)) is_next ∙ refused) in
       record {
         valid_up_to = subst (IsValidUpTo n text) is_size valid;

@@ -188,7 +188,3 @@ module _ (A : ByteSet) where
   pub behind_more : (text : List ℕ) (byte : ℕ) → behind A (text ++ byte ∷ []) ≡ (if A byte then length text + 1 else behind A text)
   behind_more [] byte = grind arith
   behind_more (b ∷ text) byte = let more = behind_more text byte in let any = list_any-append A text (byte ∷ []) in grind arith
-
-  pub behind_some : (text : List ℕ) → not (behind A text == 0) ≡ list_any A text
-  behind_some [] = refl
-  behind_some (b ∷ text) = grind (arith, nat_tests)

@@ -74,8 +74,8 @@ module _ (m : Notation) (text : List ℕ) where
       let same = one_cause m _ _ _ (slice_get text a.valid_up_to) a.kind b.kind one.cause other in
       let mask = one_mask a.mask b.mask one.mask two.mask same.flags in
       let byte = one.byte ∙ ap (slice_get text) size ∙ sym two.byte in
-      let span = one.span ∙ (λ j. span_of m (marks_of m (take (size j) text) (byte j)) (byte j) (same.kind j) (lowest (mask j))) ∙ sym two.span in
-      let code = one.code ∙ (λ j. error_of m (marks_of m (take (size j) text) (byte j)) (same.kind j) (lowest (mask j)) (span j).0) ∙ sym two.code in
+      let span = one.span ∙ (λ j. span_of m (marks_of m (take (size j) text)) (byte j) (same.kind j) (lowest (mask j))) ∙ sym two.span in
+      let code = one.code ∙ (λ j. error_of m (marks_of m (take (size j) text)) (same.kind j) (lowest (mask j)) (span j).0) ∙ sym two.code in
       λ j. record {
         valid_up_to = size j;
         byte = byte j;

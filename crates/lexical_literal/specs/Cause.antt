@@ -1,6 +1,6 @@
 -- Why a text is not a literal: the cause, the flags that are to blame, and the bytes to show.
 use Rattle.std.specs.Prelude.{ℕ, ◌≡◌, ◌+◌, ◌==◌, ◌&&◌, ◌↔◌, ◌⊎◌, ◌||◌, not, Bool, false, if◌then◌else◌, IsTrue, List, [], ◌∷◌, ◌++◌, length, take}
-use Rattle.std.specs.Prelude.{is_some, slice_get, Option, Some, None}
+use Rattle.std.specs.Prelude.{slice_get, Option, Some, None}
 use Rattle.std.specs.Int.{w128, trailing_zeros}
 use Rattle.std.specs.List.{find, list_any}
 use Rattle.std.specs.Option.{unwrap_or}
@@ -188,20 +188,14 @@ flag_at number = unwrap_or (find (λ f. bit f == number) layout.flags) layout.sp
 abbrev pub lowest : ℕ → Flag
 lowest mask = flag_at (trailing_zeros w128 mask)
 
--- `is_mark m` is the set of the separator, the point and the exponent character.
-abbrev pub is_mark : Notation → ByteSet
-is_mark m byte = m.separator byte || (m.point byte || m.exponent_character byte)
-
--- `marks_of m front next` has what spans and errors are made of: the length of `front`, the index behind the last byte that
--- is neither a separator nor a sign, the index of the first digit, the index behind the last byte that is no separator,
--- and whether `front` has a mark, where `next` is `None`.
-abbrev pub marks_of : Notation → List ℕ → Option ℕ → Marks
-marks_of m front next = record {
+-- `marks_of m front` has what spans and errors are made of: the length of `front`, the index behind the last byte that is
+-- neither a separator nor a sign, the index of the first digit, and the index behind the last byte that is no separator.
+abbrev pub marks_of : Notation → List ℕ → Marks
+marks_of m front = record {
   size = length front;
   exponent = behind (λ byte. not (m.separator byte || signs byte)) front;
   first = first_in (m.digit parts.Integer) front;
   run = behind (λ byte. not (m.separator byte)) front;
-  has_mark = not (is_some next) && list_any (is_mark m) front;
 }
 
 -- `is_in A next` is true if `next` is a byte of `A`.
@@ -252,7 +246,7 @@ requirement_error f m start size = sign_error f m start
 -- `error_of m k cause f start` is the error for `cause` and its lowest flag `f`, where the bytes to show begin at `start`.
 abbrev pub error_of : Notation → Marks → ReadErrorKind → Flag → ℕ → Error
 error_of m k causes.Requirement f start = requirement_error f m start k.size
-error_of m k (causes.Missing part) f start = if k.has_mark then errors.InvalidDigit start else errors.Empty start
+error_of m k (causes.Missing parts.Integer) f start = if k.run == k.size then errors.Empty start else errors.InvalidDigit start
 error_of m k _ f start = errors.InvalidDigit start
 
 -- `Explained` is an error as contracts see it: its answers, and where reading stopped, of which they are made.
@@ -269,8 +263,8 @@ pub record IsRefusal (m : Notation) (text : List ℕ) (error : Refusal) : Type 0
   -- No bit of the mask is set but those of flags.
   pub mask : error.mask ≡ bits_of error.mask layout.flags
   pub span : (error.start, error.end)
-      ≡ span_of m (marks_of m (take error.valid_up_to text) error.byte) error.byte error.kind (lowest error.mask)
-  pub code : error.code ≡ error_of m (marks_of m (take error.valid_up_to text) error.byte) error.kind (lowest error.mask) error.start
+      ≡ span_of m (marks_of m (take error.valid_up_to text)) error.byte error.kind (lowest error.mask)
+  pub code : error.code ≡ error_of m (marks_of m (take error.valid_up_to text)) error.kind (lowest error.mask) error.start
 
 -- `SameBlame c d a b` holds if the causes `c` and `d` are the same, and `a` and `b` are true of the same flags.
 pub record SameBlame (c d : ReadErrorKind) (a b : Flag → Bool) : Type 0 where

@@ -50,15 +50,14 @@ pub enum ReadErrorKind {
     Missing(Part),
 }
 
-// What spans and errors are made of: the number of bytes that are right, indexes of the exponent, of the integer digits
-// and of the last separators, and whether a text that misses bytes has a separator, a point or an exponent character.
+// What spans and errors are made of: the number of bytes that are right, and the indexes at which the exponent, the
+// integer digits and the last separators begin.
 #[derive(Debug, Clone, Copy, PartialEq, Eq, Hash)]
 pub struct Marks {
     pub(crate) size: usize,
     pub(crate) exponent: usize,
     pub(crate) first: usize,
     pub(crate) run: usize,
-    pub(crate) has_mark: bool,
 }
 
 // Where reading stopped: the row of what has been read, the byte that cannot follow, or `None` if bytes are missing, and the

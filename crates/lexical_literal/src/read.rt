@@ -197,7 +197,7 @@ impl Reader {
                 row: scanned.row,
                 byte,
                 tail: tail_at(text, size, byte),
-                marks: marks(grammar, text, size, byte),
+                marks: marks(grammar, text, size),
             },
         }
     }

@@ -1,14 +1,13 @@
 //! The bytes to show for a cause, and the error of `lexical-util`.
 
-ghost use Rattle.std.specs.Prelude.{◌≡◌, ◌≤◌, ◌<◌, ◌^◌, ◌&&◌, not, is_some, length, take};
-ghost use Rattle.std.specs.List.{list_any};
+ghost use Rattle.std.specs.Prelude.{◌≡◌, ◌≤◌, ◌<◌, ◌^◌, length, take};
 ghost use Rattle.lexical_literal.specs.Additions.Causes.{kind_set};
-ghost use Rattle.lexical_literal.specs.Cause.{behind, error_of, first_in, flag_at, is_in, is_mark, marks_of, requirement_error};
+ghost use Rattle.lexical_literal.specs.Cause.{behind, error_of, first_in, flag_at, is_in, marks_of, requirement_error};
 ghost use Rattle.lexical_literal.specs.Cause.{requirement_span, span_of};
 ghost use Rattle.lexical_literal.specs.Notation.{notation_of};
 
 use crate::cause::{Marks, Place, ReadErrorKind};
-use crate::steps::{is_digit, is_exponent_character, is_point};
+use crate::steps::is_digit;
 use crate::syntax::Grammar;
 use lexical_util::error::Error;
 use lexical_util::format::Part;
@@ -20,8 +19,6 @@ enum Kind {
     NotSeparator,
     // Neither a separator nor a sign.
     Body,
-    // A separator, a point or an exponent character.
-    Mark,
 }
 
 // Returns whether `byte` is of a kind.
@@ -34,9 +31,6 @@ const fn is_kind(grammar: Grammar, kind: Kind, byte: u8) -> bool
         Kind::Digit => is_digit(grammar, Part::Integer, byte),
         Kind::NotSeparator => !separator,
         Kind::Body => !(separator || byte == b'+' || byte == b'-'),
-        Kind::Mark => {
-            separator || is_point(grammar, byte) || is_exponent_character(grammar, byte)
-        }
     }
 }
 
@@ -72,30 +66,17 @@ const fn first(grammar: Grammar, kind: Kind, text: &[u8], end: usize) -> usize
     index
 }
 
-// Returns whether a text of `size` bytes, which are missing some, has a separator, a point or an exponent character.
+// Returns what spans and errors of `text` are made of, of which `size` bytes are right.
 #[inline(always)]
-const fn has_mark(grammar: Grammar, text: &[u8], size: usize, next: Option<u8>) -> bool
+pub(crate) const fn marks(grammar: Grammar, text: &[u8], size: usize) -> Marks
     requires { size ≤ length text.now }
-    ensures { result ≡ (not (is_some next) && list_any (is_mark (notation_of grammar)) (take size text.now)) }
-{
-    match next {
-        None => behind(grammar, Kind::Mark, text, size) != 0,
-        Some(_) => false,
-    }
-}
-
-// Returns what spans and errors of `text` are made of, of which `size` bytes are right, and `next` cannot follow.
-#[inline(always)]
-pub(crate) const fn marks(grammar: Grammar, text: &[u8], size: usize, next: Option<u8>) -> Marks
-    requires { size ≤ length text.now }
-    ensures { result ≡ marks_of (notation_of grammar) (take size text.now) next }
+    ensures { result ≡ marks_of (notation_of grammar) (take size text.now) }
 {
     Marks {
         size,
         exponent: behind(grammar, Kind::Body, text, size),
         first: first(grammar, Kind::Digit, text, size),
         run: behind(grammar, Kind::NotSeparator, text, size),
-        has_mark: has_mark(grammar, text, size, next),
     }
 }
 
@@ -197,7 +178,7 @@ pub(crate) const fn error(
 {
     match kind {
         ReadErrorKind::Requirement => requirement_error(grammar, number, start, marks.size),
-        ReadErrorKind::Missing(_) if !marks.has_mark => Error::Empty(start),
+        ReadErrorKind::Missing(Part::Integer) if marks.run == marks.size => Error::Empty(start),
         _ => Error::InvalidDigit(start),
     }
 }

@@ -133,7 +133,7 @@ impl Reader {
                 row: scanned.row,
                 byte,
                 tail: tail_at(text, size, byte),
-                marks: marks(grammar, text, size, byte),
+                marks: marks(grammar, text, size),
             },
         }
     }

@@ -4,7 +4,7 @@
 
 use crate::error::Error;
 use crate::literal::cause::{Marks, Place, ReadErrorKind};
-use crate::literal::steps::{is_digit, is_exponent_character, is_point};
+use crate::literal::steps::is_digit;
 use crate::literal::syntax::Grammar;
 use crate::word::Part;
 
@@ -15,8 +15,6 @@ enum Kind {
     NotSeparator,
     // Neither a separator nor a sign.
     Body,
-    // A separator, a point or an exponent character.
-    Mark,
 }
 
 // Returns whether `byte` is of a kind.
@@ -27,7 +25,6 @@ const fn is_kind(grammar: Grammar, kind: Kind, byte: u8) -> bool {
         Kind::Digit => is_digit(grammar, Part::Integer, byte),
         Kind::NotSeparator => !separator,
         Kind::Body => !(separator || byte == b'+' || byte == b'-'),
-        Kind::Mark => separator || is_point(grammar, byte) || is_exponent_character(grammar, byte),
     }
 }
 
@@ -57,24 +54,14 @@ const fn first(grammar: Grammar, kind: Kind, text: &[u8], end: usize) -> usize {
     index
 }
 
-// Returns whether a text of `size` bytes, which are missing some, has a separator, a point or an exponent character.
+// Returns what spans and errors of `text` are made of, of which `size` bytes are right.
 #[inline(always)]
-const fn has_mark(grammar: Grammar, text: &[u8], size: usize, next: Option<u8>) -> bool {
-    match next {
-        None => behind(grammar, Kind::Mark, text, size) != 0,
-        Some(_) => false,
-    }
-}
-
-// Returns what spans and errors of `text` are made of, of which `size` bytes are right, and `next` cannot follow.
-#[inline(always)]
-pub(crate) const fn marks(grammar: Grammar, text: &[u8], size: usize, next: Option<u8>) -> Marks {
+pub(crate) const fn marks(grammar: Grammar, text: &[u8], size: usize) -> Marks {
     Marks {
         size,
         exponent: behind(grammar, Kind::Body, text, size),
         first: first(grammar, Kind::Digit, text, size),
         run: behind(grammar, Kind::NotSeparator, text, size),
-        has_mark: has_mark(grammar, text, size, next),
     }
 }
 
@@ -149,7 +136,7 @@ const fn requirement_error(grammar: Grammar, number: u32, start: usize, size: us
 pub(crate) const fn error(grammar: Grammar, marks: Marks, kind: ReadErrorKind, number: u32, start: usize) -> Error {
     match kind {
         ReadErrorKind::Requirement => requirement_error(grammar, number, start, marks.size),
-        ReadErrorKind::Missing(_) if !marks.has_mark => Error::Empty(start),
+        ReadErrorKind::Missing(Part::Integer) if marks.run == marks.size => Error::Empty(start),
         _ => Error::InvalidDigit(start),
     }
 }

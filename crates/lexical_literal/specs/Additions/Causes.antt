@@ -7,7 +7,7 @@ use Rattle.lexical_util.specs.declared.feature_format.roles.Role.{Role}
 use Rattle.lexical_util.specs.declared.feature_format.roles.Role.TheVariants as roles
 use Rattle.lexical_util.specs.declared.format_flags.Part.{Part}
 use Rattle.lexical_util.specs.declared.format_flags.Part.TheVariants as parts
-use Rattle.lexical_literal.specs.Cause.{Allows, is_at, is_mark, is_one_of, last_part, requirement_flags, with_flags}
+use Rattle.lexical_literal.specs.Cause.{Allows, is_at, is_one_of, last_part, requirement_flags, with_flags}
 use Rattle.lexical_literal.specs.Notation.{Notation}
 use Rattle.lexical_literal.specs.Additions.Summary.{byte_class, has_digit, in_part, is_complete, is_plus_class, step}
 use Rattle.lexical_literal.specs.declared.span.Kind.{Kind}
@@ -27,7 +27,6 @@ abbrev pub kind_set : Notation → Kind → ByteSet
 kind_set m kinds.Digit byte = m.digit parts.Integer byte
 kind_set m kinds.NotSeparator byte = not (m.separator byte)
 kind_set m kinds.Body byte = not (m.separator byte || signs byte)
-kind_set m kinds.Mark byte = is_mark m byte
 
 -- `is_role role other` is true if `other` is the role `role`.
 abbrev pub is_role : Role → Option Role → Bool

@@ -8,5 +8,4 @@ returns c = λ j. record {
   exponent = c.behind.ensures j;
   first = c.first.ensures j;
   run = c.behind-2.ensures j;
-  has_mark = c.has_mark.ensures j;
 }

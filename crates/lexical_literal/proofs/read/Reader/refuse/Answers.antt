@@ -28,7 +28,7 @@ returns-clause-refusal c =
       part = ends_in m is_ready.roles start front s scanned.read;
     } in
     let same = c.grammar-grammar.ensures.value in
-    let is_marks = subst (λ h. c.marks.result ≡ marks_of (notation_of h) front c.byte_at-byte.result) same c.marks.ensures in
+    let is_marks = subst (λ h. c.marks.result ≡ marks_of (notation_of h) front) same c.marks.ensures in
     rw (same, ← c.self.view_is) (refusal_at g c.args.text.now c.args.scanned.row c.tail_at.result c.marks.result size
     scanned.error.within scanned.error is_read refused c.byte_at-byte.result c.byte_at-byte.ensures is_marks)
 
