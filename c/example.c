@@ -28,13 +28,15 @@ int main(int argc, char **argv) {
     peltzivar_syntax syntax;
     const size_t len = strlen(lines), problems = peltzivar_read_settings(lines, len, &syntax);
     for (size_t i = 0; peltzivar_settings_text(lines, len, i, message, sizeof message); i++) puts(message);
-    if (problems) return 1;
+    peltzivar_reader reader;
+    if (problems || peltzivar_reader_init(&reader, &syntax)) return 1;
     for (; next < argc; next++) {
         const char *const text = argv[next];
         peltzivar_literal literal;
+        peltzivar_read_error error;
         uint64_t value;
-        if (peltzivar_read(&syntax, text, strlen(text), &literal, NULL)) {
-            peltzivar_read_error_text(&syntax, text, strlen(text), message, sizeof message);
+        if (!peltzivar_read(&reader, text, strlen(text), &literal, &error)) {
+            peltzivar_read_error_text(&error, message, sizeof message);
             printf("%s: %s\n", text, message);
         } else if (value_of(syntax.format, text, &literal, &value)) {
             printf("%s is %.*s%llu\n", text, (int)literal.sign.end, text, (unsigned long long)value);

@@ -40,8 +40,9 @@ def text(name, call, meaning):
 
 
 def argument(text):
-    kind, pointer = re.fullmatch(r"(?:const )?(\w+) (\*?)\w+", text).groups()
-    return "c_char_p" if kind == "char" else f"POINTER({TYPES[kind]})" if pointer else TYPES[kind]
+    kind, pointer, count = re.fullmatch(r"(?:const )?(\w+) (\*?)\w+(?:\[(\d+)\])?", text).groups()
+    kind = "c_char_p" if kind == "char" else f"POINTER({TYPES[kind]})" if pointer else TYPES[kind]
+    return f"{kind} * {count}" if count else kind
 
 
 RULE = "`condition` is what a rule requires of a word."
@@ -64,18 +65,19 @@ def constants():
     for row in (
         ("Setter", r"SET_(\w+)", "The setters. A member has the name of the setter in uppercase."),
         ("Rule", r"RULE_(\w+)", f"The rules, in the order in which they are checked. {RULE}", *CONDITION),
-        ("Error", r"((?!SET_|RULE_|PART_|ROLE_|CAUSE_|SPELLING_)\w+)", f"The errors, and success. {ERROR}", *DESCRIPTION),
+        ("Error", r"((?!SET_|RULE_|PART_|ROLE_|KIND_|SPELLING_)\w+)", f"The errors, and success. {ERROR}", *DESCRIPTION),
         ("Part", r"PART_(\w+)", "The parts of a number that can have digit separators."),
         ("Role", r"ROLE_((?!NONE)\w+)", "The roles of a byte in a number."),
-        ("Cause", r"CAUSE_(\w+)", "The kinds of causes why a text is not a literal."),
+        ("ReadErrorKind", r"KIND_(\w+)", "The kinds of causes why a text is not a literal."),
         ("Spelling", r"SPELLING_(\w+)", "The spellings of special values."),
     ):
         yield from enumeration(*row)
     for body, struct in re.findall(r"typedef struct { (.*?) } (\w+);", CODE):
-        declared = re.findall(r"(?:const )?(\w+) ([\w, *]+);", body)
+        declared = re.findall(r"(?:const |PELTZIVAR_ALIGNED )?(\w+) ([\w, *\[\]]+);", body)
         members = [(it, kind) for kind, names in declared for it in names.split(", ")]
         yield from ("", "", f"class {STRUCTS[struct]}(Structure):", "    _fields_ = [")
-        yield from (f'        ("{member.strip("*")}", {argument(f"{kind} {member}")}),' for member, kind in members)
+        named = ((re.sub(r"\[.*|\W", "", member), argument(f"{kind} {member}")) for member, kind in members)
+        yield from (f'        ("{name}", {kind}),' for name, kind in named)
         yield "    ]"
     yield from ("", "", "_CALLS: Dict[str, Tuple[Any, List[Any]]] = {")
     for result, call, arguments in re.findall(r"(\w+ \*?)peltzivar_(\w+)\( ?([^()]*)\);", CODE):
@@ -108,6 +110,7 @@ def languages():
     documented = re.findall(r"((?:^ +///.*\n)+) +(\w+) = \w+\(", LANGUAGES, re.M)
     yield '"""How a language, or a file, writes numbers. `languages` is another name of this class.'
     yield from ("", "`read(text)` returns a `Literal` of `syntax`, or a `Special` with a spelling of `specials`.")
+    yield from ("", "No format rejects `-`, or requires a prefix, a suffix or a decimal point. So `C_FLOAT` reads `1`.")
     for text, name in documented:
         about = " ".join(text.replace("///", " ").replace("×", "*").split())
         yield from ("", *textwrap.wrap(f"{name}: {about}", 115, subsequent_indent="    "))

@@ -190,20 +190,18 @@ peltzivar_word peltzivar_pack(const peltzivar_fields *fields);
 
 /* SETTINGS */
 
-/* Parses a setting: a string NAME=VALUE of len bytes, which need not be null-terminated. It is split at the first `=`.
- * If it is valid, writes its edit to *out and returns true. Otherwise, returns false and leaves *out unchanged.
- *
- * A flag or a group takes `true` or `false`. A byte takes one ASCII character in single quotes, `0x` followed by one or
- * two hexadecimal digits, or one to three decimal digits. Every byte except mantissa_radix also takes `none`, which
- * makes the byte absent, as 0 does. Spaces are not skipped. The name radix is read as mantissa_radix. Only
- * peltzivar_read_settings takes `exponent` and `point`, which are not fields. */
+/* Parses a setting: a string NAME=VALUE of len bytes, which need not be null-terminated. If it is valid, writes its edit
+ * to *out and returns true. Otherwise, returns false and leaves *out unchanged. FORMAT.md has a table of the settings.
+ * The name radix is read as mantissa_radix. Only peltzivar_read_settings takes `exponent` and `point`, which are not
+ * fields. */
 PELTZIVAR_MUST_USE bool peltzivar_parse_edit(const char *text, size_t len, peltzivar_edit *out);
 
-/* Does the same for the value of a byte alone, such as `'p'`, `0x70`, `112` or `none`, which is 0. */
+/* Does the same for the value of base_prefix alone, such as `'p'`, `0x70`, `112` or `none`, which is 0. */
 PELTZIVAR_MUST_USE bool peltzivar_parse_byte(const char *text, size_t len, uint8_t *out);
 
-/* Writes the reason why peltzivar_parse_edit rejects a string, such as "no_special takes `true` or `false`". The string
- * has len bytes, and the buffer `to` has to_len bytes. If peltzivar_parse_edit accepts it, writes an empty string. */
+/* Writes the reason why peltzivar_parse_edit rejects a string, such as "no_special takes `true` or `false`", or "unknown
+ * setting name; did you mean `base_suffix`?". The string has len bytes, and the buffer `to` has to_len bytes. If
+ * peltzivar_parse_edit accepts it, writes an empty string. */
 size_t peltzivar_setting_error_text(const char *text, size_t len, char *to, size_t to_len);
 
 /* Writes an edit as NAME=VALUE, where VALUE is `true`, `false`, `none` or a decimal number. peltzivar_parse_edit parses
@@ -258,7 +256,7 @@ peltzivar_word peltzivar_note_mask(const peltzivar_fields *fields, size_t index)
  * not 0. Neither may match a byte that the other option, the digit separator, the base prefix or the base suffix
  * matches. The decimal point matches only itself. If the exponent character is a letter, it matches both cases of the
  * letter unless case_sensitive_exponent is set. PELTZIVAR_RULE_PUNCTUATION_DIFFERS states which bytes the others match.
- * Of a lawful word, peltzivar_syntax_check accepts more: 0 for both options, and, since it checks the normal form, a
+ * Of a lawful word, peltzivar_reader_init accepts more: 0 for both options, and, since it checks the normal form, a
  * digit separator that no flag allows. Returns PELTZIVAR_SUCCESS, or the first of these errors that applies:
  * PELTZIVAR_INVALID_EXPONENT_SYMBOL or PELTZIVAR_INVALID_DECIMAL_POINT if this option is not punctuation, or
  * PELTZIVAR_INVALID_PUNCTUATION. */
@@ -326,19 +324,37 @@ const char *peltzivar_role_name(peltzivar_role role);
 /* LITERALS
  *
  * A literal is a text that is a number of a syntax. A syntax is a lawful word with an exponent character and a decimal
- * point, or with 0 for both. Then literals are integers. Each call that takes a syntax checks it: if
- * peltzivar_syntax_check refuses it, the call returns the same error, and writes nothing. FORMAT.md defines literals,
- * and why a text is not one. */
+ * point, or with 0 for both. Then literals are integers. FORMAT.md defines literals, and why a text is not one. */
 typedef struct {
     peltzivar_word format;
     uint8_t exponent, decimal_point;
 } peltzivar_syntax;
 
-/* Writes the syntax of a word, with its normal form, to *out and returns PELTZIVAR_SUCCESS if the word is lawful, and if
- * the options fit its normal form or are both 0. Otherwise, leaves *out unchanged and returns the error of the first
- * rule that the word breaks, or the error that peltzivar_check_options returns for the normal form. */
-PELTZIVAR_MUST_USE peltzivar_error peltzivar_syntax_check(
-    peltzivar_word format, uint8_t exponent, uint8_t decimal_point, peltzivar_syntax *out);
+/* A reader of the literals of a syntax. peltzivar_reader_init makes it once, for any number of texts, and it can be
+ * copied. `syntax` is its syntax, with the normal form of the word. Do not change a reader, or an error below, and pass
+ * neither to another build of the library. Calls refuse memory whose `magic` they did not write, such as zeros. */
+#ifdef __GNUC__
+#define PELTZIVAR_ALIGNED __attribute__((aligned(16)))
+#elif defined(__cplusplus)
+#define PELTZIVAR_ALIGNED alignas(16)
+#else
+#define PELTZIVAR_ALIGNED _Alignas(16)
+#endif
+typedef struct {
+    PELTZIVAR_ALIGNED uint64_t magic;
+    peltzivar_syntax syntax;
+    uint64_t tables[508];
+} peltzivar_reader;
+
+/* Writes the reader of a syntax to *reader and returns PELTZIVAR_SUCCESS if the word is lawful, and if the options fit
+ * its normal form or are both 0. Otherwise, leaves *reader unchanged and returns the error of the first rule that the
+ * word breaks, or the error that peltzivar_check_options returns for the normal form. It takes as long as reading some
+ * 300 texts. */
+PELTZIVAR_MUST_USE peltzivar_error peltzivar_reader_init(peltzivar_reader *reader, const peltzivar_syntax *syntax);
+
+/* Writes why peltzivar_reader_init refuses a syntax as a sentence, such as "the exponent character 'e' is a digit in radix
+ * 16". If it accepts the syntax, writes an empty string. */
+size_t peltzivar_syntax_error_text(const peltzivar_syntax *syntax, char *text, size_t len);
 
 /* The bytes of a text from the index `start` to below the index `end`. */
 typedef struct {
@@ -354,49 +370,58 @@ typedef struct {
     bool is_float;
 } peltzivar_literal;
 
+/* Where reading stopped. The first `valid_up_to` bytes are the longest beginning of the text that some literal begins
+ * with. If these are all of its bytes, bytes are missing, and a longer text may be a literal. */
+typedef struct {
+    PELTZIVAR_ALIGNED uint64_t magic;
+    size_t valid_up_to;
+    uint64_t stop[12];
+} peltzivar_read_error;
+
+/* Reads a text of len bytes. If it is a literal, writes its parts to *literal and returns true. Otherwise, writes where
+ * reading stopped to *error and returns false. Also refuses a reader that is null or that no call has made, and a text of
+ * more than PTRDIFF_MAX bytes. Then `valid_up_to` is 0. */
+PELTZIVAR_MUST_USE bool peltzivar_read(const peltzivar_reader *reader, const char *text, size_t len,
+    peltzivar_literal *literal, peltzivar_read_error *error);
+
+/* Does the same for the longest beginning of the text that is a literal. What follows it may be anything. If there is
+ * none, *error is that of peltzivar_read. Reads no byte behind the first that cannot follow or, if it begins a character
+ * of UTF-8, behind this character. */
+PELTZIVAR_MUST_USE bool peltzivar_read_prefix(const peltzivar_reader *reader, const char *text, size_t len,
+    peltzivar_literal *literal, peltzivar_read_error *error);
+
+/* Writes why a text was refused as a sentence, such as "unexpected character 'x'". If no call has written *error,
+ * writes an empty string. */
+size_t peltzivar_read_error_text(const peltzivar_read_error *error, char *text, size_t len);
+
 /* The kinds of causes why a text is not a literal. */
-typedef uint8_t peltzivar_cause;
+typedef uint8_t peltzivar_read_error_kind;
 enum {
-    PELTZIVAR_CAUSE_REQUIREMENT = 1, /* The text does not satisfy flags that are set. */
-    PELTZIVAR_CAUSE_SEPARATOR = 2, /* A digit separator is not allowed here. */
-    PELTZIVAR_CAUSE_CASE = 3, /* A letter has the wrong case. */
-    PELTZIVAR_CAUSE_BYTE = 4, /* A byte cannot follow the bytes before it. */
-    PELTZIVAR_CAUSE_MISSING = 5 /* Digits are missing. */
+    PELTZIVAR_KIND_REQUIREMENT = 1, /* The text does not satisfy flags that are set. */
+    PELTZIVAR_KIND_SEPARATOR = 2, /* A digit separator is not allowed here. */
+    PELTZIVAR_KIND_CASE = 3, /* A letter has the wrong case. */
+    PELTZIVAR_KIND_BYTE = 4, /* A byte cannot follow the bytes before it. */
+    PELTZIVAR_KIND_MISSING = 5 /* Digits are missing. */
 };
 
-/* Why a text is not a literal. The first `valid_up_to` bytes are the longest beginning of the text that some literal
- * begins with. If these are all of its bytes, bytes are missing, and a longer text may be a literal. `span` has the
- * bytes to show. If it is empty, it marks the place before `start`. `index` is the index for peltzivar_error_text.
- * `mask` has the flags to blame, and `number` is the lowest as a setter. For a wrong byte and for missing digits, they
- * are 0 and PELTZIVAR_NO_SETTER. `part` is the part of a separator or of missing digits, and otherwise
- * PELTZIVAR_NO_PART. To end the cause, set one of the flags to blame if `cause` is PELTZIVAR_CAUSE_SEPARATOR, and
- * otherwise clear all of them. Then there may be another cause. */
+/* Why a text is not a literal. `span` has the bytes to show. If it is empty, it marks the place before `start`. `mask` has
+ * the flags to blame, and `number` is the lowest as a setter. For a wrong byte and for missing digits, they are 0 and
+ * PELTZIVAR_NO_SETTER. `part` is the part of a separator or of missing digits, and otherwise PELTZIVAR_NO_PART. To end
+ * the cause, set one of the flags to blame if `kind` is PELTZIVAR_KIND_SEPARATOR, and otherwise clear all of them. Then
+ * there may be another cause. `code` is a parse error, and `index` its index for peltzivar_error_text. */
 typedef struct {
-    size_t valid_up_to;
     peltzivar_span span;
     size_t index;
     peltzivar_word mask;
-    peltzivar_cause cause;
+    peltzivar_error code;
+    peltzivar_read_error_kind kind;
     peltzivar_setter number;
     peltzivar_part part;
-} peltzivar_read_error;
+} peltzivar_explanation;
 
-/* Reads a text of len bytes. If it is a literal, writes its parts to *literal and returns PELTZIVAR_SUCCESS. Otherwise,
- * writes the reason to *error and returns a parse error. Of all errors, only two leave *error unchanged: a format error
- * if the syntax is refused, and PELTZIVAR_OVERFLOW if the text has more than PTRDIFF_MAX bytes. */
-PELTZIVAR_MUST_USE peltzivar_error peltzivar_read(
-    const peltzivar_syntax *syntax, const char *text, size_t len, peltzivar_literal *literal, peltzivar_read_error *error);
-
-/* Does the same for the longest beginning of the text that is a literal. What follows it may be anything. If there is
- * none, the result and *error are those of peltzivar_read. Reads no byte behind the first that cannot follow. */
-PELTZIVAR_MUST_USE peltzivar_error peltzivar_read_prefix(
-    const peltzivar_syntax *syntax, const char *text, size_t len, peltzivar_literal *literal, peltzivar_read_error *error);
-
-/* Writes why peltzivar_read refuses a text or its syntax as a sentence, such as "no literal has the byte 'x' here" or
- * "the exponent character 'e' is a digit in radix 16". The text has len bytes, and the buffer `to` has to_len bytes. If
- * peltzivar_read accepts the text, writes an empty string. */
-size_t peltzivar_read_error_text(
-    const peltzivar_syntax *syntax, const char *text, size_t len, char *to, size_t to_len);
+/* Writes why a text is not a literal to *out and returns true. If no call has written *error, or if the reader or the
+ * length was refused, leaves *out unchanged and returns false. */
+PELTZIVAR_MUST_USE bool peltzivar_explain(const peltzivar_read_error *error, peltzivar_explanation *out);
 
 /* SPECIAL VALUES AND LANGUAGES
  *
@@ -412,27 +437,25 @@ typedef struct {
 enum { PELTZIVAR_SPELLING_NAN = 1, PELTZIVAR_SPELLING_INF = 2, PELTZIVAR_SPELLING_INFINITY = 3 };
 
 /* Reads a text of len bytes as a special value: an optional sign, and the first of the spellings that matches. The
- * flags of the syntax decide which signs, cases and digit separators match. If the text is a special value, writes it
- * to *out and returns PELTZIVAR_SUCCESS. Otherwise, leaves *out unchanged and returns PELTZIVAR_INVALID_DIGIT, or one
- * of the two errors above. A text can also be a literal, such as `inf` in radix 36. So call peltzivar_read first. */
-PELTZIVAR_MUST_USE peltzivar_error peltzivar_read_special(const peltzivar_syntax *syntax,
-    const peltzivar_specials *specials, const char *text, size_t len, peltzivar_special *out);
+ * flags of the reader's syntax decide which signs, cases and digit separators match. If the text is a special value,
+ * writes it to *out and returns true. Otherwise, or if peltzivar_read refuses the reader or the length, leaves *out
+ * unchanged and returns false. A text can also be a literal, such as `inf` in radix 36. So call peltzivar_read first. */
+PELTZIVAR_MUST_USE bool peltzivar_read_special(const peltzivar_reader *reader, const peltzivar_specials *specials,
+    const char *text, size_t len, peltzivar_special *out);
 
-/* If a language or file format has a name of len bytes, such as "JSON" or "C_HEX_FLOAT", writes its syntax and its
- * spellings, which last as long as the program, and returns true. A spelling that it lacks is "". Otherwise, writes
- * nothing and returns false. Names are case-sensitive. In Python, `help(peltzivar.Language)` describes each language. */
-PELTZIVAR_MUST_USE bool peltzivar_language(
-    const char *name, size_t len, peltzivar_syntax *syntax, peltzivar_specials *specials);
+/* If a language or file format has a name of len bytes, such as "JSON" or "C_HEX_FLOAT", writes its spellings to
+ * *specials and returns its reader. Both last as long as the program. A spelling that it lacks is "". Otherwise, writes
+ * nothing and returns a null pointer. Names are case-sensitive. In Python, `help(peltzivar.Language)` describes each. */
+PELTZIVAR_MUST_USE const peltzivar_reader *peltzivar_language(
+    const char *name, size_t len, peltzivar_specials *specials);
 
 /* Returns the name of a language. The languages have the indices from 0 on, in alphabetical order. */
 const char *peltzivar_language_name(size_t index);
 
 /* SETTINGS OF A TEXT
  *
- * A text, such as a file, has one setting a line, in the form that peltzivar_parse_edit describes, or `exponent=VALUE`
- * or `point=VALUE` for the options, with a VALUE as for digit_separator. A character in quotes is not a radix or an
- * exponent base. Lines end with \n. Around names and values, spaces, horizontal tabs, \f and \r are skipped, and so are
- * a byte order mark at the start of the text, and lines that are then empty or begin with `#`. No comment can follow a
+ * A text, such as a file, has one setting a line, of a field, a group or an option. Lines end with \n. A byte order mark
+ * at the start of the text is skipped, and so are lines that are blank or begin with `#`. No comment can follow a
  * setting. A setting overrides those before it. Fields without a setting have the values of PELTZIVAR_NEW_FIELDS, the
  * exponent character is `e`, and the decimal point is `.`. In a mantissa or exponent radix above 14, `e` is a digit, so
  * `exponent` must be set. If both options are `none`, literals are integers. One alone cannot be `none`: for numbers

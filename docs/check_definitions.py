@@ -7,8 +7,8 @@
 
 A contract cites the definitions that the `use` lines of its file bring, and a definition also those of its own file. A
 definition is found by its name and that of its file. `Specials::read` is the call of this type, and `read` that of all
-other types. For the type of a call, `impl Model` states what `now` of a value is. This and the contracts of the calls
-that make a value are printed last, without what they cite. The status is 1 if a call reaches a constant of the program,
+other types. For the types of a call and of its arguments, `impl Model` states what a value is in a contract. This and
+the contracts of the calls that make a value are printed last, without what they cite. The status is 1 if a call reaches a constant of the program,
 or an addition: a definition in a folder of specs/ or in Private.antt. Such definitions serve other calls.
 """
 import graphlib
@@ -18,7 +18,7 @@ import re
 import sys
 
 CALLS = """edit_word normal_form format_error check build_strict is_built edits_of is_valid_options_punctuation
-options_error migrate same_format apply Syntax::new Syntax::integers read read_prefix Specials::read to_integer
+options_error migrate same_format apply Format::new Syntax::new Syntax::integers read read_prefix Specials::read to_integer
 parse_integer""".split()
 CRATES = "lexical_base lexical_number lexical_flags lexical_builder lexical_util lexical_literal lexical_value".split()
 TOP = pathlib.Path(__file__).resolve().parent.parent
@@ -143,7 +143,8 @@ def text_of(call):
         for module, inner in itertools.groupby(names, file.module.get):
             lines += [*module, *(line for name in inner for line in ["", *file.lines[name]])]
     for path, kind, text, _ in found:
-        lines += [f"==== {path}{kind and f': impl {kind}'}", *text.splitlines(), *model(kind)]
+        kinds = dict.fromkeys([kind, *re.findall(r"\w: &?(\w+)", text.partition(" ensures ")[0])])
+        lines += [f"==== {path}{kind and f': impl {kind}'}", *text.splitlines(), *itertools.chain(*map(model, kinds))]
     unfit = [f"it reaches {name} by {above}" for name, above in reached.items()
              if name not in FILE_OF or FILE_OF[name].is_addition]
     return lines, unfit if found else ["no public function"]

@@ -142,7 +142,7 @@ class Library {
         const digits = word.trim().replace(/(?<=\w)_(?=\w)/g, "").replace(/,$/, "");
         const isNumber = /^0x[0-9a-f]{1,32}$|^[0-9]{1,39}$/i.test(digits);
         if (isNumber && BigInt(digits) <= MOST_WORD) return { word: BigInt(digits), options };
-        const rest = word.replace(/(\w+)\s*=\s*('.'|[^\s,;#]*)|#.*|[\s,;]/g, (_, name, value) => {
+        const rest = word.replace(/\b(\w+)\s*=\s*('.'|[^\s,;#]*)|#.*|[\s,;]/g, (_, name, value) => {
             if (name) settings.push(`${name}=${value}`);
             return "";
         });

@@ -6,7 +6,7 @@ use core::fmt::{self, Display, Write};
 use core::ops::Range;
 
 use peltzivar::edits::{apply, is_built, normal_form};
-use peltzivar::literal::Syntax;
+use peltzivar::literal::Reader;
 use peltzivar::{Edit, Error, FormatView, NumberFormatBuilder, Reason, Rule};
 use suggest::{Found, Line, SPECIALS, State, blamed_options, lines_of, offers, read, repairs};
 
@@ -104,43 +104,43 @@ fn put_state(out: &mut Answer, State { word, exponent, point }: State) -> fmt::R
 #[unsafe(no_mangle)]
 pub extern "C" fn numbers(low: u64, high: u64, exponent: u8, point: u8, length: usize) -> usize {
     let (state, lines) = (State { word: u128::from(high) << 64 | u128::from(low), exponent, point }, text_of(length));
-    answer(|out| match state.syntax() {
-        Some(syntax) => list(out, lines_of(lines), |out, line| put_line(out, state, &syntax, lines, line)),
+    answer(|out| match state.syntax().map(Reader::new) {
+        Some(reader) => list(out, lines_of(lines), |out, line| put_line(out, state, &reader, lines, line)),
         None => out.write_str("[]"),
     })
 }
 
-fn put_line(out: &mut Answer, state: State, syntax: &Syntax, lines: &[u8], line: Line<'_>) -> fmt::Result {
+fn put_line(out: &mut Answer, state: State, reader: &Reader, lines: &[u8], line: Line<'_>) -> fmt::Result {
     out.write_str("{")?;
-    put_reading(out, syntax, line.text)?;
+    put_reading(out, reader, line.text)?;
     out.write_str(r#","offers":"#)?;
-    let is_expected = read(syntax, line.text).is_err() == line.is_refused;
+    let is_expected = read(reader, line.text).is_err() == line.is_refused;
     let found = if is_expected { Found::new(lines) } else { offers(state, lines, line) };
     list(out, found.best(), |out, (state, expected)| {
         put_state(out, state)?;
         write!(out, r#","expected":{expected},"#)?;
-        state.syntax().map_or(Ok(()), |it| put_reading(out, &it, line.text))?;
+        state.syntax().map_or(Ok(()), |it| put_reading(out, &Reader::new(it), line.text))?;
         out.write_str("}")
     })?;
     out.write_str("}")
 }
 
 /// Writes the parts of a text, or of its longest front that is a number, and then why and where it is refused.
-fn put_reading(out: &mut Answer, syntax: &Syntax, text: &[u8]) -> fmt::Result {
+fn put_reading(out: &mut Answer, reader: &Reader, text: &[u8]) -> fmt::Result {
     out.write_str(r#""parts":"#)?;
     let put = |out: &mut Answer, (kind, bytes): (&str, &[u8])| {
         let size = bytes.len();
         write!(out, r#"{{"kind":"{kind}","size":{size}}}"#)
     };
-    if let (Err(_), Some(special)) = (syntax.read(text), SPECIALS.read(syntax, text)) {
+    if let (Err(_), Some(special)) = (reader.read(text), SPECIALS.read(&reader.syntax(), text)) {
         let (sign, rest) = text.split_at(special.sign.map_or(0, |_| 1));
         return list(out, [("sign", sign), ("special", rest)].into_iter().filter(|(_, bytes)| !bytes.is_empty()), put);
     }
-    match syntax.read_prefix(text) {
+    match reader.read_prefix(text) {
         Ok((literal, _)) => list(out, literal.parts(), put)?,
         Err(_) => out.write_str("[]")?,
     }
-    let Err(error) = syntax.read(text) else { return Ok(()) };
+    let Err(error) = reader.read(text) else { return Ok(()) };
     let (mask, Range { start, end }) = (Word(error.mask()), error.span());
     write!(out, r#","error":{},"mask":{mask},"start":{start},"end":{end}"#, Quoted(error))
 }

@@ -13,6 +13,7 @@ const PARTS = {
     exponent_sign: ["sign", "no_positive_exponent_sign required_exponent_sign"],
     exponent: ["exponent", "exponent_radix"],
     suffix: ["base", "base_suffix"],
+    digit_separator: ["separator", "digit_separator"],
 };
 /* How many lines the field shows, how many of them are read, and how long a number is that has a value. */
 const [MOST_ROWS, MOST_LINES, MOST_VALUE] = [8, 100, 500];
@@ -25,8 +26,8 @@ class Trial {
         find("literal").addEventListener("input", ({ target }) => change({ numbers: target.value }, "literal"));
     }
 
-    /* Reads the numbers of a state, and shows what was read. Returns how many of them are as expected, in words, and the
-     * first number that is not. */
+    /* Reads the numbers of a state, and shows what was read. Returns how many of them are as expected and how many are not
+     * read, in words, and the first number that is not as expected. */
     show(state) {
         this.state = state;
         const box = find("literal");
@@ -34,14 +35,16 @@ class Trial {
         box.rows = Math.min(Math.max(state.numbers.split("\n").length, 2), MOST_ROWS);
         const all = state.numbers.split("\n").map((text, place) => ({ text, place })).filter(({ text }) => text);
         let size = 0;
-        const lines = all.slice(0, MOST_LINES).filter(({ text }) => (size += 4 * text.length + 1) < MOST_TEXT);
+        const bytes = (text) => new TextEncoder().encode(text).length;
+        const lines = all.slice(0, MOST_LINES).filter(({ text }) => (size += bytes(text) + 1) <= MOST_TEXT);
         this.answers = this.read(lines);
         const [first] = this.answers.filter(({ isExpected }) => !isExpected);
         box.setAttribute("aria-invalid", String(Boolean(first)));
         const left = all.length - lines.length;
+        const unread = left === 1 ? "1 line is not read" : `${left} lines are not read`;
         const texts = [
             ...(lines.length && !this.answers.length ? ["not read, since the word is not lawful"] : []),
-            ...(left ? [left === 1 ? "1 more line is not read" : `${left} more lines are not read`] : []),
+            ...(left ? [`${unread}: the page reads up to ${MOST_LINES} lines with ${MOST_TEXT / 1000} kB`] : []),
         ];
         this.fill([
             ...this.answers.map((answer) => ({ key: this.keyOf(answer), make: () => this.row(answer) })),
@@ -49,7 +52,8 @@ class Trial {
         ]);
         const expected = this.answers.filter(({ isExpected }) => isExpected).length;
         const count = this.answers.length ? `${expected} of ${this.answers.length} as expected` : "";
-        return { count, isGood: !first, first: first && `${first.text} ${this.told(first)}` };
+        const counts = [count, left ? unread : ""].filter(Boolean).join("; ");
+        return { count: counts, isGood: !first && !left, first: first && `${first.text} ${this.told(first)}` };
     }
 
     /* Returns what the library returns for lines, with what each line expects and what is offered in words. */
@@ -127,14 +131,23 @@ class Trial {
         const all = [...parts, { size: bytes.length }].map(({ kind, size }) => ({ kind, start: next, end: next += size }));
         const cut = (from, to) => all.filter((part) => part.start < to && from < part.end).map(({ kind, start, end }) => {
             const piece = new TextDecoder().decode(bytes.subarray(Math.max(start, from), Math.min(end, to)));
-            const [colour, fields] = PARTS[kind] ?? [];
-            const title = kind?.replace("_", " ");
-            return kind ? element("span", { class: colour, title, "data-field": fields }, piece) : piece;
-        });
+            return kind ? this.spans(kind, piece) : piece;
+        }).flat();
         if (start === undefined) return cut(0, bytes.length);
-        while ((bytes[end] & 0xc0) === 0x80) end += 1;
         const marked = element("mark", {}, start < end ? cut(start, end) : "\u00a0");
         return [...cut(0, start), marked, ...cut(end, bytes.length)];
+    }
+
+    /* Returns the spans of a part. Digit separators between its digits have spans of their own. */
+    spans(kind, text) {
+        const byte = this.library.get(this.state.word, "digit_separator");
+        const runs = new RegExp(`(\\x${byte.toString(16).padStart(2, "0")}+)`);
+        const pieces = ["integer", "fraction", "exponent"].includes(kind) ? text.split(runs) : [text];
+        return pieces.flatMap((piece, index) => {
+            const name = index % 2 ? "digit_separator" : kind;
+            const [colour, fields] = PARTS[name];
+            return piece ? element("span", { class: colour, title: name.replace("_", " "), "data-field": fields }, piece) : [];
+        });
     }
 
     /* Returns a state that is offered, as a button with its settings, with what the number is then. */

@@ -6,9 +6,9 @@ use peltzivar::format::{
     BASE_PREFIX, BASE_SUFFIX, CONSECUTIVE_DIGIT_SEPARATOR, DIGIT_SEPARATOR, DIGIT_SEPARATOR_FLAG_MASK, EXPONENT_BASE,
     EXPONENT_RADIX, FLAG_MASK, MANTISSA_RADIX, SPECIAL_DIGIT_SEPARATOR,
 };
-use peltzivar::literal::{Cause, ReadError, Specials, Syntax};
+use peltzivar::literal::{ReadError, ReadErrorKind, Reader, Specials, Syntax};
 use peltzivar::reasons::Byte;
-use peltzivar::{Cause as Problem, FormatView, Reason};
+use peltzivar::{Cause, Format, FormatView, Reason, Rule};
 
 /// The spellings of special values that are read.
 pub const SPECIALS: Specials = Specials { nan: Some(b"NaN"), inf: Some(b"inf"), infinity: Some(b"infinity") };
@@ -23,8 +23,7 @@ const MOST_ROLES: usize = 3;
 const SEPARATORS: u128 = DIGIT_SEPARATOR_FLAG_MASK & !SPECIAL_DIGIT_SEPARATOR;
 
 /// The bits of no field.
-const RESERVED: u128 =
-    !(FLAG_MASK | DIGIT_SEPARATOR | BASE_PREFIX | BASE_SUFFIX | MANTISSA_RADIX | EXPONENT_BASE | EXPONENT_RADIX);
+const RESERVED: u128 = Rule::ReservedBitsAreZero.mask();
 
 /// The bytes that stand for an exponent character and a decimal point that do not fit. No number has them.
 const NO_EXPONENT: u8 = 11;
@@ -48,9 +47,10 @@ impl State {
 
     /// Returns the syntax if the word is lawful and the options fit.
     fn exact(self) -> Option<Syntax> {
+        let format = Format::new(self.word).ok()?;
         match self.is_integers() {
-            true => Syntax::integers_of_word(self.word).ok(),
-            false => Syntax::of_word(self.word, self.exponent, self.point).ok(),
+            true => Some(Syntax::integers(format)),
+            false => Syntax::new(format, self.exponent, self.point).ok(),
         }
     }
 
@@ -92,7 +92,8 @@ impl State {
 
     /// Returns how many of the lines are as expected.
     pub fn as_expected(self, lines: &[u8]) -> usize {
-        let is_accepted = |text| self.syntax().is_some_and(|it| read(&it, text).is_ok());
+        let reader = self.syntax().map(Reader::new);
+        let is_accepted = |text| reader.as_ref().is_some_and(|it| read(it, text).is_ok());
         lines_of(lines).filter(|line| is_accepted(line.text) != line.is_refused).count()
     }
 }
@@ -113,9 +114,9 @@ pub fn lines_of(text: &[u8]) -> impl Iterator<Item = Line<'_>> {
 }
 
 /// Returns why a text is neither a number nor a special value.
-pub fn read(syntax: &Syntax, text: &[u8]) -> Result<(), ReadError> {
-    match syntax.read(text) {
-        Err(error) if SPECIALS.read(syntax, text).is_none() => Err(error),
+pub fn read(reader: &Reader, text: &[u8]) -> Result<(), ReadError> {
+    match reader.read(text) {
+        Err(error) if SPECIALS.read(&reader.syntax(), text).is_none() => Err(error),
         _ => Ok(()),
     }
 }
@@ -197,7 +198,7 @@ fn refusing(state: State, text: &[u8], found: &mut Found<'_>) {
         // Consecutive separators need another flag of their part.
         let single = State { word: other.word & !CONSECUTIVE_DIGIT_SEPARATOR, ..other };
         let other = other.syntax().map_or(single, |_| other);
-        let is_refused = other.syntax().is_some_and(|it| read(&it, text).is_err());
+        let is_refused = other.syntax().is_some_and(|it| read(&Reader::new(it), text).is_err());
         if is_refused && problems(other).count() <= problems(state).count() {
             found.push(other);
         }
@@ -224,12 +225,14 @@ fn settled(mut state: State, text: &[u8]) -> Result<State, usize> {
         state.word |= SEPARATORS;
     }
     let read_in = |state: State| match state.exact() {
-        Some(syntax) => read(&syntax, text).map_err(Some),
+        Some(syntax) => read(&Reader::new(syntax), text).map_err(Some),
         None => Err(None),
     };
     while let Err(error) = read_in(state) {
         match error {
-            Some(error) if matches!(error.cause(), Cause::Requirement | Cause::Case) => state.word &= !error.mask(),
+            Some(error) if matches!(error.kind(), ReadErrorKind::Requirement | ReadErrorKind::Case) => {
+                state.word &= !error.mask()
+            }
             error => return Err(error.map_or(text.len(), |it| it.valid_up_to())),
         }
     }
@@ -250,7 +253,7 @@ fn candidates(state: State, text: &[u8], at: usize) -> [Option<State>; 9] {
     let [shown, same, needed] = suffixes(state, text, at);
     let radix = radix_of(text, state.radix() + 1).filter(|_| byte.is_ascii_alphanumeric());
     [
-        prefix(state, before, byte),
+        prefix(state, before, byte, rest),
         exponent(state, before, byte, rest),
         point(state, before, byte, rest),
         shown,
@@ -267,15 +270,22 @@ fn is_mark(byte: u8) -> bool {
     matches!(byte, b'_' | b'\'' | b',' | b'.' | b' ')
 }
 
-/// A letter behind the first zero is the base prefix, and shows the radix.
-fn prefix(state: State, before: &[u8], byte: u8) -> Option<State> {
+/// A letter behind the first zero is the base prefix, and shows the radix. A digit of this radix is never before a sign,
+/// so the radix is kept if the exponent character is such a digit and is before a sign.
+fn prefix(state: State, before: &[u8], byte: u8, rest: &[u8]) -> Option<State> {
     let radix = match byte.to_ascii_lowercase() {
         b'x' => 16,
         b'o' => 8,
         b'b' => 2,
         _ => return None,
     };
-    (unsigned(before) == b"0").then(|| state.with_radix(radix).with(BASE_PREFIX, byte))
+    let is_digit = value(state.exponent).is_some_and(|digit| digit < radix);
+    let is_exponent = |it: &[u8]| it[0].eq_ignore_ascii_case(&state.exponent) && matches!(it[1], b'+' | b'-');
+    let shown = match is_digit && rest.windows(2).any(is_exponent) {
+        true => state,
+        false => state.with_radix(radix),
+    };
+    (unsigned(before) == b"0").then(|| shown.with(BASE_PREFIX, byte))
 }
 
 /// A letter or `^` between digits is the exponent character.
@@ -335,12 +345,8 @@ pub fn problems(state: State) -> impl Iterator<Item = Reason> {
 
 /// Returns whether a reason blames the exponent character, and whether it blames the decimal point.
 pub fn blamed_options(reason: Reason) -> [bool; 2] {
-    let (first, second) = match reason.cause() {
-        Problem::NotText(byte) | Problem::IsSign(byte) | Problem::IsDigit(byte, _) => (byte, byte),
-        Problem::Same(first, second) | Problem::DifferInCase { first, second, .. } => (first, second),
-        _ => return [false; 2],
-    };
-    [Byte::ExponentCharacter, Byte::DecimalPoint].map(|it| first.name == it || second.name == it)
+    let bytes = reason.cause().bytes();
+    [Byte::ExponentCharacter, Byte::DecimalPoint].map(|name| bytes.iter().flatten().any(|byte| byte.name == name))
 }
 
 /// Returns the states in which one field that a reason blames is absent or cleared, or one option is another character.
@@ -352,7 +358,7 @@ pub fn repairs(state: State, reason: Reason) -> impl Iterator<Item = State> {
     let fields = bytes.into_iter().chain([(MANTISSA_RADIX, 10), (RESERVED, 0)]);
     let fields = fields.filter(move |it| reason.mask() & it.0 != 0).map(move |(field, byte)| state.with(field, byte));
     let is_alike = move |it: Reason| match (it.cause(), reason.cause()) {
-        (Problem::IsDigit(byte, _), Problem::IsDigit(other, _)) => byte.name == other.name,
+        (Cause::IsDigit(byte, _), Cause::IsDigit(other, _)) => byte.name == other.name,
         (cause, other) => cause == other,
     };
     let is_better = move |it: &State| problems(*it).count() < problems(state).count() && !problems(*it).any(is_alike);

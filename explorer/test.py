@@ -359,7 +359,10 @@ class Walk(unittest.TestCase):
         self.click("#tab-settings")
         self.assertIn(f"No builder makes this word. These settings build the nearest one, {STANDARD}.", self.text("#code"))
         self.run_script("page.change({ numbers: '1\\n'.repeat(130) })")
-        self.assertEqual((self.text("#count"), self.texts("#read li")[-1]), ("100 of 100 as expected", "30 more lines are not read"))
+        self.assertEqual(self.text("#count"), "100 of 100 as expected; 30 lines are not read")
+        self.assertEqual(self.texts("#read li")[-1], "30 lines are not read: the page reads up to 100 lines with 60 kB")
+        self.run_script("page.change({ numbers: '1'.repeat(60000) })")
+        self.assertEqual((self.text("#count"), self.find("#count").get_attribute("class")), ("1 line is not read", "bad"))
         self.run_script("navigator.clipboard.writeText = () => Promise.reject(); document.execCommand = () => false")
         self.click("#copy-code")
         self.wait(lambda: self.text("#copy-code") == "not copied: no clipboard")
@@ -427,6 +430,8 @@ class Walk(unittest.TestCase):
         self.assertEqual(self.find("#word").get_attribute("aria-invalid"), "false")
         self.type("#word", "index.html#word=0xC&numbers=7" + Keys.ENTER)
         self.assertEqual((self.value("#literal"), self.text("#verdict")), ("7", "Not lawful: 1 reason"))
+        self.load("#" + 100_000 * "a")
+        self.assertIn("This link has no format word", self.text("#word-problem"))
         self.load("#word=nonsense&exponent=300&point=")
         self.assertEqual((self.value(), self.value("#exponent"), self.value("#point")), (STANDARD, "e", "."))
         self.assertIn("This link has no format word", self.text("#word-problem"))
@@ -439,17 +444,18 @@ class Walk(unittest.TestCase):
     def test_numbers_are_tried(self):
         self.load("#word=0x00000A000000005F000000020000000C")
         self.type("#literal", "-0.1_2e5\n-1_000\n1\u00e9\n!1\n!.x")
-        self.assertEqual(self.texts("#read > li:first-child .written span"), ["-", "0", ".", "1_2", "e", "5"])
+        self.assertEqual(self.texts("#read > li:first-child .written span"), ["-", "0", ".", "1", "_", "2", "e", "5"])
+        self.assertEqual(self.find("#read .separator").get_attribute("data-field"), "digit_separator")
         self.assertEqual(self.texts("#read > li:nth-child(2) .written"), ["-1_000"])
         self.assertEqual(self.texts("#read > li:nth-child(2) .written span"), ["-", "1"])
         self.assertEqual(self.texts("#read mark"), ["_", "\u00e9", "x"])
         self.assertEqual(self.texts("#read p"), [
             "accepted: float = -12000",
-            "at index 2: a digit separator after a digit, which requires integer_internal_digit_separator or "
-            "integer_trailing_digit_separator",
-            "at index 1: no literal has the byte 195 here",
+            "at index 2: unexpected digit separator in the integer after a digit, which requires "
+            "integer_internal_digit_separator or integer_trailing_digit_separator",
+            "at index 1: unexpected character '\u00e9'",
             "accepted as integer = 1, but it must be refused",
-            "refused: at index 1: no literal has the byte 'x' here"])
+            "refused: at index 1: unexpected character 'x'"])
         self.assertEqual((self.text("#count"), self.text("#first-error").split(" ")[0]), ("2 of 5 as expected", "-1_000"))
         self.find("#refuse-3").send_keys(Keys.SPACE)
         self.assertEqual((self.value("#literal").split("\n")[3], self.focused()), ("1", "refuse-3"))

@@ -23,17 +23,19 @@ import operator
 import os
 import reprlib
 from ctypes import CDLL, POINTER, Structure, c_bool, c_char_p, c_size_t, c_uint8, c_uint32, c_uint64
-from ctypes import create_string_buffer
+from ctypes import create_string_buffer, sizeof
 from dataclasses import dataclass, field
 from enum import Enum
 from itertools import count, repeat, takewhile
 from pathlib import Path
+from struct import Struct
 from types import SimpleNamespace
 from typing import Any, AnyStr, Callable, Dict, Generic, Iterable, List, Optional, Tuple, Type, TypeVar, Union, cast
 
-__all__ = ["STANDARD", "Byte", "Cause", "Edit", "Error", "Format", "FormatError", "FormatView", "Language", "Literal"]
-__all__ += ["LiteralError", "Note", "OptionsError", "Part", "Reason", "ReasonsError", "Role", "Rule", "Separators"]
-__all__ += ["Setter", "SettingsError", "Special", "Specials", "Spelling", "Syntax", "Value", "languages", "notes_of"]
+__all__ = ["STANDARD", "Byte", "Edit", "Error", "Format", "FormatError", "FormatView", "Language", "Literal"]
+__all__ += ["LiteralError", "Note", "OptionsError", "Part", "ReadErrorKind", "Reason", "ReasonsError", "Role", "Rule"]
+__all__ += ["Separators", "Setter", "SettingsError", "Special", "Specials", "Spelling", "Syntax", "Value", "languages"]
+__all__ += ["notes_of"]
 
 class _Named(Enum):
     def __str__(self) -> str:
@@ -211,7 +213,7 @@ class Role(_Named):
     POINT = 7
 
 
-class Cause(_Named):
+class ReadErrorKind(_Named):
     """The kinds of causes why a text is not a literal."""
 
     REQUIREMENT = 1
@@ -272,6 +274,14 @@ class _Syntax(Structure):
     ]
 
 
+class _Reader(Structure):
+    _fields_ = [
+        ("magic", c_uint64),
+        ("syntax", _Syntax),
+        ("tables", c_uint64 * 508),
+    ]
+
+
 class _Span(Structure):
     _fields_ = [
         ("start", c_size_t),
@@ -297,11 +307,19 @@ class _Literal(Structure):
 
 class _ReadError(Structure):
     _fields_ = [
+        ("magic", c_uint64),
         ("valid_up_to", c_size_t),
+        ("stop", c_uint64 * 12),
+    ]
+
+
+class _Explanation(Structure):
+    _fields_ = [
         ("span", _Span),
         ("index", c_size_t),
         ("mask", _Word),
-        ("cause", c_uint8),
+        ("code", c_uint32),
+        ("kind", c_uint8),
         ("number", c_uint8),
         ("part", c_uint8),
     ]
@@ -367,12 +385,14 @@ _CALLS: Dict[str, Tuple[Any, List[Any]]] = {
     "is_base_suffix": (c_bool, [_Word, c_uint8]),
     "role_of": (c_uint8, [_Word, c_uint8, c_uint8, c_uint8]),
     "role_name": (c_char_p, [c_uint8]),
-    "syntax_check": (c_uint32, [_Word, c_uint8, c_uint8, POINTER(_Syntax)]),
-    "read": (c_uint32, [POINTER(_Syntax), c_char_p, c_size_t, POINTER(_Literal), POINTER(_ReadError)]),
-    "read_prefix": (c_uint32, [POINTER(_Syntax), c_char_p, c_size_t, POINTER(_Literal), POINTER(_ReadError)]),
-    "read_error_text": (c_size_t, [POINTER(_Syntax), c_char_p, c_size_t, c_char_p, c_size_t]),
-    "read_special": (c_uint32, [POINTER(_Syntax), POINTER(_Specials), c_char_p, c_size_t, POINTER(_Special)]),
-    "language": (c_bool, [c_char_p, c_size_t, POINTER(_Syntax), POINTER(_Specials)]),
+    "reader_init": (c_uint32, [POINTER(_Reader), POINTER(_Syntax)]),
+    "syntax_error_text": (c_size_t, [POINTER(_Syntax), c_char_p, c_size_t]),
+    "read": (c_bool, [POINTER(_Reader), c_char_p, c_size_t, POINTER(_Literal), POINTER(_ReadError)]),
+    "read_prefix": (c_bool, [POINTER(_Reader), c_char_p, c_size_t, POINTER(_Literal), POINTER(_ReadError)]),
+    "read_error_text": (c_size_t, [POINTER(_ReadError), c_char_p, c_size_t]),
+    "explain": (c_bool, [POINTER(_ReadError), POINTER(_Explanation)]),
+    "read_special": (c_bool, [POINTER(_Reader), POINTER(_Specials), c_char_p, c_size_t, POINTER(_Special)]),
+    "language": (POINTER(_Reader), [c_char_p, c_size_t, POINTER(_Specials)]),
     "language_name": (c_char_p, [c_size_t]),
     "read_settings": (c_size_t, [c_char_p, c_size_t, POINTER(_Syntax)]),
     "settings_text": (c_size_t, [c_char_p, c_size_t, c_size_t, c_char_p, c_size_t]),
@@ -489,6 +509,12 @@ def _encoded(name: str, text: object, wanted: str = "a str or bytes") -> bytes:
     return text if isinstance(text, bytes) else _typed(name, text, str, wanted).encode("utf-8", "surrogatepass")
 
 
+def _refusal(setting: str) -> str:
+    """Returns the reason why a setting is refused."""
+    text = _encoded("a setting", setting)
+    return _text(_library.setting_error_text, text, len(text))
+
+
 def _takes_fields(call: Call) -> Call:
     """Makes a call pass its keyword arguments as edits, in order and behind its settings."""
 
@@ -496,7 +522,7 @@ def _takes_fields(call: Call) -> Call:
     def calling(*settings: Any, **fields: Any) -> Any:
         for name in fields:
             if name not in _SETTERS:
-                raise TypeError(f"{call.__name__}() got an unexpected keyword argument {name!r}")
+                raise TypeError(f"{call.__name__}() got an unexpected keyword argument {name!r}: {_refusal(name + '=')}")
         return call(*settings, *(Edit.of(name, value) for name, value in fields.items()))
 
     return cast(Call, calling)
@@ -506,10 +532,10 @@ def _takes_fields(call: Call) -> Call:
 class Edit:
     """An edit: a setter and its value, parsed from a text NAME=VALUE such as `Edit("digit_separator='_'")`.
 
-    A flag or a group takes `true` or `false`. A byte takes one ASCII character in single quotes, one to three decimal
-    digits, or `0x` followed by one or two hexadecimal digits. Every byte except `mantissa_radix` also takes `none`.
-    Spaces are not skipped. `radix` is another name of `mantissa_radix`. Raises ValueError if the text is not a setting.
-    `value` is a bool, an ASCII character, a number, or None. A byte of 128 or more is a number.
+    A flag or a group takes `true` or `false`, and a byte a number such as 95 or `0x5F`. Every byte except
+    `mantissa_radix` also takes `none`, and a separator, prefix or suffix a character in single quotes. White space around
+    the name and the value is skipped. `radix` is another name of `mantissa_radix`. Raises ValueError if the text is not a
+    setting. `value` is a bool, an ASCII character, a number, or None. A byte of 128 or more is a number.
     """
 
     setter: Setter
@@ -518,7 +544,7 @@ class Edit:
     def __init__(self, text: str) -> None:
         edit, setting = _Edit(), _encoded("a setting", _typed("a setting", text, str))
         if not _library.parse_edit(setting, len(setting), edit):
-            raise ValueError(f"{text}: {_text(_library.setting_error_text, setting, len(setting))}")
+            raise ValueError(f"{text}: {_refusal(text)}")
         vars(self).update(setter=Setter(edit.setter), value=_value(Setter(edit.setter), edit.value))
 
     @classmethod
@@ -527,7 +553,7 @@ class Edit:
         `Edit.of("digit_separator", "_")`. Raises TypeError or ValueError if the setter does not take the value."""
         named = _SETTERS.get(setter) if isinstance(setter, str) else _typed("setter", setter, Setter)
         if named is None:
-            raise ValueError(f"unknown setting name: {reprlib.repr(setter)}")
+            raise ValueError(f"setter {reprlib.repr(setter)}: {_refusal(f'{setter}=')}")
         edit = cls.__new__(cls)
         vars(edit).update(setter=named, value=_value(named, _number_of(named, value)))
         return edit
@@ -638,7 +664,7 @@ class LiteralError(ValueError):
 
     `valid_up_to` is the length of the longest beginning of the text that some literal begins with. If it is the length
     of the text, characters are missing. `span` is the first index and the end of the characters to show, maybe none, as
-    in `text[slice(*span)]`. `cause` is the kind of the cause, and `part` the part of a separator or of missing digits.
+    in `text[slice(*span)]`. `kind` is the kind of the cause, and `part` the part of a separator or of missing digits.
     `mask` has the flags to blame as bits of a word. A wrong byte and missing digits blame none. `error` is the error of
     `lexical-util`.
     """
@@ -647,7 +673,7 @@ class LiteralError(ValueError):
     text: Union[str, bytes]
     valid_up_to: int
     span: Tuple[int, int]
-    cause: Cause
+    kind: ReadErrorKind
     part: Optional[Part]
     mask: int
     error: Error
@@ -655,7 +681,7 @@ class LiteralError(ValueError):
     @property
     def edits(self) -> Tuple[Edit, ...]:
         """The edits of the format that end the cause: each alone for a separator, and otherwise all together."""
-        return tuple(Edit.of(it, self.cause is Cause.SEPARATOR) for it in _members(Setter, self.mask))
+        return tuple(Edit.of(it, self.kind is ReadErrorKind.SEPARATOR) for it in _members(Setter, self.mask))
 
     def __str__(self) -> str:
         return self.sentence
@@ -1021,7 +1047,8 @@ class Format(FormatView):
 @dataclass(frozen=True)
 class Literal(Generic[AnyStr]):
     """A text that is a literal of a syntax, and its parts in the order of the text. An absent part is empty. The prefix
-    includes the zero before it, and a part with digits includes digit separators. `str(literal)` is the text.
+    includes the zero before it, and a part with digits includes digit separators. `str(literal)` is the text. Literals
+    are equal if their syntaxes and their parts are equal. In Rust, it is enough that the formats of the syntaxes are.
 
     If `is_float` is false, the number is `int(literal.sign + literal.digits(Part.INTEGER), radix)`, where the radix is
     `literal.syntax.format.mantissa_radix`. `int` raises a ValueError for more than 4300 digits, unless the radix is a
@@ -1074,21 +1101,29 @@ class Syntax:
         ('1', '8', '3')
 
     The format is in normal form, so equivalent formats have the same syntax. Raises OptionsError if the exponent
-    character or the decimal point does not fit the normal form.
+    character or the decimal point does not fit the normal form, or if only one of them is None.
     """
 
     format: Format
     exponent: Optional[Byte] = "e"
     point: Optional[Byte] = "."
-    _numbers: _Syntax = field(init=False, repr=False, compare=False)
+    _reader: _Reader = field(init=False, repr=False, compare=False)
 
     def __post_init__(self) -> None:
         format, options = _typed("format", self.format, Format).normal_form(), (0, 0)
-        if self.exponent is not None or self.point is not None:
+        if self.exponent is not None and self.point is not None:
             options = _byte("exponent", self.exponent), _byte("point", self.point)
             format.check_options(*options)
+        elif self.exponent is not self.point:
+            sentence = _text(_library.settings_text, b"exponent=none", 13, 0)
+            raise OptionsError((Reason(sentence, options=(Role.EXPONENT, Role.POINT)),))
         exponent, point = (chr(it) if it else None for it in options)
-        vars(self).update(format=format, exponent=exponent, point=point, _numbers=_Syntax(format._halves, *options))
+        vars(self).update(format=format, exponent=exponent, point=point, _reader=_Reader())
+        _library.reader_init(self._reader, _Syntax(format._halves, *options))
+
+    def __reduce__(self) -> Tuple[Any, ...]:
+        """Returns what makes the syntax again, since a reader is of this build of the library."""
+        return type(self), (self.format, self.exponent, self.point)
 
     @classmethod
     def integers(cls, format: Format) -> Syntax:
@@ -1103,8 +1138,8 @@ class Syntax:
 
         A setting has the form that `Edit` takes, and a setting of `exponent` or `point` that of `base_prefix`. If both
         are `none`, literals are integers, and one alone is refused: for floats without an exponent, keep its character
-        and set `no_exponent_notation`. White space around a name or a value is skipped, and so is a setting that is
-        blank or begins with `#`. A number is not in quotes. A setting overrides those before it.
+        and set `no_exponent_notation`. A setting that is blank or begins with `#` is skipped. A setting overrides those
+        before it.
         """
         text, made = _lines(settings), _Syntax()
         if problems := _library.read_settings(text, len(text), made):
@@ -1131,7 +1166,7 @@ class Syntax:
 
         Each index is one of the text: of characters in a `str`, and of bytes in `bytes`.
         """
-        return self._read(_library.read, text)
+        return _accepted(text, self._read(_library.read, text))
 
     def read_prefix(self, text: AnyStr) -> Tuple[Literal[AnyStr], AnyStr]:
         """Returns the longest literal that a text begins with, and the rest. Raises LiteralError if there is none.
@@ -1140,27 +1175,46 @@ class Syntax:
             >>> literal.text, rest
             ('1.25', '.3')
         """
-        literal = self._read(_library.read_prefix, text)
+        literal = _accepted(text, self._read(_library.read_prefix, text))
         return literal, text[len(literal.text) :]
 
-    def _read(self, call: Any, text: AnyStr) -> Literal[AnyStr]:
-        """Calls peltzivar_read or peltzivar_read_prefix."""
-        literal, refused, data, numbers = _Literal(), _ReadError(), _readable(text), self._numbers
-        if error := call(numbers, data, len(data), literal, refused):
-            sentence, index = _text(_library.read_error_text, numbers, data, len(data)), refused.valid_up_to
-            if isinstance(text, str) and data[index : index + 1] == b"\xff":
-                sentence = f"no literal has the character {text[index]!r} here"
-            part = Part(refused.part) if refused.part != _NO_PART else None
-            span, cause, mask = (refused.span.start, refused.span.end), Cause(refused.cause), _joined(refused.mask)
-            raise LiteralError(sentence, text, index, span, cause, part, mask, Error(error))
-        parts = (getattr(literal, name) for name, kind in _Literal._fields_ if kind is _Span)
-        return Literal(self, text[: literal.size], *(text[part.start : part.end] for part in parts))
+    def _read(self, call: Any, text: AnyStr) -> Union[Literal[AnyStr], _ReadError]:
+        """Returns the literal of peltzivar_read or peltzivar_read_prefix, or where it stopped."""
+        parts, stopped, data = _Literal(), _ReadError(), _readable(text)
+        if not call(self._reader, data, len(data), parts, stopped):
+            return stopped
+        a, b, c, d, e, f, g, h, size = _ENDS(parts)
+        literal: Literal[AnyStr] = Literal.__new__(Literal)
+        # Without `__init__`, which is slow in a frozen class.
+        literal.__dict__.update(
+            syntax=self, text=text[:size], sign=text[:a], prefix=text[a:b], integer=text[b:c], point=text[c:d],
+            fraction=text[d:e], exponent_character=text[e:f], exponent_sign=text[f:g], exponent=text[g:h],
+            suffix=text[h:size],
+        )  # fmt: skip
+        return literal
+
+
+# The ends of the nine parts of a literal, each of which begins where that before it ends.
+_ENDS = Struct(f"{sizeof(c_size_t)}xN" * 9).unpack_from
+
+
+def _accepted(text: AnyStr, found: Union[Literal[AnyStr], _ReadError]) -> Literal[AnyStr]:
+    """Returns the literal that was found. Raises LiteralError if there is none."""
+    if isinstance(found, Literal):
+        return found
+    why, index = _Explanation(), found.valid_up_to
+    _library.explain(found, why)
+    is_byte = isinstance(text, bytes) or text[index : index + 1].isascii()
+    sentence = _text(_library.read_error_text, found) if is_byte else f"unexpected character {text[index]!r}"
+    part = Part(why.part) if why.part != _NO_PART else None
+    span, kind, mask = (why.span.start, why.span.end), ReadErrorKind(why.kind), _joined(why.mask)
+    raise LiteralError(sentence, text, index, span, kind, part, mask, Error(why.code))
 
 
 def _readable(text: object) -> bytes:
     """Returns a text as bytes, up to the first character that is not ASCII, for which it has a byte that is not."""
     try:
-        return text if isinstance(text, bytes) else _typed("a text", text, str, "a str or bytes").encode("ascii")
+        return text.encode("ascii") if isinstance(text, str) else _typed("a text", text, bytes, "a str or bytes")
     except UnicodeEncodeError as error:
         return error.object[: error.start].encode("ascii") + b"\xff"
 
@@ -1206,11 +1260,11 @@ class Specials:
     def read(self, syntax: Syntax, text: Union[str, bytes]) -> Optional[Special]:
         """Returns the special value that a text is, or None. The flags of the syntax decide which signs, cases of
         letters and digit separators it may have. A text can also be a literal, such as `inf` in radix 36."""
-        data, special, numbers = _encoded("a text", text), _Special(), _typed("syntax", syntax, Syntax)._numbers
+        data, special, reader = _encoded("a text", text), _Special(), _typed("syntax", syntax, Syntax)._reader
         spellings = [_encoded("a spelling", "" if it is None else it) for it in (self.nan, self.inf, self.infinity)]
         if any(b"\0" in it for it in spellings):
             raise ValueError(f"a spelling has a null character: {self}")
-        if _library.read_special(numbers, _Specials(*spellings), data, len(data), special):
+        if not _library.read_special(reader, _Specials(*spellings), data, len(data), special):
             return None
         return Special(chr(special.sign) if special.sign else "", Spelling(special.spelling))
 
@@ -1221,12 +1275,14 @@ class Language(_Named):
 
     `read(text)` returns a `Literal` of `syntax`, or a `Special` with a spelling of `specials`.
 
+    No format rejects `-`, or requires a prefix, a suffix or a decimal point. So `C_FLOAT` reads `1`.
+
     ADA: Ada's decimal literals (Reference Manual 2012, 2.4.1). A format cannot accept `1.0E-3` but reject `1E-3`.
 
     C_FLOAT: C's decimal floating constants (C23, Floating constants). A format cannot accept both `1.0f` and `1.0L`.
 
     C_HEX_FLOAT: C's hexadecimal floating constants (C23, Floating constants): `0x1.8p3` is 1.5 * 2^3. A format cannot
-        accept both `0x1p3f` and `0x1p3L`.
+        accept both `0x1p3f` and `0x1p3L`, reject `-0x1p3`, or require the prefix, so `1p3` is accepted.
 
     C_SHARP: C#'s real literals and decimal integers (C# standard, 6.4.5.3 and 6.4.5.4). A format cannot accept `1L`,
         `1f` and `1m`.
@@ -1234,11 +1290,12 @@ class Language(_Named):
     FORTRAN: Fortran's signed integers and reals (ISO/IEC 1539-1:2018, 7.4.3). A format cannot accept both `1E3` and
         `1D3`, or a kind as in `1.0_8`.
 
-    GO_HEX_FLOAT: Go's hexadecimal floats (Language Specification, Floating-point literals).
+    GO_HEX_FLOAT: Go's hexadecimal floats (Language Specification, Floating-point literals). A format cannot reject
+        `-0x1p3`, or require the prefix, so `1p3` is accepted.
 
     HASKELL: Haskell's floats and decimal integers (Haskell 2010 Report, 2.5).
 
-    JAVA: Java's floats and decimal integers (Language Specification 21, 3.10.1 and 3.10.2). A format cannot accept
+    JAVA: Java's decimal floats and integers (Language Specification 21, 3.10.1 and 3.10.2). A format cannot accept
         `1L`, `1f` and `1d`.
 
     JAVASCRIPT: JavaScript's decimal literals in strict code (ECMA-262, Numeric Literals). A format cannot accept `1n`
@@ -1246,36 +1303,38 @@ class Language(_Named):
 
     JSON: JSON's numbers (RFC 8259, 6. Numbers).
 
-    JULIA: Julia's floats and decimal integers (Manual 1.11, Integers and Floating-Point Numbers). A format cannot
+    JULIA: Julia's decimal floats and integers (Manual 1.11, Integers and Floating-Point Numbers). A format cannot
         accept both `1e3` and `1f3`.
 
     KOTLIN: Kotlin's real literals and decimal integers (Kotlin language specification 1.9, Literals). A format cannot
         accept `1L`, `1f` and `1u`.
 
-    NASM_HEX_INTEGER: NASM's hexadecimal integers with a suffix (NASM manual, Numeric Constants). A format cannot
-        accept `0FFh` but reject `FFh`, which is a name.
+    NASM_HEX_INTEGER: NASM's hexadecimal integers with the suffix `h` (NASM manual, Numeric Constants). A format cannot
+        accept `0FFx` too, reject `-1h` or `FFh`, which is a name, or require the suffix, so `10` is 16.
 
-    OCAML: OCaml's floats and decimal integers (Manual 5.2, 11.1 Lexical conventions). A format cannot accept `1._`,
+    OCAML: OCaml's decimal floats and integers (Manual 5.2, 11.1 Lexical conventions). A format cannot accept `1._`,
         whose fraction has a separator alone, or `1l`, `1L` and `1n`.
 
     PYTHON: Python's floats and decimal integers (Language Reference 3.12, 2.4.5 and 2.4.6). A format cannot accept
         `00` and reject `01`.
 
-    PYTHON_HEX_INTEGER: Python's hexadecimal integers (Language Reference 3.12, 2.4.5).
+    PYTHON_HEX_INTEGER: Python's hexadecimal integers (Language Reference 3.12, 2.4.5). A format cannot reject `-0x1F`,
+        or require the prefix, so `10` is 16.
 
-    RUBY: Ruby's floats and decimal integers (ISO/IEC 30170:2012, 8.7.6.2). A format cannot accept `1r` and `1i`.
+    RUBY: Ruby's floats and decimal integers (ISO/IEC 30170:2012, 8.7.6.2). A format cannot accept `1r` and `1i`, or
+        accept `0d10` but reject `0d1.5`.
 
     RUST_HEX_INTEGER: Rust's hexadecimal integers (Reference, Integer literals). A format cannot accept the suffix in
-        `0x1F_u8`.
+        `0x1F_u8`, reject `-0x1F`, or require the prefix, so `10` is 16.
 
     SPREADSHEET_CSV: Numbers in CSV, as spreadsheets write cells of the format `#,##0.00`, in quotes (RFC 4180):
-        `"1,234.50"`. A format cannot require groups of three digits. For `1.234,50` use the separator `.` and the
-        decimal point `,`.
+        `"1,234.50"`. A format cannot require groups of three digits, or accept the minus sign U+2212 of Gnumeric:
+        replace it by `-`. For `1.234,50` use the separator `.` and the decimal point `,`.
 
     SQL: SQL's signed numeric literals (ISO/IEC 9075-2:2016, 5.3 `<literal>`).
 
     SWIFT_HEX_FLOAT: Swift's hexadecimal floats (The Swift Programming Language, Lexical Structure, Floating-Point
-        Literals).
+        Literals). A format cannot require the prefix, so `1p3` is accepted.
 
     TOML: TOML's floats and decimal integers (TOML 1.0.0, Integer and Float).
 
@@ -1310,10 +1369,10 @@ class Language(_Named):
 
     @functools.cached_property
     def _definition(self) -> Tuple[Syntax, Specials]:
-        syntax, specials = _Syntax(), _Specials()
-        _library.language(self.name.encode(), len(self.name), syntax, specials)
+        specials = _Specials()
+        reader = _library.language(self.name.encode(), len(self.name), specials).contents
         spellings = (getattr(specials, it) for it, _ in _Specials._fields_)
-        return Syntax._of_numbers(syntax), Specials(*(it.decode() if it else None for it in spellings))
+        return Syntax._of_numbers(reader.syntax), Specials(*(it.decode() if it else None for it in spellings))
 
     @property
     def syntax(self) -> Syntax:
@@ -1327,12 +1386,11 @@ class Language(_Named):
 
     def read(self, text: AnyStr) -> Union[Literal[AnyStr], Special]:
         """Returns the number that a text is: a literal or a special value. Raises LiteralError if it is neither."""
-        try:
-            return self.syntax.read(text)
-        except LiteralError:
-            if special := self.specials.read(self.syntax, text):
-                return special
-            raise
+        syntax, specials = self._definition
+        found = syntax._read(_library.read, text)
+        if isinstance(found, Literal):
+            return found
+        return specials.read(syntax, text) or _accepted(text, found)
 
 
 languages = Language

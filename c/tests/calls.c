@@ -35,6 +35,7 @@ static void test_constants(void) {
     CHECK(is_word(peltzivar_pack(&PELTZIVAR_NEW_FIELDS), PELTZIVAR_STANDARD.high, PELTZIVAR_STANDARD.low));
     CHECK(is_word(words[0], PELTZIVAR_STANDARD.high, PELTZIVAR_STANDARD.low));
     CHECK(sizeof(peltzivar_word) == 16 && sizeof(peltzivar_fields) == 16 && sizeof(peltzivar_edit) == 2);
+    CHECK(sizeof(peltzivar_reader) == 4096 && sizeof(peltzivar_read_error) == 112);
 }
 
 /* Returns all flags. */
@@ -112,6 +113,7 @@ static void test_options(void) {
     const peltzivar_word hexadecimal = {0xC, 0x0000100000000000};
     uint8_t byte = 7;
     CHECK(peltzivar_parse_byte("'p'", 3, &byte) && byte == 'p' && peltzivar_parse_byte("0x2e", 4, &byte) && byte == '.');
+    CHECK(!peltzivar_parse_byte("'\t'", 3, &byte));
     CHECK(peltzivar_parse_byte("none", 4, &byte) && byte == 0 && !peltzivar_parse_byte("256", 3, &byte) && byte == 0);
     const uint32_t exponent = 1 << PELTZIVAR_ROLE_EXPONENT, point = 1 << PELTZIVAR_ROLE_POINT;
     CHECK(peltzivar_options_reason_roles(hexadecimal, 'e', '+', 0) == exponent);
@@ -143,27 +145,41 @@ static void test_texts(void) {
     CHECK(WRITES("NumberFormatBuilder::new().build_or_panic()", peltzivar_source(words[0], text, sizeof text)));
 }
 
-static void test_syntaxes(void) {
+static void test_readers(void) {
     static const struct {
         peltzivar_syntax it;
         peltzivar_error error;
         const char *sentence;
     } rows[] = {{{{0, 0}, 0, 0}, PELTZIVAR_INVALID_MANTISSA_RADIX, "the mantissa radix 0 is not between 2 and 36"},
         {{PELTZIVAR_STANDARD_INIT, 'e', 0}, PELTZIVAR_INVALID_DECIMAL_POINT,
-            "only one of the exponent character and the decimal point is absent"},
+            "only one of the exponent character and the decimal point is absent: for numbers without an exponent, keep both, "
+            "and set no_exponent_notation"},
         {{PELTZIVAR_STANDARD_INIT, '5', '.'}, PELTZIVAR_INVALID_EXPONENT_SYMBOL,
             "the exponent character '5' is a digit in the mantissa radix 10 and the exponent radix 10"}};
-    peltzivar_syntax out = {{1, 2}, 3, 4};
+    static const peltzivar_syntax integers = {PELTZIVAR_STANDARD_INIT, 0, 0};
+    static peltzivar_reader readers[3];
+    static const peltzivar_specials specials = {"1", "1", "1"};
+    peltzivar_reader *const out = &readers[1];
+    peltzivar_read_error error, unwritten;
+    peltzivar_explanation why = {{1, 2}, 3, {4, 5}, 6, 7, 8, 9};
+    peltzivar_special special;
+    memset(&unwritten, 0, sizeof unwritten), memset(&readers[2], '#', sizeof readers[2]);
     for (int i = 0; i < 3; i++) {
-        const peltzivar_syntax *const it = &rows[i].it;
-        CHECK(peltzivar_syntax_check(it->format, it->exponent, it->decimal_point, &out) == rows[i].error);
-        CHECK(peltzivar_read(it, "1", 1, NULL, NULL) == rows[i].error);
-        CHECK(peltzivar_read_prefix(it, "1", 1, NULL, NULL) == rows[i].error);
-        CHECK(WRITES(rows[i].sentence, peltzivar_read_error_text(it, "1", 1, text, sizeof text)));
+        const peltzivar_reader *const none = i ? &readers[i] : NULL;
+        CHECK(peltzivar_reader_init(out, &rows[i].it) == rows[i].error && out->magic == 0);
+        CHECK(WRITES(rows[i].sentence, peltzivar_syntax_error_text(&rows[i].it, text, sizeof text)));
+        CHECK(!peltzivar_read(none, "1", 1, NULL, NULL) && !peltzivar_read_special(none, &specials, "1", 1, &special));
+        CHECK(!peltzivar_read_prefix(none, "1", 1, NULL, &error) && error.valid_up_to == 0 && !peltzivar_explain(&error, &why));
+        CHECK(WRITES("no call has made this reader", peltzivar_read_error_text(&error, text, sizeof text)));
     }
-    CHECK(is_word(out.format, 2, 1) && out.exponent == 3 && out.decimal_point == 4);
-    CHECK(!peltzivar_syntax_check(PELTZIVAR_STANDARD, 0, 0, &out) && is_word(out.format, 0x0A0A0A0000000000, 0xC));
-    CHECK(!out.exponent && !out.decimal_point && peltzivar_read(&out, "1", SIZE_MAX, NULL, NULL) == PELTZIVAR_OVERFLOW);
+    CHECK(!peltzivar_reader_init(out, &integers) && is_word(out->syntax.format, 0x0A0A0A0000000000, 0xC));
+    CHECK(!out->syntax.exponent && !out->syntax.decimal_point && !peltzivar_reader_init(NULL, &integers));
+    CHECK(peltzivar_reader_init(out, &rows[0].it) && WRITES("", peltzivar_syntax_error_text(&integers, text, sizeof text)));
+    memcpy(&readers[0], out, sizeof *out), memset(out, 0, sizeof *out);
+    CHECK(peltzivar_read(&readers[0], "1", 1, NULL, &error) && !peltzivar_read(&readers[0], "1.", 2, NULL, NULL));
+    CHECK(!peltzivar_read(&readers[0], "1", SIZE_MAX, NULL, &error) && !peltzivar_explain(&error, &why) && why.code == 6);
+    CHECK(WRITES("the text has more than PTRDIFF_MAX bytes", peltzivar_read_error_text(&error, text, sizeof text)));
+    CHECK(!peltzivar_explain(&unwritten, &why) && WRITES("", peltzivar_read_error_text(&unwritten, text, sizeof text)));
 }
 
 static void test_literals(void) {
@@ -171,54 +187,57 @@ static void test_literals(void) {
         "internal_digit_separator=true";
     static const size_t ends[] = {0, 1, 3, 6, 7, 8, 9, 10, 12, 13};
     peltzivar_syntax syntax;
+    peltzivar_reader reader;
     peltzivar_literal it;
-    CHECK(!peltzivar_read_settings(lines, sizeof lines - 1, &syntax));
-    CHECK(!peltzivar_read_prefix(&syntax, "-0x1_0.5e+12h,", 14, &it, NULL) && it.size == 13 && it.is_float);
+    CHECK(!peltzivar_read_settings(lines, sizeof lines - 1, &syntax) && !peltzivar_reader_init(&reader, &syntax));
+    CHECK(peltzivar_read_prefix(&reader, "-0x1_0.5e+12h,", 14, &it, NULL) && it.size == 13 && it.is_float);
     const peltzivar_span parts[] = {it.sign, it.prefix, it.integer, it.point, it.fraction, it.exponent_character,
         it.exponent_sign, it.exponent, it.suffix};
     for (int i = 0; i < 9; i++) CHECK(parts[i].start == ends[i] && parts[i].end == ends[i + 1]);
-    peltzivar_read_error error;
-    CHECK(peltzivar_read(&syntax, "1_.5", 4, NULL, &error) == PELTZIVAR_INVALID_DIGIT);
-    CHECK(error.valid_up_to == 2 && error.span.start == 1 && error.span.end == 2 && error.index == 1);
-    CHECK(is_word(error.mask, 0, UINT64_C(1) << 38) && error.cause == PELTZIVAR_CAUSE_SEPARATOR);
-    CHECK(error.number == PELTZIVAR_SET_INTEGER_TRAILING_DIGIT_SEPARATOR && error.part == PELTZIVAR_PART_INTEGER);
-    CHECK(WRITES("no literal has the byte '.' here", peltzivar_read_error_text(&syntax, "1..", 3, text, sizeof text)));
-    CHECK(WRITES("", peltzivar_read_error_text(&syntax, "1.", 2, text, sizeof text)));
+    peltzivar_read_error error, copied;
+    peltzivar_explanation why;
+    CHECK(!peltzivar_read(&reader, "1_.5", 4, NULL, &error) && error.valid_up_to == 2);
+    memcpy(&copied, &error, sizeof error), memset(&error, 0, sizeof error);
+    CHECK(peltzivar_explain(&copied, &why) && peltzivar_explain(&copied, NULL));
+    CHECK(why.span.start == 1 && why.span.end == 2 && why.index == 1 && why.code == PELTZIVAR_INVALID_DIGIT);
+    CHECK(is_word(why.mask, 0, UINT64_C(1) << 38) && why.kind == PELTZIVAR_KIND_SEPARATOR);
+    CHECK(why.number == PELTZIVAR_SET_INTEGER_TRAILING_DIGIT_SEPARATOR && why.part == PELTZIVAR_PART_INTEGER);
+    CHECK(!peltzivar_read(&reader, "1..", 3, NULL, &error));
+    CHECK(WRITES("unexpected character '.'", peltzivar_read_error_text(&error, text, sizeof text)));
 }
 
 static void test_special_values(void) {
-    static const peltzivar_syntax syntax = {PELTZIVAR_STANDARD_INIT, 'e', '.'}, refused = {{0, 0}, 'e', '.'};
+    const peltzivar_reader *const reader = peltzivar_language("YAML", 4, NULL);
     static const peltzivar_specials all = {"NaN", "inf", "infinity"}, few = {NULL, "", "infinity"};
     static const char *const texts[] = {"nan", "-inf", "+Infinity"};
     static const peltzivar_special wanted[] = {
         {PELTZIVAR_SPELLING_NAN, 0}, {PELTZIVAR_SPELLING_INF, '-'}, {PELTZIVAR_SPELLING_INFINITY, '+'}};
     peltzivar_special special = {7, 7};
     for (int i = 0; i < 3; i++) {
-        CHECK(!peltzivar_read_special(&syntax, &all, texts[i], strlen(texts[i]), &special));
+        CHECK(peltzivar_read_special(reader, &all, texts[i], strlen(texts[i]), &special));
         CHECK(special.spelling == wanted[i].spelling && special.sign == wanted[i].sign);
-        CHECK(!peltzivar_read_special(&syntax, &few, texts[i], strlen(texts[i]), NULL) == (i == 2));
+        CHECK(peltzivar_read_special(reader, &few, texts[i], strlen(texts[i]), NULL) == (i == 2));
     }
-    CHECK(peltzivar_read_special(&syntax, &few, NULL, 0, &special) == PELTZIVAR_INVALID_DIGIT);
-    CHECK(peltzivar_read_special(&refused, &all, "inf", 3, &special) == PELTZIVAR_INVALID_MANTISSA_RADIX);
-    CHECK(peltzivar_read_special(&syntax, &all, "inf", SIZE_MAX, &special) == PELTZIVAR_OVERFLOW && special.sign == '+');
+    CHECK(!peltzivar_read_special(reader, &few, NULL, 0, &special));
+    CHECK(!peltzivar_read_special(reader, &all, "inf", SIZE_MAX, &special) && special.sign == '+');
 }
 
-/* Each language has a syntax that passes the check, and a name by which it is found. */
+/* Each language has a reader of a syntax that passes the check, and a name by which it is found. */
 static void test_languages(void) {
-    peltzivar_syntax syntax = {{1, 2}, 3, 4}, checked;
     peltzivar_specials specials = {text, text, text};
     const char *name;
-    CHECK(!peltzivar_language("json", 4, &syntax, &specials) && is_word(syntax.format, 2, 1) && specials.inf == text);
-    CHECK(!peltzivar_language("JSON", SIZE_MAX, &syntax, &specials) && !*peltzivar_language_name(SIZE_MAX));
-    CHECK(!peltzivar_language("", 0, &syntax, &specials) && !peltzivar_language("JSO", 3, &syntax, &specials));
+    CHECK(!peltzivar_language("json", 4, &specials) && specials.inf == text);
+    CHECK(!peltzivar_language("JSON", SIZE_MAX, &specials) && !*peltzivar_language_name(SIZE_MAX));
+    CHECK(!peltzivar_language("", 0, &specials) && !peltzivar_language("JSO", 3, &specials));
     for (size_t i = 0; *(name = peltzivar_language_name(i)); i++) {
-        CHECK(peltzivar_language(name, strlen(name), &syntax, &specials));
-        CHECK(!peltzivar_syntax_check(syntax.format, syntax.exponent, syntax.decimal_point, &checked));
-        CHECK(is_word(checked.format, syntax.format.high, syntax.format.low) && i < 99);
+        const peltzivar_reader *const reader = peltzivar_language(name, strlen(name), &specials);
+        peltzivar_reader same;
+        CHECK(reader && !peltzivar_reader_init(&same, &reader->syntax) && i < 99);
+        CHECK(!memcmp(&same.syntax, &reader->syntax, 18) && peltzivar_read_prefix(reader, "0x1p1h", 6, NULL, NULL));
     }
-    CHECK(peltzivar_language("JSON", 4, &syntax, &specials) && !*specials.nan && !*specials.inf && !*specials.infinity);
-    CHECK(peltzivar_read(&syntax, "01", 2, NULL, NULL) == PELTZIVAR_INVALID_LEADING_ZEROS);
-    CHECK(peltzivar_language("TOML", 4, NULL, &specials) && !strcmp(specials.nan, "nan") && !strcmp(specials.inf, "inf"));
+    const peltzivar_reader *const json = peltzivar_language("JSON", 4, &specials);
+    CHECK(json && !*specials.nan && !*specials.inf && !*specials.infinity && !peltzivar_read(json, "01", 2, NULL, NULL));
+    CHECK(peltzivar_language("TOML", 4, &specials) && !strcmp(specials.nan, "nan") && !strcmp(specials.inf, "inf"));
 }
 
 static void test_settings(void) {
@@ -275,7 +294,7 @@ static void test_null(void) {
 }
 
 int main(void) {
-    test_constants(), test_setters(), test_fields(), test_words(), test_options(), test_texts(), test_syntaxes();
+    test_constants(), test_setters(), test_fields(), test_words(), test_options(), test_texts(), test_readers();
     test_literals(), test_special_values(), test_languages(), test_settings(), test_null();
     return failed;
 }

@@ -122,23 +122,25 @@ static char *copy(size_t len) {
     return memcpy(bytes, text, len);
 }
 
-/* Returns a syntax for a word that is mostly lawful. It is often refused. */
-static peltzivar_syntax draw_syntax(peltzivar_word word, peltzivar_error *refused) {
+/* Writes a reader of the literals of a word that is mostly lawful, or another value, and returns whether it is a reader. */
+static bool draw_reader(peltzivar_word word, peltzivar_reader *reader) {
     static const uint8_t options[][2] = {{'e', '.'}, {'e', '.'}, {'p', '.'}, {'^', ','}, {0, 0}, {0, 0}, {'e', 0}, {'_', 'E'}};
     for (int tries = 0; peltzivar_check(word) && tries < 9; tries++) word = draw_word();
     const uint8_t *const drawn = options[draw() % 8];
-    peltzivar_syntax syntax = {word, drawn[0], drawn[1]}, checked = syntax;
+    peltzivar_syntax syntax = {word, drawn[0], drawn[1]};
     if (draw() % 16 == 0) for (size_t i = 0; i < sizeof syntax; i++) ((unsigned char *)&syntax)[i] = (unsigned char)draw();
-    *refused = peltzivar_syntax_check(syntax.format, syntax.exponent, syntax.decimal_point, &checked);
-    CHECK(*refused || peltzivar_same_format(syntax.format, checked.format));
-    return syntax;
+    memset(reader, (int)draw(), sizeof *reader), reader->syntax = syntax;
+    const peltzivar_error refused = peltzivar_reader_init(reader, &syntax);
+    WRITE(peltzivar_syntax_error_text, &syntax);
+    CHECK(!*text == !refused && peltzivar_same_format(syntax.format, reader->syntax.format));
+    return !refused;
 }
 
-/* What is read is written, and nothing else. A text is refused if and only if there is a sentence. The parts of a literal
- * are its bytes. */
+/* What is read is written, and nothing else. The parts of a literal are its bytes. */
 static void test_literals(peltzivar_word word) {
-    peltzivar_error refused;
-    const peltzivar_syntax syntax = draw_syntax(word, &refused);
+    peltzivar_reader reader;
+    const bool is_made = draw_reader(word, &reader);
+    const peltzivar_syntax syntax = reader.syntax;
     const peltzivar_fields own = peltzivar_fields_of(syntax.format);
     const uint8_t sign = draw() % 2 ? '+' : '-', separator = own.digit_separator;
     const uint8_t bytes[] = {sign, '0', own.base_prefix, separator, '0', '1', separator, '1', syntax.decimal_point, '0', separator,
@@ -151,35 +153,37 @@ static void test_literals(peltzivar_word word) {
     peltzivar_read_error error, error_before;
     memset(&literal, (int)draw(), sizeof literal), memcpy(&literal_before, &literal, sizeof literal);
     memset(&error, (int)draw(), sizeof error), memcpy(&error_before, &error, sizeof error);
-    const peltzivar_error code = peltzivar_read(&syntax, from, len, &literal, &error);
-    CHECK(!code || !memcmp(&literal, &literal_before, sizeof literal));
-    CHECK((code && !refused) || !memcmp(&error, &error_before, sizeof error));
-    CHECK(refused ? code == refused : code <= PELTZIVAR_INVALID_NEGATIVE_SIGN);
-    if (code && !refused) {
-        CHECK(error.valid_up_to <= len && error.span.start <= error.span.end && error.span.end <= len && error.index <= len);
-        const uint64_t lowest = error.mask.low & (~error.mask.low + 1);
-        CHECK(lowest == (error.number == PELTZIVAR_NO_SETTER ? 0 : peltzivar_setter_mask(error.number).low));
-        const bool has_part = error.cause == PELTZIVAR_CAUSE_MISSING || error.cause == PELTZIVAR_CAUSE_SEPARATOR;
-        CHECK(1 <= error.cause && error.cause <= 5 && has_part == (error.part != PELTZIVAR_NO_PART));
+    const bool is_read = peltzivar_read(&reader, from, len, &literal, &error);
+    CHECK(is_read || !memcmp(&literal, &literal_before, sizeof literal));
+    CHECK(!is_read || !memcmp(&error, &error_before, sizeof error));
+    WRITE(peltzivar_read_error_text, &error);
+    CHECK(!*text == is_read);
+    peltzivar_explanation why;
+    CHECK(peltzivar_explain(&error, &why) == (is_made && !is_read));
+    if (is_made && !is_read) {
+        CHECK(error.valid_up_to <= len && why.span.start <= why.span.end && why.span.end <= len && why.index <= len);
+        const uint64_t lowest = why.mask.low & (~why.mask.low + 1);
+        CHECK(lowest == (why.number == PELTZIVAR_NO_SETTER ? 0 : peltzivar_setter_mask(why.number).low));
+        const bool has_part = why.kind == PELTZIVAR_KIND_MISSING || why.kind == PELTZIVAR_KIND_SEPARATOR;
+        CHECK(1 <= why.kind && why.kind <= 5 && has_part == (why.part != PELTZIVAR_NO_PART));
+        CHECK(0 < why.code && why.code <= PELTZIVAR_INVALID_NEGATIVE_SIGN);
     }
-    WRITE(peltzivar_read_error_text, &syntax, from, len);
-    CHECK(!*text == !code);
-    if (!peltzivar_read_prefix(&syntax, from, len, &literal, &error)) {
+    if (peltzivar_read_prefix(&reader, from, len, &literal, &error)) {
         const peltzivar_span *const parts = &literal.sign;
         for (int i = 0; i < 9; i++) CHECK(parts[i].start == (i ? parts[i - 1].end : 0) && parts[i].start <= parts[i].end);
-        CHECK(literal.size == literal.suffix.end && literal.size <= len && (code || literal.size == len));
-        CHECK(!peltzivar_read(&syntax, from, literal.size, &literal_before, NULL));
+        CHECK(literal.size == literal.suffix.end && literal.size <= len && (!is_read || literal.size == len));
+        CHECK(peltzivar_read(&reader, from, literal.size, &literal_before, NULL));
         CHECK(!memcmp(&literal, &literal_before, offsetof(peltzivar_literal, size)));
         CHECK(literal.is_float == (literal.integer.end < literal.exponent_character.end));
-    } else CHECK(code);
+    } else CHECK(!is_read);
     free(from);
 }
 
 /* A text is a special value only if it is a spelling with other signs, cases and separators. */
 static void test_special_values(peltzivar_word word) {
     static const char *const spellings[] = {NULL, "", "NaN", "inf", "i_n'f", "+e.\377"};
-    peltzivar_error refused;
-    const peltzivar_syntax syntax = draw_syntax(word, &refused);
+    peltzivar_reader reader;
+    const bool is_made = draw_reader(word, &reader);
     const peltzivar_specials specials = {spellings[draw() % 6], spellings[draw() % 6], spellings[draw() % 6]};
     const char *const wanted[] = {"", specials.nan, specials.inf, specials.infinity};
     size_t len = 0;
@@ -190,9 +194,9 @@ static void test_special_values(peltzivar_word word) {
     }
     char *const from = copy(len);
     peltzivar_special special = {7, 7};
-    const peltzivar_error code = peltzivar_read_special(&syntax, &specials, from, len, &special);
-    if (code) CHECK(code == (refused ? refused : PELTZIVAR_INVALID_DIGIT) && special.spelling == 7 && special.sign == 7);
-    else CHECK(special.spelling - 1u < 3 && wanted[special.spelling] && (!special.sign || special.sign == *from));
+    const bool is_read = peltzivar_read_special(&reader, &specials, from, len, &special);
+    if (!is_read) CHECK(special.spelling == 7 && special.sign == 7);
+    else CHECK(is_made && special.spelling - 1u < 3 && wanted[special.spelling] && (!special.sign || special.sign == *from));
     free(from);
 }
 
@@ -209,10 +213,10 @@ static void test_lines(void) {
     if (len && draw() % 4 == 0) text[draw() % len] = (char)draw();
     for (size_t i = 0; i < len; i++) count += text[i] == '\n';
     char *const from = copy(len);
-    peltzivar_syntax syntax = {{1, 2}, 3, 4}, other;
+    peltzivar_syntax syntax = {{1, 2}, 3, 4};
     const size_t problems = peltzivar_read_settings(from, len, &syntax);
     CHECK(problems ? syntax.format.low == 1 && syntax.exponent == 3 && syntax.decimal_point == 4
-                   : !peltzivar_syntax_check(syntax.format, syntax.exponent, syntax.decimal_point, &other));
+                   : !peltzivar_reader_init(NULL, &syntax));
     for (size_t index = 0; index == 0 || *text; index++) {
         size_t blamed[16] = {0};
         WRITE(peltzivar_settings_text, from, len, index);
@@ -239,7 +243,7 @@ static void test_settings(void) {
     uint8_t byte = 0;
     if (is_read && read.setter - 64u < 64) {
         const char *const value = (const char *)memchr(setting, '=', len) + 1;
-        CHECK(peltzivar_parse_byte(value, len - (size_t)(value - setting), &byte) && byte == read.value);
+        CHECK(!peltzivar_parse_byte(value, len - (size_t)(value - setting), &byte) || byte == read.value);
     }
     free(setting);
 }

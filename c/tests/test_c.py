@@ -18,7 +18,7 @@ SANITIZERS = ["-g", "-fsanitize=address,undefined", "-fno-sanitize-recover=all"]
 COMPILERS = {"gcc": "c99 c11 c17 c2x", "clang": "c99 c11 c17 c2x", "g++": "c++11 c++14 c++17 c++20"}
 COMPILERS |= {"clang++": "c++11 c++14 c++17 c++20"}
 # The types in Rust that do not have the name of C in another case.
-TYPES = {"size_t": "usize", "bool": "bool", "char": "u8", "const char *": "*const u8", "uint8_t": "u8", "uint32_t": "u32"}
+TYPES = {"size_t": "usize", "bool": "bool", "char": "u8", "uint8_t": "u8", "uint32_t": "u32"}
 TYPES |= {"peltzivar_edit": "NumberedEdit", "peltzivar_special": "NumberedSpecial", "peltzivar_error": "ErrorNumber"}
 TYPES |= {"peltzivar_part": "u8", "peltzivar_role": "u8"}
 LIBRARY = ctypes.CDLL(str(SHARED))
@@ -32,6 +32,8 @@ def run(*command, **options):
 
 def in_rust(kind):
     """Returns a type of C as in Rust."""
+    if pointer := re.fullmatch(r"const (\w+) \*", kind):
+        return f"*const {in_rust(pointer[1])}"
     return TYPES.get(kind) or kind.removeprefix("peltzivar").title().replace("_", "")
 
 
@@ -129,7 +131,7 @@ class Header(unittest.TestCase):
         self.assertEqual(self.numbers(r"ROLE_(\w+)"), {name: number for number, name in enumerate(roles)})
         errors = ["SUCCESS", *(it for it in variants("error.rs", "Error") if it != "SUCCESS")]
         numbered = {name: number for number, name in enumerate(errors)}
-        self.assertEqual(self.numbers(r"((?!SET_|RULE_|PART_|ROLE_|CAUSE_|SPELLING_)\w+)"), numbered)
+        self.assertEqual(self.numbers(r"((?!SET_|RULE_|PART_|ROLE_|KIND_|SPELLING_)\w+)"), numbered)
 
     def test_names_and_conditions_are_those_of_the_header_and_of_format(self):
         def strings(call):
@@ -151,7 +153,7 @@ class Header(unittest.TestCase):
             for name, of, result in exported
         }
         code = " ".join(re.sub(r"/\*.*?\*/|^#.*?$", "", HEADER, flags=re.S | re.M).split())
-        declared = re.findall(r"(\w+ |const char \*)(peltzivar_\w+)\( ?([^()]*)\);", code)
+        declared = re.findall(r"(\w+ |const \w+ \*)(peltzivar_\w+)\( ?([^()]*)\);", code)
         found = {
             (name, tuple(self.argument(it, of) for it in of.split(", ") if it != "void"), in_rust(result.strip()))
             for result, name, of in declared
@@ -167,6 +169,8 @@ class Header(unittest.TestCase):
             return in_rust(kind)
         if re.search(rf"\*{name}, size_t (to_)?len\b", others):
             return f"*{'const' if const else 'mut'} {in_rust(kind)}"
+        if const and name == "reader":
+            return f"Option<&{in_rust(kind)}>"
         if const or name == "fields":
             return f"&{'' if const else 'mut '}{in_rust(kind)}"
         return f"Out<{in_rust(kind)}>"

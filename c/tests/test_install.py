@@ -80,6 +80,12 @@ class Install(InFolder):
         self.make("uninstall", *paths)
         self.assertEqual([it for it in root.rglob("*") if not it.is_dir()], [])
 
+    def test_without_python_the_rest_is_installed_and_tested(self):
+        line = r"^no-python is not found: .* left out[^\n]*\n$"
+        self.assertRegex(self.make("install", f"PREFIX={self.prefix}", "PYTHON=no-python"), line)
+        self.assertEqual([*self.prefix.rglob("*.py")], [])
+        self.assertRegex(self.make("check", "PYTHON=no-python"), line)
+
     def test_cargo_is_named_if_it_is_missing(self):
         with self.assertRaisesRegex(AssertionError, "no-cargo is not found: install Rust"):
             self.make("install", f"PREFIX={self.prefix}", f"BUILD={self.folder}/build", "CARGO=no-cargo")

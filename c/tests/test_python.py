@@ -20,8 +20,8 @@ TESTS = pathlib.Path(__file__).resolve().parent
 TOP = TESTS.parent.parent
 sys.path.insert(0, str(TESTS.parent))
 import peltzivar
-from peltzivar import Cause, Edit, Error, Format, FormatError, FormatView, Language, LiteralError, OptionsError, Part, Role
-from peltzivar import Rule, Setter, SettingsError, Special, Specials, Spelling, Syntax, notes_of
+from peltzivar import Edit, Error, Format, FormatError, FormatView, Language, LiteralError, OptionsError, Part, ReadErrorKind
+from peltzivar import Role, Rule, Setter, SettingsError, Special, Specials, Spelling, Syntax, notes_of
 
 PAGE = (TOP / "docs/FORMAT.md").read_text()
 FLAGS = re.findall(r"^\| (\d+) \| `(\w+)` \| (?:true|false) \|", PAGE, re.M)
@@ -198,8 +198,8 @@ class Literals(unittest.TestCase):
                 with self.assertRaises(LiteralError) as caught:
                     Syntax(FormatView.of(*settings.split()).check()).read(given)
                 error = pickle.loads(pickle.dumps(caught.exception))
-                got = error.text, error.cause, [error.valid_up_to, *error.span]
-                self.assertEqual(got, (given, Cause[cause.upper()], [*map(int, numbers)]), settings)
+                got = error.text, error.kind, [error.valid_up_to, *error.span]
+                self.assertEqual(got, (given, ReadErrorKind[cause.upper()], [*map(int, numbers)]), settings)
                 if cause == "missing":
                     self.assertEqual((error.part, error.edits), (Part[blamed.upper()], ()))
                 else:
@@ -210,7 +210,7 @@ class Literals(unittest.TestCase):
         for text, index in (("12\u00e9", 2), ("\u20ac", 0), ("1.5\U0001F600e", 3), ("1e\ud800", 2), ("1x\u00e9", 1)):
             with self.assertRaises(LiteralError) as caught:
                 Syntax(Format()).read(text)
-            error, sentence = caught.exception, f"no literal has the {'byte' if index == 1 else 'character'} {text[index]!r} here"
+            error, sentence = caught.exception, f"unexpected character {text[index]!r}"
             self.assertEqual((error.valid_up_to, error.error, str(error)), (index, Error.INVALID_DIGIT, sentence))
 
     def test_syntaxes(self):
@@ -220,6 +220,8 @@ class Literals(unittest.TestCase):
         for syntax in syntaxes:
             copies = eval(repr(syntax)), pickle.loads(pickle.dumps(syntax)), copy.deepcopy(syntax)
             self.assertEqual({syntax, *copies}, {syntaxes[3] if syntax is syntaxes[3] else syntaxes[0]})
+            self.assertEqual([it.read("-1").integer for it in copies], ["1"] * 3)
+            self.assertLess(len(pickle.dumps(syntax)), 200)  # Another build must make its own reader.
 
     def test_languages_read_the_texts_of_their_grammars(self):
         rows = [row.split()[:3] for row in (TOP / "rust/tests/literals.txt").read_text().splitlines() if row and row[0] != "#"]
@@ -257,14 +259,20 @@ class Literals(unittest.TestCase):
 
 
 BYTE = "one ASCII character or a number from 0 to 255"
+SUGGESTION = "unknown setting name; did you mean `digit_separator`?"
+ONE_OPTION = "only one of the exponent character and the decimal point is absent: for numbers without an exponent, keep both, and set no_exponent_notation"
 WRONG = [
     ("Format(-1)", ValueError, "a format word is a number of at most 128 bits: -0x1"),
     ("Format.of(no_special=1)", TypeError, "no_special is a bool, not int"),
     ("FormatView.of(mantissa_radix='8')", TypeError, "mantissa_radix is a number from 0 to 255, not str"),
     ("Format().edit(mantissa_radix=None)", TypeError, "mantissa_radix is a number from 0 to 255, not NoneType"),
     ("Format.of(base_prefix='\u00e9')", ValueError, f"base_prefix is {BYTE}: '\u00e9'"),
-    ("Format().edit(colour=7)", TypeError, "edit() got an unexpected keyword argument 'colour'"),
-    ("Edit.of('colour', 7)", ValueError, "unknown setting name: 'colour'"),
+    ("Format().edit(colour=7)", TypeError, "edit() got an unexpected keyword argument 'colour': unknown setting name"),
+    ("Format.of(thousands=',')", TypeError, "of() got an unexpected keyword argument 'thousands': " + SUGGESTION),
+    ("Edit.of('digit_seperator', '_')", ValueError, f"setter 'digit_seperator': {SUGGESTION}"),
+    ("Format.of(\"digit_seperator='_'\")", ValueError, f"digit_seperator='_': {SUGGESTION}"),
+    ("Edit(\"radix='x'\")", ValueError, "radix='x': radix takes a number, 2 to 36 in a lawful format"),
+    ("Syntax(Format(), exponent=None)", ValueError, ONE_OPTION),
     ("Format().check_options('e', b'')", ValueError, f"point is {BYTE}: b''"),
     ("Syntax.of('radix=16\\nradix=2')", ValueError, "a setting is one line: 'radix=16\\nradix=2'"),
     ("Specials('a\\0').read(Syntax(Format()), '')", ValueError, "a spelling has a null character: Specials(nan='a\\x00', inf=None, infinity=None)"),

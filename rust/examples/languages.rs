@@ -2,7 +2,8 @@
 //! point does not fit it, and prints the reason. To see whose number a text is: `cargo run --example languages -- 0x1p3`
 
 use core::num::NonZeroU8;
-use peltzivar::{literal::Language, literal::Syntax, NumberFormatBuilder};
+use peltzivar::literal::{Language, Reader, Syntax};
+use peltzivar::NumberFormatBuilder;
 
 const PLAIN: NumberFormatBuilder = NumberFormatBuilder::new().no_positive_mantissa_sign(true);
 #[rustfmt::skip]
@@ -24,7 +25,7 @@ fn main() {
     let text = std::env::args_os().nth(1).unwrap_or_default();
     let others = Language::ALL.iter().map(|it| (it.name(), it.syntax()));
     for (name, syntax) in LANGUAGES.into_iter().chain(others) {
-        let is_number = syntax.read(text.as_encoded_bytes()).is_ok();
+        let is_number = Reader::new(syntax).read(text.as_encoded_bytes()).is_ok();
         let verb = ["rejects", "accepts"][usize::from(is_number)];
         println!("{name} {verb} it: {syntax}");
     }

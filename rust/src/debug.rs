@@ -83,15 +83,16 @@ impl<const FORMAT: u128> fmt::Debug for NumberFormat<FORMAT> {
 impl fmt::Debug for Syntax {
     fn fmt(&self, f: &mut fmt::Formatter<'_>) -> fmt::Result {
         f.debug_struct("Syntax")
-            .field("format", &self.view())
+            .field("format", &self.format().view())
             .field("exponent", &self.exponent().map(char::from))
             .field("point", &self.point().map(char::from))
             .finish()
     }
 }
 
+/// Writes the syntax.
 impl fmt::Debug for Reader {
     fn fmt(&self, f: &mut fmt::Formatter<'_>) -> fmt::Result {
-        f.debug_struct("Reader").finish_non_exhaustive()
+        f.debug_tuple("Reader").field(&self.syntax()).finish()
     }
 }

@@ -4,7 +4,6 @@
 
 use crate::error::Error;
 use crate::format_builder::NumberFormatBuilder;
-use crate::format_flags as flags;
 use crate::format_flags::check;
 
 mod listing;
@@ -16,8 +15,8 @@ pub(crate) use setters::mask_of;
 pub use setters::{
     field_edits_of, ArgumentKind, Edit, FlagSetter, Setter, ALL_SETTERS, FIELD_COUNT, FLAG_COUNT, SETTERS,
 };
-pub(crate) use settings::Fault;
-pub use settings::{byte_from_decimal, SettingError, SettingErrorKind};
+pub use settings::{byte_from_decimal, EditError, EditErrorKind};
+pub(crate) use settings::{likeness, nearest, Fault};
 
 /// Calls the setter of `edit` on `builder`, and returns the new builder.
 #[inline(always)]
@@ -109,47 +108,7 @@ pub const fn edit_word(format: u128, edits: &[Edit]) -> u128 {
 /// - If no separator is dropped, all edits turn `format` and the result into the same word.
 #[must_use]
 pub const fn normal_form(format: u128) -> u128 {
-    format & flags::FLAG_MASK | (normal_upper(format) as u128) << 64
-}
-
-// The lowest bits of the radixes in the upper half of a format word.
-const MANTISSA_SHIFT: i32 = flags::MANTISSA_RADIX_SHIFT - 64;
-
-const BASE_SHIFT: i32 = flags::EXPONENT_BASE_SHIFT - 64;
-
-const RADIX_SHIFT: i32 = flags::EXPONENT_RADIX_SHIFT - 64;
-
-// The masks of the bytes in the upper half of a format word that stay as they are.
-const KEPT: u64 = ((flags::BASE_PREFIX | flags::BASE_SUFFIX | flags::MANTISSA_RADIX) >> 64) as u64;
-
-const KEPT_WITH_SEPARATOR: u64 = KEPT | (flags::DIGIT_SEPARATOR >> 64) as u64;
-
-// Returns the upper half of the normal form. It is joined without a builder, since one mask for the bytes that stay is
-// faster than a choice for the digit separator.
-const fn normal_upper(format: u128) -> u64 {
-    let high = (format >> 64) as u64;
-    exponent_base_bits(high) | exponent_radix_bits(high) | kept_bits(format)
-}
-
-// Returns the exponent base in the upper half of a format word, or the mantissa radix if the base is 0, at its bits.
-const fn exponent_base_bits(high: u64) -> u64 {
-    flags::byte_or_radix((high >> BASE_SHIFT) % 256, (high >> MANTISSA_SHIFT) % 256) << BASE_SHIFT
-}
-
-// Returns the exponent radix in the upper half of a format word, or the mantissa radix if the former is 0, at its bits.
-// The shift drops the bits above the mantissa radix.
-const fn exponent_radix_bits(high: u64) -> u64 {
-    flags::byte_or_radix(high >> RADIX_SHIFT, high >> MANTISSA_SHIFT) << RADIX_SHIFT
-}
-
-// Returns the other bytes at their bits in the upper half, without a digit separator that no flag allows.
-const fn kept_bits(format: u128) -> u64 {
-    let high = (format >> 64) as u64;
-    if flags::is_separator_allowed(format) {
-        high & KEPT_WITH_SEPARATOR
-    } else {
-        high & KEPT
-    }
+    NumberFormatBuilder::rebuild(format).build_unchecked()
 }
 
 /// Returns the [normal form][normal_form] of `format` if that form is [lawful][crate::format_flags::Rule].

@@ -14,7 +14,7 @@ use crate::error::Error;
 use crate::format_builder::{NumberFormatBuilder, OptionU8};
 use crate::format_flags as flags;
 use crate::format_flags::Part;
-use crate::lawful::Format;
+use crate::lawful::{Format, FormatError};
 use crate::view::{FormatView, Role, Separators};
 
 /// A view of a format word that is known at compile time. It reads the fields of the word, and checks the word.
@@ -75,6 +75,36 @@ impl From<u128> for FormatView {
     #[inline]
     fn from(word: u128) -> Self {
         FormatView::new(word)
+    }
+}
+
+impl TryFrom<u128> for Format {
+    type Error = FormatError;
+
+    fn try_from(word: u128) -> Result<Self, FormatError> {
+        Format::new(word)
+    }
+}
+
+impl From<Format> for u128 {
+    #[inline]
+    fn from(format: Format) -> Self {
+        format.word()
+    }
+}
+
+impl From<Format> for FormatView {
+    #[inline]
+    fn from(format: Format) -> Self {
+        format.view()
+    }
+}
+
+impl From<Format> for NumberFormatBuilder {
+    /// Returns a builder with exactly the fields of the word, as [`from_word`][NumberFormatBuilder::from_word] does.
+    #[inline]
+    fn from(format: Format) -> Self {
+        NumberFormatBuilder::from_word(format.word())
     }
 }
 

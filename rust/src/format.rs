@@ -34,6 +34,7 @@ pub use crate::view::FormatView;
 pub use crate::word::STANDARD;
 
 use crate::error::Error;
+use crate::lawful::FormatError;
 use crate::short_text::ShortText;
 
 // Exports the constants of all flags and groups.
@@ -59,7 +60,49 @@ pub const fn format_error<const FORMAT: u128>() -> Error {
     NumberFormat::<FORMAT>::new().error()
 }
 
+impl Format {
+    /// Returns the format whose word is `FORMAT`, which is known at compile time. If the word is not lawful, the call
+    /// does not compile: `cargo build` fails, but `cargo check` may not.
+    ///
+    /// ```compile_fail,E0080
+    /// let format = peltzivar::Format::of::<0>();
+    /// ```
+    #[must_use]
+    pub const fn of<const FORMAT: u128>() -> Self {
+        const {
+            match Format::new(FORMAT) {
+                Ok(format) => format,
+                Err(error) => panic!("{}", error.text().as_str()),
+            }
+        }
+    }
+}
+
 impl NumberFormatBuilder {
+    /// Returns the view of the word that the builder packs, whether or not the word is [lawful][Rule].
+    #[must_use]
+    pub const fn view(&self) -> FormatView {
+        FormatView::new(self.build_unchecked())
+    }
+
+    /// Packs the fields into a word, and returns the word as a [`Format`] if it is lawful.
+    ///
+    /// A digit separator that no flag allows is dropped, and is not an error. [`notes`][Self::notes] of the builder has a
+    /// note on it, which the notes of the format lack.
+    ///
+    /// ```
+    /// let builder = peltzivar::NumberFormatBuilder::new().digit_separator(core::num::NonZeroU8::new(b'_'));
+    /// assert_eq!(builder.notes().next().unwrap().to_string(), "no flag allows the digit separator '_'");
+    /// assert_eq!(builder.build_format().unwrap().notes().count(), 0);
+    /// ```
+    ///
+    /// # Errors
+    ///
+    /// If the word is not lawful, returns an error with the reasons.
+    pub const fn build_format(&self) -> Result<Format, FormatError> {
+        Format::new(self.build_unchecked())
+    }
+
     /// Packs the fields into a format word. If this method is called in a constant and the word is not [lawful][Rule],
     /// the program does not compile. A digit separator that no flag allows is dropped without an error: only
     /// [`notes`][Self::notes] of the builder has a note on it.

@@ -1,59 +1,17 @@
-//! The error that explains why a word, a text or options are rejected.
+//! The reasons and the text of a [`FormatError`].
 
 use core::fmt;
 
 use crate::error::Error;
+use crate::lawful::{FormatError, Rejected};
 use crate::reasons::{options_reasons, reasons, Reason, MAX_REASONS};
 use crate::short_text::ShortText;
 
-/// Why a word is not a [`Format`][crate::Format], why a text is not one, or why a format does not accept options.
-///
-/// `Display` prints the first of the [`reasons`][Self::reasons]. If there are none, it prints that a word begins with
-/// `0x` if the text does not, or what options are, and otherwise the [`code`][Self::code].
-///
-/// ```
-/// use core::num::NonZeroU8;
-/// use peltzivar::{Error, NumberFormatBuilder};
-///
-/// let builder = NumberFormatBuilder::new().mantissa_radix(16).base_prefix(NonZeroU8::new(b'b'));
-/// let error = builder.build_format().unwrap_err();
-/// assert_eq!(error.to_string(), "the base prefix 'b' is a digit in radix 16");
-/// assert_eq!(error.code(), Error::InvalidBasePrefix);
-/// ```
-#[derive(Clone, Copy, PartialEq, Eq, Hash)]
-pub struct FormatError {
-    code: Error,
-    cause: Cause,
-}
-
 /// The text for options of which one is 0, since both or neither are absent.
-pub(crate) const ONE_OPTION: &str = "only one of the exponent character and the decimal point is absent";
-
-/// What is rejected.
-#[derive(Clone, Copy, PartialEq, Eq, Hash)]
-pub(crate) enum Cause {
-    /// A text that is not a word.
-    Text,
-    /// A text of options, of which one is missing or is not a byte.
-    Bytes,
-    /// A word that is not lawful.
-    Word(u128),
-    /// An exponent character and a decimal point beside a word.
-    Options(u128, u8, u8),
-}
+pub(crate) const ONE_OPTION: &str = "only one of the exponent character and the decimal point is absent: for numbers \
+    without an exponent, keep both, and set no_exponent_notation";
 
 impl FormatError {
-    pub(crate) const fn new(code: Error, cause: Cause) -> Self {
-        FormatError { code, cause }
-    }
-
-    /// Returns the error as `lexical-util` has it. It is the error of the first [rule][crate::Rule] that the word
-    /// breaks, the parse error of the text, or the error of the options. It is never [`Error::Success`].
-    #[must_use]
-    pub const fn code(&self) -> Error {
-        self.code
-    }
-
     /// Returns the reasons why the word is not lawful, as [`FormatView::reasons`][crate::FormatView::reasons] does, or why
     /// it does not accept the options, as [`FormatView::options_reasons`][crate::FormatView::options_reasons] does. The
     /// iterator is empty if a text is rejected.
@@ -63,16 +21,12 @@ impl FormatError {
 
     const fn candidates(&self) -> [Option<Reason>; MAX_REASONS] {
         let mut all = [None; MAX_REASONS];
-        match self.cause {
-            Cause::Text | Cause::Bytes => all,
-            Cause::Word(word) => reasons(word),
-            Cause::Options(word, exponent, decimal_point) => {
-                if let Some(front) = all.first_chunk_mut() {
-                    *front = options_reasons(word, exponent, decimal_point);
-                }
-                all
-            }
+        match (self.rejected, all.first_chunk_mut()) {
+            (Rejected::Word(word), _) => all = reasons(word),
+            (Rejected::Options(word, exponent, point), Some(front)) => *front = options_reasons(word, exponent, point),
+            _ => (),
         }
+        all
     }
 
     const fn first_reason(&self) -> Option<Reason> {
@@ -96,18 +50,30 @@ impl FormatError {
     /// ```
     #[must_use]
     pub const fn text(&self) -> ShortText {
-        match (self.first_reason(), self.cause, self.code.index()) {
-            (_, Cause::Options(_, 0, 1..) | Cause::Options(_, 1.., 0), _) => ShortText::of(ONE_OPTION),
+        match (self.first_reason(), self.rejected, self.code().index()) {
+            (_, Rejected::Options(_, 0, 1..) | Rejected::Options(_, 1.., 0), _) => ShortText::of(ONE_OPTION),
             (Some(reason), ..) => reason.text(),
-            (None, Cause::Bytes, _) => ShortText::of("options are two bytes, such as 'e' or 101"),
+            (None, Rejected::Bytes, _) => ShortText::of("options are two bytes, such as 'e' or 101"),
             (None, _, Some(0 | 1)) => ShortText::of("a format word begins with `0x`"),
-            (None, ..) => self.code.text(),
+            (None, ..) => self.code().text(),
         }
     }
 }
 
 impl core::error::Error for FormatError {}
 
+/// Prints the first of the [`reasons`][FormatError::reasons]. If there are none, prints that a word begins with `0x` if the
+/// text does not, or what options are, and otherwise the [`code`][FormatError::code].
+///
+/// ```
+/// use core::num::NonZeroU8;
+/// use peltzivar::{Error, NumberFormatBuilder};
+///
+/// let builder = NumberFormatBuilder::new().mantissa_radix(16).base_prefix(NonZeroU8::new(b'b'));
+/// let error = builder.build_format().unwrap_err();
+/// assert_eq!(error.to_string(), "the base prefix 'b' is a digit in radix 16");
+/// assert_eq!(error.code(), Error::InvalidBasePrefix);
+/// ```
 impl fmt::Display for FormatError {
     fn fmt(&self, f: &mut fmt::Formatter<'_>) -> fmt::Result {
         f.pad(self.text().as_str())
@@ -118,7 +84,7 @@ impl fmt::Display for FormatError {
 impl fmt::Debug for FormatError {
     fn fmt(&self, f: &mut fmt::Formatter<'_>) -> fmt::Result {
         let mut text = f.debug_struct("FormatError");
-        text.field("code", &self.code);
+        text.field("code", &self.code());
         text.field("message", &format_args!("\"{self}\""));
         text.finish()
     }
@@ -127,6 +93,6 @@ impl fmt::Debug for FormatError {
 /// Returns the [`code`][FormatError::code].
 impl From<FormatError> for Error {
     fn from(error: FormatError) -> Self {
-        error.code
+        error.code()
     }
 }

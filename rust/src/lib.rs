@@ -18,7 +18,7 @@
 //! | write a format as a constant | [`NumberFormatBuilder`] and its [`build_format_or_panic`][NumberFormatBuilder::build_format_or_panic], or [`build_or_panic`][NumberFormatBuilder::build_or_panic] for the word |
 //! | take a checked format as an argument | [`Format`] |
 //! | read numbers of a language | [`Language`][literal::Language] |
-//! | read numbers of a format | [`Syntax`][literal::Syntax], or a [`Reader`][literal::Reader] for many texts; [`Specials`][literal::Specials] for NaN and infinity |
+//! | read numbers of a format | a [`Reader`][literal::Reader] of its [`Syntax`][literal::Syntax]; [`Specials`][literal::Specials] for NaN and infinity |
 //! | compute values | [`Reader::parse`][literal::Reader::parse], `try_from` of an integer type, and for floats [`Literal::plain`][literal::Literal::plain] |
 //! | report why a text is not a number | [`ReadError`][literal::ReadError] |
 //! | write numbers | the example of [`literal`], and [`digit_to_char`][digit::digit_to_char] |
@@ -54,11 +54,11 @@
 //! contract. From this code, a program in the repository generated the files that begin with `Made by`. In the
 //! documentation, `Proved of the source` heads what the contracts of a call state.
 //!
-//! All other files are written by hand. They have [`Format`], [`FormatError`], [`Settings`], [`NumberFormat`] with the
-//! calls of [`mod@format`], [`Language`][literal::Language], the iterators and conversions, the names and texts of values
-//! (`name`, `condition`, `Display`, `FromStr` and `Debug`), absent bytes as `None`, the syntax of a [`Format`] and the
-//! format of a syntax, [`Literal`][literal::Literal] around the parts that the proved code finds, `parse`, `try_from` and
-//! `to_i64` around the conversions that are proved, `is_incomplete`, `span` and `settings` of
+//! All other files are written by hand. They have [`Settings`], [`NumberFormat`] with the calls of [`mod@format`],
+//! [`Language`][literal::Language], the iterators and conversions, the names and texts of values (`name`, `condition`,
+//! `text`, `Display`, `FromStr` and `Debug`), absent bytes as `None`, the getters of [`Format`], which call those of its
+//! view, [`Literal`][literal::Literal] around the parts that the proved code finds, `parse`, `try_from` and `to_i64`
+//! around the conversions that are proved, `is_incomplete`, `span`, `settings` and `text` of
 //! [`ReadError`][literal::ReadError], the methods that panic, and the tests of slices in [`ascii`]. A
 //! build of this crate proves nothing. You trust the program that generated the files, the handwritten parts, and
 //! `rustc`.
@@ -101,7 +101,7 @@ pub mod word;
 pub mod word_text;
 
 #[doc(no_inline)]
-pub use edits::{Edit, FlagSetter, Setter, SettingError, SettingErrorKind};
+pub use edits::{Edit, EditError, EditErrorKind, FlagSetter, Setter};
 #[doc(no_inline)]
 pub use error::Error;
 #[doc(no_inline)]
@@ -109,15 +109,13 @@ pub use feature_format::NumberFormat;
 #[doc(no_inline)]
 pub use format_builder::NumberFormatBuilder;
 #[doc(inline)]
-pub use format_error::FormatError;
-#[doc(inline)]
 pub use format_flags::{Part, Rule};
 #[doc(inline)]
-pub use lawful::Format;
+pub use lawful::{Format, FormatError};
 #[doc(inline)]
 pub use reasons::{Byte, Cause, NamedByte, Note, Radixes, Reason};
 #[doc(inline)]
-pub use settings::{Finding, FindingKind, Settings, SettingsError};
+pub use settings::{Finding, FindingKind, LineError, Settings};
 #[doc(inline)]
 pub use short_text::ShortText;
 #[doc(inline)]

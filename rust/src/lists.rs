@@ -3,6 +3,7 @@
 use crate::edits::{apply, edits_of, Edit, FlagSetter, Setter, ALL_SETTERS, FLAG_COUNT, SETTERS};
 use crate::format_builder::NumberFormatBuilder;
 use crate::format_flags::{Rule, RULES};
+use crate::lawful::Format;
 use crate::reasons::{notes, notes_of_fields, options_reasons, reasons, Note, Reason};
 use crate::view::FormatView;
 
@@ -61,6 +62,21 @@ impl FormatView {
     }
 }
 
+impl Format {
+    /// Returns notes on the fields that are set but have no effect on any number, as [`FormatView::notes`] does.
+    ///
+    /// A builder drops a digit separator that no flag allows, so a format that one built never has the note on it. It is
+    /// in [`NumberFormatBuilder::notes`] and in [`Settings::notes`][crate::Settings::notes].
+    pub fn notes(&self) -> impl Iterator<Item = Note> + Clone {
+        self.view().notes()
+    }
+
+    /// Returns the edits that give a new builder the fields of the format, as [`FormatView::edits`] does.
+    pub fn edits(&self) -> impl Iterator<Item = Edit> + Clone {
+        self.view().edits()
+    }
+}
+
 impl NumberFormatBuilder {
     /// Returns notes on the fields that are set but have no effect on any number. A digit separator that no flag allows
     /// has a note, although the builder does not pack it.
@@ -72,12 +88,12 @@ impl NumberFormatBuilder {
 /// Applies the edits to a new builder, in order.
 ///
 /// ```
-/// use peltzivar::{Edit, NumberFormatBuilder, SettingError};
+/// use peltzivar::{Edit, NumberFormatBuilder, EditError};
 ///
 /// let settings = ["mantissa_radix=16", "base_prefix='x'"];
 /// let builder: NumberFormatBuilder = settings.iter().map(|it| it.parse::<Edit>()).collect::<Result<_, _>>()?;
 /// assert_eq!(builder.get_mantissa_radix(), 16);
-/// # Ok::<(), SettingError>(())
+/// # Ok::<(), EditError>(())
 /// ```
 impl FromIterator<Edit> for NumberFormatBuilder {
     fn from_iter<I: IntoIterator<Item = Edit>>(edits: I) -> Self {

@@ -1,9 +1,10 @@
 //! Literals: the texts that are numbers of a format, their parts, the calls that read them, and why a text is not one.
 //!
 //! A [`Syntax`] is a lawful format with an exponent character and a decimal point or, for integers alone, without both.
-//! A [`Reader`] has tables of a syntax, so that it reads a text in less time. A [`Literal`] has the parts of a text and,
-//! if it is an integer, its value in any type of Rust. A [`ReadError`] has the cause of a refusal, and the flags to blame. NaN and infinity are not
-//! literals: [`Specials`] reads them. A [`Language`] has a reader and the special values of a language.
+//! A [`Reader`] has tables of a syntax, and reads its literals. A [`Literal`] has the parts of a text and, if it is an
+//! integer, its value in any integer type of Rust. A [`ReadError`] finds the cause of a refusal, and the flags to blame.
+//! NaN and infinity are not literals: [`Specials`] reads them. A [`Language`] has a reader and the special values of a
+//! language.
 //!
 //! ```
 //! use peltzivar::format::{Format, STANDARD};
@@ -17,12 +18,12 @@
 //!
 //! // A second decimal point is refused. What is before it is a literal.
 //! let error = READER.read(b"1.25.3").unwrap_err();
-//! assert_eq!((error.valid_up_to(), error.to_string()), (4, "no literal has the byte '.' here".into()));
+//! assert_eq!((error.valid_up_to(), error.to_string()), (4, "unexpected character '.'".into()));
 //! let (literal, rest) = READER.read_prefix(b"1.25.3").unwrap();
 //! assert_eq!((literal.as_bytes(), rest), (&b"1.25"[..], &b".3"[..]));
 //! ```
 //!
-//! [`Reader::parse`] returns the value of a text. [`Syntax::read_prefix`] has an example that splits a text into numbers.
+//! [`Reader::parse`] returns the value of a text. [`Reader::read_prefix`] has an example that splits a text into numbers.
 //!
 //! # Writing numbers
 //!
@@ -48,9 +49,9 @@
 //!     text.reverse();
 //!     text
 //! }
-//! let syntax = Language::RUST_HEX_INTEGER.syntax();
-//! let text = write(0xC0FFEE, syntax.format());
-//! assert_eq!((text.as_slice(), syntax.read(&text).is_ok()), (&b"0xC0F_FEE"[..], true));
+//! let reader = Language::RUST_HEX_INTEGER.reader();
+//! let text = write(0xC0FFEE, reader.syntax().format());
+//! assert_eq!((text.as_slice(), reader.read(&text).is_ok()), (&b"0xC0F_FEE"[..], true));
 //! ```
 
 #[allow(clippy::redundant_pattern_matching, reason = "as it is proved")]
@@ -75,7 +76,7 @@ mod tables;
 mod text;
 mod value;
 
-pub use cause::{Cause, Place, ReadError};
+pub use cause::{Place, ReadError, ReadErrorKind};
 pub use language::{Language, Number};
 pub use number::{Digits, Literal};
 pub use read::Reader;

@@ -72,8 +72,7 @@ pub struct NamedByte {
     pub value: u8,
 }
 
-/// The cause of a [`Reason`]: the fields that are to blame, with their values. The `Cause` of a `ReadError` is another
-/// enum: why a text is not a literal.
+/// The cause of a [`Reason`]: the fields that are to blame, with their values.
 #[derive(Debug, Clone, Copy, PartialEq, Eq, Hash)]
 #[non_exhaustive]
 pub enum Cause {
@@ -120,14 +119,6 @@ pub struct Reason {
     mask: u128,
 }
 
-// A format word, with an exponent character and a decimal point that options choose.
-#[derive(Clone, Copy)]
-struct Characters {
-    format: u128,
-    exponent: u8,
-    point: u8,
-}
-
 /// Returns the reasons why a format word breaks rules. Each possible reason has its own slot, which is `None` if the
 /// word does not have this reason. The slots are sorted by the rule that [`Reason::rule`] returns for each reason. All
 /// slots are `None` if and only if the word is lawful.
@@ -138,37 +129,37 @@ struct Characters {
 /// that a reason blames.
 #[must_use]
 pub const fn reasons(format: u128) -> [Option<Reason>; MAX_REASONS] {
-    let word = Characters { format, exponent: 0, point: 0 };
-    // If the word satisfies all rules of a group, its slots stay `None`. Most words do, and their tests take less time.
-    let mut slots = [None; MAX_REASONS];
-    macro_rules! fill {
-        ($($($index:literal $Rule:ident $cause:ident($($argument:expr),*)),*;)*) => {
-            $(if !($(Rule::$Rule.is_kept(format))&*) {
-                $(slots[$index] = word.slot(Some(Rule::$Rule), word.$cause($($argument),*));)*
-            })*
+    let separator = named(Byte::DigitSeparator, flags::digit_separator(format));
+    let prefix = named(Byte::BasePrefix, flags::base_prefix(format));
+    let suffix = named(Byte::BaseSuffix, flags::base_suffix(format));
+    let mantissa = named(Byte::MantissaRadix, flags::mantissa_radix(format) as u8);
+    let base = named(Byte::ExponentBase, raw_exponent_base(format));
+    let radix = named(Byte::ExponentRadix, raw_exponent_radix(format));
+    macro_rules! slots {
+        ($($Rule:ident $cause:expr;)*) => {
+            [$(reason_for(format, Some(Rule::$Rule), $cause),)*]
         };
     }
-    fill! {
-        0 MantissaRadixInRange radix_cause(Byte::MantissaRadix),
-        1 ExponentBaseInRange if_present(Byte::ExponentBase, word.radix_cause(Byte::ExponentBase)),
-        2 ExponentRadixInRange if_present(Byte::ExponentRadix, word.radix_cause(Byte::ExponentRadix));
-        3 DigitSeparatorIsPunctuation if_present(Byte::DigitSeparator, word.byte_cause(Byte::DigitSeparator)),
-        4 BasePrefixIsPunctuation if_present(Byte::BasePrefix, word.byte_cause(Byte::BasePrefix)),
-        5 BaseSuffixIsPunctuation if_present(Byte::BaseSuffix, word.byte_cause(Byte::BaseSuffix));
-        6 PunctuationDiffers clash(Byte::DigitSeparator, Byte::BasePrefix),
-        7 PunctuationDiffers clash(Byte::DigitSeparator, Byte::BaseSuffix),
-        8 PunctuationDiffers clash(Byte::BasePrefix, Byte::BaseSuffix);
-        9 ExponentFlagsAgree both_set(FlagSetter::NoExponentNotation, FlagSetter::RequiredExponentNotation),
-        10 MantissaSignFlagsAgree both_set(FlagSetter::NoPositiveMantissaSign, FlagSetter::RequiredMantissaSign),
-        11 ExponentSignFlagsAgree both_set(FlagSetter::NoPositiveExponentSign, FlagSetter::RequiredExponentSign),
-        12 SpecialCaseFlagsAgree both_set(FlagSetter::NoSpecial, FlagSetter::CaseSensitiveSpecial),
-        13 SpecialSeparatorFlagsAgree both_set(FlagSetter::NoSpecial, FlagSetter::SpecialDigitSeparator),
-        14 IntegerConsecutiveIsAllowed needs_position(Part::Integer),
-        15 FractionConsecutiveIsAllowed needs_position(Part::Fraction),
-        16 ExponentConsecutiveIsAllowed needs_position(Part::Exponent);
+    slots! {
+        MantissaRadixInRange out_of_range(mantissa);
+        ExponentBaseInRange if_present(base, out_of_range(base));
+        ExponentRadixInRange if_present(radix, out_of_range(radix));
+        DigitSeparatorIsPunctuation if_present(separator, not_punctuation(format, separator));
+        BasePrefixIsPunctuation if_present(prefix, not_punctuation(format, prefix));
+        BaseSuffixIsPunctuation if_present(suffix, not_punctuation(format, suffix));
+        PunctuationDiffers clash(format, separator, prefix);
+        PunctuationDiffers clash(format, separator, suffix);
+        PunctuationDiffers clash(format, prefix, suffix);
+        ExponentFlagsAgree both_set(format, FlagSetter::NoExponentNotation, FlagSetter::RequiredExponentNotation);
+        MantissaSignFlagsAgree both_set(format, FlagSetter::NoPositiveMantissaSign, FlagSetter::RequiredMantissaSign);
+        ExponentSignFlagsAgree both_set(format, FlagSetter::NoPositiveExponentSign, FlagSetter::RequiredExponentSign);
+        SpecialCaseFlagsAgree both_set(format, FlagSetter::NoSpecial, FlagSetter::CaseSensitiveSpecial);
+        SpecialSeparatorFlagsAgree both_set(format, FlagSetter::NoSpecial, FlagSetter::SpecialDigitSeparator);
+        IntegerConsecutiveIsAllowed needs_position(format, Part::Integer);
+        FractionConsecutiveIsAllowed needs_position(format, Part::Fraction);
+        ExponentConsecutiveIsAllowed needs_position(format, Part::Exponent);
+        ReservedBitsAreZero reserved_bits(format);
     }
-    slots[17] = word.slot(Some(Rule::ReservedBitsAreZero), word.reserved_bits());
-    slots
 }
 
 /// Returns the reasons why numbers in `format` cannot have the exponent character `exponent` and the decimal point
@@ -180,165 +171,56 @@ pub const fn reasons(format: u128) -> [Option<Reason>; MAX_REASONS] {
 /// normal form, in which a digit separator that no flag allows is absent.
 #[must_use]
 pub const fn options_reasons(format: u128, exponent: u8, decimal_point: u8) -> [Option<Reason>; MAX_OPTIONS_REASONS] {
-    let options = Characters { format, exponent, point: decimal_point };
-    macro_rules! slots {
-        ($($cause:ident($($argument:expr),*);)*) => {
-            [$(options.slot(None, options.$cause($($argument),*)),)*]
-        };
-    }
-    slots! {
-        byte_cause(Byte::ExponentCharacter);
-        byte_cause(Byte::DecimalPoint);
-        clash(Byte::ExponentCharacter, Byte::DecimalPoint);
-        clash(Byte::ExponentCharacter, Byte::DigitSeparator);
-        clash(Byte::ExponentCharacter, Byte::BasePrefix);
-        clash(Byte::ExponentCharacter, Byte::BaseSuffix);
-        clash(Byte::DecimalPoint, Byte::DigitSeparator);
-        clash(Byte::DecimalPoint, Byte::BasePrefix);
-        clash(Byte::DecimalPoint, Byte::BaseSuffix);
+    let exponent = named(Byte::ExponentCharacter, exponent);
+    let point = named(Byte::DecimalPoint, decimal_point);
+    let separator = named(Byte::DigitSeparator, flags::digit_separator(format));
+    let prefix = named(Byte::BasePrefix, flags::base_prefix(format));
+    let suffix = named(Byte::BaseSuffix, flags::base_suffix(format));
+    [
+        reason_for(format, None, not_punctuation(format, exponent)),
+        reason_for(format, None, not_punctuation(format, point)),
+        reason_for(format, None, clash(format, exponent, point)),
+        reason_for(format, None, clash(format, exponent, separator)),
+        reason_for(format, None, clash(format, exponent, prefix)),
+        reason_for(format, None, clash(format, exponent, suffix)),
+        reason_for(format, None, clash(format, point, separator)),
+        reason_for(format, None, clash(format, point, prefix)),
+        reason_for(format, None, clash(format, point, suffix)),
+    ]
+}
+
+// Returns the reason for a cause, if there is one: why a word breaks `rule`, or why it does not accept options if `rule`
+// is `None`.
+#[inline(always)]
+const fn reason_for(format: u128, rule: Option<Rule>, cause: Option<Cause>) -> Option<Reason> {
+    match cause {
+        Some(cause) => Some(Reason { rule, followers: followers(format, rule), cause, mask: cause.mask(format) }),
+        None => None,
     }
 }
 
-impl Characters {
-    // Returns the reason for a cause, if there is one: why a word breaks `rule`, or why options do not fit if it is
-    // `None`.
-    #[inline(always)]
-    const fn slot(&self, rule: Option<Rule>, cause: Option<Cause>) -> Option<Reason> {
-        match cause {
-            Some(cause) => Some(Reason { rule, followers: self.followers(rule), cause, mask: self.mask(&cause) }),
-            None => None,
-        }
+// Returns the rules that a word also breaks if it breaks `rule`: those of absent exponent bytes.
+#[inline(always)]
+const fn followers(format: u128, rule: Option<Rule>) -> (Option<Rule>, Option<Rule>) {
+    match rule {
+        Some(Rule::MantissaRadixInRange) => (
+            some_if(raw_exponent_base(format) == 0, Rule::ExponentBaseInRange),
+            some_if(raw_exponent_radix(format) == 0, Rule::ExponentRadixInRange),
+        ),
+        _ => (None, None),
     }
+}
 
-    // Returns the rules that a word also breaks if it breaks `rule`: those of absent exponent bytes.
-    #[inline(always)]
-    const fn followers(&self, rule: Option<Rule>) -> (Option<Rule>, Option<Rule>) {
-        match rule {
-            Some(Rule::MantissaRadixInRange) => (
-                some_if(raw_exponent_base(self.format) == 0, Rule::ExponentBaseInRange),
-                some_if(raw_exponent_radix(self.format) == 0, Rule::ExponentRadixInRange),
-            ),
-            _ => (None, None),
-        }
-    }
-
-    // Returns a byte with its value.
-    #[inline(always)]
-    const fn named(&self, name: Byte) -> NamedByte {
-        let value = match name {
-            Byte::DigitSeparator => flags::digit_separator(self.format),
-            Byte::BasePrefix => flags::base_prefix(self.format),
-            Byte::BaseSuffix => flags::base_suffix(self.format),
-            Byte::MantissaRadix => flags::mantissa_radix(self.format) as u8,
-            Byte::ExponentBase => raw_exponent_base(self.format),
-            Byte::ExponentRadix => raw_exponent_radix(self.format),
-            Byte::ExponentCharacter => self.exponent,
-            Byte::DecimalPoint => self.point,
-        };
-        NamedByte { name, value }
-    }
-
-    // Returns whether a byte matches only itself. Otherwise, a letter matches both cases.
-    #[inline(always)]
-    const fn is_cased(&self, name: Byte) -> bool {
-        match name {
-            Byte::BasePrefix => FormatView::new(self.format).case_sensitive_base_prefix(),
-            Byte::BaseSuffix => FormatView::new(self.format).case_sensitive_base_suffix(),
-            Byte::ExponentCharacter => FormatView::new(self.format).case_sensitive_exponent(),
-            _ => true,
-        }
-    }
-
-    // Returns the case flag of a byte if it is not set.
-    #[inline(always)]
-    const fn unset_flag(&self, name: Byte) -> Option<FlagSetter> {
-        if self.is_cased(name) {
-            None
-        } else {
-            case_flag(name)
-        }
-    }
-
-    // Returns the cause for a radix that is not between 2 and 36, if it is not.
-    #[inline(always)]
-    const fn radix_cause(&self, name: Byte) -> Option<Cause> {
-        let byte = self.named(name);
-        let is_valid = flags::is_valid_radix(byte.value as u32);
-        some_if(!is_valid, Cause::OutOfRange(byte))
-    }
-
-    // Returns the cause for a byte that is not punctuation, if it is not.
-    const fn byte_cause(&self, name: Byte) -> Option<Cause> {
-        let byte = self.named(name);
-        if !is_valid_ascii(byte.value) {
-            Some(Cause::NotText(byte))
-        } else if (byte.value == b'+') | (byte.value == b'-') {
-            Some(Cause::IsSign(byte))
-        } else {
-            digit_cause(self.format, byte)
-        }
-    }
-
-    // Returns a cause if the byte is present.
-    #[inline(always)]
-    const fn if_present(&self, name: Byte, cause: Option<Cause>) -> Option<Cause> {
-        if self.named(name).value == 0 {
-            None
-        } else {
-            cause
-        }
-    }
-
-    // Returns the cause for two bytes that match the same byte, if they do.
-    #[inline(always)]
-    const fn clash(&self, first: Byte, second: Byte) -> Option<Cause> {
-        let (a, b) = (self.named(first), self.named(second));
-        if roles_disjoint(a.value, self.is_cased(first), b.value, self.is_cased(second)) {
-            None
-        } else {
-            Some(self.clash_cause(a, b))
-        }
-    }
-
-    // Returns the cause for two bytes that match the same byte.
-    const fn clash_cause(&self, first: NamedByte, second: NamedByte) -> Cause {
-        if second.value == first.value {
-            Cause::Same(first, second)
-        } else {
-            Cause::DifferInCase {
-                first,
-                first_flag: self.unset_flag(first.name),
-                second,
-                second_flag: self.unset_flag(second.name),
-            }
-        }
-    }
-
-    // Returns the cause for two flags that are both set, if they are.
-    #[inline(always)]
-    const fn both_set(&self, a: FlagSetter, b: FlagSetter) -> Option<Cause> {
-        some_if(a.is_set(self.format) & b.is_set(self.format), Cause::BothSet(a, b))
-    }
-
-    // Returns the cause for consecutive digit separators in a part that has no position for one, if there is none.
-    #[inline(always)]
-    const fn needs_position(&self, part: Part) -> Option<Cause> {
-        let allowed = FormatView::new(self.format).separators(part);
-        let is_lonely = allowed.consecutive & !(allowed.internal | allowed.leading | allowed.trailing);
-        some_if(is_lonely, Cause::NeedsPosition(part))
-    }
-
-    // Returns the cause for reserved bits that are set, if any.
-    #[inline(always)]
-    const fn reserved_bits(&self) -> Option<Cause> {
-        let bits = self.format & Rule::ReservedBitsAreZero.mask();
-        some_if(bits != 0, Cause::ReservedBits(bits))
-    }
+// Returns a byte with its value.
+#[inline(always)]
+const fn named(name: Byte, value: u8) -> NamedByte {
+    NamedByte { name, value }
 }
 
 // Returns the flag that makes a byte case-sensitive, if there is one.
-const fn case_flag(byte: Byte) -> Option<FlagSetter> {
-    match byte {
+#[inline(always)]
+const fn case_flag(name: Byte) -> Option<FlagSetter> {
+    match name {
         Byte::BasePrefix => Some(FlagSetter::CaseSensitiveBasePrefix),
         Byte::BaseSuffix => Some(FlagSetter::CaseSensitiveBaseSuffix),
         Byte::ExponentCharacter => Some(FlagSetter::CaseSensitiveExponent),
@@ -346,17 +228,104 @@ const fn case_flag(byte: Byte) -> Option<FlagSetter> {
     }
 }
 
-// Returns the cause for a byte that is a digit, if it is.
-const fn digit_cause(format: u128, byte: NamedByte) -> Option<Cause> {
+// Returns whether a byte matches only itself. Otherwise, a letter matches both cases.
+#[inline(always)]
+const fn is_cased(format: u128, name: Byte) -> bool {
+    match case_flag(name) {
+        Some(flag) => flag.is_set(format),
+        None => true,
+    }
+}
+
+// Returns the case flag of a byte if it has one that is not set.
+#[inline(always)]
+const fn unset_flag(format: u128, name: Byte) -> Option<FlagSetter> {
+    if is_cased(format, name) {
+        None
+    } else {
+        case_flag(name)
+    }
+}
+
+// Returns a cause if the byte is present.
+#[inline(always)]
+const fn if_present(byte: NamedByte, cause: Option<Cause>) -> Option<Cause> {
+    if byte.value == 0 {
+        None
+    } else {
+        cause
+    }
+}
+
+// Returns the cause for a radix that is not between 2 and 36, if it is not.
+#[inline(always)]
+const fn out_of_range(byte: NamedByte) -> Option<Cause> {
+    let is_valid = flags::is_valid_radix(byte.value as u32);
+    some_if(!is_valid, Cause::OutOfRange(byte))
+}
+
+// Returns the cause for a byte that is not punctuation, if it is not.
+const fn not_punctuation(format: u128, byte: NamedByte) -> Option<Cause> {
+    if !is_valid_ascii(byte.value) {
+        Some(Cause::NotText(byte))
+    } else if (byte.value == b'+') | (byte.value == b'-') {
+        Some(Cause::IsSign(byte))
+    } else {
+        match digit_radixes(format, byte.value) {
+            Some(radixes) => Some(Cause::IsDigit(byte, radixes)),
+            None => None,
+        }
+    }
+}
+
+// Returns the radixes in which a byte is a digit, if there are any.
+const fn digit_radixes(format: u128, byte: u8) -> Option<Radixes> {
     let mantissa = flags::mantissa_radix(format);
     let exponent = raw_exponent_radix(format);
-    let radixes = match (char_is_digit(byte.value, mantissa), char_is_digit(byte.value, exponent as u32)) {
-        (true, true) => Radixes::Both { mantissa: mantissa as u8, exponent },
-        (true, false) => Radixes::Mantissa(mantissa as u8),
-        (false, true) => Radixes::Exponent(exponent),
-        (false, false) => return None,
-    };
-    Some(Cause::IsDigit(byte, radixes))
+    match (char_is_digit(byte, mantissa), char_is_digit(byte, exponent as u32)) {
+        (true, true) => Some(Radixes::Both { mantissa: mantissa as u8, exponent }),
+        (true, false) => Some(Radixes::Mantissa(mantissa as u8)),
+        (false, true) => Some(Radixes::Exponent(exponent)),
+        (false, false) => None,
+    }
+}
+
+// Returns the cause for two bytes that match the same byte, if they do.
+#[inline(always)]
+const fn clash(format: u128, first: NamedByte, second: NamedByte) -> Option<Cause> {
+    if roles_disjoint(first.value, is_cased(format, first.name), second.value, is_cased(format, second.name)) {
+        None
+    } else if second.value == first.value {
+        Some(Cause::Same(first, second))
+    } else {
+        Some(Cause::DifferInCase {
+            first,
+            first_flag: unset_flag(format, first.name),
+            second,
+            second_flag: unset_flag(format, second.name),
+        })
+    }
+}
+
+// Returns the cause for two flags that are both set, if they are.
+#[inline(always)]
+const fn both_set(format: u128, first: FlagSetter, second: FlagSetter) -> Option<Cause> {
+    some_if(first.is_set(format) & second.is_set(format), Cause::BothSet(first, second))
+}
+
+// Returns the cause for consecutive digit separators in a part that has no position for one, if there is none.
+#[inline(always)]
+const fn needs_position(format: u128, part: Part) -> Option<Cause> {
+    let allowed = FormatView::new(format).separators(part);
+    let is_lonely = allowed.consecutive & !(allowed.internal | allowed.leading | allowed.trailing);
+    some_if(is_lonely, Cause::NeedsPosition(part))
+}
+
+// Returns the cause for reserved bits that are set, if any.
+#[inline(always)]
+const fn reserved_bits(format: u128) -> Option<Cause> {
+    let bits = format & Rule::ReservedBitsAreZero.mask();
+    some_if(bits != 0, Cause::ReservedBits(bits))
 }
 
 // Returns `Some(value)` if `condition` is true, and `None` if it is false.

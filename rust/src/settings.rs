@@ -3,21 +3,17 @@
 use core::fmt::{self, Write};
 use core::str::from_utf8;
 
-use crate::edits::{apply, Edit, Fault, Setter, SettingError, SettingErrorKind, FIELD_COUNT};
+use crate::edits::{apply, likeness, Edit, EditError, EditErrorKind, Fault, Setter, FIELD_COUNT};
 use crate::format::{NumberFormatBuilder, EXPONENT_BASE, EXPONENT_RADIX, MANTISSA_RADIX};
-use crate::format_error::{self, ONE_OPTION};
+use crate::format_error::ONE_OPTION;
+use crate::lawful::Rejected;
 use crate::literal::Syntax;
-use crate::reasons::{Byte, Cause, NamedByte, Note, Reason};
+use crate::reasons::{Byte, Cause, Note, Reason};
 use crate::{Format, FormatError};
 
 /// The settings of options: the exponent character and the decimal point.
 const OPTIONS: [&str; 2] = ["exponent", "point"];
 const DEFAULTS: [u8; 2] = *b"e.";
-
-/// The bits that stand for the options in masks. They hold no field of a word.
-const EXPONENT: u128 = 1 << 18;
-const POINT: u128 = 1 << 19;
-const MASKS: [u128; 2] = [EXPONENT, POINT];
 
 /// The number of fields and options, and thereby the largest number of settings that are not overridden.
 const LIVE: usize = FIELD_COUNT + OPTIONS.len();
@@ -33,11 +29,9 @@ const SHOWN: usize = 40;
 
 /// Settings that are read from texts, such as the lines of a file, and the format or syntax that they build.
 ///
-/// A setting has the form `NAME=VALUE`. NAME is one of [`Edit::NAMES`], or `exponent` or `point` for the exponent
-/// character and the decimal point. VALUE is a value that [`Setter::parse`] takes, but quotes are refused for the
-/// mantissa radix, the exponent base and the exponent radix. `exponent` and `point` take what `digit_separator` takes.
-/// A text that is blank or begins with `#` sets nothing. White space around the text, NAME and VALUE is skipped, as by
-/// [`trim_ascii`][slice::trim_ascii], such as the carriage return at the end of a line, but not a vertical tab. A byte
+/// A setting is what an [`Edit`] is parsed from, or has the name `exponent` or `point`, for the exponent character and the
+/// decimal point, and a value that `digit_separator` takes. A text that is blank or begins with `#` sets nothing. White
+/// space is skipped as by [`trim_ascii`][slice::trim_ascii], such as the carriage return at the end of a line. A byte
 /// order mark is skipped only at the start of the first text, and `#` begins a comment only at the start of a text.
 ///
 /// A setting overrides those before it. Fields without a setting have the values of a new builder, the exponent
@@ -49,7 +43,7 @@ const SHOWN: usize = 40;
 /// The *index* of a text is the number of texts before it, so the index of the first line is 0.
 ///
 /// ```
-/// use peltzivar::Settings;
+/// use peltzivar::{literal::Reader, Settings};
 ///
 /// let file = "# hexadecimal\nradix = 16\nbase_prefix = 'b'\nexponent = 'p'\ndigit_separator = '_'";
 /// let mut settings = Settings::read(file.lines())?;
@@ -58,7 +52,7 @@ const SHOWN: usize = 40;
 /// assert_eq!(reason.indexes(), [1, 2]);
 ///
 /// settings.add("base_prefix = 'x'")?;
-/// assert!(settings.build_syntax()?.read(b"0x1.8p3").is_ok());
+/// assert!(Reader::new(settings.build_syntax()?).read(b"0x1.8p3").is_ok());
 /// let notes: Vec<_> = settings.notes().map(|note| (note.to_string(), note.indexes().to_vec())).collect();
 /// assert_eq!(notes, [
 ///     ("a later setting overrides base_prefix".into(), vec![2, 5]),
@@ -71,8 +65,8 @@ pub struct Settings {
     builder: NumberFormatBuilder,
     /// The exponent character and the decimal point. A character that is `none` is 0.
     options: [u8; 2],
-    /// The bits of the settings that were refused, and that no later setting writes.
-    refused: u128,
+    /// What the settings would write that were refused, and no later setting writes.
+    refused: Mask,
     /// The number of texts.
     count: usize,
     /// The settings of which a field is not overridden, sorted by their indexes.
@@ -81,12 +75,35 @@ pub struct Settings {
     overridden: [Option<(Setting, usize)>; OVERRIDDEN],
 }
 
-/// The index of a text, the name that it sets, and the bits that it writes and that no later setting writes.
+/// The index of a text, the name that it sets, and what it writes and no later setting writes.
 #[derive(Debug, Clone, Copy, PartialEq, Eq, Hash)]
 struct Setting {
     index: usize,
     name: &'static str,
-    mask: u128,
+    mask: Mask,
+}
+
+/// The bits of fields of a word, and a bit for each option, by its index in [`OPTIONS`].
+#[derive(Debug, Clone, Copy, PartialEq, Eq, Hash)]
+struct Mask {
+    word: u128,
+    options: u8,
+}
+
+impl Mask {
+    const EMPTY: Mask = Mask::of_word(0);
+
+    const fn of_word(word: u128) -> Mask {
+        Mask { word, options: 0 }
+    }
+
+    const fn without(self, other: Mask) -> Mask {
+        Mask { word: self.word & !other.word, options: self.options & !other.options }
+    }
+
+    const fn meets(self, other: Mask) -> bool {
+        self.word & other.word != 0 || self.options & other.options != 0
+    }
 }
 
 impl Default for Settings {
@@ -102,7 +119,7 @@ impl Settings {
         Settings {
             builder: NumberFormatBuilder::new(),
             options: DEFAULTS,
-            refused: 0,
+            refused: Mask::EMPTY,
             count: 0,
             live: [None; LIVE],
             overridden: [None; OVERRIDDEN],
@@ -114,7 +131,7 @@ impl Settings {
     /// # Errors
     ///
     /// Returns the error of the first text that is refused.
-    pub fn read<T: AsRef<[u8]>>(texts: impl IntoIterator<Item = T>) -> Result<Self, SettingsError> {
+    pub fn read<T: AsRef<[u8]>>(texts: impl IntoIterator<Item = T>) -> Result<Self, LineError> {
         let mut settings = Settings::new();
         let mut texts = texts.into_iter();
         texts.try_for_each(|text| settings.add(text))?;
@@ -133,7 +150,7 @@ impl Settings {
     /// # Errors
     ///
     /// Returns an error if the text has no `=`, if its name is unknown, or if the name does not take the value.
-    pub fn add(&mut self, text: impl AsRef<[u8]>) -> Result<(), SettingsError> {
+    pub fn add(&mut self, text: impl AsRef<[u8]>) -> Result<(), LineError> {
         let (index, text) = (self.count, text.as_ref());
         self.count += 1;
         let text = match text.strip_prefix(b"\xEF\xBB\xBF") {
@@ -143,16 +160,16 @@ impl Settings {
         if matches!(text, [] | [b'#', ..]) {
             return Ok(());
         }
-        let (option, edit) = parse(index, text).inspect_err(|it| {
-            if let Fault::BadValue(setter) = it.error.0 {
-                self.refused |= it.option.map_or(setter.mask(), |option| MASKS[option]);
-            }
+        let (option, edit) = parse(index, text).inspect_err(|it| match (it.option, it.error.0) {
+            (Some(option), _) => self.refused.options |= 1 << option,
+            (None, Fault::BadValue(setter)) => self.refused.word |= setter.mask(),
+            _ => (),
         })?;
         let (name, mask) = match option {
-            Some(option) => (OPTIONS[option], MASKS[option]),
-            None => (edit.name(), edit.mask()),
+            Some(option) => (OPTIONS[option], Mask { word: 0, options: 1 << option }),
+            None => (edit.name(), Mask::of_word(edit.mask())),
         };
-        self.refused &= !mask;
+        self.refused = self.refused.without(mask);
         match option {
             Some(option) => self.options[option] = edit.argument_byte(),
             None => self.builder = apply(self.builder, edit),
@@ -163,11 +180,11 @@ impl Settings {
 
     /// Adds a setting, and moves the settings that it overrides completely.
     fn push(&mut self, new: Setting) {
-        let old = self.live.into_iter().flatten().map(|old| Setting { mask: old.mask & !new.mask, ..old });
-        let gone = old.clone().filter(|old| old.mask == 0);
+        let old = self.live.into_iter().flatten().map(|old| Setting { mask: old.mask.without(new.mask), ..old });
+        let gone = old.clone().filter(|old| old.mask == Mask::EMPTY);
         let gone = gone.map(|old| (old, new.index));
         self.overridden = filled(self.overridden.into_iter().flatten().chain(gone));
-        self.live = filled(old.filter(|old| old.mask != 0).chain([new]));
+        self.live = filled(old.filter(|old| old.mask != Mask::EMPTY).chain([new]));
     }
 
     /// Returns the format. The exponent character and the decimal point do not matter.
@@ -191,8 +208,7 @@ impl Settings {
             [0, 0] => Ok(Syntax::integers(format)),
             [exponent, point] => Syntax::new(format, exponent, point).map_err(|error| {
                 // The reasons of the fields as they are set, and not as the normal form has them.
-                let cause = format_error::Cause::Options(format.word(), exponent, point);
-                FormatError::new(error.code(), cause)
+                FormatError::new(error.code(), Rejected::Options(format.word(), exponent, point))
             }),
         }
     }
@@ -203,7 +219,7 @@ impl Settings {
         let error = self.build_syntax().err().into_iter();
         let reasons = error.flat_map(|error| error.reasons());
         reasons.filter_map(|reason| {
-            let mask = reason.mask() | options_of(reason.cause());
+            let mask = Mask { word: reason.mask(), options: options_of(reason.cause()) };
             self.finding(FindingKind::Reason(reason), mask)
         })
     }
@@ -217,20 +233,20 @@ impl Settings {
             Finding::new(kind, [old.index, *by].into_iter())
         });
         let notes = self.builder.notes();
-        let notes = notes.filter_map(|note| self.finding(FindingKind::Note(note), note.mask()));
+        let notes = notes.filter_map(|note| self.finding(FindingKind::Note(note), Mask::of_word(note.mask())));
         overridden.chain(notes)
     }
 
-    /// Returns a finding with the indexes of the settings that write bits of `mask`, unless a refused one would do so. The
-    /// exponent bytes only follow a mantissa radix that is to blame.
-    fn finding(&self, kind: FindingKind, mask: u128) -> Option<Finding> {
+    /// Returns a finding with the indexes of the settings that write what `mask` has, unless a refused one would do so.
+    /// The exponent bytes only follow a mantissa radix that is to blame.
+    fn finding(&self, kind: FindingKind, mask: Mask) -> Option<Finding> {
         let live = self.live.iter().flatten();
-        let blamed = live.filter(|it| it.mask & mask != 0);
-        let own = match mask & MANTISSA_RADIX {
+        let blamed = live.filter(|it| it.mask.meets(mask));
+        let own = match mask.word & MANTISSA_RADIX {
             0 => mask,
-            _ => mask & !(EXPONENT_BASE | EXPONENT_RADIX),
+            _ => mask.without(Mask::of_word(EXPONENT_BASE | EXPONENT_RADIX)),
         };
-        (own & self.refused == 0).then(|| Finding::new(kind, blamed.map(|it| it.index)))
+        (!own.meets(self.refused)).then(|| Finding::new(kind, blamed.map(|it| it.index)))
     }
 }
 
@@ -243,30 +259,28 @@ fn filled<T: Copy, const N: usize>(items: impl Iterator<Item = T>) -> [Option<T>
 }
 
 /// Returns the edit of a text. If it sets an option, returns the number of the option, and the edit sets a separator.
-fn parse(index: usize, text: &[u8]) -> Result<(Option<usize>, Edit), SettingsError> {
-    let refuse = |fault, option, refused: &[u8]| {
-        let (error, length, mut piece) = (SettingError(fault), refused.len(), [0; SHOWN]);
+fn parse(index: usize, text: &[u8]) -> Result<(Option<usize>, Edit), LineError> {
+    let refuse = |error, option, refused: &[u8]| {
+        let (length, mut piece) = (refused.len(), [0; SHOWN]);
         let pairs = piece.iter_mut().zip(refused);
         pairs.for_each(|(to, byte)| *to = *byte);
-        SettingsError { index, error, option, piece, length }
+        LineError { index, error, option, piece, length }
     };
     let equals = text.iter().position(|byte| *byte == b'=');
-    let equals = equals.ok_or_else(|| refuse(Fault::NoEquals, None, text))?;
-    let name = text[..equals].trim_ascii_end();
+    let equals = equals.ok_or_else(|| refuse(EditError(Fault::NoEquals), None, text))?;
+    let (name, value) = (text[..equals].trim_ascii(), text[equals + 1..].trim_ascii());
     let option = OPTIONS.iter().position(|it| it.as_bytes() == name);
-    let setter = match option {
-        Some(_) => Some(Setter::DigitSeparator),
-        None => from_utf8(name).ok().and_then(Setter::from_name),
+    // Bytes that are not UTF-8 are read as an empty text, which is neither a name nor a value.
+    let argument = from_utf8(value).unwrap_or_default();
+    let edit = match option {
+        Some(_) => Setter::DigitSeparator.parse(argument),
+        None => Edit::from_setting(from_utf8(name).unwrap_or_default(), argument),
     };
-    let setter = setter.ok_or_else(|| refuse(Fault::UnknownName, None, name))?;
-    let value = text[equals + 1..].trim_ascii_start();
-    let edit = match (setter, value) {
-        (Setter::MantissaRadix | Setter::Radix, [b'\'', ..]) => None,
-        (Setter::ExponentBase | Setter::ExponentRadix, [b'\'', ..]) => None,
-        _ => from_utf8(value).ok().and_then(|it| setter.parse(it).ok()),
-    };
-    let edit = edit.ok_or_else(|| refuse(Fault::BadValue(setter), option, value))?;
-    Ok((option, edit))
+    match edit {
+        Ok(edit) => Ok((option, edit)),
+        Err(error) if error.name().is_none() => Err(refuse(error, option, name)),
+        Err(error) => Err(refuse(error, option, value)),
+    }
 }
 
 /// Returns whether an option is `none`. This is a cause if the other is not.
@@ -274,19 +288,15 @@ const fn is_one_option(cause: Cause) -> bool {
     matches!(cause, Cause::NotText(byte) if byte.value == 0)
 }
 
-/// Returns the masks of the options that a cause names, or of both if one is `none`.
-fn options_of(cause: Cause) -> u128 {
-    let mask = |byte: NamedByte| match byte.name {
-        Byte::ExponentCharacter => EXPONENT,
-        Byte::DecimalPoint => POINT,
-        _ => 0,
-    };
-    match cause {
-        _ if is_one_option(cause) => EXPONENT | POINT,
-        Cause::NotText(byte) | Cause::IsSign(byte) | Cause::IsDigit(byte, _) => mask(byte),
-        Cause::Same(first, second) | Cause::DifferInCase { first, second, .. } => mask(first) | mask(second),
-        _ => 0,
-    }
+/// Returns the bits of the options that a cause names, or of both if one is `none`.
+fn options_of(cause: Cause) -> u8 {
+    let bytes = cause.bytes().into_iter().flatten();
+    bytes.fold(0, |mask, byte| match byte.name {
+        _ if is_one_option(cause) => 3,
+        Byte::ExponentCharacter => mask | 1,
+        Byte::DecimalPoint => mask | 2,
+        _ => mask,
+    })
 }
 
 /// A reason or a note, and the indexes of the settings that cause it.
@@ -348,21 +358,21 @@ impl fmt::Display for Finding {
     }
 }
 
-/// Why a text is refused.
+/// Why [`Settings`] refuse a text, such as a line of a file.
 ///
 /// `Display` prints a sentence without the index. It names the text, or the name or value in it that is refused, by at
 /// most 40 bytes. A byte that is not printable ASCII is escaped, as in `\x1b`.
 #[derive(Debug, Clone, Copy, PartialEq, Eq, Hash)]
-pub struct SettingsError {
+pub struct LineError {
     index: usize,
-    error: SettingError,
+    error: EditError,
     option: Option<usize>,
     /// The first bytes of what is refused, and its length.
     piece: [u8; SHOWN],
     length: usize,
 }
 
-impl SettingsError {
+impl LineError {
     /// Returns the index of the text.
     #[must_use]
     pub const fn index(&self) -> usize {
@@ -371,17 +381,28 @@ impl SettingsError {
 
     /// Returns what is wrong with the text.
     #[must_use]
-    pub const fn kind(&self) -> SettingErrorKind {
+    pub const fn kind(&self) -> EditErrorKind {
         self.error.kind()
+    }
+
+    /// Returns the option or the setter whose name is most like an unknown one.
+    fn suggestion(&self, name: &[u8]) -> Option<&'static str> {
+        let Fault::UnknownName(nearest) = self.error.0 else { return None };
+        let (nearest, alike) = (nearest.map(Setter::name), |other: &&str| likeness(name, other));
+        let names = nearest.into_iter().chain(OPTIONS).filter(|it| alike(it) >= 50);
+        match name {
+            [b'd', b'e', b'c', b'i', b'm', b'a', b'l', ..] => Some("point"),
+            _ => names.max_by_key(alike).or(nearest),
+        }
     }
 }
 
-impl core::error::Error for SettingsError {}
+impl core::error::Error for LineError {}
 
-impl fmt::Display for SettingsError {
+impl fmt::Display for LineError {
     fn fmt(&self, f: &mut fmt::Formatter<'_>) -> fmt::Result {
         match (self.kind(), self.option) {
-            (SettingErrorKind::UnknownName, _) => f.write_str("unknown setting `")?,
+            (EditErrorKind::UnknownName, _) => f.write_str("unknown setting `")?,
             (_, None) => write!(f, "{}, not `", self.error)?,
             (_, Some(option)) => {
                 let (name, default) = (OPTIONS[option], char::from(DEFAULTS[option]));
@@ -397,21 +418,9 @@ impl fmt::Display for SettingsError {
             }
         }
         f.write_str(if self.length > SHOWN { "..`" } else { "`" })?;
-        match (self.kind(), nearest(shown)) {
-            (SettingErrorKind::UnknownName, Some(name)) => write!(f, "; did you mean `{name}`?"),
-            _ => Ok(()),
+        match self.suggestion(shown) {
+            Some(name) => write!(f, "; did you mean `{name}`?"),
+            None => Ok(()),
         }
     }
-}
-
-/// Returns the name that has most pairs of adjacent letters in common with this one, if these are half of the pairs.
-fn nearest(name: &[u8]) -> Option<&'static str> {
-    let rated = Edit::NAMES.iter().chain(&OPTIONS).map(|other| {
-        let pairs = other.as_bytes().windows(2);
-        let shared = pairs.filter(|pair| name.windows(2).any(|it| it == *pair));
-        let size = name.len() + other.len() - 2;
-        (200 * shared.count() / size, *other)
-    });
-    let nearest = rated.max_by_key(|it| it.0).filter(|it| it.0 >= 50);
-    nearest.map(|it| it.1)
 }

@@ -9,7 +9,6 @@ const CAPACITY: usize = 256;
 
 /// A text of at most 256 bytes. Each call appends a piece to the text. A piece that does not fit is left out.
 #[derive(Clone, Copy)]
-#[doc(hidden)]
 pub struct ShortText {
     bytes: [u8; CAPACITY],
     length: usize,

@@ -3,17 +3,16 @@
 use core::fmt;
 use core::str::FromStr;
 
-use crate::edits::{Edit, Fault, FlagSetter, Setter, SettingError};
+use crate::edits::{nearest, Edit, EditError, Fault, FlagSetter, Setter};
 use crate::error::Error;
-use crate::format_error::{Cause, FormatError};
 use crate::format_flags::{Part, Rule};
-use crate::lawful::Format;
+use crate::lawful::{Format, FormatError, Rejected};
 use crate::reasons::Reason;
 use crate::short_text::ShortText;
 use crate::view::{FormatView, Role};
 use crate::word_text::{parse_word, word_text};
 
-impl core::error::Error for SettingError {}
+impl core::error::Error for EditError {}
 
 impl core::error::Error for Reason {}
 
@@ -35,7 +34,7 @@ impl FromStr for Format {
 
     fn from_str(text: &str) -> Result<Self, FormatError> {
         let word = parse_word(text);
-        Format::new(word.map_err(|error| FormatError::new(error, Cause::Text))?)
+        Format::new(word.map_err(|error| FormatError::new(error, Rejected::Text))?)
     }
 }
 
@@ -152,24 +151,24 @@ texts! {
     }
 }
 
-/// Parses `NAME=VALUE`, split at the first `=`. The name and the value are parsed as in [`Edit::from_setting`]. Parsing
-/// the text that `Display` prints gives the same edit.
+/// Parses `NAME=VALUE`, split at the first `=`. The name and the value are parsed as in [`Edit::from_setting`], without
+/// the white space at both ends of each. Parsing the text that `Display` prints gives the same edit.
 impl FromStr for Edit {
-    type Err = SettingError;
+    type Err = EditError;
 
-    fn from_str(text: &str) -> Result<Self, SettingError> {
+    fn from_str(text: &str) -> Result<Self, EditError> {
         Edit::from_text(text)
     }
 }
 
 /// Parses the name of a flag setter or group setter.
 impl FromStr for FlagSetter {
-    type Err = SettingError;
+    type Err = EditError;
 
-    fn from_str(name: &str) -> Result<Self, SettingError> {
+    fn from_str(name: &str) -> Result<Self, EditError> {
         match Setter::from_name(name) {
             Some(Setter::Flag(setter)) => Ok(setter),
-            _ => Err(SettingError(Fault::UnknownName)),
+            found => Err(EditError(Fault::UnknownName(nearest(name).filter(|_| found.is_none())))),
         }
     }
 }

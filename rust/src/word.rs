@@ -1,6 +1,6 @@
 // Made by rust/tools/erase.py from crates/lexical_util/src/format.rt: change that file.
 
-//! The standard format, the view of a format word, two functions that check a word, and all items of `format_flags` and
+//! The standard format, lawful formats, the view of a format word, two functions that check a word, and all items of `format_flags` and
 //! `format_builder`.
 
 use crate::error::Error;
@@ -28,6 +28,8 @@ pub use crate::format_flags::{
     REQUIRED_INTEGER_DIGITS, REQUIRED_MANTISSA_DIGITS, REQUIRED_MANTISSA_SIGN, RULES, SPECIAL_DIGIT_SEPARATOR,
     TRAILING_DIGIT_SEPARATOR,
 };
+#[doc(no_inline)]
+pub use crate::lawful::{Format, FormatError};
 #[doc(no_inline)]
 pub use crate::view::{FormatView, Role, Separators};
 

@@ -1,9 +1,8 @@
-//! Formats, iterators, text and conversions, which are written by hand over the proved calls, are compared with these
-//! calls on many words, and with known texts on a few.
+//! Iterators, text and conversions, which are written by hand over the proved calls, are compared with these calls on many
+//! words, and with known texts on a few.
 
-use peltzivar::edits::{edits_of, same_format};
+use peltzivar::edits::edits_of;
 use peltzivar::format::{NumberFormatBuilder, BASE_PREFIX_SHIFT, BASE_SUFFIX_SHIFT, STANDARD};
-use peltzivar::format_flags::options_error;
 use peltzivar::literal::Syntax;
 use peltzivar::reasons::{notes, reasons};
 use peltzivar::{Error, FlagSetter, Format, FormatView, Rule};
@@ -44,49 +43,25 @@ fn words() -> impl Iterator<Item = u128> {
     })
 }
 
-/// Returns `Ok(value)` if the error is `Success`.
-fn ok_if<T>(error: Error, value: T) -> Result<T, Error> {
-    if error == Error::Success {
-        Ok(value)
-    } else {
-        Err(error)
-    }
-}
-
 #[test]
-fn a_format_is_a_word_without_error() {
+fn a_format_is_made_of_a_word_a_text_or_a_builder() {
     for word in words() {
-        let view = FormatView::new(word);
-        let (format, wanted) = (Format::new(word), ok_if(view.error(), word));
-        assert_eq!(format.map_err(Error::from).map(u128::from), wanted, "{word:#034X}");
-        assert_eq!(view.check().map(|format| format.word()), wanted);
-        assert_eq!(Format::try_from(word), format);
-        assert_eq!(format!("{view}").parse(), format);
+        let (format, text) = (Format::new(word), FormatView::new(word).to_string());
+        assert_eq!((Format::try_from(word), text.parse()), (format, format), "{text}");
     }
     const HEXADECIMAL: u128 = 0x00001000_00000000_00000000_0000000C;
     let built = NumberFormatBuilder::from_word(HEXADECIMAL).build_format();
-    assert_eq!(built, Ok(Format::of::<HEXADECIMAL>()));
-    assert_eq!((Format::of::<HEXADECIMAL>().word(), Format::default().word()), (HEXADECIMAL, STANDARD));
+    assert_eq!((built, Format::of::<HEXADECIMAL>().word()), (Format::new(HEXADECIMAL), HEXADECIMAL));
 }
 
 #[test]
-fn a_format_has_a_normal_form_that_is_one_too() {
+fn a_format_has_what_its_view_has() {
     for format in words().filter_map(|word| Format::new(word).ok()) {
-        let (normal, view) = (format.normal_form(), format.view());
-        assert_eq!(Format::new(normal.word()), Ok(normal));
-        assert!(same_format(normal.word(), format.word()) && normal.normal_form() == normal);
-        assert_eq!(
-            (FormatView::from(format), format.rebuild(), format.to_string()),
-            (view, view.rebuild(), view.to_string())
-        );
+        let (view, word) = (format.view(), format.word());
+        assert_eq!((FormatView::from(format), u128::from(format)), (view, word));
+        assert_eq!(NumberFormatBuilder::from(format), NumberFormatBuilder::from_word(word));
+        assert_eq!(format.to_string(), view.to_string());
         assert!(format.notes().eq(view.notes()) && format.edits().eq(view.edits()));
-        let builder = NumberFormatBuilder::from(format);
-        assert_eq!(builder, NumberFormatBuilder::from_word(format.word()));
-        assert_eq!(builder.build_format().map(|it| it.normal_form()), Ok(normal));
-        for [exponent, point] in [*b"e.", *b"p,", *b"x.", *b"5.", *b"^-", *b"^^"] {
-            let wanted = ok_if(options_error(format.word(), exponent, point), ());
-            assert_eq!(format.check_options(exponent, point).map_err(Error::from), wanted);
-        }
     }
 }
 
@@ -210,35 +185,28 @@ fn setters_of_flags_are_parsed() {
         assert_eq!(setter.to_string().parse(), Ok(*setter));
     }
     // Byte setters have no flag.
-    for name in ["digit_separator", "radix", "no_special ", "NO_SPECIAL", ""] {
-        let error = name.parse::<FlagSetter>().map_err(|error| error.to_string());
-        assert_eq!(error, Err("unknown setting name".to_string()), "{name}");
+    const NEAR: &str = "; did you mean `no_special`?";
+    for (name, near) in [("digit_separator", ""), ("radix", ""), ("no_special ", NEAR), ("NO_SPECIAL", NEAR), ("", "")]
+    {
+        let error = name.parse::<FlagSetter>().unwrap_err();
+        assert_eq!(error.to_string(), format!("unknown setting name{near}"), "{name}");
     }
     assert_eq!(format!("{:>12}", FlagSetter::NoSpecial), "  no_special");
 }
 
 #[test]
-fn a_syntax_is_a_format_with_options_that_fit_its_normal_form() {
+fn a_syntax_is_written_as_its_normal_form_and_its_options() {
     panic::set_hook(Box::new(|_| {}));
-    let mut syntaxes = Vec::new();
     for format in words().filter_map(|word| Format::new(word).ok()) {
-        let normal = format.normal_form();
-        let integers = Syntax::integers(format);
-        assert_eq!((integers.format(), integers.exponent(), integers.point()), (normal, None, None));
+        let (normal, integers) = (format.normal_form(), Syntax::integers(format));
         assert_eq!((integers.to_string(), normal.to_string().parse()), (normal.to_string(), Ok(integers)));
-        syntaxes.push((normal, None, integers));
         for [exponent, point] in [*b"e.", *b"p,", *b"x.", *b"5.", *b"^-", *b"^^", *b"\0."] {
             let (syntax, text) = (Syntax::new(format, exponent, point), format!("{normal} {exponent} {point}"));
-            assert_eq!(syntax.map(|it| it.to_string()), normal.check_options(exponent, point).map(|()| text.clone()));
-            assert_eq!(text.parse(), syntax);
+            assert_eq!((text.parse(), syntax.map_or(text.clone(), |it| it.to_string())), (syntax, text));
             let text = syntax.map_err(|error| error.to_string());
             assert_eq!(stopped(|| Syntax::new_or_panic(format, exponent, point)), text);
-            syntaxes.extend(syntax.map(|it| (normal, Some((exponent, point)), it)));
         }
     }
-    // The formats and the options decide the order.
-    syntaxes.sort();
-    assert!(syntaxes.is_sorted_by_key(|syntax| syntax.2));
 }
 
 #[test]
@@ -252,6 +220,10 @@ fn syntaxes_are_parsed() {
         ("0x0A0A0A0000000000000000000000000C", Ok(INTEGERS)),
         ("0x00000a0000000000000000000000000c 101 046", Ok(NUMBERS)),
         ("0x00000A0000000000000000000000000C 'e' 0x2e", Ok(NUMBERS)),
+        ("0x00000A0000000000000000000000000C none 0", Ok(INTEGERS)),
+        // A space between quotes is a character.
+        ("0x00000A0000000000000000000000000C 'e' ' '", Ok("0x0A0A0A0000000000000000000000000C 101 32")),
+        ("0x00000A0000000000000000000000000C ' ' '.'", Ok("0x0A0A0A0000000000000000000000000C 32 46")),
         // No flag allows the separator, so that it may be the decimal point.
         ("0x00000A000000002E000000000000000C 101 46", Ok(NUMBERS)),
         ("0x00000A0000000000000000000000000C 101", Err((Error::InvalidDigit(38), OPTION))),
@@ -264,6 +236,9 @@ fn syntaxes_are_parsed() {
         ("0x00000A0000000000000000000000000C 101 1000", Err((Error::InvalidDigit(39), OPTION))),
         ("0x00000A0000000000000000000000000C 101 101",
             Err((Error::InvalidPunctuation, "the exponent character 'e' and the decimal point 'e' are the same"))),
+        ("0x00000A0000000000000000000000000C none '.'", Err((Error::InvalidExponentSymbol,
+            "only one of the exponent character and the decimal point is absent: for numbers without an exponent, keep \
+             both, and set no_exponent_notation"))),
         ("0x0 101", Err((Error::InvalidMantissaRadix, "the mantissa radix 0 is not between 2 and 36"))),
         ("0x1g 101 46", Err((Error::InvalidDigit(3), "lexical parse error: 'invalid digit found' at index 3"))),
         (" 0xC", Err((Error::Empty(0), "a format word begins with `0x`"))),

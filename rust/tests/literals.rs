@@ -2,7 +2,7 @@
 
 use peltzivar::format::{CASE_SENSITIVE_SPECIAL, DIGIT_SEPARATOR_FLAG_MASK, NO_SPECIAL};
 use peltzivar::literal::{
-    Cause, Language, Literal, Number, ReadError, Reader, Sign, Special, Specials, Spelling, Syntax,
+    Language, Literal, Number, ReadError, ReadErrorKind, Reader, Sign, Special, Specials, Spelling, Syntax,
 };
 use peltzivar::{Edit, FlagSetter, Format, NumberFormatBuilder, Part};
 
@@ -33,7 +33,7 @@ fn word(settings: &str) -> u128 {
 
 /// Returns the syntax of a word, with the exponent character and the decimal point of the page.
 fn syntax(word: u128) -> Syntax {
-    Syntax::of_word(word, b'e', b'.').unwrap()
+    Syntax::new(Format::new(word).unwrap(), b'e', b'.').unwrap()
 }
 
 /// Returns the parts that are present, one after another.
@@ -56,10 +56,9 @@ fn has_parts(literal: Literal<'_>) {
     }
 }
 
-/// Reads a text. The calls agree.
-fn read<'a>(reader: &Reader, syntax: Syntax, text: &'a [u8]) -> Result<Literal<'a>, ReadError> {
+/// Reads a text. Both calls agree.
+fn read<'a>(reader: &Reader, text: &'a [u8]) -> Result<Literal<'a>, ReadError> {
     let (result, prefix) = (reader.read(text), reader.read_prefix(text));
-    assert_eq!((result, prefix), (syntax.read(text), syntax.read_prefix(text)), "{text:?}");
     let longest = prefix.map_or(0, |(literal, _)| literal.as_bytes().len());
     if let Ok((literal, rest)) = prefix {
         assert_eq!((literal.as_bytes(), rest), text.split_at(longest), "{text:?}");
@@ -71,7 +70,7 @@ fn read<'a>(reader: &Reader, syntax: Syntax, text: &'a [u8]) -> Result<Literal<'
             assert!(longest <= error.valid_up_to() && error.valid_up_to() <= text.len(), "{text:?}");
             assert_eq!(error.is_incomplete(), error.valid_up_to() == text.len(), "{text:?}");
             assert!(text.get(error.span()).is_some(), "{text:?}: {error:?}");
-            settings_end_the_cause(error, syntax, text);
+            settings_end_the_cause(error, reader.syntax(), text);
         }
     }
     result
@@ -82,14 +81,15 @@ fn read<'a>(reader: &Reader, syntax: Syntax, text: &'a [u8]) -> Result<Literal<'
 fn settings_end_the_cause(error: ReadError, syntax: Syntax, text: &[u8]) {
     let settings = Vec::from_iter(error.settings());
     assert_eq!(settings.iter().fold(0, |mask, edit| mask | edit.mask()), error.mask(), "{text:?}");
-    let size = if matches!(error.cause(), Cause::Separator(..)) { 1 } else { settings.len().max(1) };
+    let size = if matches!(error.kind(), ReadErrorKind::Separator(..)) { 1 } else { settings.len().max(1) };
     for edits in settings.chunks(size) {
         let mut builder = NumberFormatBuilder::from(syntax.format());
         builder.extend(edits);
         let format = builder.build_format().unwrap();
         let options = syntax.exponent().zip(syntax.point());
         let edited = options.map(|(exponent, point)| Syntax::new(format, exponent, point).unwrap());
-        let result = edited.unwrap_or(Syntax::integers(format)).read(text);
+        let reader = Reader::new(edited.unwrap_or(Syntax::integers(format)));
+        let result = reader.read(text);
         let blames_both = |it: ReadError| it.valid_up_to() == error.valid_up_to() && it.mask() & error.mask() != 0;
         assert!(!result.is_err_and(blames_both), "{text:?}: {edits:?}: {result:?}");
     }
@@ -113,7 +113,8 @@ fn flags_accept_and_reject_the_texts_of_the_page() {
             let changes = is_accepted == (mask >> 32 != 0);
             for (word, wanted) in [(set, is_accepted), (set & !mask, is_accepted != changes)] {
                 let syntax = syntax(word);
-                let result = read(&Reader::new(syntax), syntax, text.as_bytes());
+                let reader = Reader::new(syntax);
+                let result = read(&reader, text.as_bytes());
                 let special = SPECIALS.read(&syntax, text.as_bytes());
                 assert_eq!(result.is_ok() || special.is_some(), wanted, "{word:#034X}: {text}: {result:?}");
                 let can_be_blamed = match mask >> 32 {
@@ -123,7 +124,8 @@ fn flags_accept_and_reject_the_texts_of_the_page() {
                 let blames = |error: ReadError| error.mask() & mask != 0 && error.to_string().contains(name);
                 let is_blamed = result.map_or_else(blames, |_| true);
                 assert!(is_blamed || wanted || !changes || !can_be_blamed, "{word:#034X}: {text}: {result:?}");
-                let is_requirement = |error: ReadError| error.cause() == Cause::Requirement && error.mask() & mask != 0;
+                let is_requirement =
+                    |error: ReadError| error.kind() == ReadErrorKind::Requirement && error.mask() & mask != 0;
                 requirements.extend(result.is_err_and(is_requirement).then_some(mask.ilog2()));
             }
         }
@@ -142,16 +144,15 @@ fn flags_accept_and_reject_the_texts_of_the_page() {
 fn questions_have_the_answers_of_the_page() {
     for row in table("How a reader applies the flags") {
         let [.., settings, accepted, rejected] = row[..] else { panic!("{row:?}") };
-        let syntax = match settings.strip_suffix("`, no options") {
+        let reader = Reader::new(match settings.strip_suffix("`, no options") {
             Some(settings) => Syntax::integers(Format::new(word(settings)).unwrap()),
             None => syntax(word(settings)),
-        };
-        let reader = Reader::new(syntax);
+        });
         for text in texts(accepted) {
-            assert!(read(&reader, syntax, text.as_bytes()).is_ok(), "{settings}: {text}");
+            assert!(read(&reader, text.as_bytes()).is_ok(), "{settings}: {text}");
         }
         for (text, code) in texts(rejected).step_by(2).zip(texts(rejected).skip(1).step_by(2)) {
-            let found = read(&reader, syntax, text.as_bytes()).map_err(|error| format!("{:?}", error.code()));
+            let found = read(&reader, text.as_bytes()).map_err(|error| format!("{:?}", error.code()));
             assert_eq!(found, Err(code.into()), "{settings}: {text}");
         }
     }
@@ -161,17 +162,41 @@ fn questions_have_the_answers_of_the_page() {
 fn causes_are_those_of_the_page() {
     for row in table("Texts and their causes") {
         let [text, settings, cause, valid_up_to, span] = row[..] else { panic!("{row:?}") };
-        let syntax = syntax(word(settings));
-        let error = read(&Reader::new(syntax), syntax, text.as_bytes()).expect_err(text);
-        let mut found = match error.cause() {
-            Cause::Separator(..) => "separator".into(),
-            Cause::Missing(part) => format!("missing {part:?}").to_lowercase(),
-            cause => format!("{cause:?}").to_lowercase(),
+        let error = read(&Reader::new(syntax(word(settings))), text.as_bytes()).expect_err(text);
+        let mut found = match error.kind() {
+            ReadErrorKind::Separator(..) => "separator".into(),
+            ReadErrorKind::Missing(part) => format!("missing {part:?}").to_lowercase(),
+            kind => format!("{kind:?}").to_lowercase(),
         };
         let blamed = (0..128).filter(|bit| error.mask() >> bit & 1 == 1);
         blamed.for_each(|bit| found += &format!(" {bit}"));
         let found = [found, error.valid_up_to().to_string(), format!("{:?}", error.span())];
         assert_eq!(found, [cause, valid_up_to, span], "{settings}: {text}");
+    }
+}
+
+/// What users read of refused texts, with what is shown of each.
+#[test]
+fn sentences_name_what_is_seen() {
+    let separators = "digit_separator=95 integer_internal_digit_separator=true";
+    let rows = [
+        ("", "1 000", "unexpected space", " "),
+        ("", "1'000", "unexpected character \"'\"", "'"),
+        ("", "1\t", "unexpected tab", "\t"),
+        ("", "1\r\n", "unexpected carriage return", "\r"),
+        ("", "1\0", "unexpected byte 0", "\0"),
+        ("", "1\u{e9}2", "unexpected character '\u{e9}'", "\u{e9}"),
+        ("", "1\u{a0}000", "unexpected no-break space", "\u{a0}"),
+        ("", "\u{feff}1", "unexpected invisible character", "\u{feff}"),
+        ("", "1e+", "expected a digit after the exponent character", "+"),
+        (separators, "1_0.0_5", "unexpected digit separator in the fraction after a digit", "_"),
+        (separators, "1__0", "unexpected digit separator in the integer after another", "_"),
+        ("no_integer_leading_zeros=true", "007", "unexpected leading zero", "007"),
+        ("case_sensitive_exponent=true", "1E5", "unexpected case of the exponent character", "E"),
+    ];
+    for (settings, text, sentence, shown) in rows {
+        let error = Reader::new(syntax(word(settings))).read(text.as_bytes()).unwrap_err();
+        assert_eq!((format!("{error:#}").as_str(), &text[error.span()]), (sentence, shown), "{text}");
     }
 }
 
@@ -186,9 +211,9 @@ fn parts_are_known() {
         ("base_prefix=120", "0x", "0"),
     ];
     for (settings, text, wanted) in rows {
-        let syntax = syntax(word(settings));
-        let result = read(&Reader::new(syntax), syntax, text.as_bytes());
-        let (literal, _) = syntax.read_prefix(text.as_bytes()).unwrap();
+        let reader = Reader::new(syntax(word(settings)));
+        let result = read(&reader, text.as_bytes());
+        let (literal, _) = reader.read_prefix(text.as_bytes()).unwrap();
         assert!(present(literal).into_iter().eq(wanted.split(' ').map(str::as_bytes)), "{text}: {literal:?}");
         assert_eq!(result.is_ok(), text == wanted.replace(' ', ""), "{text}");
     }
@@ -217,7 +242,7 @@ fn rows() -> impl Iterator<Item = (Language, &'static str, bool)> {
 fn languages_accept_and_reject_what_their_grammars_do() {
     for (language, text, is_accepted) in rows() {
         let result = language.read(text.as_bytes());
-        let literal = read(language.reader(), language.syntax(), text.as_bytes());
+        let literal = read(language.reader(), text.as_bytes());
         assert_eq!(result.is_ok(), is_accepted, "{language}: {text}: {result:?}");
         assert_eq!(matches!(result, Ok(Number::Literal(_))), literal.is_ok(), "{language}: {text}");
     }
@@ -236,7 +261,8 @@ fn each_setting_of_a_language_has_a_row() {
             let options = syntax.exponent().zip(syntax.point());
             let with_options = options.map(|(exponent, point)| Syntax::new_or_panic(format, exponent, point));
             let without = with_options.unwrap_or(Syntax::integers(format));
-            let is_number = |text| without.read(text).is_ok() || specials.read(&without, text).is_some();
+            let reader = Reader::new(without);
+            let is_number = |text| reader.read(text).is_ok() || specials.read(&without, text).is_some();
             let mut rows = rows().filter(|row| row.0 == *language);
             let has_row = rows.any(|(_, text, is_accepted)| is_number(text.as_bytes()) != is_accepted);
             assert!(has_row || without == syntax, "rust/tests/literals.txt: no row of {language} needs {edit}");

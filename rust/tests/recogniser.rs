@@ -6,7 +6,7 @@
 //!     cargo test --release --test recogniser -- --ignored
 
 use core::{array, iter, mem, ops::Range};
-use peltzivar::literal::{self, Cause, Language, Literal, Place, ReadError, Reader};
+use peltzivar::literal::{self, Language, Literal, Place, ReadError, ReadErrorKind, Reader};
 use peltzivar::{format::FLAG_MASK, Error, Format, Part, Role};
 use {Error::*, Piece::*};
 
@@ -23,7 +23,7 @@ const PLACES: [Place; 4] = [Place::AfterDigit, Place::BeforeDigits, Place::After
 type Pieces = [Range<usize>; 9];
 
 /// Why a text is not a literal: `valid_up_to`, the cause, its mask, its span, its code and the wrong byte.
-type Failure = (usize, Cause, u128, Range<usize>, Error, Option<u8>);
+type Failure = (usize, ReadErrorKind, u128, Range<usize>, Error, Option<u8>);
 
 fn is_set(word: u128, flag: u32) -> bool {
     word >> flag & 1 == 1
@@ -169,7 +169,7 @@ impl Syntax {
     }
 
     /// Returns why `stop` is not a literal. If `is_missing`, a literal begins with it. Otherwise, none does, but one begins
-    /// with it without its last byte.
+    /// with it without its last byte. The page names it S, and the syntax of the word `bare` B.
     fn failure(&self, stop: &[u8], is_missing: bool) -> Failure {
         let more = if is_missing { &self.more[..1] } else { &self.more };
         let bare = self.word & !0x7FFF; // Flags 10 and 11 do nothing to literals.
@@ -178,16 +178,16 @@ impl Syntax {
         };
         let begins = |word: u128| self.begun(word, stop, more).is_some();
         let alone = mask(0..15, |flag| is_set(self.word, flag) && !begins(bare | 1 << flag));
-        let lowest = || 1 << (0..15).find(|flag| begins(self.word & !(1 << flag))).unwrap();
+        let zeros = || mask(12..14, |flag| is_set(self.word, flag));
         let hidden = u128::from(is_set(self.word, 14) && !self.is_integers) << 12;
-        let blamed = if alone == 0 { lowest() } else { alone } & !hidden;
+        let blamed = if alone == 0 { zeros() } else { alone } & !hidden;
         let end = if is_missing { stop.len() } else { stop.len() - 1 };
         let mut requirements = self.requirements(&text, &pieces, end).into_iter();
         let (_, _, span, code) = requirements.find(|row| row.0 == blamed.trailing_zeros()).unwrap();
-        (end, Cause::Requirement, blamed, span, code, stop.get(end).copied())
+        (end, ReadErrorKind::Requirement, blamed, span, code, stop.get(end).copied())
     }
 
-    /// Returns why `text`, with which a literal begins, is not one of bare.
+    /// Returns why `text`, with which a literal begins, is not one of B.
     fn missing(&self, text: &[u8]) -> Failure {
         let has = |role: Role| text.iter().any(|&byte| self.plays(byte, role));
         let mut parts = [(Role::Exponent, Part::Exponent), (Role::Point, Part::Fraction)].into_iter();
@@ -195,13 +195,13 @@ impl Syntax {
         let unsigned = text.strip_prefix(b"+").or(text.strip_prefix(b"-")).unwrap_or(text);
         let is_empty = self.is_piece(self.word, &array::from_fn(|_| 0..0), Prefix, unsigned);
         let (end, code) = (text.len(), if is_empty { Empty } else { InvalidDigit });
-        (end, Cause::Missing(part), 0, end..end, code(end), None)
+        (end, ReadErrorKind::Missing(part), 0, end..end, code(end), None)
     }
 
-    /// Returns why no literal of bare begins with `stop`.
+    /// Returns why no literal of B begins with `stop`.
     fn misplaced(&self, stop: &[u8], bare: u128) -> Failure {
         let (last, begins) = (stop.len() - 1, |word, text: &[u8]| self.begun(word, text, &self.more).is_some());
-        // Without a separator in `stop`, no flag allows it: a literal is one of bare if you leave out its separators.
+        // Without a separator in `stop`, no flag allows it: a literal is one of B if you leave out its separators.
         let has_separator = stop.iter().any(|&byte| self.plays(byte, Role::Separator));
         let allowing = mask(32..44, |flag| has_separator && begins(bare | 1 << flag, stop));
         let mut changed = stop.to_vec();
@@ -211,9 +211,9 @@ impl Syntax {
         let blamed = if allowing == 0 { mask(15..18, is_case) } else { allowing };
         let number = blamed.trailing_zeros() as usize;
         let cause = match number {
-            32..44 => Cause::Separator(PARTS[(number - 32) % 3], PLACES[(number - 32) / 3]),
-            128 => Cause::Byte,
-            _ => Cause::Case,
+            32..44 => ReadErrorKind::Separator(PARTS[(number - 32) % 3], PLACES[(number - 32) / 3]),
+            128 => ReadErrorKind::Byte,
+            _ => ReadErrorKind::Case,
         };
         let end = if self.plays(stop[last], Role::Separator) { last + 1 } else { last };
         let start = end - stop[..end].iter().rev().take_while(|&&byte| self.plays(byte, Role::Separator)).count();
@@ -252,10 +252,11 @@ fn hostile_bytes(word: u128, options: Option<(u8, u8)>) -> Vec<u8> {
     bytes.filter(|&byte| !mem::replace(&mut seen[usize::from(byte)], true)).collect()
 }
 
-/// Returns the answer of the library.
+/// Returns the answer of the library, with why a text is refused if that is asked for.
 #[rustfmt::skip]
-fn answer(read: Result<Literal<'_>, ReadError>) -> Result<[&[u8]; 9], Failure> {
-    let it = read.map_err(|why| (why.valid_up_to(), why.cause(), why.mask(), why.span(), why.code(), why.byte()))?;
+fn answer(read: Result<Literal<'_>, ReadError>, has_failures: bool) -> Result<[&[u8]; 9], Option<Failure>> {
+    let failure = |it: ReadError| (it.valid_up_to(), it.kind(), it.mask(), it.span(), it.code(), it.byte());
+    let it = read.map_err(|error| has_failures.then(|| failure(error)))?;
     Ok([
         it.sign(), it.prefix(), it.integer(), it.point(), it.fraction(), it.exponent_character(), it.exponent_sign(),
         it.exponent(), it.suffix(),
@@ -266,8 +267,9 @@ fn answer(read: Result<Literal<'_>, ReadError>) -> Result<[&[u8]; 9], Failure> {
 /// `eighths` of eight of those with one more byte.
 fn compare(word: u128, options: Option<(u8, u8)>, bytes: &[u8], longest: usize, has_failures: bool, eighths: u64) {
     let (syntax, name) = (Syntax::new(word, options), format!("{word:#034X} {options:?}"));
-    let float = |(exponent, point)| literal::Syntax::of_word(word, exponent, point);
-    let library = options.map_or_else(|| literal::Syntax::integers_of_word(word), float).unwrap();
+    let format = Format::new(word).unwrap();
+    let float = |(exponent, point)| literal::Syntax::new(format, exponent, point).unwrap();
+    let library = options.map_or_else(|| literal::Syntax::integers(format), float);
     let differs = |&byte: &u8| library.role_of(byte) != syntax.roles[usize::from(byte)];
     assert_eq!((0..=255).find(differs), None, "the first byte with another role in {name}");
     let (reader, mut random) = (Reader::new(library), 1);
@@ -281,11 +283,9 @@ fn compare(word: u128, options: Option<(u8, u8)>, bytes: &[u8], longest: usize, 
         let is_missing = has_failures && wrong.is_none() && literal.is_none();
         let failure = if is_missing { Some(syntax.failure(&text, true)) } else { wrong.clone() };
         let (read, prefix) = (reader.read(&text), reader.read_prefix(&text));
-        assert_eq!((library.read(&text), library.read_prefix(&text)), (read, prefix), "{text:?} in {name}");
         for (read, pieces) in [(read, literal), (prefix.map(|(literal, _)| literal), front.clone())] {
             let wanted = pieces.map(|pieces| pieces.map(|piece| &text[piece])).ok_or(failure.clone());
-            let answer = answer(read).map_err(|failure| has_failures.then_some(failure));
-            assert_eq!(answer, wanted, "{} in {name}", text.escape_ascii());
+            assert_eq!(answer(read, has_failures), wanted, "{} in {name}", text.escape_ascii());
         }
         for &byte in bytes {
             if text.len() < longest && (text.is_empty() || below(&mut random, 8) < eighths) {
@@ -303,8 +303,9 @@ fn compare_all(language_eighths: u64, words: usize, eighths: u64) {
     }
     let mut random = 2;
     for at in 0..words {
-        let word = iter::repeat_with(|| random_word(&mut random)).find(|&word| Format::new(word).is_ok()).unwrap();
-        let fits = |&(exponent, point): &(u8, u8)| literal::Syntax::of_word(word, exponent, point).is_ok();
+        let format = iter::repeat_with(|| random_word(&mut random)).find_map(|word| Format::new(word).ok()).unwrap();
+        let word = format.word();
+        let fits = |&(exponent, point): &(u8, u8)| literal::Syntax::new(format, exponent, point).is_ok();
         let some_options = || (below(&mut random, 127) as u8, below(&mut random, 127) as u8);
         let options = iter::repeat_with(some_options).find(fits);
         for options in [options, None] {

@@ -5,7 +5,7 @@
 #[allow(dead_code)]
 mod settings;
 
-use peltzivar::{SettingErrorKind, Settings};
+use peltzivar::{Edit, EditErrorKind, FindingKind, FlagSetter, Settings};
 use settings::load;
 
 /// The syntax of a file, and the lines that are printed for it. The word of a syntax is in normal form.
@@ -32,10 +32,7 @@ fn files_give_a_syntax_and_what_is_found() {
         (b"# caf\xC3\xA9 = 1\n  # no = yes\nno_special=true # no", "", &["line 3: no_special takes `true` or `false`, not `true # no`"]),
         (b"base_suffix='#'", "0x0A0A0A2300000000000000000000000C 101 46", &[]),
         // Radixes are numbers.
-        (b"radix='\x10'\nmantissa_radix='x'\nexponent_base='2'\nexponent_radix=0x0A", "", &[
-            r"line 1: radix takes a number, 2 to 36 in a lawful format, not `'\x10'`",
-            "line 2: mantissa_radix takes a number, 2 to 36 in a lawful format, not `'x'`",
-            "line 3: exponent_base takes a number, 2 to 36 in a lawful format, or `none`, not `'2'`"]),
+        (b"radix='\x10'", "", &[r"line 1: radix takes a number, 2 to 36 in a lawful format, not `'\x10'`"]),
         (b"radix=40", "", &["line 1: the mantissa radix 40 is not between 2 and 36"]),
         (b"exponent_base=none\nradix=40\nexponent_radix=10", "", &["lines 1, 2: the mantissa radix 40 is not between 2 and 36"]),
         (b"radix=10\nexponent_radix=16\nbase_prefix='b'", "", &["lines 2, 3: the base prefix 'b' is a digit in radix 16"]),
@@ -49,13 +46,16 @@ fn files_give_a_syntax_and_what_is_found() {
         (b"point=','\nexponent='x'\npoint='.'\nexponent=94", "0x0A0A0A0000000000000000000000000C 94 46",
             &["lines 1, 3: a later setting overrides point", "lines 2, 4: a later setting overrides exponent"]),
         // No such name, and none that is near.
-        (b"base_suffx='h'\nradx=8\nprefix=120\ndecimal_point=46\ncolour=7\n=8", "", &[
+        (b"base_suffx='h'\nradx=8\nprefix=120\ndecimal_point=46\ncolour=7\n=8\nthousands=','\ndecimal=','\nexponent_char='p'", "", &[
             "line 1: unknown setting `base_suffx`; did you mean `base_suffix`?",
             "line 2: unknown setting `radx`; did you mean `radix`?",
             "line 3: unknown setting `prefix`; did you mean `base_prefix`?",
             "line 4: unknown setting `decimal_point`; did you mean `point`?",
             "line 5: unknown setting `colour`",
-            "line 6: unknown setting ``"]),
+            "line 6: unknown setting ``",
+            "line 7: unknown setting `thousands`; did you mean `digit_separator`?",
+            "line 8: unknown setting `decimal`; did you mean `point`?",
+            "line 9: unknown setting `exponent_char`; did you mean `exponent`?"]),
         // No `=`.
         (b"radix 16\n\xFF\0\x1B\x7F`\n-----------------------------------------", "", &[
             "line 1: expected NAME=VALUE, not `radix 16`",
@@ -85,8 +85,10 @@ fn files_give_a_syntax_and_what_is_found() {
             "line 2: exponent takes a character such as 'e', a number from 0 to 255, or `none`, not `256`",
             "line 1: the decimal point 128 is not an allowed ASCII character"]),
         // Both options or none.
-        (b"point=none", "", &["line 1: only one of the exponent character and the decimal point is absent"]),
-        (b"\npoint='.'\nexponent=none", "", &["lines 2, 3: only one of the exponent character and the decimal point is absent"]),
+        (b"point=none", "", &[
+            "line 1: only one of the exponent character and the decimal point is absent: for numbers without an exponent, keep both, and set no_exponent_notation"]),
+        (b"\npoint='.'\nexponent=none", "", &[
+            "lines 2, 3: only one of the exponent character and the decimal point is absent: for numbers without an exponent, keep both, and set no_exponent_notation"]),
         (b"point=none\nexponent=0\nradix=16", "0x1010100000000000000000000000000C", &[]),
         (b"point=none\nexponent='e'\npoint='.'", "0x0A0A0A0000000000000000000000000C 101 46", &["lines 1, 3: a later setting overrides point"]),
         // What blames a field or option of a refused text is left out, until a later text sets it.
@@ -111,14 +113,27 @@ fn files_give_a_syntax_and_what_is_found() {
 fn reading_ends_at_the_first_error() {
     let texts = ["", "radix=16", "no_special=yes", "radix=8", "?"];
     let error = Settings::read(texts).unwrap_err();
-    assert_eq!((error.index(), error.kind()), (2, SettingErrorKind::BadValue));
+    assert_eq!((error.index(), error.kind()), (2, EditErrorKind::BadValue));
     let settings = Settings::read(&texts[..2]).unwrap();
     // The options do not matter to the format.
     assert_eq!(settings.build_format().unwrap().word(), 0x00001000_00000000_00000000_0000000C);
     let error = Settings::read(["exponent=none"]).unwrap().build_syntax().unwrap_err();
-    assert_eq!(error.to_string(), "only one of the exponent character and the decimal point is absent");
+    assert!(error.to_string().ends_with("set no_exponent_notation"));
     // The first of many overridden settings have notes.
     let many = Settings::read((0..1000).map(|radix| format!("radix={}", radix % 256))).unwrap();
     let [first, last] = [many.notes().next(), many.reasons().next()].map(Option::unwrap);
     assert_eq!((many.notes().count(), first.indexes(), last.indexes()), (32, &[0, 1][..], &[999][..]));
+}
+
+/// An option shares no bit with a field, so none overrides the other.
+#[test]
+fn options_and_fields_are_apart() {
+    for name in Edit::NAMES {
+        let value = if name.parse::<FlagSetter>().is_ok() { "true" } else { "33" };
+        let field = format!("{name}={value}");
+        let settings = Settings::read(["exponent='p'", "point=','", &field, "exponent='x'", "point='.'"]).unwrap();
+        let overridden = settings.notes().filter(|it| matches!(it.kind(), FindingKind::Overridden(_)));
+        let overridden: Vec<_> = overridden.map(|it| it.indexes().to_vec()).collect();
+        assert_eq!(overridden, [[0, 3], [1, 4]], "{name}");
+    }
 }

@@ -4,6 +4,7 @@
 mod suggest;
 
 use peltzivar::format::{DIGIT_SEPARATOR, DIGIT_SEPARATOR_FLAG_MASK, REQUIRED_MANTISSA_SIGN, STANDARD};
+use peltzivar::literal::Reader;
 use peltzivar::{Edit, NumberFormatBuilder};
 use suggest::{lines_of, offers, problems, read, repairs, State};
 
@@ -34,6 +35,7 @@ fn numbers_of_many_forms_lead_to_their_formats() {
         ("12h", "hexadecimal base_suffix='h'", b'p', b'.'),
         ("0o17", "mantissa_radix=8 base_prefix='o'", b'e', b'.'),
         ("0b101", "mantissa_radix=2 base_prefix='b'", b'e', b'.'),
+        ("-0x1_000.5e+12h", "base_prefix='x' base_suffix='h' digit_separator='_' integer_internal_digit_separator=true", b'e', b'.'),
         ("101b", "mantissa_radix=2 base_suffix='b'", b'e', b'.'),
         ("FF", "hexadecimal", b'p', b'.'),
         ("1D3", "", b'D', b'.'),
@@ -69,7 +71,7 @@ fn numbers_of_many_forms_lead_to_their_formats() {
 fn walk(lines: &str) -> Option<State> {
     let mut state = State { word: STANDARD, exponent: b'e', point: b'.' };
     for line in lines_of(lines.as_bytes()) {
-        if state.syntax().is_none_or(|it| read(&it, line.text).is_err()) {
+        if state.syntax().is_none_or(|it| read(&Reader::new(it), line.text).is_err()) {
             state = offers(state, lines.as_bytes(), line).best().next()?.0;
         }
     }

@@ -1,38 +1,11 @@
 //! What a caller relies on beyond results: the view whose word is a const argument, the format and the constants have
-//! what the view at run time has, the types have their traits, and a panic names its caller.
+//! what the view at run time has, and a panic names its caller.
 
 use peltzivar::format::{self, NumberFormatBuilder, STANDARD};
-use peltzivar::literal::{
-    Cause, Digits, Language, Literal, Number, Place, ReadError, Reader, Special, Specials, Syntax,
-};
-use peltzivar::{
-    with_setters, word, Edit, Error, Finding, FlagSetter, Format, FormatError, FormatView, Note, NumberFormat, Part,
-    Reason, Rule, Setter, SettingError, SettingErrorKind, Settings, SettingsError,
-};
-use std::error::Error as StdError;
-use std::fmt::Debug;
-use std::hash::Hash;
+use peltzivar::{with_setters, word, FlagSetter, Format, FormatView, NumberFormat, Part, Setter};
 use std::num::NonZeroU8;
 use std::panic;
 use std::sync::atomic::{AtomicU32, Ordering};
-
-const _: () = {
-    const fn are_values<T: Copy + Debug + Eq + Hash + Send + Sync + Unpin>() {}
-    const fn are_ordered<T: Ord>() {}
-    const fn is_error<T: StdError>() {}
-    const fn is_shared<T: Clone + Debug + Send + Sync + Unpin>() {}
-    are_values::<(Edit, Error, FlagSetter, Format, FormatError, FormatView, Note, NumberFormat<STANDARD>)>();
-    are_values::<(NumberFormatBuilder, Reason, Rule, SettingError, SettingErrorKind, Finding, SettingsError)>();
-    are_values::<(Cause, Language, Literal<'_>, Number<'_>, Place, ReadError, Special, Specials<'_>, Syntax)>();
-    is_shared::<(Digits<'_>, Reader, Settings)>();
-    are_ordered::<(Edit, Error, FlagSetter, Format, FormatView, Rule)>();
-    is_error::<Error>();
-    is_error::<FormatError>();
-    is_error::<ReadError>();
-    is_error::<Reason>();
-    is_error::<SettingError>();
-    is_error::<SettingsError>();
-};
 
 macro_rules! constants {
     (

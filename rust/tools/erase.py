@@ -82,13 +82,8 @@ REPLACED = [
     ("read.rt", "\nfn split_front<", "\nconst fn split_front<"),
     ("read.rt", "pub(crate) fn front_of<", "pub(crate) const fn front_of<"),
     ("read.rt", "pub(crate) fn cut<", "pub(crate) const fn cut<"),
-    ("read.rt", "\nfn find_front(", "\nconst fn find_front("),
-    # Calls with these names are written by hand: they take or return a `Format`, a `Literal` or a range.
-    ("read.rt", "Reader {\n    grammar: Grammar,\n    tables", "Reader {\n    pub(crate) grammar: Grammar,\n    tables"),
+    # Calls with these names are written by hand: they return a byte, a `Literal` or a range.
     ("syntax.rt", "pub const fn options(&self)", "pub(crate) const fn options(&self)"),
-    ("syntax.rt", "pub const fn new(word", "#[doc(hidden)] pub const fn of_word(word"),
-    ("syntax.rt", "pub const fn integers(word", "#[doc(hidden)] pub const fn integers_of_word(word"),
-    ("syntax.rt", "pub const fn format(&self)", "#[doc(hidden)] pub const fn view(&self)"),
     ("cause.rt", "pub const fn span(&self)", "#[doc(hidden)] pub const fn bounds(&self)"),
 ]
 
@@ -101,8 +96,8 @@ EVERYWHERE = [
 
 # Types that may grow. In plain Rust, a match outside the crate has to have an arm for what they lack today.
 GROWS = {
-    "enum": "ArgumentKind Byte Cause Class Edit Error FlagSetter Note Part Place Radixes Role Rule Setter "
-    "SettingErrorKind ValueErrorKind",
+    "enum": "ArgumentKind Byte Cause Class Edit EditErrorKind Error FlagSetter Note Part Place Radixes ReadErrorKind Role Rule "
+    "Setter ValueErrorKind",
     "struct": "NamedByte Separators",
 }
 for kind, types in GROWS.items():
@@ -123,13 +118,13 @@ ATTRIBUTES = [
     # The type of core has its own page.
     ("format_builder.rt", "pub use non_zero::NonZeroU8;", "#[doc(no_inline)] pub use non_zero::NonZeroU8;"),
     ("feature_format.rt", "#[derive(Clone, Copy)]", f"#[derive({COMPARED})]"),
-    ("short_text.rt", "#[derive(Drop)]", "#[derive(Clone, Copy)]"),
+    # Only in plain Rust do public calls return this type. The documentation hides the traits of a hidden type.
+    ("short_text.rt", "#[derive(Drop)]\n#[doc(hidden)]", "#[derive(Clone,\nCopy)]"),
     ("read.rt", "#[derive(Drop)]", "#[derive(Clone)]"),
     ("tables.rt", "#[derive(Drop)]", "#[derive(Clone)]"),
-    ("cause.rt", "Eq)]\npub struct ReadError", "Eq, Hash)]\npub struct ReadError"),
-    ("syntax.rt", "Hash)]\npub struct Options", "Hash, PartialOrd, Ord)]\npub struct Options"),
-    ("syntax.rt", "Hash)]\npub struct Grammar", "Hash, PartialOrd, Ord)]\npub struct Grammar"),
-    ("syntax.rt", "Hash)]\npub struct Syntax", "Hash, PartialOrd, Ord)]\npub struct Syntax"),
+    # `Debug` prints the answers.
+    ("cause.rt", "#[derive(Debug, Clone, Copy, PartialEq, Eq, Hash)]\npub struct ReadError {", "#[derive(Clone, Copy, PartialEq, Eq, Hash)]\npub struct ReadError {"),
+    ("lawful.rt", "Eq)]\npub struct FormatError", "Eq, Hash)]\npub struct FormatError"),
 ]
 
 # Words that plain Rust must not contain. If one is left, a ghost form was not removed.

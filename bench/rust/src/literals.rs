@@ -17,19 +17,23 @@ type Texts = Vec<Group>;
 
 pub struct Literals {
     /// A million texts of mixed shapes, and those that `parse::<f64>` takes.
+    #[cfg(regex)]
     mixed: Texts,
     floats: Texts,
     /// Texts of literals.txt that `parse::<f64>` takes, each many times, in random order.
     rows: Texts,
     /// Texts of the shape `ddd.dddddd`.
     shape: Texts,
-    /// As many texts that are refused as texts that are accepted, of the same shapes.
-    refused: Texts,
+    /// As many texts that are refused, with a byte inserted or appended, as texts that are accepted, of the same shapes.
+    inserted: Texts,
+    appended: Texts,
     accepted: Texts,
     /// Integers of 1 to 9 digits, alone, in groups of three, and hexadecimal after a prefix.
     integers: Texts,
     grouped: Texts,
     prefixed: Texts,
+    /// A hundred texts.
+    hundred: Texts,
 }
 
 const LANGUAGES: [Language; 3] = [Language::JSON, Language::TOML, Language::C_FLOAT];
@@ -49,7 +53,8 @@ impl Literals {
             floats,
             rows: (0..100_000).map(|_| row(random.pick(&own))).collect(),
             shape: texts(random, 100_000, six_decimals, |_, _| true),
-            refused: texts(random, 100_000, spoiled, |language, text| !accepts(language, text)),
+            inserted: texts(random, 100_000, inserted, is_refused),
+            appended: texts(random, 100_000, appended, is_refused),
             accepted: texts(random, 100_000, literal, |_, _| true),
             integers: texts(random, 100_000, |random, _| integer(random, None), |_, _| true),
             grouped: vec![Group::new(Language::TOML, (0..100_000).map(|_| integer(random, Some('_'))))],
@@ -57,6 +62,8 @@ impl Literals {
                 Language::RUST_HEX_INTEGER,
                 (0..100_000).map(|_| format!("0x{:X}", random.below(1 << 36))),
             )],
+            hundred: vec![Group::new(Language::TOML, (0..100).map(|_| literal(random, Language::TOML)))],
+            #[cfg(regex)]
             mixed,
         }
     }
@@ -74,6 +81,10 @@ fn is_float(text: &str) -> bool {
 
 fn accepts(language: Language, text: &str) -> bool {
     language.reader().read(text.as_bytes()).is_ok()
+}
+
+fn is_refused(language: Language, text: &str) -> bool {
+    !accepts(language, text)
 }
 
 /// Returns `count` texts of each of three languages.
@@ -132,12 +143,17 @@ fn literal(random: &mut Random, language: Language) -> String {
     text
 }
 
-/// A literal with one byte more.
-fn spoiled(random: &mut Random, language: Language) -> String {
+/// A literal with one byte more, anywhere.
+fn inserted(random: &mut Random, language: Language) -> String {
     let mut text = literal(random, language);
     let index = random.below(text.len() as u64 + 1) as usize;
     text.insert(index, random.pick(b".-+e_x0 ") as char);
     text
+}
+
+/// A literal with one byte more behind it.
+fn appended(random: &mut Random, language: Language) -> String {
+    literal(random, language) + random.pick(&[";", " ", "x"])
 }
 
 /// Returns how many texts a call returns `true` for.
@@ -154,14 +170,20 @@ fn reader(group: &Group) -> impl Fn(&str) -> bool + use<> {
     move |text| black_box(reader.read(text.as_bytes())).is_ok()
 }
 
-fn syntax(group: &Group) -> impl Fn(&str) -> bool + use<> {
-    let syntax = group.language.syntax();
-    move |text| black_box(syntax.read(text.as_bytes())).is_ok()
-}
-
 fn refuses(group: &Group) -> impl Fn(&str) -> bool + use<> {
     let reader = group.reader;
     move |text| black_box(reader.read(text.as_bytes())).is_err()
+}
+
+fn prints(group: &Group) -> impl Fn(&str) -> bool + use<> {
+    let reader = group.reader;
+    move |text| reader.read(text.as_bytes()).is_err_and(|error| !black_box(error.text()).as_str().is_empty())
+}
+
+/// Makes a reader, which reads no text.
+fn new(group: &Group) -> impl Fn(&str) -> bool + use<> {
+    let reader = Reader::new(black_box(group.language.syntax()));
+    move |_| black_box(&reader).syntax().point().is_some()
 }
 
 fn parse(_: &Group) -> impl Fn(&str) -> bool + use<> {
@@ -222,8 +244,10 @@ pub fn rows(texts: &Literals) -> Vec<Row<'_>> {
         "Reader::read, mixed, over parse", floats.reader, floats.parse;
         "Reader::read, literals.txt, over parse", rows.reader, rows.parse;
         "Reader::read, one shape, over parse", shape.reader, shape.parse;
-        "Syntax::read, mixed, over Reader::read", mixed.syntax, mixed.reader;
-        "Reader::read, refused, over accepted", refused.refuses, accepted.reader;
+        "Reader::new, over 100 Reader::read", hundred.new, hundred.reader;
+        "Reader::read, byte inserted, over accepted", inserted.refuses, accepted.reader;
+        "Reader::read, byte appended, over accepted", appended.refuses, accepted.reader;
+        "Reader::read and text, inserted, over accepted", inserted.prints, accepted.reader;
         "Reader::parse, 1 to 9 digits, over parse", integers.value, integers.parse_integer;
         "Reader::parse, grouped, over Reader::read", grouped.value, grouped.reader;
         "Reader::parse, prefixed, over Reader::read", prefixed.value, prefixed.reader;

@@ -19,6 +19,7 @@ ghost use Rattle.lexical_value.specs.Parsed.{IsParsed};
 
 use lexical_literal::read::Reader;
 use lexical_literal::syntax::Syntax;
+use lexical_util::format::Format;
 use lexical_value::parse::{ParseError, parse_integer};
 
 /// The format of decimal numbers with `_` between digits, such as `1_000.000_1e1_0`.
@@ -60,22 +61,22 @@ pub fn octal_facts()
     ensures options { OptionsFit OCTAL EXPONENT POINT }
 {}
 
-/// Returns the syntax of the integers of [`DECIMAL`].
-pub fn decimal() -> Syntax
+/// Returns a reader of the integers of [`DECIMAL`].
+pub fn decimal() -> Reader
     ensures { result ≡ record { word = DECIMAL; options = None } }
 {
     decimal_facts();
-    match Syntax::integers(DECIMAL) {
-        Ok(syntax) => syntax,
+    match Format::new(DECIMAL) {
+        Ok(format) => Reader::new(Syntax::integers(format)),
         Err(_) => unreachable!(),
     }
 }
 
-/// Returns whether `text` is a literal of `syntax`.
-pub fn is_literal(syntax: &Syntax, text: &[u8]) -> bool
-    ensures { IsTrue result ↔ ((l : Literal) × Reads (notation_of syntax.now) l text.now) }
+/// Returns whether `text` is a literal of the syntax of `reader`.
+pub fn is_literal(reader: &Reader, text: &[u8]) -> bool
+    ensures { IsTrue result ↔ ((l : Literal) × Reads (notation_of reader.now) l text.now) }
 {
-    match syntax.read(text) {
+    match reader.read(text) {
         Ok(_) => true,
         Err(_) => false,
     }
@@ -89,5 +90,5 @@ pub fn is_literal(syntax: &Syntax, text: &[u8]) -> bool
 pub fn read_decimal(text: &[u8]) -> Result<u64, ParseError>
     ensures { IsParsed (unsigned 64) (record { word = DECIMAL; options = None }) text.now result }
 {
-    parse_integer(&Reader::new(decimal()), text)
+    parse_integer(&decimal(), text)
 }

@@ -379,11 +379,10 @@ const fn bits_if(condition: bool, bits: u32) -> u32
 }
 
 // Returns the digit separator, or 0 if none of `flags`, the flags of a format word, allows one.
-#[tactic(auto, using(lexical_flags::proofs::FlagBits::separator_flag_set, lexical_flags::proofs::FlagBits::no_separator_flag_set))]
 const fn kept_separator(flags: u128, separator: u8) -> u8
     ensures { result ≡ (if separator_allowed (raw flags) then separator else 0) }
 {
-    if flags & flags::DIGIT_SEPARATOR_FLAG_MASK != 0 {
+    if flags::is_separator_allowed(flags) {
         separator
     } else {
         0

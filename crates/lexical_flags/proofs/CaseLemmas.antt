@@ -65,18 +65,6 @@ unfolding cased
 same_clash a_counts a b_counts below some apart =
     Disjoint-at _ _ apart a below (grind (arith, nat_tests)) (grind (arith, nat_tests))
 
--- A role that is not case-sensitive has every byte of the role that the same byte plays elsewhere.
-cased-grows : (c d : Bool) (n byte : ℕ) → (c ≡ false → d ≡ false) → IsTrue (cased c n byte) → IsTrue (cased d n byte)
-unfolding cased
-cased-grows c d n byte weaker inside = grind (arith, nat_tests)
-
--- If two bytes clash, then they also clash where no role that was not case-sensitive is case-sensitive.
-pub still_clash : (ac : Bool) (a : ℕ) (bc : Bool) (b : ℕ) (dc ec : Bool) → (ac ≡ false → dc ≡ false) → (bc ≡ false → ec ≡ false)
-    → (Disjoint (cased ac a) (cased bc b) → ⊥) → Disjoint (cased dc a) (cased ec b) → ⊥
-still_clash ac a bc b dc ec first second clash apart =
-    clash (Disjoint-from _ _ (λ byte below is_a is_b.
-    Disjoint-at _ _ apart byte below (cased-grows ac dc a byte first is_a) (cased-grows bc ec b byte second is_b)))
-
 -- If two bytes cannot clash, then their roles are disjoint, whether they are case-sensitive or not.
 far_apart : (a_counts : Bool) (a : ℕ) (b_counts : Bool) (b : ℕ) {near : Bool} → a < 256
     → (IsTrue near ↔ ((b ≢ 0) × (bit_or a 32 ≡ bit_or b 32))) → near ≡ false

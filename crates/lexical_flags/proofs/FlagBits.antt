@@ -1,18 +1,16 @@
 -- Lemmas on the flags of a word under a mask, and on the flags of a record joined by `|`.
-use Rattle.std.proofs.Common.{ℕ, ◌≡◌, ◌≢◌, ◌+◌, ◌*◌, ◌/◌, ◌%◌, ◌^◌, ◌<◌, ◌==◌, true, false, not, ◌||◌}
+use Rattle.std.proofs.Common.{ℕ, ◌≡◌, ◌+◌, ◌*◌, ◌/◌, ◌%◌, ◌^◌, ◌<◌, ◌==◌, true, not, ◌||◌}
 use Rattle.std.proofs.Common.{List, [], ◌∷◌, sum_by, bit_and, bit_or, refl, ap, sym, subst, ◌∙◌, arith}
 use Rattle.std.specs.List.{filter, fold, list_any}
 use Rattle.std.proofs.Math.Nat.{mod-lt}
 use Rattle.std.proofs.lemmas.List.Sums.{sum_by-cons}
 use Rattle.std.proofs.lemmas.Nat.{pow_pos}
 use Rattle.std.proofs.lemmas.Nat.Bits.{and_pow}
-use Rattle.std.proofs.lemmas.Bool.{ne_eqb, eq-eqb}
 use Rattle.std.proofs.lemmas.Bool.Decides.{nat_tests}
-use Rattle.lexical_flags.specs.Layout.{part, Flag, bit, flags, digit_separator_flags}
+use Rattle.lexical_flags.specs.Layout.{part, Flag, bit, flags}
 use Rattle.lexical_flags.specs.Record.{Record, raw, word_of, flag_bits}
 use Rattle.lexical_flags.specs.Record.{separator_allowed, HasBytes}
 use Rattle.lexical_flags.specs.Additions.Masks.{mask_of}
-use Rattle.lexical_flags.specs.declared.format_flags.TheConstants.{DIGIT_SEPARATOR_FLAG_MASK}
 use Rattle.lexical_flags.proofs.Packing.{high, bit_value, bit_value-lt, flag_bits-value, raw-word_of}
 use Rattle.lexical_flags.proofs.Masks.{ascends, and_all, or_all, sum-below}
 
@@ -62,14 +60,6 @@ sum_by-set (f ∷ fs) word =
 pub mask_test : (fs : List Flag) (word : ℕ) → ascends bit 1 0 fs ≡ true
     → not (bit_and word (mask_of fs) == 0) ≡ list_any (raw word).flag fs
 mask_test fs word up = ap (λ n. not (n == 0)) (and_all bit fs word up) ∙ sum_by-set fs word
-
--- If the test in the code succeeds, then some flag allows a digit separator.
-pub separator_flag_set : (word : ℕ) → bit_and word DIGIT_SEPARATOR_FLAG_MASK ≢ 0 → separator_allowed (raw word) ≡ true
-separator_flag_set word some = sym (mask_test digit_separator_flags word refl) ∙ ap not (ne_eqb _ _ some)
-
-pub no_separator_flag_set : (word : ℕ) → bit_and word DIGIT_SEPARATOR_FLAG_MASK ≡ 0
-    → separator_allowed (raw word) ≡ false
-no_separator_flag_set word none = sym (mask_test digit_separator_flags word refl) ∙ ap not (eq-eqb _ _ none)
 
 -- The flags of a record joined by `|` are the sum of the flags.
 pub flags_joined : (r : Record) → fold (λ bits f. bit_or bits (flag_bits r f)) 0 flags ≡ sum_by (flag_bits r) flags

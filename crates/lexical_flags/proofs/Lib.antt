@@ -5,7 +5,7 @@ pub mod Packing
 pub mod Masks
 pub mod FlagBits
 pub mod CommonLemmas
-mod RuleLemmas
+pub mod RuleLemmas
 pub mod RuleFieldLemmas
 pub mod NormalRules
 mod DisjointLemmas

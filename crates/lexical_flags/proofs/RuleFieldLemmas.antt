@@ -14,7 +14,7 @@ use Rattle.lexical_flags.specs.Rules.{Holds, lacks_position}
 use Rattle.std.specs.Bool.{⊤}
 use Rattle.std.specs.List.{list_all, AllByRecursion}
 use Rattle.std.proofs.lemmas.Bool.{and_parts, eqb-true}
-use Rattle.lexical_flags.specs.Additions.RuleFields.{flags_of, bytes_of, mask_read}
+use Rattle.lexical_flags.specs.Additions.RuleFields.{flags_read, bytes_read, mask_read}
 use Rattle.lexical_flags.specs.declared.format_flags.rule.Rule.{Rule}
 use Rattle.lexical_flags.specs.declared.format_flags.rule.Rule.TheVariants as rules
 use Rattle.lexical_flags.proofs.ByteParts.{masked_part}
@@ -40,7 +40,7 @@ SameByte v w b = part v (shift b) 8 ≡ part w (shift b) 8
 
 abbrev pub SameFields : ℕ → ℕ → Shape → Type 0
 SameFields v w shape =
-    AllByRecursion (SameFlag v w) (flags_of shape) × AllByRecursion (SameByte v w) (bytes_of shape)
+    AllByRecursion (SameFlag v w) (flags_read shape) × AllByRecursion (SameByte v w) (bytes_read shape)
 
 -- In this section, the words `v` and `w` agree under a mask.
 module _ (v w mask : ℕ) (same : bit_and v mask ≡ bit_and w mask) where
@@ -92,11 +92,11 @@ Meets-same v w reserved_zero same = refl
 Demands-same : (rule : Rule) (v w : ℕ) → bit_and v (mask_read rule) ≡ bit_and w (mask_read rule)
     → FieldsMeet (shape_of rule) (raw v) ≡ FieldsMeet (shape_of rule) (raw w)
 Demands-same rules.MantissaRadixInRange v w same =
-    Meets-same v w (radix_in_range layout.mantissa_radix) (tt, bytes_agree v w _ same (bytes_of (shape_of rules.MantissaRadixInRange)) refl)
+    Meets-same v w (radix_in_range layout.mantissa_radix) (tt, bytes_agree v w _ same (bytes_read (shape_of rules.MantissaRadixInRange)) refl)
 Demands-same rules.ReservedBitsAreZero v w same = refl
 Demands-same rule v w same =
     Meets-same v w (shape_of rule)
-    (flags_agree v w _ same (flags_of (shape_of rule)) refl, bytes_agree v w _ same (bytes_of (shape_of rule)) refl)
+    (flags_agree v w _ same (flags_read (shape_of rule)) refl, bytes_agree v w _ same (bytes_read (shape_of rule)) refl)
 
 -- If two words agree in the bits that a rule reads, and the first satisfies the rule, then so does the second.
 pub kept_alike : (rule : Rule) (v w : ℕ) → bit_and v (mask_read rule) ≡ bit_and w (mask_read rule)

@@ -163,22 +163,22 @@ separators_in parts.Exponent = record {
   consecutive = exponent_consecutive_digit_separator;
 }
 
--- `separator_flags part` lists the digit separator flags of `part`.
-abbrev pub separator_flags : Part → List Flag
-separator_flags part =
+-- `separator_flags_in part` lists the digit separator flags of `part`.
+abbrev pub separator_flags_in : Part → List Flag
+separator_flags_in part =
     let own = separators_in part in own.internal ∷ own.leading ∷ own.trailing ∷ own.consecutive ∷ []
 
 -- `integer_digit_separator_flags` lists the digit separator flags of the integer part.
 abbrev pub integer_digit_separator_flags : List Flag
-integer_digit_separator_flags = separator_flags parts.Integer
+integer_digit_separator_flags = separator_flags_in parts.Integer
 
 -- `fraction_digit_separator_flags` lists the digit separator flags of the fraction.
 abbrev pub fraction_digit_separator_flags : List Flag
-fraction_digit_separator_flags = separator_flags parts.Fraction
+fraction_digit_separator_flags = separator_flags_in parts.Fraction
 
 -- `exponent_digit_separator_flags` lists the digit separator flags of the exponent.
 abbrev pub exponent_digit_separator_flags : List Flag
-exponent_digit_separator_flags = separator_flags parts.Exponent
+exponent_digit_separator_flags = separator_flags_in parts.Exponent
 
 -- `flags` lists all flags, in the order of their bits.
 abbrev pub flags : List Flag

@@ -1,7 +1,7 @@
 -- The flags that are found are to blame.
-use Rattle.std.proofs.Common.{ℕ, ◌≡◌, ◌<◌, ◌≤◌, ◌/◌, ◌%◌, ◌^◌, ◌↔◌, Bool, true, false, not, ◌==◌, ◌&&◌, ◌||◌, inl, inr, IsTrue, bit_and, if◌then◌else◌, List}
-use Rattle.std.proofs.Common.{Option, Some, refl, sym, ap, subst, ◌∙◌, arith}
-use Rattle.std.proofs.lemmas.Bool.{false≢true, and_parts, and_from, or_left, or_right, cases_Bool, cases_lt, eq-eqb, eqb-true, false_from_ne_true, lt-ltb}
+use Rattle.std.proofs.Common.{ℕ, ◌≡◌, ◌<◌, ◌≤◌, ◌/◌, ◌%◌, ◌^◌, ◌↔◌, Bool, true, false, not, ◌==◌, ◌&&◌, ◌||◌, inl, inr, IsTrue, bit_and, if◌then◌else◌, List, length, take}
+use Rattle.std.proofs.Common.{Option, None, Some, refl, sym, ap, subst, ◌∙◌, arith}
+use Rattle.std.proofs.lemmas.Bool.{false≢true, and_parts, and_from, or_parts, cases_Bool, cases_lt, eqb-true, false_from_ne_true}
 use Rattle.std.proofs.lemmas.Bool.{agree_below, agree_below_at}
 use Rattle.std.proofs.lemmas.Bool.Decides.{nat_tests}
 use Rattle.std.proofs.lemmas.Nat.Bits.{bit_at_and}
@@ -10,18 +10,30 @@ use Rattle.lexical_util.specs.Layout as layout
 use Rattle.lexical_util.specs.Layout.{Flag, bit, part}
 use Rattle.lexical_util.specs.Record.{raw}
 use Rattle.lexical_util.specs.declared.feature_format.roles.Role.TheVariants as roles
-use Rattle.lexical_literal.specs.Notation.{Notation}
-use Rattle.lexical_literal.specs.Cause.{IsLowest, IsRequirement, Permits, RefusesAlone, Releases, SomeFlag, adding, bare, binds, is_one_of}
-use Rattle.lexical_literal.specs.Cause.{flag_at, is_at, requirement_flags, separator_flags, with_flags, without}
-use Rattle.lexical_literal.specs.Additions.Causes.{Decides, IsWeaker, allows, is_own, is_role, place_of}
+use Rattle.lexical_literal.specs.Notation.{Notation, notation_of}
+use Rattle.lexical_literal.specs.Cause.{Allows, IsCaseFlag, IsCause, IsRefusal, IsRequirement, Permits, RefusesAlone, adding, bare, binds, case_set, is_one_of}
+use Rattle.lexical_literal.specs.Cause.{error_of, flag_at, is_at, leading_zero_flags, lowest, marks_of, requirement_flags, span_of, number_separator_flags, with_flags}
+use Rattle.lexical_util.specs.Layout.{flags}
+use Rattle.lexical_util.specs.Roles.{other_case}
+use Rattle.std.proofs.lemmas.List.{length-take-le}
+use Rattle.std.specs.Prelude.{slice_get}
+use Rattle.std.specs.List.{list_any}
+use Rattle.lexical_literal.specs.Front.{IsValidUpTo}
+use Rattle.lexical_literal.specs.declared.cause.Marks.{Marks}
+use Rattle.lexical_literal.specs.declared.cause.Spot.{Spot}
+use Rattle.lexical_literal.specs.declared.syntax.Grammar.{Grammar}
+use Rattle.lexical_literal.specs.Additions.Causes.{Decides, IsReadOf, IsWeaker, allows, class_of_next, is_own, is_role, place_of}
+use Rattle.lexical_literal.specs.Additions.Tables.{summary_at}
+use Rattle.lexical_literal.specs.Additions.Explained.{Blamed, alone, blame, cases, mask_of, otherwise, refusal_of, requirements, separators, wrong}
 use Rattle.lexical_util.specs.declared.format_flags.Part.{Part}
-use Rattle.lexical_literal.specs.Additions.Summary.{in_part}
+use Rattle.lexical_literal.specs.Additions.Summary.{byte_class, in_part}
 use Rattle.lexical_literal.specs.declared.cause.Place.{Place}
 use Rattle.lexical_literal.specs.declared.steps.Class.{Class}
 use Rattle.lexical_literal.specs.declared.steps.Summary.{Summary}
-use Rattle.lexical_literal.proofs.CauseLemmas.{bit_small, flag_pow}
-use Rattle.lexical_literal.proofs.JointLemmas.{Alone, at_next, going, is_lower, joint, lower, zeros_bind}
-use Rattle.lexical_literal.proofs.RefusalLemmas.{apart, same_flag}
+use Rattle.lexical_literal.proofs.CauseLemmas.{all_flags, bit_small, found_in, mask_flags, none_in, only_mask}
+use Rattle.lexical_literal.proofs.JointLemmas.{Alone, at_next, going, joint}
+use Rattle.lexical_literal.proofs.RefusalLemmas.{apart}
+use Rattle.lexical_literal.proofs.CauseLemmas.{same_flag}
 
 -- THE FLAGS OF A MASK
 
@@ -48,6 +60,9 @@ module _ (m : Notation) where
   pub bare_weaker : IsWeaker m (bare m).flag
   bare_weaker = record { no_more = λ f is. grind arith; no_less = λ f is. grind arith }
 
+  own_weaker : IsWeaker m m.flag
+  own_weaker = record { no_more = λ f is. grind arith; no_less = λ f is. grind arith }
+
   weak_adding : (e x r : Bool) → ((e || (x && not r)) && r) ≡ true → e ≡ true
   weak_adding e x r is = grind arith
 
@@ -60,28 +75,16 @@ module _ (m : Notation) where
     no_less = λ g is. grind arith;
   }
 
-  pub without_weaker : (f : Flag) → is_one_of requirement_flags f ≡ true → IsWeaker m (without f m).flag
-  without_weaker f requires = record {
-    no_more = λ g is. (and_parts (m.flag g) _ (and_parts ((without f m).flag g) _ is).0).0;
-    no_less = λ g is. elim (cases_Bool (bit g == bit f)) [
-      | inl same ↦ or_right ((without f m).flag g) _ (ap (is_one_of requirement_flags) (same_flag g f (eqb-true (bit g) (bit f) same)) ∙ requires)
-      | inr other ↦ or_left _ _ (and_from _ _ is (ap not other))
-    ];
-  }
-
-  pub permits_weaker : (f : Flag) → is_one_of separator_flags f ≡ true → IsWeaker m (adding f (bare m)).flag
+  pub permits_weaker : (f : Flag) → is_one_of number_separator_flags f ≡ true → IsWeaker m (adding f (bare m)).flag
   permits_weaker f separates = adding_weaker f (λ requires. absurd (false≢true (sym (apart f) ∙ and_from _ _ requires separates)))
 
   -- REQUIREMENTS
 
   module _ (s : Summary) (class : Option Class) (front : List ℕ) (next : Option ℕ) (decides : Decides m s class front next) where
-    abbrev pub alone : Flag → Bool
-    alone f = binds m f && not (allows (adding f (bare m)) s class)
-
     binding : (f : Flag) → binds m f ≡ true → IsWeaker m (adding f (bare m)).flag
     binding f is = adding_weaker f (λ _. (and_parts (m.flag f) _ is).0)
 
-    pub alone_refuses : (f : Flag) → (alone f ≡ true) ↔ RefusesAlone m front next f
+    pub alone_refuses : (f : Flag) → (alone m s class f ≡ true) ↔ RefusesAlone m front next f
     alone_refuses f = (
       λ is.
           let both = and_parts (binds m f) _ is in
@@ -90,78 +93,46 @@ module _ (m : Notation) where
           (λ allowed. refuses.1 ((decides _ (binding f refuses.0)).0 allowed)))),
     )
 
-    -- Flags that refuse alone.
-    pub all_alone : (mask : ℕ) → allows (bare m) s class ≡ true → ((f : Flag) → (raw mask).flag f ≡ alone f) → SomeFlag (raw mask).flag
-        → IsRequirement m front next (raw mask).flag
-    all_alone mask allowed each some = record {
-      allowed = (decides _ bare_weaker).0 allowed;
-      some = some;
-      each = λ f. (
-        λ is. inl ((alone_refuses f).0 (sym (each f) ∙ is)),
-        λ is. elim is [
-          | inl refuses ↦ each f ∙ (alone_refuses f).1 refuses
-          | inr lowest ↦ absurd (lowest.none_alone some.0 ((alone_refuses some.0).0 (sym (each some.0) ∙ some.1)))
-        ],
-      );
-    }
+    met : (b a : Bool) → (b && not a) ≡ false → b ≡ true → a ≡ true
+    met b a none is = grind arith
 
-    module _ (allowed : allows (bare m) s class ≡ true) (none : (f : Flag) → alone f ≡ false) where
-      none_alone : (f : Flag) → RefusesAlone m front next f → ⊥
-      none_alone f refuses = false≢true (sym (none f) ∙ (alone_refuses f).1 refuses)
+    refuses : allows m s class ≡ false → Allows m front next → ⊥
+    refuses refused is = false≢true (sym refused ∙ (decides m.flag own_weaker).1 is)
 
-      -- The lowest flag that releases, where none refuses alone.
-      module _ (flag : Flag) (set : (m.flag flag && is_one_of requirement_flags flag) ≡ true) (free : allows (without flag m) s class ≡ true)
-          (least : (g : Flag) → bit g < bit flag → (m.flag g && is_one_of requirement_flags g) ≡ true → allows (without g m) s class ≡ false) where
-        releases : Releases m front next flag
-        releases = (set, (decides _ (without_weaker flag (and_parts (m.flag flag) _ set).1)).0 free)
-
-        not_lower : (g : Flag) → bit g < bit flag → Releases m front next g → ⊥
-        not_lower g below is = false≢true (sym (least g below is.0) ∙ (decides _ (without_weaker g (and_parts (m.flag g) _ is.0).1)).1 is.1)
-
-        the_one : (f : Flag) → IsLowest m front next f → bit f ≡ bit flag
-        the_one f lowest =
-            let low = λ (below : bit f < bit flag). not_lower f below lowest.releases in
-            let high = λ (above : bit flag < bit f). lowest.lowest flag above releases in grind arith
-
-        one_lowest : IsRequirement m front next (raw (2 ^ bit flag)).flag
-        one_lowest = record {
-          allowed = (decides _ bare_weaker).0 allowed;
-          some = (flag, flag_pow flag (bit flag) ∙ eq-eqb (bit flag) (bit flag) refl);
-          each = λ f. (
-            λ is. inr (subst (IsLowest m front next) (sym (same_flag f flag (eqb-true (bit f) (bit flag) (sym (flag_pow f (bit flag)) ∙ is))))
-                (record { none_alone = none_alone; releases = releases; lowest = not_lower })),
-            λ is. elim is [
-              | inl refuses ↦ absurd (none_alone f refuses)
-              | inr lowest ↦ flag_pow f (bit flag) ∙ eq-eqb (bit f) (bit flag) (the_one f lowest)
-            ],
-          );
-        }
-
-      met : (b a : Bool) → (b && not a) ≡ false → b ≡ true → a ≡ true
-      met b a none is = grind arith
-
-      -- Two flags on leading zeros refuse together.
-      module _ (refused : allows m s class ≡ false) where
-        each_free : Alone m (λ n. allows n s class)
-        each_free = record { free = allowed; each = λ f is. met (binds m f) _ (none f) is }
-
-        lower_free : (g : Flag) → is_lower m g ≡ true → allows (without g m) s class ≡ false
-        lower_free g below = lower m s class (going m s class allowed refused) g below each_free refused
-
-        two : (t : Bool) → zeros_bind m ≡ t → (if t then allows (without layout.no_integer_leading_zeros m) s class
-            else m.flag layout.no_float_leading_zeros && allows (without layout.no_float_leading_zeros m) s class) ≡ true
-        two t is = rw (is) at (joint m s class (going m s class allowed refused) each_free refused)
-
-        pub first_of_two : zeros_bind m ≡ true → IsRequirement m front next (raw (2 ^ 12)).flag
-        first_of_two is = one_lowest layout.no_integer_leading_zeros (and_from _ _ (and_parts (m.flag layout.no_integer_leading_zeros) _ is).0 refl)
-            (two true is) (λ g below set. lower_free g (or_left _ _ (lt-ltb (bit g) 12 below)))
-
-        pub second_of_two : zeros_bind m ≡ false → IsRequirement m front next (raw (2 ^ 13)).flag
-        second_of_two is =
-            let both = and_parts (m.flag layout.no_float_leading_zeros) _ (two false is) in
-            one_lowest layout.no_float_leading_zeros (and_from _ _ both.0 refl) both.1 (λ g below set. lower_free g
-            (let on = λ (twelve : bit g ≡ 12). ap m.flag (sym (same_flag g layout.no_integer_leading_zeros twelve)) ∙ (and_parts (m.flag g) _ set).0 in
-            grind (arith, nat_tests)))
+    -- Flags that refuse alone, or else those on leading zeros.
+    pub is_requirement : allows (bare m) s class ≡ true → allows m s class ≡ false → IsRequirement m front next (requirements m s class)
+    is_requirement allowed refused = elim (cases_Bool (list_any (alone m s class) flags)) [
+      | inl some ↦
+          let first = found_in (alone m s class) flags some in
+          let same = λ (g : Flag). ap (λ t. if t then alone m s class g else (binds m g && is_one_of leading_zero_flags g)) some in
+          record {
+            refused = refuses refused;
+            allowed = (decides _ bare_weaker).0 allowed;
+            some = (first.0, same first.0 ∙ first.1);
+            each = λ g. (
+              λ is. inl ((alone_refuses g).0 (sym (same g) ∙ is)),
+              λ is. elim is [
+                | inl refuses ↦ same g ∙ (alone_refuses g).1 refuses
+                | inr jointly ↦ absurd (jointly.none_alone first.0 ((alone_refuses first.0).0 first.1))
+              ],
+            );
+          }
+      | inr none ↦
+          let no = λ (g : Flag). none_in (alone m s class) flags g none (all_flags g) in
+          let none_alone = λ (g : Flag) (refuses : RefusesAlone m front next g). false≢true (sym (no g) ∙ (alone_refuses g).1 refuses) in
+          let same = λ (g : Flag). ap (λ t. if t then alone m s class g else (binds m g && is_one_of leading_zero_flags g)) none in
+          let free : Alone m (λ n. allows n s class) = record { free = allowed; each = λ f is. met (binds m f) _ (no f) is } in
+          let float = joint m s class (going m s class allowed refused) free refused in
+          record {
+            refused = refuses refused;
+            allowed = (decides _ bare_weaker).0 allowed;
+            some = (layout.no_float_leading_zeros, same layout.no_float_leading_zeros ∙ and_from _ true (and_from _ true float refl) refl);
+            each = λ g. (
+              λ is. inr (record { none_alone = none_alone; zeros = sym (same g) ∙ is }),
+              λ is. elim is [ inl refuses ↦ absurd (none_alone g refuses) | inr jointly ↦ same g ∙ jointly.zeros ],
+            );
+          }
+    ]
 
   -- SEPARATORS
 
@@ -173,11 +144,11 @@ module _ (m : Notation) where
     abbrev found : Flag → Bool
     found f = (s.gap || is_role roles.Separator (in_part s.part class)) && (is_own s.part f && allows (adding f (bare m)) s (Some class))
 
-    at_place : (f : Flag) → is_one_of separator_flags f ≡ true → allows (adding f (bare m)) s (Some class) ≡ true
+    at_place : (f : Flag) → is_one_of number_separator_flags f ≡ true → allows (adding f (bare m)) s (Some class) ≡ true
         → ((s.gap || is_role roles.Separator (in_part s.part class)) ≡ true) × (is_at (place_of m s (in_part s.part class)) s.part f ≡ true)
     at_place f separates allowed = and_parts (s.gap || is_role roles.Separator (in_part s.part class)) _ (at_next m f s class separates refused allowed)
 
-    owned : (f : Flag) → found f ≡ true → (is_one_of separator_flags f ≡ true) × (allows (adding f (bare m)) s (Some class) ≡ true)
+    owned : (f : Flag) → found f ≡ true → (is_one_of number_separator_flags f ≡ true) × (allows (adding f (bare m)) s (Some class) ≡ true)
     owned f is =
         let both = and_parts (is_own s.part f) _ (and_parts (s.gap || is_role roles.Separator (in_part s.part class)) _ is).1 in
         (let own = both.0 in grind (arith, nat_tests), both.1)
@@ -194,6 +165,93 @@ module _ (m : Notation) where
 
     pub found_at : (f : Flag) → found f ≡ true → is_at (place_of m s (in_part s.part class)) s.part f ≡ true
     found_at f is = let both = owned f is in (at_place f both.0 both.1).1
+
+-- THE CAUSE
+
+choose : (Q : Blamed → Type 0) (t : Bool) (x y : Blamed) → (t ≡ true → Q x) → (t ≡ false → Q y) → Q (if t then x else y)
+choose Q true x y is other = is refl
+choose Q false x y is other = other refl
+
+module _ (m : Notation) (s : Summary) (front : List ℕ) (read : IsReadOf m s front) where
+  module _ (byte : ℕ) (none : allows (bare m) s (Some (byte_class m byte)) ≡ false) where
+    not_allowed : Allows (bare m) front (Some byte) → ⊥
+    not_allowed allowed = false≢true (sym none ∙ (read.decides (Some byte) (bare m).flag (bare_weaker m)).1 allowed)
+
+    permits : (f : Flag) → IsTrue (separators m s (Some (byte_class m byte)) f) ↔ Permits m front byte f
+    permits = each_permits m s (byte_class m byte) front byte (read.decides (Some byte)) none
+
+    is_case : (f : Flag) → IsTrue (cases m s byte f) ↔ IsCaseFlag m front byte f
+    is_case f =
+        let other = read.decides (Some (other_case byte)) (bare m).flag (bare_weaker m) in (
+          λ is. let both = and_parts (allows (bare m) s (Some (byte_class m (other_case byte)))) (case_set f m (other_case byte)) is in (both.1, other.0 both.0),
+          λ is. and_from _ _ (other.1 is.1) is.0,
+        )
+
+    no_flag : {X : Flag → Type 0} (P : Flag → Bool) → ((f : Flag) → IsTrue (P f) ↔ X f) → list_any P flags ≡ false → (f : Flag) → X f → ⊥
+    no_flag P each none f is = false≢true (sym (none_in P flags f none (all_flags f)) ∙ (each f).1 is)
+
+    is_wrong : IsCause m front (Some byte) (wrong m s byte).kind (wrong m s byte).flags
+    is_wrong = choose (λ b. IsCause m front (Some byte) b.kind b.flags) (list_any (separators m s (Some (byte_class m byte))) flags) _ _
+        (λ some. record {
+          refused = not_allowed;
+          some = found_in _ flags some;
+          each = permits;
+          at = found_at m s (byte_class m byte) front byte (read.decides (Some byte)) none;
+        })
+        (λ no_separators. choose (λ b. IsCause m front (Some byte) b.kind b.flags) (list_any (cases m s byte) flags) _ _
+        (λ some. record { refused = not_allowed; no_separator = no_flag _ permits no_separators; some = found_in _ flags some; each = is_case })
+        (λ no_cases. record {
+          refused = not_allowed;
+          no_separator = no_flag _ permits no_separators;
+          no_case = no_flag _ is_case no_cases;
+          none = λ f. refl;
+        }))
+
+  is_otherwise : (next : Option ℕ) → allows (bare m) s (class_of_next m next) ≡ false
+      → IsCause m front next (otherwise m s next).kind (otherwise m s next).flags
+  is_otherwise None none = record {
+    refused = λ l reads. false≢true (sym none ∙ (read.decides None (bare m).flag (bare_weaker m)).1 (l, reads));
+    last = read.part (or_parts s.ended _ none).0;
+    none = λ f. refl;
+  }
+  is_otherwise (Some byte) none = is_wrong byte none
+
+  -- What has been read, and what refuses, decide the cause.
+  pub is_blamed : (next : Option ℕ) → allows m s (class_of_next m next) ≡ false → IsCause m front next (blame m s next).kind (blame m s next).flags
+  is_blamed next refused = choose (λ b. IsCause m front next b.kind b.flags) (allows (bare m) s (class_of_next m next)) _ _
+      (λ allowed. is_requirement m s (class_of_next m next) front next (read.decides next) allowed refused) (is_otherwise next)
+
+-- THE REFUSAL
+
+module _ (g : Grammar) (text : List ℕ) (row : ℕ) (tail : List ℕ) (k : Marks) (size : ℕ) (within : size ≤ length text) where
+  abbrev n : Notation
+  n = notation_of g
+
+  abbrev s : Summary
+  s = summary_at row
+
+  abbrev spot : Option ℕ → Spot
+  spot next = record { grammar = g; row = row; byte = next; tail = tail; marks = k }
+
+  pub refusal_at : IsValidUpTo n text size → IsReadOf n s (take size text) → allows n s (class_of_next n (slice_get text size)) ≡ false
+      → (next : Option ℕ) → next ≡ slice_get text size → k ≡ marks_of n (take size text)
+      → IsRefusal n text (refusal_of n (spot next))
+  refusal_at valid read refused next is_next is_marks =
+      let b = blame n s next in
+      let f = lowest (mask_of b.flags) in
+      let is_size : size ≡ k.size = sym (length-take-le size text within) ∙ sym (ap (λ (k : Marks). k.size) is_marks) in
+      let same : k ≡ marks_of n (take k.size text) = is_marks ∙ (λ j. marks_of n (take (is_size j) text)) in
+      let cause = is_blamed n s (take size text) read next (ap (λ o. allows n s (class_of_next n o)) is_next ∙ refused) in
+      record {
+        valid_up_to = subst (IsValidUpTo n text) is_size valid;
+        byte = is_next ∙ ap (slice_get text) is_size;
+        cause = subst (λ size. IsCause n (take size text) (slice_get text size) b.kind (raw (mask_of b.flags)).flag) is_size
+            (subst (λ next. IsCause n (take size text) next b.kind (raw (mask_of b.flags)).flag) is_next
+            (subst (IsCause n (take size text) next b.kind) (λ j f. sym (mask_flags b.flags f) j) cause));
+        mask = only_mask b.flags;
+        span = ap (λ k. span_of n k next b.kind f) same;
+        code = λ j. error_of n (same j) b.kind f (span_of n k next b.kind f).0;
+      }
 
 -- A mask as the flags of a notation.
 pub as_bare : (m : Notation) (mask : ℕ) → ((f : Flag) → (raw mask).flag f ≡ (bare m).flag f) → with_flags m (raw mask).flag ≡ bare m

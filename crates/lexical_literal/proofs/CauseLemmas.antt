@@ -1,11 +1,11 @@
 -- The flags of masks, and the bytes to show.
 use Rattle.std.proofs.Common.{ℕ, ◌≡◌, ◌≢◌, ◌<◌, ◌+◌, ◌*◌, ◌%◌, ◌^◌, ◌==◌, ◌&&◌, ◌||◌, not, Bool, true, false, if◌then◌else◌}
-use Rattle.std.proofs.Common.{bit_and, bit_or, inl, inr, List, [], ◌∷◌, ◌++◌, length, sum_by, refl, ap, ◌∙◌, arith}
+use Rattle.std.proofs.Common.{bit_and, bit_or, inl, inr, List, [], ◌∷◌, ◌++◌, length, sum_by, refl, sym, ap, ◌∙◌, arith}
 use Rattle.std.proofs.lemmas.Bool.Decides.{nat_tests}
 use Rattle.std.proofs.lemmas.List.Folds.{list_any-append}
 use Rattle.std.proofs.lemmas.Nat.Bits.{and_pow, bit_at_and, bit_at_or, bit_at_not, bit_at-zero, bit_at-pow_same, bit_at-pow_other, bit_at-trailing_zeros}
 use Rattle.std.proofs.Math.Nat.{eq-zero-or-pos, mod-lt}
-use Rattle.std.proofs.lemmas.Bool.{and_from, eq-eqb, or_left, or_right}
+use Rattle.std.proofs.lemmas.Bool.{false≢true, and_from, cases_Bool, eq-eqb, eqb-true, or_left, or_parts, or_right}
 use Rattle.std.proofs.lemmas.Nat.{one_shl}
 use Rattle.std.specs.Int.Bits.{or_zero_l}
 use Rattle.std.specs.Int.{w128, bit_not, trailing_zeros}
@@ -15,7 +15,44 @@ use Rattle.lexical_util.specs.Layout as layout
 use Rattle.lexical_util.specs.Layout.{Flag, bit, part}
 use Rattle.lexical_util.specs.Record.{raw}
 use Rattle.lexical_util.proofs.ViewLemmas.{bits_by_mask}
-use Rattle.lexical_literal.specs.Cause.{behind, is_one_of, requirement_flags}
+use Rattle.lexical_util.specs.Record.{Record, word_of}
+use Rattle.lexical_flags.proofs.Packing.{raw-word_of}
+use Rattle.std.specs.List.{list_any}
+use Rattle.lexical_literal.specs.Additions.Explained.{mask_of}
+use Rattle.lexical_flags.specs.declared.format_flags.TheConstants.{FLAG_MASK}
+use Rattle.lexical_literal.specs.declared.cause.TheConstants.{FLOAT_REQUIREMENTS, REQUIREMENTS, ZEROS}
+use Rattle.lexical_literal.specs.Cause.{behind, flag_at, is_one_of, leading_zero_flags, requirement_flags}
+
+-- FLAGS
+
+flag_at_bit : (f : Flag) → flag_at (bit f) ≡ f
+flag_at_bit layout.required_integer_digits = refl
+flag_at_bit _ = refl
+
+-- Two flags with the same bit are one.
+pub same_flag : (g f : Flag) → bit g ≡ bit f → g ≡ f
+same_flag g f same = sym (flag_at_bit g) ∙ ap flag_at same ∙ flag_at_bit f
+
+pub all_flags : (f : Flag) → is_one_of layout.flags f ≡ true
+all_flags layout.required_integer_digits = refl
+all_flags _ = refl
+
+module _ (P : Flag → Bool) where
+  -- A flag of a list for which a test is true.
+  pub found_in : (fs : List Flag) → list_any P fs ≡ true → (f : Flag) × (P f ≡ true)
+  found_in [] is = absurd (false≢true is)
+  found_in (f ∷ fs) is = elim (cases_Bool (P f)) [
+    | inl here ↦ (f, here)
+    | inr other ↦ found_in fs (ap (λ t. t || list_any P fs) (sym other) ∙ is)
+  ]
+
+  pub none_in : (fs : List Flag) (f : Flag) → list_any P fs ≡ false → is_one_of fs f ≡ true → P f ≡ false
+  none_in [] f none is = absurd (false≢true is)
+  none_in (g ∷ fs) f none is =
+      let both = or_parts (P g) (list_any P fs) none in elim (cases_Bool (bit g == bit f)) [
+        | inl same ↦ ap P (sym (same_flag g f (eqb-true (bit g) (bit f) same))) ∙ both.0
+        | inr other ↦ none_in fs f both.1 (ap (λ t. t || is_one_of fs f) (sym other) ∙ is)
+      ]
 
 -- THE FLAGS OF MASKS
 
@@ -42,34 +79,43 @@ module _ (f : Flag) where
   pub flag_pow : (k : ℕ) → (raw (2 ^ k)).flag f ≡ (bit f == k)
   flag_pow k = let same = bit_at-pow_same k in let other = bit_at-pow_other k (bit f) in grind (arith, nat_tests)
 
-pub requirement_mask : (f : Flag) → (raw 0x73FF).flag f ≡ is_one_of requirement_flags f
+pub requirement_mask : (f : Flag) → (raw REQUIREMENTS).flag f ≡ is_one_of requirement_flags f
 requirement_mask layout.required_integer_digits = refl
 requirement_mask _ = refl
 
-pub binding_mask : (f : Flag) → (raw 0x63FF).flag f ≡ (is_one_of requirement_flags f && not ((bit f == 12) && true))
+pub binding_mask : (f : Flag) → (raw FLOAT_REQUIREMENTS).flag f ≡ (is_one_of requirement_flags f && not ((bit f == 12) && true))
 binding_mask layout.required_integer_digits = refl
 binding_mask _ = refl
 
-pub all_bind : (f : Flag) → (raw 0x73FF).flag f ≡ (is_one_of requirement_flags f && not ((bit f == 12) && false))
+pub zeros_mask : (f : Flag) → (raw ZEROS).flag f ≡ is_one_of leading_zero_flags f
+zeros_mask layout.required_integer_digits = refl
+zeros_mask _ = refl
+
+pub all_bind : (f : Flag) → (raw REQUIREMENTS).flag f ≡ (is_one_of requirement_flags f && not ((bit f == 12) && false))
 all_bind layout.required_integer_digits = refl
 all_bind _ = refl
 
 -- The flags of a word without requirements.
-pub bare_flags : (word : ℕ) (f : Flag) → (raw (bit_and word (bit_not w128 0x73FF))).flag f ≡ ((raw word).flag f && not (is_one_of requirement_flags f))
-bare_flags word f = flag_and f word (bit_not w128 0x73FF) ∙ ap (λ t. (raw word).flag f && t) (flag_not f 0x73FF (omega arith) ∙ ap not (requirement_mask f))
+pub bare_flags : (word : ℕ) (f : Flag) → (raw (bit_and word (bit_not w128 REQUIREMENTS))).flag f ≡ ((raw word).flag f && not (is_one_of requirement_flags f))
+bare_flags word f = flag_and f word (bit_not w128 REQUIREMENTS) ∙ ap (λ t. (raw word).flag f && t) (flag_not f REQUIREMENTS (omega arith) ∙ ap not (requirement_mask f))
 
-flag_mask : (f : Flag) → (raw 0x1FFF0003FFFF).flag f ≡ true
-flag_mask layout.required_integer_digits = refl
-flag_mask _ = refl
+-- The flags of the mask of some flags are these flags.
+pub mask_flags : (P : Flag → Bool) (f : Flag) → (raw (mask_of P)).flag f ≡ P f
+mask_flags P f = ap (λ (r : Record). r.flag f) (raw-word_of (record { flag = P; byte = λ b. 0 }) (record { each = λ b. omega arith }))
 
--- The flags of a mask without the bits that are not those of flags.
-pub kept_flags : (mask : ℕ) (f : Flag) → (raw mask).flag f ≡ (raw (bit_and mask 0x1FFF0003FFFF)).flag f
-kept_flags mask f = let both = flag_and f mask 0x1FFF0003FFFF in let all = flag_mask f in grind arith
+mask_sum : (P : Flag → Bool) → sum_by (λ f. if P f then 2 ^ bit f else 0) layout.flags ≡ mask_of P
+unfolding word_of
+mask_sum P = omega arith
 
-pub only_flags : (mask : ℕ) → bit_and mask 0x1FFF0003FFFF ≡ bits_of (bit_and mask 0x1FFF0003FFFF) layout.flags
+pub only_mask : (P : Flag → Bool) → mask_of P ≡ bits_of (mask_of P) layout.flags
 unfolding bits_of
-only_flags mask = bits_by_mask mask 0x1FFF0003FFFF layout.flags refl refl
-    ∙ (λ j. sum_by (λ f. if kept_flags mask f j then 2 ^ bit f else 0) layout.flags)
+only_mask P = sym (mask_sum P) ∙ (λ j. sum_by (λ f. if sym (mask_flags P f) j then 2 ^ bit f else 0) layout.flags)
+
+-- A mask without the bits that are not those of flags.
+pub masked : (mask : ℕ) (P : Flag → Bool) → ((f : Flag) → (raw mask).flag f ≡ P f) → bit_and mask FLAG_MASK ≡ mask_of P
+unfolding bits_of
+masked mask P each = bits_by_mask mask FLAG_MASK layout.flags refl refl
+    ∙ (λ j. sum_by (λ f. if each f j then 2 ^ bit f else 0) layout.flags) ∙ mask_sum P
 
 -- A bit that a mask has, or has not.
 pub is_unset : (n k : ℕ) → bit_and n (2 ^ k) ≡ 0 → part n k 1 ≡ 0
@@ -95,6 +141,22 @@ either f a b x y is_a is_b = flag_or f a b ∙ (λ j. is_a j || is_b j)
 -- `HasFlag n` holds if the mask `n` has a flag, or is 0.
 abbrev pub HasFlag : ℕ → Type 0
 HasFlag n = n ≢ 0 → (f : Flag) × ((raw n).flag f ≡ true)
+
+module _ (P : Flag → Bool) (mask : ℕ) (each : (f : Flag) → (raw mask).flag f ≡ P f) where
+  pub any_flag : HasFlag mask → mask ≢ 0 → list_any P layout.flags ≡ true
+  any_flag has some = elim (cases_Bool (list_any P layout.flags)) [
+    | inl is ↦ is
+    | inr none ↦
+        let one = has some in absurd (false≢true (sym (none_in P layout.flags one.0 none (all_flags one.0)) ∙ sym (each one.0) ∙ one.1))
+  ]
+
+  pub no_flag : mask ≡ 0 → list_any P layout.flags ≡ false
+  no_flag zero = elim (cases_Bool (list_any P layout.flags)) [
+    | inl is ↦
+        let one = found_in P layout.flags is in
+        absurd (false≢true (sym (sym (each one.0) ∙ ap (λ n. (raw n).flag one.0) zero ∙ flag_zero one.0) ∙ one.1))
+    | inr none ↦ none
+  ]
 
 pub has_either : (a b : ℕ) → HasFlag a → HasFlag b → HasFlag (bit_or a b)
 has_either a b of_a of_b some = elim (eq-zero-or-pos a) [

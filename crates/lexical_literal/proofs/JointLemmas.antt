@@ -1,19 +1,18 @@
--- Which flags refuse what is allowed without requirements: flags that refuse alone, or two flags on leading zeros.
-use Rattle.std.proofs.Common.{◌≡◌, Bool, true, false, not, ◌==◌, ◌&&◌, ◌||◌, if◌then◌else◌, nat_lt, Option, Some, None, refl, sym, ap, subst, ◌∙◌, arith}
+-- Which flags refuse what is allowed without requirements: flags that refuse alone, or those on leading zeros.
+use Rattle.std.proofs.Common.{◌≡◌, Bool, true, false, not, ◌&&◌, ◌||◌, Option, Some, None, refl, sym, ap, subst, ◌∙◌, arith}
 use Rattle.std.proofs.lemmas.Bool.{false≢true, or_parts}
-use Rattle.std.proofs.lemmas.Bool.Decides.{nat_tests}
 use Rattle.std.specs.Prelude.{is_some}
 use Rattle.lexical_util.specs.Layout as layout
-use Rattle.lexical_util.specs.Layout.{Flag, bit, separators_in}
+use Rattle.lexical_util.specs.Layout.{Flag}
 use Rattle.lexical_util.specs.declared.feature_format.roles.Role.{Role}
 use Rattle.lexical_util.specs.declared.feature_format.roles.Role.TheVariants as roles
 use Rattle.lexical_util.specs.declared.format_flags.Part.{Part}
 use Rattle.lexical_util.specs.declared.format_flags.Part.TheVariants as parts
 use Rattle.lexical_literal.specs.Notation.{Notation}
 use Rattle.lexical_literal.specs.Run.{is_place}
-use Rattle.lexical_literal.specs.Cause.{adding, bare, binds, is_one_of, requirement_flags, separator_flags, without}
-use Rattle.lexical_literal.specs.Additions.Causes.{allows, is_plus_next, is_role, refuses, role_of_next, separates}
-use Rattle.lexical_literal.specs.Additions.Summary.{gap_fits, has_digit, implies, is_signed, in_part, is_plus, is_zero, may_follow, move, needs_exponent, takes}
+use Rattle.lexical_literal.specs.Cause.{adding, bare, binds, is_one_of, number_separator_flags}
+use Rattle.lexical_literal.specs.Additions.Causes.{allows, is_plus_next, is_role, role_of_next, separates}
+use Rattle.lexical_literal.specs.Additions.Summary.{has_digit, implies, in_part, is_plus_class, is_zero, may_follow, move, takes}
 use Rattle.lexical_literal.specs.declared.steps.Class.{Class}
 use Rattle.lexical_literal.specs.declared.steps.Stage.{Stage}
 use Rattle.lexical_literal.specs.declared.steps.Stage.TheVariants as stages
@@ -35,25 +34,10 @@ moved n s ended plus zero o = grind arith
 pub allows_is : (n : Notation) (s : Summary) (next : Option Class) → s.ended ≡ false
     → allows n s next ≡ taken n (reading s.part s.stage s.gap) (is_plus_next next) (role_of_next s next)
 allows_is n s None going = grind arith
-allows_is n s (Some class) going = moved n s s.ended (is_plus class) (is_zero class) (in_part s.part class)
-    ∙ ap (λ e. not e && taken n (reading s.part s.stage s.gap) (is_plus class) (in_part s.part class)) going
+allows_is n s (Some class) going = moved n s s.ended (is_plus_class class) (is_zero class) (in_part s.part class)
+    ∙ ap (λ e. not e && taken n (reading s.part s.stage s.gap) (is_plus_class class) (in_part s.part class)) going
 
 module _ (m : Notation) where
-  -- FLAGS THAT REFUSE ALONE
-
-  alone_role : (f : Flag) (part : Part) (stage : Stage) (gap plus : Bool) (o : Option Role) → is_one_of requirement_flags f ≡ true
-      → taken (bare m) (reading part stage gap) plus o ≡ true
-      → refuses m (reading part stage gap) plus o (bit f) ≡ not (taken (adding f (bare m)) (reading part stage gap) plus o)
-  alone_role f part stage gap plus None requires free = absurd (false≢true free)
-  alone_role layout.required_mantissa_digits parts.Integer stage gap plus (Some roles.Digit) requires free = grind arith
-  alone_role layout.no_exponent_notation parts.Integer stage gap plus (Some roles.Exponent) requires _ = grind arith
-  alone_role layout.no_exponent_without_fraction parts.Integer stages.Start gap plus (Some roles.Exponent) requires _ = grind arith
-  alone_role layout.no_exponent_without_fraction parts.Integer _ gap plus (Some roles.Exponent) requires _ = grind arith
-  alone_role layout.no_integer_leading_zeros parts.Integer stage gap plus (Some roles.Digit) requires free = grind arith
-  alone_role layout.no_float_leading_zeros parts.Integer stage gap plus (Some roles.Digit) requires free = grind arith
-  alone_role layout.required_exponent_notation parts.Integer stage gap plus (Some roles.Digit) requires free = grind arith
-  alone_role _ part stage gap plus (Some role) requires free = grind arith
-
   -- FLAGS THAT REFUSE TOGETHER
 
   -- `Alone P` holds if `P` is true of `m` without requirements, and with each one that binds.
@@ -94,19 +78,6 @@ module _ (m : Notation) where
   whole_role parts.Exponent stage gap plus role a other =
       let sign = met a layout.required_exponent_sign in let digits = met a layout.required_exponent_digits in grind arith
 
-  -- `zeros_bind` is true if the flag on the leading zeros of integers is set and requires something.
-  abbrev pub zeros_bind : Bool
-  zeros_bind = m.flag layout.no_integer_leading_zeros && not (needs_exponent m)
-
-  -- `in_two P` is true if `P` is true of `m` without one flag on leading zeros, which is set.
-  abbrev pub in_two : (Notation → Bool) → Bool
-  in_two P = if zeros_bind then P (without layout.no_integer_leading_zeros m)
-      else m.flag layout.no_float_leading_zeros && P (without layout.no_float_leading_zeros m)
-
-  -- `is_lower g` is true of the flags below those that refuse together, and of the lower one if it requires nothing.
-  abbrev pub is_lower : Flag → Bool
-  is_lower g = nat_lt (bit g) 12 || ((bit g == 12) && needs_exponent m)
-
   -- Behind a leading zero that is refused, a separator would have to be trailing.
   led : (part : Part) (stage : Stage) (gap plus : Bool) (role : Role) → is_digits role ≡ true → Alone (λ n. takes n (reading part stage gap) plus role)
       → takes m (reading part stage gap) plus role ≡ false
@@ -115,7 +86,7 @@ module _ (m : Notation) where
   led _ stage gap plus role is a refused = let sign = met a layout.required_mantissa_sign in grind arith
 
   joint_role : (part : Part) (stage : Stage) (gap plus : Bool) (o : Option Role) → Alone (λ n. taken n (reading part stage gap) plus o)
-      → taken m (reading part stage gap) plus o ≡ false → in_two (λ n. taken n (reading part stage gap) plus o) ≡ true
+      → taken m (reading part stage gap) plus o ≡ false → m.flag layout.no_float_leading_zeros ≡ true
   joint_role part stage gap plus None a refused = absurd (false≢true a.free)
   joint_role parts.Exponent stage gap plus (Some roles.Digit) a refused =
       let sign = met a layout.required_exponent_sign in let leads = met a layout.no_integer_leading_zeros in grind arith
@@ -126,37 +97,9 @@ module _ (m : Notation) where
   joint_role part stage gap plus (Some roles.Separator) a refused = absurd (false≢true (sym (led part stage gap plus roles.Separator refl a refused)))
   joint_role part stage gap plus (Some role) a refused = absurd (false≢true (sym refused ∙ whole_role part stage gap plus role a refl))
 
-  still_led : (g : Flag) (stage : Stage) → is_lower g ≡ true → may_follow m stage ≡ false → may_follow (without g m) stage ≡ false
-  still_led g stages.Start below none = grind (arith, nat_tests)
-  still_led g _ below none = grind (arith, nat_tests)
-
-  still_closed : (g : Flag) (part : Part) (digit : Bool) → is_place m part digit false ≡ false → is_place (without g m) part digit false ≡ false
-  still_closed g part digit none = grind arith
-
-  no_digit : (x y z : Bool) → z ≡ false → (x && (y && z)) ≡ false
-  no_digit x y z none = grind arith
-
-  no_separator : (x y z p q : Bool) → z ≡ false → q ≡ false → (x && (y && ((p && z) || q))) ≡ false
-  no_separator x y z p q none closed = grind arith
-
-  lower_role : (g : Flag) (part : Part) (stage : Stage) (gap plus : Bool) (o : Option Role) → is_lower g ≡ true
-      → Alone (λ n. taken n (reading part stage gap) plus o) → taken m (reading part stage gap) plus o ≡ false
-      → taken (without g m) (reading part stage gap) plus o ≡ false
-  lower_role g part stage gap plus None below a refused = refl
-  lower_role g part stage gap plus (Some roles.Digit) below a refused =
-      let n = without g m in
-      no_digit (is_signed n part stage) (gap_fits n part (has_digit stage) gap true) (may_follow n stage)
-      (still_led g stage below (or_parts (may_follow m stage) _ (led part stage gap plus roles.Digit refl a refused)).0)
-  lower_role g part stage gap plus (Some roles.Separator) below a refused =
-      let n = without g m in
-      let both = or_parts (may_follow m stage) _ (led part stage gap plus roles.Separator refl a refused) in
-      no_separator (is_signed n part stage) (not gap || n.flag (separators_in part).consecutive) (may_follow n stage) (is_place n part (has_digit stage) true)
-      (is_place n part (has_digit stage) false) (still_led g stage below both.0) (still_closed g part (has_digit stage) both.1)
-  lower_role g part stage gap plus (Some role) below a refused = absurd (false≢true (sym refused ∙ whole_role part stage gap plus role a refl))
-
   -- SEPARATORS
 
-  at_role : (f : Flag) (part : Part) (stage : Stage) (gap plus : Bool) (o : Option Role) → is_one_of separator_flags f ≡ true
+  at_role : (f : Flag) (part : Part) (stage : Stage) (gap plus : Bool) (o : Option Role) → is_one_of number_separator_flags f ≡ true
       → taken (bare m) (reading part stage gap) plus o ≡ false → taken (adding f (bare m)) (reading part stage gap) plus o ≡ true
       → separates m (reading part stage gap) o f ≡ true
   at_role f part stage gap plus None is refused allowed = absurd (false≢true allowed)
@@ -168,7 +111,7 @@ module _ (m : Notation) where
   -- What is allowed without requirements, and refused with them, follows no suffix.
   pub going : (s : Summary) (next : Option Class) → allows (bare m) s next ≡ true → allows m s next ≡ false → s.ended ≡ false
   going s None free refused = (or_parts s.ended _ refused).0
-  going s (Some class) free refused = let is = sym (moved (bare m) s s.ended (is_plus class) (is_zero class) (in_part s.part class)) ∙ free in grind arith
+  going s (Some class) free refused = let is = sym (moved (bare m) s s.ended (is_plus_class class) (is_zero class) (in_part s.part class)) ∙ free in grind arith
 
   module _ (s : Summary) (next : Option Class) (unended : s.ended ≡ false) where
     abbrev o : Option Role
@@ -177,21 +120,14 @@ module _ (m : Notation) where
     same : ◌≡◌ {A = Notation → Bool} (λ n. taken n (reading s.part s.stage s.gap) (is_plus_next next) o) (λ n. allows n s next)
     same = λ j n. sym (allows_is n s next unended) j
 
-    pub alone_refuses : (f : Flag) → is_one_of requirement_flags f ≡ true → allows (bare m) s next ≡ true
-        → refuses m s (is_plus_next next) o (bit f) ≡ not (allows (adding f (bare m)) s next)
-    alone_refuses f requires = subst (λ (P : Notation → Bool). P (bare m) ≡ true → refuses m s (is_plus_next next) o (bit f) ≡ not (P (adding f (bare m)))) same
-        (alone_role f s.part s.stage s.gap (is_plus_next next) o requires)
-
-    pub joint : Alone (λ n. allows n s next) → allows m s next ≡ false → in_two (λ n. allows n s next) ≡ true
-    joint = subst (λ P. Alone P → P m ≡ false → in_two P ≡ true) same (joint_role s.part s.stage s.gap (is_plus_next next) o)
-
-    pub lower : (g : Flag) → is_lower g ≡ true → Alone (λ n. allows n s next) → allows m s next ≡ false → allows (without g m) s next ≡ false
-    lower g below = subst (λ P. Alone P → P m ≡ false → P (without g m) ≡ false) same (lower_role g s.part s.stage s.gap (is_plus_next next) o below)
+    -- What no flag refuses alone, a flag on leading zeros refuses with another.
+    pub joint : Alone (λ n. allows n s next) → allows m s next ≡ false → m.flag layout.no_float_leading_zeros ≡ true
+    joint = subst (λ P. Alone P → P m ≡ false → m.flag layout.no_float_leading_zeros ≡ true) same (joint_role s.part s.stage s.gap (is_plus_next next) o)
 
   -- A flag that allows the byte is of the place and the part.
-  pub at_next : (f : Flag) (s : Summary) (class : Class) → is_one_of separator_flags f ≡ true → allows (bare m) s (Some class) ≡ false
+  pub at_next : (f : Flag) (s : Summary) (class : Class) → is_one_of number_separator_flags f ≡ true → allows (bare m) s (Some class) ≡ false
       → allows (adding f (bare m)) s (Some class) ≡ true → separates m s (in_part s.part class) f ≡ true
   at_next f s class is refused allowed =
       subst (λ (P : Notation → Bool). P (bare m) ≡ false → P (adding f (bare m)) ≡ true → separates m s (in_part s.part class) f ≡ true)
-      (same s (Some class) (let is = sym (moved (adding f (bare m)) s s.ended (is_plus class) (is_zero class) (in_part s.part class)) ∙ allowed in grind arith))
-      (at_role f s.part s.stage s.gap (is_plus class) (in_part s.part class) is) refused allowed
+      (same s (Some class) (let is = sym (moved (adding f (bare m)) s s.ended (is_plus_class class) (is_zero class) (in_part s.part class)) ∙ allowed in grind arith))
+      (at_role f s.part s.stage s.gap (is_plus_class class) (in_part s.part class) is) refused allowed

@@ -30,7 +30,7 @@ abbrev pub is_tail : List ℕ → List ℕ
 is_tail [] = []
 is_tail (b ∷ bytes) = bytes
 
--- `tail_cuts l c` counts the parts of `l` behind the mantissa, begun with `c`, and `cuts_of l` all its parts.
+-- `tail_cuts l c` counts the parts of `l` behind the mantissa, begun with `c`, and `all_cuts l` all its parts.
 abbrev tail_cuts : Literal → Cuts → Cuts
 tail_cuts l c = add_all (add_all (add_all (add_all c pieces.ExponentCharacter l.exponent_character) pieces.ExponentSign l.exponent_sign)
     pieces.Exponent l.exponent) pieces.Suffix l.suffix
@@ -41,8 +41,8 @@ end_cuts l c = tail_cuts l (add_all (add_all c pieces.Point l.point) pieces.Frac
 abbrev prefix_cuts : List ℕ → Cuts → Cuts
 prefix_cuts prefix c = add_all (add_all c pieces.Integer (is_tail prefix)) pieces.Prefix (is_tail prefix)
 
-abbrev pub cuts_of : Literal → Cuts
-cuts_of l = end_cuts l (add_all (prefix_cuts l.prefix (add_all no_cuts pieces.Sign l.sign)) pieces.Integer l.integer)
+abbrev pub all_cuts : Literal → Cuts
+all_cuts l = end_cuts l (add_all (prefix_cuts l.prefix (add_all no_cuts pieces.Sign l.sign)) pieces.Integer l.integer)
 
 -- What the parts behind the mantissa satisfy, said of plain variables: `k`, `s` and `e` tell whether the exponent character, its
 -- sign and the exponent are absent.
@@ -370,13 +370,13 @@ module _ (m : Notation) (h : HasRoles m) where
         (let fits = run parts.Exponent l.exponent is.exponent in grind arith))))
 
     -- A literal is accepted, and its parts are counted.
-    pub literal_arrives : Arrives m (Some start) no_cuts (text_of l) (cuts_of l)
+    pub literal_arrives : Arrives m (Some start) no_cuts (text_of l) (all_cuts l)
     literal_arrives =
         let signs = add_all no_cuts pieces.Sign l.sign in
         let dressed = prefix_cuts l.prefix signs in
-        sign_arrives parts.Integer stages.Start false l.sign _ no_cuts (cuts_of l) (grind arith)
-        (λ signed. prefix_arrives (stage_at stages.Start l.sign []) l.prefix _ signs (cuts_of l) (grind arith) (grind arith) signed is.prefix
-        (λ signed. run_arrives parts.Integer (stage_at stages.Start l.sign l.prefix) false l.integer _ dressed (cuts_of l) signed
+        sign_arrives parts.Integer stages.Start false l.sign _ no_cuts (all_cuts l) (grind arith)
+        (λ signed. prefix_arrives (stage_at stages.Start l.sign []) l.prefix _ signs (all_cuts l) (grind arith) (grind arith) signed is.prefix
+        (λ signed. run_arrives parts.Integer (stage_at stages.Start l.sign l.prefix) false l.integer _ dressed (all_cuts l) signed
         (subst (λ t. is_rest m parts.Integer t false l.integer ≡ true) (grind arith) (run parts.Integer l.integer is.integer)) (record {
           leads = λ led. leads _ _ _ _ _ _ _ _ _ end (grind arith) led;
           arrives = λ gap closed signed. end_arrives l (integer_last m l) gap (add_all dressed pieces.Integer l.integer)

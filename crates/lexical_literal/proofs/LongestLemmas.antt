@@ -8,7 +8,7 @@ use Rattle.std.proofs.lemmas.Bool.Decides.{nat_tests}
 use Rattle.std.proofs.lemmas.List.{take-take, take_more, take_all}
 use Rattle.lexical_literal.specs.Notation.{Notation}
 use Rattle.lexical_literal.specs.Literal.{Literal, IsLiteral, Reads, is_none_or_prefix}
-use Rattle.lexical_literal.specs.Additions.Summary.{Cuts, class_of, in_part, scan, step, is_accepted, is_complete}
+use Rattle.lexical_literal.specs.Additions.Summary.{Cuts, byte_class, in_part, scan, step, is_accepted, is_complete}
 use Rattle.lexical_literal.specs.Additions.Summary.{tally, count, add, piece_number, start, no_cuts, HasLengths}
 use Rattle.lexical_literal.specs.Front.{IsFront, IsValidUpTo, NoLiteral, ReadsFront}
 use Rattle.lexical_literal.specs.Additions.Longest.{IsLongest, IsScanned}
@@ -17,8 +17,9 @@ use Rattle.lexical_literal.specs.Additions.Tables as tables
 use Rattle.lexical_literal.specs.declared.read.Scanned.{Scanned}
 use Rattle.lexical_literal.specs.declared.steps.Piece.{Piece}
 use Rattle.lexical_literal.specs.declared.steps.Summary.{Summary}
+use Rattle.lexical_literal.specs.declared.tables.TheConstants.{ROWS}
 use Rattle.lexical_literal.proofs.ScanLemmas.{HasRoles, IsReady, add_all, scan_append, tally_append}
-use Rattle.lexical_literal.proofs.LiteralLemmas.{literal_from, literal_arrives, cuts_of, is_tail}
+use Rattle.lexical_literal.proofs.LiteralLemmas.{literal_from, literal_arrives, all_cuts, is_tail}
 use Rattle.lexical_literal.proofs.FrontLemmas.{front_from, front_is_read}
 
 front_shorter : (m : Notation) (text : List ℕ) (k n : ℕ) → k ≤ n → IsFront m (take n text) → IsFront m (take k text)
@@ -37,7 +38,7 @@ added c piece other [] = grind (arith, nat_tests)
 added c piece other (b ∷ bytes) = let rest = added (add c piece) piece other bytes in grind (arith, nat_tests)
 
 -- The lengths that are counted are those of the parts.
-pub has_lengths : (m : Notation) → HasRoles m → (l : Literal) → IsLiteral m l → HasLengths l (cuts_of l)
+pub has_lengths : (m : Notation) → HasRoles m → (l : Literal) → IsLiteral m l → HasLengths l (all_cuts l)
 has_lengths m h l is = let twice = prefix l.prefix is.prefix in record {
   sign = simp added (omega arith);
   prefix = simp added (omega arith);
@@ -130,7 +131,7 @@ module _ (m : Notation) (ready : IsReady m) (text : List ℕ) where
   read_nothing seeks = grind arith
 
   module _ (seeks : Bool) (i : ℕ) (s : Summary) (c : Cuts) (longest : Option ℕ) (has : HasRead m seeks text i s c longest) where
-    next_scan : i < length text → scan m (Some start) (take (i + 1) text) ≡ step m s (class_of m (get_or text i 0))
+    next_scan : i < length text → scan m (Some start) (take (i + 1) text) ≡ step m s (byte_class m (get_or text i 0))
     next_scan inside = rw (take_more text i 0 inside, scan_append m (Some start) (take i text) (get_or text i 0 ∷ []), has.read) refl
 
     next_longest : (t : Summary) → scan m (Some start) (take (i + 1) text) ≡ Some t → IsTrue seeks
@@ -152,8 +153,8 @@ module _ (m : Notation) (ready : IsReady m) (text : List ℕ) where
       }
 
     -- One more byte.
-    pub read_more : (t : Summary) (d : Cuts) → i < length text → step m s (class_of m (get_or text i 0)) ≡ Some t
-        → count s.part (in_part s.part (class_of m (get_or text i 0))) c ≡ d
+    pub read_more : (t : Summary) (d : Cuts) → i < length text → step m s (byte_class m (get_or text i 0)) ≡ Some t
+        → count s.part (in_part s.part (byte_class m (get_or text i 0))) c ≡ d
         → HasRead m seeks text (i + 1) t d (if seeks && is_complete m t then Some (i + 1) else longest)
     read_more t d inside taken counted = record {
       ready = ready;
@@ -164,7 +165,7 @@ module _ (m : Notation) (ready : IsReady m) (text : List ℕ) where
     }
 
     -- A byte that is not taken, and the end of the text.
-    pub wrong_at : i < length text → step m s (class_of m (get_or text i 0)) ≡ None → IsValidUpTo m text i
+    pub wrong_at : i < length text → step m s (byte_class m (get_or text i 0)) ≡ None → IsValidUpTo m text i
     wrong_at inside none = record {
       within = omega arith;
       front = front_from m ready (take i text) s has.read;
@@ -180,7 +181,7 @@ module _ (m : Notation) (ready : IsReady m) (text : List ℕ) where
     }
 
     -- What the loop has found where it is left.
-    pub is_scanned : (row : ℕ) (counts : List ℕ) → row < 108 → s ≡ tables.summary_at row → c ≡ tables.cuts_of counts → IsValidUpTo m text i
+    pub is_scanned : (row : ℕ) (counts : List ℕ) → row < ROWS → s ≡ tables.summary_at row → c ≡ tables.cuts_of counts → IsValidUpTo m text i
         → (i < length text → allows m (tables.summary_at row) (class_of_next m (slice_get text i)) ≡ false)
         → IsScanned m seeks text (record { valid_up_to = i; row = row; literal = longest; counts = counts })
     is_scanned row counts small at lengths wrong refused = let read = has.read ∙ ap Some at in record {
@@ -203,7 +204,7 @@ module _ (m : Notation) (ready : IsReady m) (text : List ℕ) where
   one_reading l k first second =
       let a = has_lengths m ready.roles l first.literal in
       let counts = λ (l : Literal) (is : IsLiteral m l). (literal_arrives m ready.roles l is).1 in
-      let b : HasLengths k (cuts_of l) =
+      let b : HasLengths k (all_cuts l) =
       rw (← counts l first.literal, ← first.whole, second.whole, counts k second.literal) (has_lengths m ready.roles k second.literal) in
       let sign = same_part l.sign k.sign _ _ (a.sign ∙ sym b.sign) (sym first.whole ∙ second.whole) in
       let prefix = same_part l.prefix k.prefix _ _ (a.prefix ∙ sym b.prefix) sign.1 in

@@ -1,5 +1,5 @@
 -- A refusal has one cause, and a text has one refusal.
-use Rattle.std.proofs.Common.{ℕ, ◌≡◌, ◌<◌, ◌≤◌, ◌↔◌, ◌+◌, ◌^◌, Bool, true, false, if◌then◌else◌, List, Option, Some, None, sum_by, take}
+use Rattle.std.proofs.Common.{ℕ, ◌≡◌, ◌<◌, ◌≤◌, ◌↔◌, ◌^◌, Bool, true, false, if◌then◌else◌, List, Option, Some, None, sum_by, take}
 use Rattle.std.proofs.Common.{refl, sym, ap, subst, ◌∙◌, arith}
 use Rattle.std.proofs.Math.Nat.{le_antisymm}
 use Rattle.std.specs.Prelude.{slice_get}
@@ -10,12 +10,12 @@ use Rattle.lexical_util.specs.Layout.{Flag, bit, flags}
 use Rattle.lexical_util.specs.Record.{raw}
 use Rattle.lexical_util.specs.declared.format_flags.Part.{Part}
 use Rattle.lexical_literal.specs.Notation.{Notation}
-use Rattle.lexical_literal.specs.Cause.{IsCause, IsRefusal, IsSeparator, SameBlame, error_of, is_at, lowest, span_of}
+use Rattle.lexical_literal.specs.Cause.{IsCause, IsRefusal, IsSeparator, SameBlame, error_of, is_at, lowest, marks_of, span_of}
 use Rattle.lexical_literal.specs.Front.{IsValidUpTo}
-use Rattle.lexical_literal.specs.declared.cause.Cause.{Cause}
-use Rattle.lexical_literal.specs.declared.cause.Cause.TheVariants as causes
+use Rattle.lexical_literal.specs.declared.cause.ReadErrorKind.{ReadErrorKind}
+use Rattle.lexical_literal.specs.declared.cause.ReadErrorKind.TheVariants as causes
 use Rattle.lexical_literal.specs.declared.cause.Place.{Place}
-use Rattle.lexical_literal.specs.declared.cause.ReadError.{ReadError}
+use Rattle.lexical_literal.specs.declared.cause.Refusal.{Refusal}
 
 -- A flag allows separators at one place of one part.
 same_at : (x y : Place) (p q : Part) (f : Flag) → is_at x p f ≡ true → is_at y q f ≡ true → (x ≡ y) × (p ≡ q)
@@ -32,27 +32,27 @@ module _ (m : Notation) (front : List ℕ) (a b : Flag → Bool) where
   separators byte p q x y one two =
       let flags = λ (f : Flag). same_truth (a f) (b f) (one.each f) (two.each f) in
       let same = same_at x y p q one.some.0 (one.at _ one.some.1) (two.at _ (sym (flags one.some.0) ∙ one.some.1)) in
-      record { cause = λ j. causes.Separator (same.1 j) (same.0 j); flags = flags }
+      record { kind = λ j. causes.Separator (same.1 j) (same.0 j); flags = flags }
 
-  pub one_cause : (next : Option ℕ) (cause other : Cause) → IsCause m front next cause a → IsCause m front next other b → SameBlame cause other a b
-  one_cause next causes.Requirement causes.Requirement one two = record { cause = refl; flags = λ f. same_truth (a f) (b f) (one.each f) (two.each f) }
+  pub one_cause : (next : Option ℕ) (kind other : ReadErrorKind) → IsCause m front next kind a → IsCause m front next other b → SameBlame kind other a b
+  one_cause next causes.Requirement causes.Requirement one two = record { kind = refl; flags = λ f. same_truth (a f) (b f) (one.each f) (two.each f) }
   one_cause None causes.Requirement (causes.Missing part) one two = absurd (two.refused one.allowed.0 one.allowed.1)
   one_cause None (causes.Missing part) causes.Requirement one two = absurd (one.refused two.allowed.0 two.allowed.1)
   one_cause None (causes.Missing p) (causes.Missing q) one two = record {
-    cause = ap causes.Missing (one.last ∙ sym two.last);
+    kind = ap causes.Missing (one.last ∙ sym two.last);
     flags = λ f. one.none f ∙ sym (two.none f);
   }
   one_cause (Some byte) (causes.Missing p) other one two = absurd one
-  one_cause (Some byte) kind (causes.Missing q) one two = absurd two
+  one_cause (Some byte) other (causes.Missing q) one two = absurd two
   one_cause (Some byte) causes.Requirement other one two = absurd (two.refused one.allowed)
-  one_cause (Some byte) kind causes.Requirement one two = absurd (one.refused two.allowed)
+  one_cause (Some byte) other causes.Requirement one two = absurd (one.refused two.allowed)
   one_cause (Some byte) (causes.Separator p x) (causes.Separator q y) one two = separators byte p q x y one two
   one_cause (Some byte) (causes.Separator p x) other one two = absurd (two.no_separator one.some.0 ((one.each one.some.0).0 one.some.1))
-  one_cause (Some byte) kind (causes.Separator q y) one two = absurd (one.no_separator two.some.0 ((two.each two.some.0).0 two.some.1))
-  one_cause (Some byte) causes.Case causes.Case one two = record { cause = refl; flags = λ f. same_truth (a f) (b f) (one.each f) (two.each f) }
+  one_cause (Some byte) other (causes.Separator q y) one two = absurd (one.no_separator two.some.0 ((two.each two.some.0).0 two.some.1))
+  one_cause (Some byte) causes.Case causes.Case one two = record { kind = refl; flags = λ f. same_truth (a f) (b f) (one.each f) (two.each f) }
   one_cause (Some byte) causes.Case causes.Byte one two = absurd (two.no_case one.some.0 ((one.each one.some.0).0 one.some.1))
   one_cause (Some byte) causes.Byte causes.Case one two = absurd (one.no_case two.some.0 ((two.each two.some.0).0 two.some.1))
-  one_cause (Some byte) causes.Byte causes.Byte one two = record { cause = refl; flags = λ f. one.none f ∙ sym (two.none f) }
+  one_cause (Some byte) causes.Byte causes.Byte one two = record { kind = refl; flags = λ f. one.none f ∙ sym (two.none f) }
   one_cause None causes.Requirement other one two = absurd two
   one_cause None (causes.Missing p) other one two = absurd two
   one_cause None kind other one two = absurd one
@@ -66,20 +66,20 @@ module _ (m : Notation) (text : List ℕ) where
   no_longer : (i k : ℕ) → IsValidUpTo m text i → IsValidUpTo m text k → k ≤ i
   no_longer i k one two = let longer = λ (below : i < k). one.no_longer k below two.within two.front in grind arith
 
-  pub one_refusal : (a b : ReadError) → IsRefusal m text a → IsRefusal m text b → a ≡ b
+  pub one_refusal : (a b : Refusal) → IsRefusal m text a → IsRefusal m text b → a ≡ b
   one_refusal a b one two =
       let size = le_antisymm (no_longer b.valid_up_to a.valid_up_to two.valid_up_to one.valid_up_to)
       (no_longer a.valid_up_to b.valid_up_to one.valid_up_to two.valid_up_to) in
-      let other = subst (λ n. IsCause m (take n text) (slice_get text n) b.cause (raw b.mask).flag) (sym size) two.cause in
-      let same = one_cause m _ _ _ (slice_get text a.valid_up_to) a.cause b.cause one.cause other in
+      let other = subst (λ n. IsCause m (take n text) (slice_get text n) b.kind (raw b.mask).flag) (sym size) two.cause in
+      let same = one_cause m _ _ _ (slice_get text a.valid_up_to) a.kind b.kind one.cause other in
       let mask = one_mask a.mask b.mask one.mask two.mask same.flags in
-      let span = one.span ∙ (λ j. span_of m (take (size j) text) (take (size j + 1) text) (same.cause j) (lowest (mask j))) ∙ sym two.span in
-      let code = one.code ∙ (λ j. error_of m (take (size j) text) (same.cause j) (lowest (mask j)) (span j).0) ∙ sym two.code in
       let byte = one.byte ∙ ap (slice_get text) size ∙ sym two.byte in
+      let span = one.span ∙ (λ j. span_of m (marks_of m (take (size j) text)) (byte j) (same.kind j) (lowest (mask j))) ∙ sym two.span in
+      let code = one.code ∙ (λ j. error_of m (marks_of m (take (size j) text)) (same.kind j) (lowest (mask j)) (span j).0) ∙ sym two.code in
       λ j. record {
         valid_up_to = size j;
         byte = byte j;
-        cause = same.cause j;
+        kind = same.kind j;
         mask = mask j;
         start = (span j).0;
         end = (span j).1;

@@ -4,16 +4,16 @@ use Rattle.std.proofs.Common.{Option, Some, None, refl, sym, ap, subst, ◌∙�
 use Rattle.std.proofs.lemmas.Bool.{false≢true, and_parts, and_from}
 use Rattle.std.specs.Prelude.{is_some}
 use Rattle.lexical_util.specs.Layout as layout
-use Rattle.lexical_util.specs.Layout.{Flag, bit, separators_in}
+use Rattle.lexical_util.specs.Layout.{Flag, separators_in}
 use Rattle.lexical_util.specs.declared.format_flags.Part.{Part}
 use Rattle.lexical_util.specs.declared.format_flags.Part.TheVariants as parts
 use Rattle.lexical_literal.specs.Notation.{Notation}
 use Rattle.lexical_literal.specs.Run.{is_place, is_fit, are_fit}
 use Rattle.lexical_literal.specs.Literal.{Literal, IsLiteral, requirement}
 use Rattle.lexical_literal.specs.Front.{IsFront}
-use Rattle.lexical_literal.specs.Cause.{Allows, flag_at, is_one_of, requirement_flags, separator_flags, with_flags}
+use Rattle.lexical_literal.specs.Cause.{Allows, is_one_of, requirement_flags, number_separator_flags, with_flags}
 use Rattle.lexical_literal.specs.Additions.Causes.{class_of_next, IsWeaker, allows}
-use Rattle.lexical_literal.specs.Additions.Summary.{after, scan, class_of, step, is_accepted, start}
+use Rattle.lexical_literal.specs.Additions.Summary.{after, scan, byte_class, step, is_accepted, start}
 use Rattle.lexical_literal.specs.declared.steps.Summary.{Summary}
 use Rattle.lexical_literal.proofs.ScanLemmas.{HasRoles, IsReady, scan_append, took}
 use Rattle.lexical_literal.proofs.LiteralLemmas.{literal_from, literal_arrives}
@@ -22,16 +22,8 @@ use Rattle.lexical_literal.proofs.PartOfLemmas.{none_after}
 
 -- FLAGS
 
-flag_at_bit : (f : Flag) → flag_at (bit f) ≡ f
-flag_at_bit layout.required_integer_digits = refl
-flag_at_bit _ = refl
-
--- Two flags with the same bit are one.
-pub same_flag : (g f : Flag) → bit g ≡ bit f → g ≡ f
-same_flag g f same = sym (flag_at_bit g) ∙ ap flag_at same ∙ flag_at_bit f
-
 -- A flag that requires something allows no separator.
-pub apart : (f : Flag) → (is_one_of requirement_flags f && is_one_of separator_flags f) ≡ false
+pub apart : (f : Flag) → (is_one_of requirement_flags f && is_one_of number_separator_flags f) ≡ false
 apart layout.required_integer_digits = refl
 apart _ = refl
 
@@ -124,7 +116,7 @@ module _ (m : Notation) (A : Flag → Bool) where
         let some = some_of (scan n (Some start) front) (front_is_read n (other_ready weaker ready) front front_is) in
         some.1 ∙ ap Some (sym (same_last ready.roles start front s some.0 read some.1))
 
-    one_more : (b : ℕ) → scan n (Some start) (front ++ b ∷ []) ≡ step n s (class_of m b)
+    one_more : (b : ℕ) → scan n (Some start) (front ++ b ∷ []) ≡ step n s (byte_class m b)
     one_more b = scan_append n (Some start) front (b ∷ []) ∙ ap (λ o. scan n o (b ∷ [])) read_too
 
     pub decided : (next : Option ℕ) → (allows n s (class_of_next m next) ≡ true) ↔ Allows n front next
@@ -133,7 +125,7 @@ module _ (m : Notation) (A : Flag → Bool) where
       λ l. sym (ap (is_accepted n) read_too) ∙ rw (l.1.whole) (literal_arrives n (other_roles ready.roles) l.0 l.1.literal).0,
     )
     decided (Some b) = (
-      λ is. let some = some_of (step n s (class_of m b)) (λ none. false≢true (sym (ap is_some none) ∙ is)) in
+      λ is. let some = some_of (step n s (byte_class m b)) (λ none. false≢true (sym (ap is_some none) ∙ is)) in
           front_from n (other_ready weaker ready) (front ++ b ∷ []) some.0 (one_more b ∙ some.1),
-      λ is. ap is_some (some_of (step n s (class_of m b)) (λ none. front_is_read n (other_ready weaker ready) (front ++ b ∷ []) is (one_more b ∙ none))).1,
+      λ is. ap is_some (some_of (step n s (byte_class m b)) (λ none. front_is_read n (other_ready weaker ready) (front ++ b ∷ []) is (one_more b ∙ none))).1,
     )

@@ -15,7 +15,7 @@ use Rattle.lexical_util.specs.declared.feature_format.roles.Role.TheVariants as 
 use Rattle.lexical_util.specs.declared.format_flags.Part.TheVariants as parts
 use Rattle.lexical_util.specs.declared.format_flags.Part.{Part}
 use Rattle.lexical_util.proofs.ByteRoleLemmas.{AreApart, apart_from, one_role}
-use Rattle.lexical_literal.specs.Notation.{notation_of, radix_of, role_set, point_of, exponent_character_of, lacks_options}
+use Rattle.lexical_literal.specs.Notation.{notation_of, radix_of, set_of_role, point_of, exponent_character_of, lacks_options}
 use Rattle.lexical_literal.specs.Syntax.{IsSyntax, FitIfAny}
 use Rattle.lexical_literal.specs.declared.syntax.Options.{Options}
 use Rattle.lexical_literal.specs.declared.syntax.Grammar.{Grammar}
@@ -31,7 +31,7 @@ point_byte None = 0
 point_byte (Some options) = options.point
 
 -- A byte that plays a role of a syntax plays it in the format with the options.
-own : (word : ℕ) → Lawful word → (o : Option Options) (role : Role) (byte : ℕ) → IsTrue (role_set (notation_of (record { word = word; options = o })) role byte)
+own : (word : ℕ) → Lawful word → (o : Option Options) (role : Role) (byte : ℕ) → IsTrue (set_of_role (notation_of (record { word = word; options = o })) role byte)
     → IsTrue (bytes.role_set (raw word) (exponent_byte o) (point_byte o) role byte)
 unfolding Lawful
 own word lawful o roles.Digit byte is = grind (arith, nat_tests)

@@ -7,8 +7,8 @@ use Rattle.lexical_util.specs.declared.feature_format.roles.Role.{Role}
 use Rattle.lexical_util.specs.declared.feature_format.roles.Role.TheVariants as roles
 use Rattle.lexical_util.specs.declared.format_flags.Part.{Part}
 use Rattle.lexical_util.specs.declared.format_flags.Part.TheVariants as parts
-use Rattle.lexical_literal.specs.Notation.{Notation, role_set, IsOnlyRole}
-use Rattle.lexical_literal.specs.Additions.Summary.{Cuts, add, class_of, role_of, in_part, is_plus, is_zero, takes, after}
+use Rattle.lexical_literal.specs.Notation.{Notation, set_of_role, IsOnlyRole}
+use Rattle.lexical_literal.specs.Additions.Summary.{Cuts, add, byte_class, role_of, in_part, is_plus_class, is_zero, takes, after}
 use Rattle.lexical_literal.specs.Additions.Summary.{move, scan, step, is_accepted, count, tally}
 use Rattle.lexical_literal.specs.declared.steps.Piece.{Piece}
 use Rattle.lexical_literal.specs.declared.steps.Summary.{Summary}
@@ -16,7 +16,7 @@ use Rattle.lexical_literal.specs.declared.steps.Summary.{Summary}
 -- `HasRoles m` holds if no byte plays two roles, 0 is a digit, the mantissa has one radix, and integers have neither a
 -- decimal point nor an exponent.
 pub record HasRoles (m : Notation) : Type 0 where
-  pub one : (a b : Role) (byte : ℕ) → IsTrue (role_set m a byte) → IsTrue (role_set m b byte) → a ≡ b
+  pub one : (a b : Role) (byte : ℕ) → IsTrue (set_of_role m a byte) → IsTrue (set_of_role m b byte) → a ≡ b
   pub zero_is_digit : (part : Part) → m.digit part 48 ≡ true
   pub one_mantissa : (byte : ℕ) → m.digit parts.Fraction byte ≡ m.digit parts.Integer byte
   pub integers : m.integers_only ≡ true → (byte : ℕ) → (m.point byte ≡ false) × (m.exponent_character byte ≡ false)
@@ -44,7 +44,7 @@ add_all c piece (b ∷ bytes) = add_all (add c piece) piece bytes
 
 -- `role_in m part b` is the role of `b` after a front that ends in `part`.
 abbrev pub role_in : Notation → Part → ℕ → Option Role
-role_in m part b = in_part part (class_of m b)
+role_in m part b = in_part part (byte_class m b)
 
 module _ (m : Notation) where
   pub scan_none : (text : List ℕ) → scan m None text ≡ None
@@ -54,13 +54,13 @@ module _ (m : Notation) where
   pub scan_append : (o : Option Summary) (x y : List ℕ) → scan m o (x ++ y) ≡ scan m (scan m o x) y
   scan_append o [] y = refl
   scan_append None (b ∷ x) y = sym (scan_none y)
-  scan_append (Some s) (b ∷ x) y = scan_append (step m s (class_of m b)) x y
+  scan_append (Some s) (b ∷ x) y = scan_append (step m s (byte_class m b)) x y
 
   pub tally_append : (o : Option Summary) (c : Cuts) (x y : List ℕ) → tally m o c (x ++ y) ≡ tally m (scan m o x) (tally m o c x) y
   tally_append o c [] y = refl
   tally_append None c (b ∷ x) [] = refl
   tally_append None c (b ∷ x) (a ∷ y) = refl
-  tally_append (Some s) c (b ∷ x) y = tally_append (step m s (class_of m b)) (count s.part (role_in m s.part b) c) x y
+  tally_append (Some s) c (b ∷ x) y = tally_append (step m s (byte_class m b)) (count s.part (role_in m s.part b) c) x y
 
   pub none_accepts : (text : List ℕ) → Accepts m None text → ⊥
   none_accepts text is = false≢true (sym (ap (is_accepted m) (scan_none text)) ∙ is)
@@ -75,26 +75,26 @@ pub record Took (m : Notation) (s : Summary) (b : ℕ) (P : Option Summary → T
 
 module _ (m : Notation) (h : HasRoles m) where
   -- A byte plays the role of its class, or none if its class has none.
-  played : (b : ℕ) (r : Role) → role_of (class_of m b) ≡ Some r → role_set m r b ≡ true
+  played : (b : ℕ) (r : Role) → role_of (byte_class m b) ≡ Some r → set_of_role m r b ≡ true
   played b roles.Digit is = grind arith
   played b _ is = grind arith
 
-  unplayed : (b : ℕ) (r : Role) → role_of (class_of m b) ≡ None → m.digit parts.Fraction b ≡ m.digit parts.Integer b → role_set m r b ≡ false
+  unplayed : (b : ℕ) (r : Role) → role_of (byte_class m b) ≡ None → m.digit parts.Fraction b ≡ m.digit parts.Integer b → set_of_role m r b ≡ false
   unplayed b r is same = grind arith
 
   -- The role of its class is the only one of a byte.
-  pub only_role : (b : ℕ) → IsOnlyRole m b (role_of (class_of m b))
-  only_role b r = (go (role_of (class_of m b)) refl, played b r) where
-    go : (o : Option Role) → role_of (class_of m b) ≡ o → IsTrue (role_set m r b) → o ≡ Some r
+  pub only_role : (b : ℕ) → IsOnlyRole m b (role_of (byte_class m b))
+  only_role b r = (go (role_of (byte_class m b)) refl, played b r) where
+    go : (o : Option Role) → role_of (byte_class m b) ≡ o → IsTrue (set_of_role m r b) → o ≡ Some r
     go None none is = absurd (false≢true (sym (unplayed b r none (h.one_mantissa b)) ∙ is))
     go (Some found) some is = ap Some (h.one found r b (played b found some) is)
 
-  class_plus : (b : ℕ) → is_plus (class_of m b) ≡ (b == 43)
+  class_plus : (b : ℕ) → is_plus_class (byte_class m b) ≡ (b == 43)
   class_plus b =
-      let sign : (b == 43) ≡ true → role_of (class_of m b) ≡ Some roles.Sign = λ plus. (only_role b roles.Sign).0 (or_left _ (b == 45) plus) in
+      let sign : (b == 43) ≡ true → role_of (byte_class m b) ≡ Some roles.Sign = λ plus. (only_role b roles.Sign).0 (or_left _ (b == 45) plus) in
       grind arith
 
-  class_zero : (b : ℕ) → is_zero (class_of m b) ≡ (b == 48)
+  class_zero : (b : ℕ) → is_zero (byte_class m b) ≡ (b == 48)
   class_zero b = grind arith
 
   -- What a role says of a byte.
@@ -107,17 +107,17 @@ module _ (m : Notation) (h : HasRoles m) where
   pub no_digit : (part : Part) (b : ℕ) → role_in m part b ≡ Some roles.Separator → m.digit part b ≡ false
   no_digit part b role = false_from_ne_true _ (λ is. let same = sym role ∙ digit_role part b is in cc)
 
-  pub as_role : (part : Part) (r : Role) (b : ℕ) → role_in m part b ≡ Some r → role_set m r b ≡ true
+  pub as_role : (part : Part) (r : Role) (b : ℕ) → role_in m part b ≡ Some r → set_of_role m r b ≡ true
   as_role part r b role = played b r (grind arith)
 
-  pub is_role : (part : Part) (r : Role) (b : ℕ) → (roles.Digit ≡ r → ⊥) → role_set m r b ≡ true → role_in m part b ≡ Some r
+  pub is_role : (part : Part) (r : Role) (b : ℕ) → (roles.Digit ≡ r → ⊥) → set_of_role m r b ≡ true → role_in m part b ≡ Some r
   is_role part r b other is = let only = (only_role b r).0 is in grind arith
 
   -- What a byte makes of a summary.
-  pub moved : (s : Summary) (b : ℕ) (o : Option Role) → role_in m s.part b ≡ o → step m s (class_of m b) ≡ move m s (b == 43) (b == 48) o
+  pub moved : (s : Summary) (b : ℕ) (o : Option Role) → role_in m s.part b ≡ o → step m s (byte_class m b) ≡ move m s (b == 43) (b == 48) o
   moved s b o role = λ j. move m s (class_plus b j) (class_zero b j) (role j)
 
-  pub took : (s : Summary) (b : ℕ) (P : Option Summary → Type 0) → (P None → ⊥) → P (step m s (class_of m b)) → Took m s b P
+  pub took : (s : Summary) (b : ℕ) (P : Option Summary → Type 0) → (P None → ⊥) → P (step m s (byte_class m b)) → Took m s b P
   took s b P none is = go (role_in m s.part b) refl (subst P (moved s b _ refl) is) where
     go : (o : Option Role) → role_in m s.part b ≡ o → P (move m s (b == 43) (b == 48) o) → Took m s b P
     go None plays is = absurd (none is)
@@ -129,7 +129,7 @@ module _ (m : Notation) (h : HasRoles m) where
   pub arrives_byte : (s : Summary) (b : ℕ) (r : Role) (c : Cuts) (text : List ℕ) (d : Cuts) → s.ended ≡ false → role_in m s.part b ≡ Some r
       → takes m s (b == 43) r ≡ true → Arrives m (Some (after s (b == 48) r)) (count s.part (Some r) c) text d → Arrives m (Some s) c (b ∷ text) d
   arrives_byte s b r c text d going role taken more =
-      subst (λ r. Arrives m (step m s (class_of m b)) (count s.part r c) text d) (sym role)
+      subst (λ r. Arrives m (step m s (byte_class m b)) (count s.part r c) text d) (sym role)
       (subst (λ o. Arrives m o (count s.part (Some r) c) text d) (sym (moved s b (Some r) role ∙ is)) more) where
         is : move m s (b == 43) (b == 48) (Some r) ≡ Some (after s (b == 48) r)
         is = λ j. if not (going j) && taken j then Some (after s (b == 48) r) else None

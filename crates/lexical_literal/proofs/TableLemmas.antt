@@ -33,7 +33,7 @@ number_back s p t part stage small =
     let e = bool_byte s.ended in
     let gap : g < 2 = grind arith in let is_gap : (g == 1) ≡ s.gap = grind arith in
     let ended : e < 2 = grind arith in let is_ended : (e == 1) ≡ s.ended = grind arith in
-    let at_part : ((p * 9 + t) * 4 + g * 2 + e) / 36 ≡ p = omega arith in
+    let at_part : ((p * 9 + t) * 4 + g * 2 + e) / 4 / 9 ≡ p = omega arith in
     let at_stage : ((p * 9 + t) * 4 + g * 2 + e) / 4 % 9 ≡ t = omega arith in
     let at_gap : ((p * 9 + t) * 4 + g * 2 + e) / 2 % 2 ≡ g = omega arith in
     let at_end : ((p * 9 + t) * 4 + g * 2 + e) % 2 ≡ e = omega arith in

@@ -6,7 +6,7 @@ use Rattle.lexical_util.specs.declared.format_flags.Part.TheVariants as parts
 use Rattle.lexical_literal.specs.Notation.{Notation}
 use Rattle.lexical_literal.specs.Literal.{Literal, Reads}
 use Rattle.lexical_literal.specs.Readings.{AllIn}
-use Rattle.lexical_literal.specs.Additions.Summary.{class_of, needs_exponent, move, step, scan, is_accepted, start}
+use Rattle.lexical_literal.specs.Additions.Summary.{byte_class, needs_exponent, move, step, scan, is_accepted, start}
 use Rattle.lexical_literal.specs.declared.steps.Stage.{Stage}
 use Rattle.lexical_literal.specs.declared.steps.Stage.TheVariants as stages
 use Rattle.lexical_literal.proofs.ScanLemmas.{HasRoles, scan_none, moved, digit_role, is_role}
@@ -32,7 +32,7 @@ module _ (m : Notation) (h : HasRoles m) where
 
   module _ (first : ℕ) (digits : List ℕ) (not_zero : first ≢ 48) (all : AllIn (m.digit parts.Integer) (first ∷ digits)) where
     -- The first digit, which is not 0.
-    first_digit : (stage : Stage) → let s = reading parts.Integer stage false in step m s (class_of m first) ≡ move m s (first == 43) false (Some roles.Digit)
+    first_digit : (stage : Stage) → let s = reading parts.Integer stage false in step m s (byte_class m first) ≡ move m s (first == 43) false (Some roles.Digit)
     first_digit stage = grind arith
 
     pub digits_read : ((l : Literal) × Reads m l (first ∷ digits))

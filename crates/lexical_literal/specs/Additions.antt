@@ -2,3 +2,4 @@ pub mod Summary
 pub mod Longest
 pub mod Tables
 pub mod Causes
+pub mod Explained

@@ -1,5 +1,5 @@
 -- Why a text is not a literal: the cause, the flags that are to blame, and the bytes to show.
-use Rattle.std.specs.Prelude.{ℕ, ◌≡◌, ◌+◌, ◌<◌, ◌==◌, ◌&&◌, ◌↔◌, ◌⊎◌, ◌||◌, not, Bool, false, if◌then◌else◌, IsTrue, List, [], ◌∷◌, ◌++◌, length, take}
+use Rattle.std.specs.Prelude.{ℕ, ◌≡◌, ◌+◌, ◌==◌, ◌&&◌, ◌↔◌, ◌⊎◌, ◌||◌, not, Bool, false, if◌then◌else◌, IsTrue, List, [], ◌∷◌, ◌++◌, length, take}
 use Rattle.std.specs.Prelude.{slice_get, Option, Some, None}
 use Rattle.std.specs.Int.{w128, trailing_zeros}
 use Rattle.std.specs.List.{find, list_any}
@@ -11,17 +11,19 @@ use Rattle.lexical_util.specs.declared.error.Error.TheVariants as errors
 use Rattle.lexical_util.specs.Layout as layout
 use Rattle.lexical_util.specs.Layout.{Flag, bit, separators_in}
 use Rattle.lexical_util.specs.Record.{raw}
-use Rattle.lexical_util.specs.Roles.{other_case}
+use Rattle.lexical_util.specs.Roles.{other_case, signs}
 use Rattle.lexical_util.specs.declared.format_flags.Part.{Part}
 use Rattle.lexical_util.specs.declared.format_flags.Part.TheVariants as parts
 use Rattle.lexical_literal.specs.Front.{IsFront, IsValidUpTo, NoLiteral}
 use Rattle.lexical_literal.specs.Literal.{Literal, Reads}
 use Rattle.lexical_literal.specs.Notation.{Notation}
-use Rattle.lexical_literal.specs.declared.cause.Cause.{Cause}
-use Rattle.lexical_literal.specs.declared.cause.Cause.TheVariants as causes
-use Rattle.lexical_literal.specs.declared.cause.ReadError.{ReadError}
+use Rattle.lexical_literal.specs.declared.cause.Marks.{Marks}
 use Rattle.lexical_literal.specs.declared.cause.Place.{Place}
 use Rattle.lexical_literal.specs.declared.cause.Place.TheVariants as places
+use Rattle.lexical_literal.specs.declared.cause.ReadErrorKind.{ReadErrorKind}
+use Rattle.lexical_literal.specs.declared.cause.ReadErrorKind.TheVariants as causes
+use Rattle.lexical_literal.specs.declared.cause.Refusal.{Refusal}
+use Rattle.lexical_literal.specs.declared.cause.Spot.{Spot}
 
 -- THE SAME NOTATION WITH OTHER FLAGS
 
@@ -32,9 +34,13 @@ requirement_flags =
     layout.no_positive_exponent_sign ∷ layout.required_exponent_sign ∷ layout.no_exponent_without_fraction ∷
     layout.no_integer_leading_zeros ∷ layout.no_float_leading_zeros ∷ layout.required_exponent_notation ∷ []
 
--- `separator_flags` lists the flags that allow a digit separator in a number.
-abbrev pub separator_flags : List Flag
-separator_flags = layout.internal_digit_separator ++ layout.leading_digit_separator ++ layout.trailing_digit_separator ++ layout.consecutive_digit_separator
+-- `leading_zero_flags` lists the two flags on leading zeros.
+abbrev pub leading_zero_flags : List Flag
+leading_zero_flags = layout.no_integer_leading_zeros ∷ layout.no_float_leading_zeros ∷ []
+
+-- `number_separator_flags` lists the flags that allow a digit separator in a number.
+abbrev pub number_separator_flags : List Flag
+number_separator_flags = layout.internal_digit_separator ++ layout.leading_digit_separator ++ layout.trailing_digit_separator ++ layout.consecutive_digit_separator
 
 -- `is_one_of fs f` is true if `f` is one of `fs`.
 abbrev pub is_one_of : List Flag → Flag → Bool
@@ -51,10 +57,6 @@ bare m = with_flags m (λ g. m.flag g && not (is_one_of requirement_flags g))
 -- `adding f m` is `m` with the flag `f`.
 abbrev pub adding : Flag → Notation → Notation
 adding f m = with_flags m (λ g. (bit g == bit f) || m.flag g)
-
--- `without f m` is `m` without the flag `f`.
-abbrev pub without : Flag → Notation → Notation
-without f m = with_flags m (λ g. m.flag g && not (bit g == bit f))
 
 -- THE CAUSE
 
@@ -85,22 +87,18 @@ module _ (m : Notation) (front : List ℕ) (next : Option ℕ) where
   abbrev pub RefusesAlone : Flag → Type 0
   RefusesAlone f = IsTrue (binds m f) × (Allows (adding f (bare m)) front next → ⊥)
 
-  -- `Releases f` holds if `f` is set and requires something, and `next` is allowed without it.
-  abbrev pub Releases : Flag → Type 0
-  Releases f = IsTrue (m.flag f && is_one_of requirement_flags f) × Allows (without f m) front next
-
-  -- `IsLowest f` holds if no flag refuses `next` alone, and `f` is the lowest flag without which `next` is allowed.
-  pub record IsLowest (f : Flag) : Type 0 where
+  -- `RefusesJointly f` holds if no flag refuses `next` alone, and if `f` is on leading zeros and requires something.
+  pub record RefusesJointly (f : Flag) : Type 0 where
     pub none_alone : (g : Flag) → RefusesAlone g → ⊥
-    pub releases : Releases f
-    pub lowest : (g : Flag) → bit g < bit f → Releases g → ⊥
+    pub zeros : IsTrue (binds m f && is_one_of leading_zero_flags f)
 
-  -- `IsRequirement blamed` holds if `next` is allowed without requirements, and if the flags that are `blamed` are those
-  -- that refuse it alone, or else the lowest one without which it is allowed.
+  -- `IsRequirement blamed` holds if `next` is refused, and allowed without requirements, and if the flags that are `blamed`
+  -- are those that refuse it alone, or else those on leading zeros.
   pub record IsRequirement (blamed : Flag → Bool) : Type 0 where
+    pub refused : Allows m front next → ⊥
     pub allowed : Allows (bare m) front next
     pub some : SomeFlag blamed
-    pub each : (f : Flag) → IsTrue (blamed f) ↔ (RefusesAlone f ⊎ IsLowest f)
+    pub each : (f : Flag) → IsTrue (blamed f) ↔ (RefusesAlone f ⊎ RefusesJointly f)
 
 -- `is_at place part f` is true if the flag `f` allows a digit separator in `part` at `place`.
 abbrev pub is_at : Place → Part → Flag → Bool
@@ -125,7 +123,7 @@ last_part m front =
 module _ (m : Notation) (front : List ℕ) (byte : ℕ) where
   -- `Permits f` holds if `f` allows digit separators, and `byte` may follow with this one flag more.
   abbrev pub Permits : Flag → Type 0
-  Permits f = IsTrue (is_one_of separator_flags f) × Allows (adding f (bare m)) front (Some byte)
+  Permits f = IsTrue (is_one_of number_separator_flags f) × Allows (adding f (bare m)) front (Some byte)
 
   -- `IsCaseFlag f` holds if the other case of `byte` may follow, and has a role whose case counts by `f`.
   abbrev pub IsCaseFlag : Flag → Type 0
@@ -162,7 +160,7 @@ pub record IsMissing (m : Notation) (front : List ℕ) (part : Part) (blamed : F
 
 -- `IsCause m front next cause blamed` holds if `cause` is why the byte `next` cannot follow `front`, or why `front` is not a
 -- literal, where `next` is `None`, and if the flags that are `blamed` are to blame.
-abbrev pub IsCause : Notation → List ℕ → Option ℕ → Cause → (Flag → Bool) → Type 0
+abbrev pub IsCause : Notation → List ℕ → Option ℕ → ReadErrorKind → (Flag → Bool) → Type 0
 IsCause m front next causes.Requirement blamed = IsRequirement m front next blamed
 IsCause m front (Some byte) (causes.Separator part place) blamed = IsSeparator m front byte part place blamed
 IsCause m front (Some byte) causes.Case blamed = IsWrongCase m front byte blamed
@@ -190,25 +188,40 @@ flag_at number = unwrap_or (find (λ f. bit f == number) layout.flags) layout.sp
 abbrev pub lowest : ℕ → Flag
 lowest mask = flag_at (trailing_zeros w128 mask)
 
--- `requirement_span f m front stop` has the first index and the end of the bytes to show for the flag `f`: the exponent
--- without digits, the integer digits, the sign or the exponent character, or none.
-abbrev pub requirement_span : Flag → Notation → List ℕ → List ℕ → ℕ × ℕ
-requirement_span layout.required_exponent_digits m front stop = (behind m.exponent_character front, length front)
-requirement_span layout.no_integer_leading_zeros m front stop = (first_in (m.digit parts.Integer) stop, behind (m.digit parts.Integer) stop)
-requirement_span layout.no_float_leading_zeros m front stop = (first_in (m.digit parts.Integer) stop, behind (m.digit parts.Integer) stop)
-requirement_span layout.no_positive_mantissa_sign m front stop = (length front, length front + 1)
-requirement_span layout.no_exponent_notation m front stop = (length front, length front + 1)
-requirement_span layout.no_positive_exponent_sign m front stop = (length front, length front + 1)
-requirement_span layout.no_exponent_without_fraction m front stop = (length front, length front + 1)
-requirement_span _ m front stop = (length front, length front)
+-- `marks_of m front` has what spans and errors are made of: the length of `front`, the index behind the last byte that is
+-- neither a separator nor a sign, the index of the first digit, and the index behind the last byte that is no separator.
+abbrev pub marks_of : Notation → List ℕ → Marks
+marks_of m front = record {
+  size = length front;
+  exponent = behind (λ byte. not (m.separator byte || signs byte)) front;
+  first = first_in (m.digit parts.Integer) front;
+  run = behind (λ byte. not (m.separator byte)) front;
+}
 
--- `span_of m front stop cause f` has the first index and the end of the bytes to show for `cause` and its lowest flag `f`.
-abbrev pub span_of : Notation → List ℕ → List ℕ → Cause → Flag → ℕ × ℕ
-span_of m front stop causes.Requirement f = requirement_span f m front stop
-span_of m front stop (causes.Separator part places.Consecutive) f = (length front, length front + 1)
-span_of m front stop (causes.Separator part place) f = (behind (λ byte. not (m.separator byte)) front, behind m.separator stop)
-span_of m front stop (causes.Missing part) f = (length front, length front)
-span_of m front stop _ f = (length front, length front + 1)
+-- `is_in A next` is true if `next` is a byte of `A`.
+abbrev pub is_in : ByteSet → Option ℕ → Bool
+is_in A None = false
+is_in A (Some byte) = A byte
+
+-- `requirement_span f m k next` has the first index and the end of the bytes to show for the flag `f`: what follows the
+-- exponent character, the integer digits, the sign or the exponent character, or none.
+abbrev pub requirement_span : Flag → Notation → Marks → Option ℕ → ℕ × ℕ
+requirement_span layout.required_exponent_digits m k next = (k.exponent, k.size)
+requirement_span layout.no_integer_leading_zeros m k next = (k.first, if is_in (m.digit parts.Integer) next then k.size + 1 else k.run)
+requirement_span layout.no_float_leading_zeros m k next = (k.first, if is_in (m.digit parts.Integer) next then k.size + 1 else k.run)
+requirement_span layout.no_positive_mantissa_sign m k next = (k.size, k.size + 1)
+requirement_span layout.no_exponent_notation m k next = (k.size, k.size + 1)
+requirement_span layout.no_positive_exponent_sign m k next = (k.size, k.size + 1)
+requirement_span layout.no_exponent_without_fraction m k next = (k.size, k.size + 1)
+requirement_span _ m k next = (k.size, k.size)
+
+-- `span_of m k next cause f` has the first index and the end of the bytes to show for `cause` and its lowest flag `f`.
+abbrev pub span_of : Notation → Marks → Option ℕ → ReadErrorKind → Flag → ℕ × ℕ
+span_of m k next causes.Requirement f = requirement_span f m k next
+span_of m k next (causes.Separator part places.Consecutive) f = (k.size, k.size + 1)
+span_of m k next (causes.Separator part place) f = (k.run, if is_in m.separator next then k.size + 1 else k.size)
+span_of m k next (causes.Missing part) f = (k.size, k.size)
+span_of m k next _ f = (k.size, k.size + 1)
 
 -- `sign_error f m start` is the error for the flag `f` if it is on signs, and otherwise that for leading zeros.
 abbrev pub sign_error : Flag → Notation → ℕ → Error
@@ -230,30 +243,30 @@ requirement_error layout.no_exponent_without_fraction m start size = errors.Expo
 requirement_error layout.required_exponent_notation m start size = errors.MissingExponent start
 requirement_error f m start size = sign_error f m start
 
--- `is_mark m` is the set of the separator, the point and the exponent character.
-abbrev pub is_mark : Notation → ByteSet
-is_mark m byte = m.separator byte || (m.point byte || m.exponent_character byte)
+-- `error_of m k cause f start` is the error for `cause` and its lowest flag `f`, where the bytes to show begin at `start`.
+abbrev pub error_of : Notation → Marks → ReadErrorKind → Flag → ℕ → Error
+error_of m k causes.Requirement f start = requirement_error f m start k.size
+error_of m k (causes.Missing parts.Integer) f start = if k.run == k.size then errors.Empty start else errors.InvalidDigit start
+error_of m k _ f start = errors.InvalidDigit start
 
--- `error_of m front cause f start` is the error for `cause` and its lowest flag `f`, where the bytes to show begin at `start`.
-abbrev pub error_of : Notation → List ℕ → Cause → Flag → ℕ → Error
-error_of m front causes.Requirement f start = requirement_error f m start (length front)
-error_of m front (causes.Missing part) f start =
-    if list_any (is_mark m) front then errors.InvalidDigit start else errors.Empty start
-error_of m front _ f start = errors.InvalidDigit start
+-- `Explained` is an error as contracts see it: its answers, and where reading stopped, of which they are made.
+pub record Explained : Type 0 where
+  pub refusal : Refusal
+  pub spot : Spot
 
 -- `IsRefusal m text error` holds if `error` says how far `text` is right, which byte cannot follow, why `text` is not a
 -- literal, which bytes to show, and which error `lexical-util` has for this.
-pub record IsRefusal (m : Notation) (text : List ℕ) (error : ReadError) : Type 0 where
+pub record IsRefusal (m : Notation) (text : List ℕ) (error : Refusal) : Type 0 where
   pub valid_up_to : IsValidUpTo m text error.valid_up_to
   pub byte : error.byte ≡ slice_get text error.valid_up_to
-  pub cause : IsCause m (take error.valid_up_to text) (slice_get text error.valid_up_to) error.cause (raw error.mask).flag
+  pub cause : IsCause m (take error.valid_up_to text) (slice_get text error.valid_up_to) error.kind (raw error.mask).flag
   -- No bit of the mask is set but those of flags.
   pub mask : error.mask ≡ bits_of error.mask layout.flags
   pub span : (error.start, error.end)
-      ≡ span_of m (take error.valid_up_to text) (take (error.valid_up_to + 1) text) error.cause (lowest error.mask)
-  pub code : error.code ≡ error_of m (take error.valid_up_to text) error.cause (lowest error.mask) error.start
+      ≡ span_of m (marks_of m (take error.valid_up_to text)) error.byte error.kind (lowest error.mask)
+  pub code : error.code ≡ error_of m (marks_of m (take error.valid_up_to text)) error.kind (lowest error.mask) error.start
 
 -- `SameBlame c d a b` holds if the causes `c` and `d` are the same, and `a` and `b` are true of the same flags.
-pub record SameBlame (c d : Cause) (a b : Flag → Bool) : Type 0 where
-  pub cause : c ≡ d
+pub record SameBlame (c d : ReadErrorKind) (a b : Flag → Bool) : Type 0 where
+  pub kind : c ≡ d
   pub flags : (f : Flag) → a f ≡ b f

@@ -59,16 +59,16 @@ notation_of g = record {
   integers_only = lacks_options g.options;
 }
 
--- `role_set m role` is the set of the bytes that play `role`.
-abbrev pub role_set : Notation → Role → ByteSet
-role_set m roles.Digit byte = m.digit parts.Integer byte || m.digit parts.Fraction byte || m.digit parts.Exponent byte
-role_set m roles.Sign byte = sets.signs byte
-role_set m roles.Separator byte = m.separator byte
-role_set m roles.Prefix byte = m.prefix byte
-role_set m roles.Suffix byte = m.suffix byte
-role_set m roles.Exponent byte = m.exponent_character byte
-role_set m roles.Point byte = m.point byte
+-- `set_of_role m role` is the set of the bytes that play `role`.
+abbrev pub set_of_role : Notation → Role → ByteSet
+set_of_role m roles.Digit byte = m.digit parts.Integer byte || m.digit parts.Fraction byte || m.digit parts.Exponent byte
+set_of_role m roles.Sign byte = sets.signs byte
+set_of_role m roles.Separator byte = m.separator byte
+set_of_role m roles.Prefix byte = m.prefix byte
+set_of_role m roles.Suffix byte = m.suffix byte
+set_of_role m roles.Exponent byte = m.exponent_character byte
+set_of_role m roles.Point byte = m.point byte
 
 -- `IsOnlyRole m byte found` holds if `found` is the only role that `byte` plays, or if it is `None` and `byte` plays none.
 abbrev pub IsOnlyRole : Notation → ℕ → Option Role → Type 0
-IsOnlyRole m byte found = (role : Role) → IsTrue (role_set m role byte) ↔ (found ≡ Some role)
+IsOnlyRole m byte found = (role : Role) → IsTrue (set_of_role m role byte) ↔ (found ≡ Some role)

@@ -1,30 +1,27 @@
 //! Why a text is not a literal.
 
-ghost use Rattle.std.specs.Prelude.{◌≡◌, ◌≢◌, ◌↔◌, IsTrue, List, Option, Some, if◌then◌else◌, ◌<◌, ◌^◌};
-ghost use Rattle.std.specs.Prelude.{◌≤◌, ◌&&◌, ◌||◌, ◌==◌, ℕ, true, false, length, take, slice_get};
-ghost use Rattle.std.specs.Bool.{beq};
+ghost use Rattle.std.specs.Prelude.{◌≡◌, ◌≢◌, ◌<◌, Some, if◌then◌else◌, ◌&&◌, ◌||◌, ◌==◌, ℕ, false, not};
 ghost use Rattle.lexical_util.specs.Layout.{Flag, bit, part, separators_in};
 ghost use Rattle.lexical_util.specs.Record.{raw};
 ghost use Rattle.lexical_util.specs.Roles.{other_case};
-ghost use Rattle.lexical_literal.specs.Additions.Causes.{Decides, IsReadOf, allows, class_of_next, ends_part, is_own, is_plus_next};
-ghost use Rattle.lexical_literal.specs.Additions.Causes.{is_role, kind_set, leads, place_of, refuses, role_of_next};
-ghost use Rattle.lexical_literal.specs.Cause.{IsCause, IsRefusal, IsRequirement, SomeFlag, adding, bare, case_set, behind, binds, error_of};
-ghost use Rattle.lexical_literal.specs.Cause.{first_in, flag_at, is_one_of, requirement_error, requirement_flags, requirement_span, span_of, with_flags};
-ghost use Rattle.lexical_literal.specs.Additions.Summary.{class_of, scan, start};
-ghost use Rattle.lexical_literal.specs.Front.{IsValidUpTo};
+ghost use Rattle.lexical_literal.specs.Additions.Causes.{allows, class_of_next, is_role, place_of, role_of_next};
+ghost use Rattle.lexical_literal.specs.Additions.Explained.{blame, cases, mask_of, requirements, separators, wrong};
+ghost use Rattle.lexical_literal.specs.Additions.Summary.{byte_class};
+ghost use Rattle.lexical_literal.specs.Additions.Tables.{summary_at};
+ghost use Rattle.lexical_literal.specs.Cause.{SomeFlag, adding, bare, binds, case_set, is_one_of, requirement_flags, with_flags};
 ghost use Rattle.lexical_literal.specs.Notation.{notation_of};
-ghost use Rattle.lexical_literal.specs.Syntax.{IsSyntax};
+ghost use Rattle.lexical_literal.specs.declared.tables.TheConstants.{ROWS};
 
-use crate::span::{Limits, error, span};
+use crate::span::{error, span};
 use crate::steps::{
-    self, Class, Stage, Summary, class_of, has_digit, in_part, is_exponent_character,
-    needs_exponent,
+    self, Class, Summary, byte_class, has_digit, in_part, is_exponent_character, needs_exponent,
 };
 use crate::syntax::Grammar;
+use crate::tables::summary_at;
 use lexical_util::error::Error;
 use lexical_util::format as masks;
 use lexical_util::format::{Part, Role};
-use lexical_util::laws::flags::role_facts;
+use std::marker::Model;
 
 /// Where a digit separator is.
 #[derive(Debug, Clone, Copy, PartialEq, Eq, Hash)]
@@ -37,10 +34,10 @@ pub enum Place {
     Consecutive,
 }
 
-/// Why a text is not a literal. Another cause may follow when this one is mended. The `Cause` of a `Reason` is another
-/// enum: why a format word is not lawful.
+/// The kind of a [`ReadError`]: the cause, without the flags that are to blame. Another cause may follow when this one is
+/// mended.
 #[derive(Debug, Clone, Copy, PartialEq, Eq, Hash)]
-pub enum Cause {
+pub enum ReadErrorKind {
     /// Flags are set whose requirements the text does not satisfy.
     Requirement,
     /// A digit separator is not allowed in this part at this place.
@@ -53,18 +50,65 @@ pub enum Cause {
     Missing(Part),
 }
 
-/// Why a text is not a literal, and where. If a byte cannot follow, the error is that of the byte, as in `1e;`. To say
-/// what is missing before it, read the front of the text that ends at [`valid_up_to`][Self::valid_up_to]. If this front
-/// is not a literal either, its error says it.
-#[derive(Debug, Clone, Copy, PartialEq, Eq)]
-pub struct ReadError {
+// What spans and errors are made of: the number of bytes that are right, and the indexes at which the exponent, the
+// integer digits and the last separators begin.
+#[derive(Debug, Clone, Copy, PartialEq, Eq, Hash)]
+pub struct Marks {
+    pub(crate) size: usize,
+    pub(crate) exponent: usize,
+    pub(crate) first: usize,
+    pub(crate) run: usize,
+}
+
+// Where reading stopped: the row of what has been read, the byte that cannot follow, or `None` if bytes are missing, and the
+// bytes that follow it in its character, or 0 for each that does not.
+#[derive(Debug, Clone, Copy, PartialEq, Eq, Hash)]
+pub struct Spot {
+    pub(crate) grammar: Grammar,
+    pub(crate) row: u8,
+    pub(crate) byte: Option<u8>,
+    pub(crate) tail: [u8; 3],
+    pub(crate) marks: Marks,
+}
+
+// What an error answers.
+#[derive(Clone, Copy)]
+pub struct Refusal {
     pub(crate) valid_up_to: usize,
-    pub(crate) cause: Cause,
+    pub(crate) byte: Option<u8>,
+    pub(crate) kind: ReadErrorKind,
     pub(crate) mask: u128,
     pub(crate) start: usize,
     pub(crate) end: usize,
     pub(crate) code: Error,
-    pub(crate) byte: Option<u8>,
+}
+
+/// Why a text is not a literal, and where. If a byte cannot follow, the error is that of the byte, as in `1e;`. To say
+/// what is missing before it, read the front of the text that ends at [`valid_up_to`][Self::valid_up_to]. If this front
+/// is not a literal either, its error says it.
+///
+/// An error holds where reading stopped. Each call but `valid_up_to` and `byte` finds the cause anew. Two errors are
+/// equal if they have the same syntax, and if reading stopped at the same index, at the same character, after bytes that
+/// the same may follow. Equal errors have equal answers. Errors of two syntaxes differ, even if their answers are the same.
+#[derive(Debug, Clone, Copy, PartialEq, Eq, Hash)]
+pub struct ReadError {
+    pub(crate) spot: Spot,
+}
+
+impl Model for ReadError {
+    ghost use Rattle.lexical_literal.specs.Cause.{Explained};
+
+    ghost Value = { Explained };
+
+    ghost use Rattle.std.specs.Prelude.{◌<◌, ◌^◌};
+    ghost use Rattle.lexical_literal.specs.Additions.Explained.{explained};
+    ghost use Rattle.lexical_literal.specs.declared.tables.TheConstants.{ROWS};
+
+    ghost view = { λ error. explained error.spot };
+
+    ghost invariant = { λ error. (error.spot.row < ROWS) × (error.spot.marks.size < 2 ^ 63) };
+
+    ghost inverse = { λ error. record { spot = error.spot } };
 }
 
 impl ReadError {
@@ -72,49 +116,105 @@ impl ReadError {
     /// that cannot follow the bytes before it, or the length of the text if bytes are missing.
     #[must_use]
     pub const fn valid_up_to(&self) -> usize
-        ensures { result ≡ self.now.valid_up_to }
+        ensures { result ≡ self.now.refusal.valid_up_to }
     {
-        self.valid_up_to
-    }
-
-    /// Returns the cause.
-    #[must_use]
-    pub const fn cause(&self) -> Cause
-        ensures { result ≡ self.now.cause }
-    {
-        self.cause
-    }
-
-    /// Returns the mask of the flags in a format word that are to blame. It is 0 for a wrong byte and for missing digits.
-    #[must_use]
-    pub const fn mask(&self) -> u128
-        ensures { result ≡ self.now.mask }
-    {
-        self.mask
-    }
-
-    /// Returns the first index and the end of the bytes to show. They may be none.
-    #[must_use]
-    pub const fn span(&self) -> (usize, usize)
-        ensures { result ≡ (self.now.start, self.now.end) }
-    {
-        (self.start, self.end)
-    }
-
-    /// Returns the error that `lexical-util` has for the cause.
-    #[must_use]
-    pub const fn code(&self) -> Error
-        ensures { result ≡ self.now.code }
-    {
-        self.code
+        self.spot.marks.size
     }
 
     /// Returns the byte that cannot follow, or `None` if bytes are missing.
     #[must_use]
     pub const fn byte(&self) -> Option<u8>
-        ensures { result ≡ self.now.byte }
+        ensures { result ≡ self.now.refusal.byte }
     {
-        self.byte
+        self.spot.byte
+    }
+
+    /// Returns the kind.
+    #[must_use]
+    pub const fn kind(&self) -> ReadErrorKind
+        ensures { result ≡ self.now.refusal.kind }
+    {
+        self.explain().kind
+    }
+
+    /// Returns the mask of the flags in a format word that are to blame. It is 0 for a wrong byte and for missing digits.
+    #[must_use]
+    pub const fn mask(&self) -> u128
+        ensures { result ≡ self.now.refusal.mask }
+    {
+        self.explain().mask
+    }
+
+    /// Returns the first index and the end of the bytes to show. They may be none.
+    #[must_use]
+    pub const fn span(&self) -> (usize, usize)
+        ensures { result ≡ (self.now.refusal.start, self.now.refusal.end) }
+    {
+        let Refusal { start, end, .. } = self.explain();
+        (start, end)
+    }
+
+    /// Returns the error that `lexical-util` has for the cause.
+    #[must_use]
+    pub const fn code(&self) -> Error
+        ensures { result ≡ self.now.refusal.code }
+    {
+        self.explain().code
+    }
+
+    // Returns all answers. It finds the cause once.
+    pub(crate) const fn explain(&self) -> Refusal
+        ensures { result ≡ self.now.refusal }
+    {
+        let Spot {
+            grammar,
+            byte,
+            marks,
+            ..
+        } = self.spot;
+        let Blame { kind, mask } = self.spot.blame();
+        let number = mask.trailing_zeros();
+        let (start, end) = span(grammar, marks, byte, kind, number);
+        Refusal {
+            valid_up_to: marks.size,
+            byte,
+            kind,
+            mask,
+            start,
+            end,
+            code: error(grammar, marks, kind, number, start),
+        }
+    }
+}
+
+impl Spot {
+    // Returns the kind, and the mask of the flags that are to blame.
+    const fn blame(self) -> Blame
+        requires { self.row < ROWS }
+        ensures kind { result.kind ≡ (blame (notation_of self.grammar) (summary_at self.row) self.byte).kind }
+        ensures mask { result.mask ≡ mask_of (blame (notation_of self.grammar) (summary_at self.row) self.byte).flags }
+    {
+        let stop = Stop {
+            grammar: self.grammar,
+            read: summary_at(self.row),
+            next: class_of_next(self.grammar, self.byte),
+        };
+        let Blame { kind, mask } = stop.blame(self.byte);
+        // No bit of the mask is set but those of flags.
+        Blame {
+            kind,
+            mask: mask & masks::FLAG_MASK,
+        }
+    }
+}
+
+// Returns the class of a byte, if there is one.
+const fn class_of_next(grammar: Grammar, next: Option<u8>) -> Option<Class>
+    ensures { result ≡ class_of_next (notation_of grammar) next }
+{
+    match next {
+        None => None,
+        Some(byte) => Some(byte_class(grammar, byte)),
     }
 }
 
@@ -130,10 +230,16 @@ const REQUIREMENTS: u128 = masks::REQUIRED_DIGITS
     | masks::NO_FLOAT_LEADING_ZEROS
     | masks::REQUIRED_EXPONENT_NOTATION;
 
-// A cause, and the flags that are to blame.
+// Those that bind where each literal has an exponent, and none is an integer.
+const FLOAT_REQUIREMENTS: u128 = REQUIREMENTS & !masks::NO_INTEGER_LEADING_ZEROS;
+
+// The flags on leading zeros.
+const ZEROS: u128 = masks::NO_INTEGER_LEADING_ZEROS | masks::NO_FLOAT_LEADING_ZEROS;
+
+// A kind of error, and the flags that are to blame.
 #[derive(Clone, Copy)]
 struct Blame {
-    cause: Cause,
+    kind: ReadErrorKind,
     mask: u128,
 }
 
@@ -174,7 +280,7 @@ impl Stop {
         ensures flags { (k : ℕ) → part result k 1 ≡ 1 → (f : Flag) × (bit f ≡ k) }
     {
         if needs_exponent(self.grammar) {
-            self.grammar.word & (REQUIREMENTS & !masks::NO_INTEGER_LEADING_ZEROS)
+            self.grammar.word & FLOAT_REQUIREMENTS
         } else {
             self.grammar.word & REQUIREMENTS
         }
@@ -190,99 +296,25 @@ impl Stop {
         }
     }
 
-    // Returns whether the flag with the number `number` alone refuses what has the role `role`.
-    #[inline(always)]
-    const fn refuses(self, role: Option<Role>, number: u32) -> bool
-        ensures { result ≡ refuses (notation_of self.grammar) self.read (is_plus_next self.next) role number }
-    {
-        let Summary { part, stage, .. } = self.read;
-        let is_sign = matches!(role, Some(Role::Sign));
-        match (number, part) {
-            (0, Part::Integer) | (1, Part::Fraction) | (2, Part::Exponent) => {
-                ends_part(role) && !has_digit(stage)
-            }
-            (3, Part::Integer) => matches!(role, Some(Role::Exponent)) && !has_digit(stage),
-            (3, Part::Fraction) => ends_part(role) && matches!(stage, Stage::Lone),
-            (4, Part::Integer | Part::Fraction) | (7, Part::Exponent) => {
-                is_sign && matches!(self.next, Some(Class::Plus))
-            }
-            (5, Part::Integer | Part::Fraction) | (8, Part::Exponent) => {
-                !is_sign && matches!(stage, Stage::Start | Stage::Mark)
-            }
-            (6, _) | (9, Part::Integer) => matches!(role, Some(Role::Exponent)),
-            (12, _) => self.leads(role),
-            (13, Part::Integer) => {
-                matches!(role, Some(Role::Point | Role::Exponent)) && matches!(stage, Stage::Led)
-            }
-            (14, Part::Integer | Part::Fraction) => {
-                matches!(role, Some(Role::Suffix)) && matches!(self.grammar.options, Some(_))
-            }
-            _ => false,
-        }
-    }
-
-    // Returns whether what has the role `role` is a digit or a separator behind a zero that must not lead, where literals
-    // are integers, or ends an integer with a leading zero.
-    const fn leads(self, role: Option<Role>) -> bool
-        ensures { result ≡ leads (notation_of self.grammar) self.read role }
-    {
-        let Summary { part, stage, .. } = self.read;
-        let integers = matches!(self.grammar.options, None);
-        let zero = matches!(stage, Stage::Bare | Stage::Zero);
-        match role {
-            Some(Role::Digit) => integers && zero,
-            Some(Role::Separator) => {
-                integers && zero && !self.grammar.view().separators(part).trailing
-            }
-            Some(Role::Suffix) => matches!(stage, Stage::Led) && matches!(part, Part::Integer),
-            _ => false,
-        }
-    }
-
-    // Returns the mask of the flag with the number `number` if it alone refuses what has the role `role`.
-    #[inline(always)]
-    const fn row(self, role: Option<Role>, number: u32) -> u128
-        requires { number < 44 }
-        ensures { (f : Flag) → (raw result).flag f
-            ≡ ((bit f == number) && refuses (notation_of self.grammar) self.read (is_plus_next self.next) role number) }
-    {
-        if self.refuses(role, number) {
-            1 << number
-        } else {
-            0
-        }
-    }
-
     // Returns the flags that alone refuse what cannot follow.
     const fn refusing(self) -> u128
         ensures { (f : Flag) → (raw result).flag f ≡ (is_one_of requirement_flags f
-            && refuses (notation_of self.grammar) self.read (is_plus_next self.next) (role_of_next self.read self.next) (bit f)) }
+            && not (allows (adding f (bare (notation_of self.grammar))) self.read self.next)) }
     {
-        let role = self.role();
-        let digits = self.row(role, 0) | self.row(role, 1) | self.row(role, 2) | self.row(role, 3);
-        let signs = self.row(role, 4) | self.row(role, 5) | self.row(role, 7) | self.row(role, 8);
-        let exponents = self.row(role, 6) | self.row(role, 9) | self.row(role, 14);
-        let zeros = self.row(role, 12) | self.row(role, 13);
-        digits | signs | exponents | zeros
+        let digits = self.permitted(0) | self.permitted(1) | self.permitted(2) | self.permitted(3);
+        let signs = self.permitted(4) | self.permitted(5) | self.permitted(7) | self.permitted(8);
+        let exponents = self.permitted(6) | self.permitted(9) | self.permitted(14);
+        let zeros = self.permitted(12) | self.permitted(13);
+        REQUIREMENTS & !(digits | signs | exponents | zeros)
     }
 
-    // Returns the flags to blame for a requirement: those that refuse alone, or the lower one of two on leading zeros that
-    // refuse together.
+    // Returns the flags to blame for a requirement: those that refuse alone, or else those on leading zeros.
     const fn requirements(self) -> u128
-        requires allowed { allows (bare (notation_of self.grammar)) self.read self.next ≡ true }
-        requires refused { allows (notation_of self.grammar) self.read self.next ≡ false }
-        ensures { (front : List ℕ) → (next : Option ℕ) → Decides (notation_of self.grammar) self.read self.next front next
-            → IsRequirement (notation_of self.grammar) front next (raw result).flag }
+        ensures { (f : Flag) → (raw result).flag f ≡ requirements (notation_of self.grammar) self.read self.next f }
     {
         let binding = self.binding();
         let alone = self.refusing() & binding;
-        if alone != 0 {
-            alone
-        } else if binding & masks::NO_INTEGER_LEADING_ZEROS != 0 {
-            masks::NO_INTEGER_LEADING_ZEROS
-        } else {
-            masks::NO_FLOAT_LEADING_ZEROS
-        }
+        if alone != 0 { alone } else { binding & ZEROS }
     }
 
     // Returns whether what cannot follow is a separator, or is behind one.
@@ -305,9 +337,7 @@ impl Stop {
 
     // Returns the flags each of which would allow a separator that is not allowed.
     const fn separators(self) -> u128
-        ensures each { (f : Flag) → (raw result).flag f
-            ≡ ((self.read.gap || is_role Role.Separator (role_of_next self.read self.next))
-            && (is_own self.read.part f && allows (adding f (bare (notation_of self.grammar))) self.read self.next)) }
+        ensures each { (f : Flag) → (raw result).flag f ≡ separators (notation_of self.grammar) self.read self.next f }
         ensures some { result ≢ 0 → SomeFlag (raw result).flag }
     {
         if !self.is_at_gap() {
@@ -337,9 +367,8 @@ impl Stop {
 
     // Returns the flag by which the case of `byte` counts, if its other case may be next.
     const fn case_flag(self, byte: u8) -> u128
-        requires { allows (bare (notation_of self.grammar)) self.read (Some (class_of (notation_of self.grammar) byte)) ≡ false }
-        ensures each { (f : Flag) → (raw result).flag f ≡ (allows (bare (notation_of self.grammar)) self.read
-            (Some (class_of (notation_of self.grammar) (other_case byte))) && case_set f (notation_of self.grammar) (other_case byte)) }
+        requires { allows (bare (notation_of self.grammar)) self.read (Some (byte_class (notation_of self.grammar) byte)) ≡ false }
+        ensures each { (f : Flag) → (raw result).flag f ≡ cases (notation_of self.grammar) self.read byte f }
         ensures some { result ≢ 0 → SomeFlag (raw result).flag }
     {
         let other = other_case(byte);
@@ -353,7 +382,7 @@ impl Stop {
         let stop = Stop {
             grammar: self.grammar,
             read: self.read,
-            next: Some(class_of(self.grammar, other)),
+            next: Some(byte_class(self.grammar, other)),
         };
         flag_if(stop.allows(self.bare()), mask)
     }
@@ -362,49 +391,45 @@ impl Stop {
     const fn wrong(self, byte: u8) -> Blame
         requires next { self.next ≡ class_of_next (notation_of self.grammar) (Some byte) }
         requires refused { allows (bare (notation_of self.grammar)) self.read self.next ≡ false }
-        ensures { (front : List ℕ) → IsReadOf (notation_of self.grammar) self.read front
-            → IsCause (notation_of self.grammar) front (Some byte) result.cause (raw result.mask).flag }
+        ensures kind { result.kind ≡ (wrong (notation_of self.grammar) self.read byte).kind }
+        ensures flags { (f : Flag) → (raw result.mask).flag f ≡ (wrong (notation_of self.grammar) self.read byte).flags f }
     {
         let separators = self.separators();
         if separators != 0 {
             return Blame {
-                cause: Cause::Separator(self.read.part, self.place()),
+                kind: ReadErrorKind::Separator(self.read.part, self.place()),
                 mask: separators,
             };
         }
         let mask = self.case_flag(byte);
-        let cause = if mask == 0 { Cause::Byte } else { Cause::Case };
-        Blame { cause, mask }
+        let kind = if mask == 0 {
+            ReadErrorKind::Byte
+        } else {
+            ReadErrorKind::Case
+        };
+        Blame { kind, mask }
     }
 
-    // Returns the cause.
+    // Returns the kind, and the flags that are to blame.
     const fn blame(self, next: Option<u8>) -> Blame
         requires next { self.next ≡ class_of_next (notation_of self.grammar) next }
-        requires refused { allows (notation_of self.grammar) self.read self.next ≡ false }
-        ensures { (front : List ℕ) → IsReadOf (notation_of self.grammar) self.read front
-            → IsCause (notation_of self.grammar) front next result.cause (raw result.mask).flag }
+        ensures kind { result.kind ≡ (blame (notation_of self.grammar) self.read next).kind }
+        ensures flags { (f : Flag) → (raw result.mask).flag f ≡ (blame (notation_of self.grammar) self.read next).flags f }
     {
         if self.allows(self.bare()) {
             return Blame {
-                cause: Cause::Requirement,
+                kind: ReadErrorKind::Requirement,
                 mask: self.requirements(),
             };
         }
         match next {
             None => Blame {
-                cause: Cause::Missing(self.read.part),
+                kind: ReadErrorKind::Missing(self.read.part),
                 mask: 0,
             },
             Some(byte) => self.wrong(byte),
         }
     }
-}
-
-// Returns whether a byte with the role `role` ends a part of a number.
-const fn ends_part(role: Option<Role>) -> bool
-    ensures { result ≡ ends_part role }
-{
-    matches!(role, Some(Role::Point | Role::Exponent | Role::Suffix))
 }
 
 // Returns the number of the flag that allows a digit separator between digits of `part`. Those that allow it before digits,
@@ -451,57 +476,5 @@ const fn other_case(byte: u8) -> u8
         b'A'..=b'Z' => byte + 32,
         b'a'..=b'z' => byte - 32,
         _ => byte,
-    }
-}
-
-// Returns the byte behind the first `size`, if there is one.
-const fn byte_at(text: &[u8], size: usize) -> Option<u8>
-    ensures { result ≡ slice_get text.now size }
-{
-    if size < text.len() {
-        Some(text[size])
-    } else {
-        None
-    }
-}
-
-// Returns why `text` is not a literal, of which `size` bytes can be read, which makes `read` of them. The class of the byte
-// behind them is `next`, if there is one.
-#[cold]
-pub(crate) const fn refusal(
-    grammar: Grammar,
-    text: &[u8],
-    size: usize,
-    read: Summary,
-    next: Option<Class>,
-) -> ReadError
-    requires syntax { IsSyntax grammar }
-    requires valid { IsValidUpTo (notation_of grammar) text.now size }
-    requires read { scan (notation_of grammar) (Some start) (take size text.now) ≡ Some read }
-    requires next { next ≡ class_of_next (notation_of grammar) (slice_get text.now size) }
-    requires refused { allows (notation_of grammar) read next ≡ false }
-    ensures { IsRefusal (notation_of grammar) text.now result }
-{
-    role_facts();
-    let byte = byte_at(text, size);
-    let stop = Stop {
-        grammar,
-        read,
-        next,
-    };
-    let Blame { cause, mask: bits } = stop.blame(byte);
-    // No bit of the mask is set but those of flags.
-    let mask = bits & masks::FLAG_MASK;
-    let number = mask.trailing_zeros();
-    let end = if size < text.len() { size + 1 } else { size };
-    let (start, end) = span(grammar, text, Limits { size, end }, cause, number);
-    ReadError {
-        valid_up_to: size,
-        cause,
-        mask,
-        start,
-        end,
-        code: error(grammar, text, size, cause, number, start),
-        byte,
     }
 }

@@ -10,8 +10,8 @@ ghost use Rattle.lexical_literal.specs.Literal.{Literal, Reads, requirement};
 ghost use Rattle.lexical_literal.specs.Notation.{Notation, notation_of};
 ghost use Rattle.lexical_literal.specs.Readings.{AllIn, PartsHaveRoles};
 ghost use Rattle.lexical_literal.specs.Syntax.{IsSyntax};
-ghost use Rattle.lexical_literal.specs.declared.cause.Cause.{Cause};
-ghost use Rattle.lexical_literal.specs.declared.cause.ReadError.{ReadError};
+ghost use Rattle.lexical_literal.specs.declared.cause.ReadErrorKind.{ReadErrorKind};
+ghost use Rattle.lexical_literal.specs.declared.cause.Refusal.{Refusal};
 ghost use Rattle.lexical_literal.specs.declared.syntax.Grammar.{Grammar};
 ghost use Rattle.lexical_literal.specs.declared.syntax.Options.{Options};
 
@@ -38,11 +38,11 @@ pub fn literal_facts()
         → PartsHaveRoles (notation_of g) l }
 
     // A refusal has one cause, and the same flags are to blame.
-    ensures one_cause { (m : Notation) → (front : List ℕ) → (next : Option ℕ) → (cause other : Cause) → (a b : Flag → Bool)
-        → IsCause m front next cause a → IsCause m front next other b → SameBlame cause other a b }
+    ensures one_cause { (m : Notation) → (front : List ℕ) → (next : Option ℕ) → (kind other : ReadErrorKind) → (a b : Flag → Bool)
+        → IsCause m front next kind a → IsCause m front next other b → SameBlame kind other a b }
 
-    // A text has one refusal: each field of its error is determined.
-    ensures one_refusal { (m : Notation) → (text : List ℕ) → (a b : ReadError) → IsRefusal m text a → IsRefusal m text b → a ≡ b }
+    // A text has one refusal: each answer of its error is determined.
+    ensures one_refusal { (m : Notation) → (text : List ℕ) → (a b : Refusal) → IsRefusal m text a → IsRefusal m text b → a ≡ b }
 
     // A literal is as each flag that is set requires.
     ensures requirements { (g : Grammar) → (l : Literal) → (text : List ℕ) → Reads (notation_of g) l text

@@ -1,12 +1,10 @@
 //! Calls that read literals.
 
-ghost use Rattle.lexical_literal.specs.Additions.Longest.{IsFound, IsFoundFront};
-ghost use Rattle.lexical_literal.specs.Notation.{Notation, notation_of};
+ghost use Rattle.lexical_literal.specs.Notation.{notation_of};
 ghost use Rattle.lexical_literal.specs.Parts.{IsRead, IsReadPrefix};
 
 use crate::cause::ReadError;
 use crate::read::{Found, Parts, Reader, cut, front_of};
-use crate::syntax::Syntax;
 
 /// A leading piece of a text that is a literal.
 #[derive(Debug, Clone, Copy, PartialEq, Eq, Hash)]
@@ -17,7 +15,7 @@ pub struct Front<'a> {
     pub size: usize,
 }
 
-impl Syntax {
+impl Reader {
     /// Returns the parts of the literal `text`.
     ///
     /// # Errors
@@ -26,72 +24,28 @@ impl Syntax {
     pub fn read<'a>(&self, text: &'a [u8]) -> Result<Parts<'a>, ReadError>
         ensures { IsRead (notation_of self.now) text.now result }
     {
-        cut_whole(text, self.find(text))
-    }
-
-    /// Returns the longest front of `text` that is a literal. What follows it may be anything. No byte behind the first
-    /// that no literal can have is looked at.
-    ///
-    /// # Errors
-    ///
-    /// If no front of `text` is a literal, returns the error of [`read`][Self::read].
-    pub fn read_prefix<'a>(&self, text: &'a [u8]) -> Result<Front<'a>, ReadError>
-        ensures { IsReadPrefix (notation_of self.now) text.now result }
-    {
-        cut_front(text, self.find_front(text))
-    }
-}
-
-impl Reader {
-    /// Returns the parts of the literal `text`, as [`Syntax::read`] does.
-    ///
-    /// # Errors
-    ///
-    /// If `text` is not a literal, returns why, and how far it is right.
-    pub fn read<'a>(&self, text: &'a [u8]) -> Result<Parts<'a>, ReadError>
-        ensures { IsRead (notation_of self.now) text.now result }
-    {
-        cut_whole(text, self.find(text))
-    }
-
-    /// Returns the longest front of `text` that is a literal. What follows it may be anything. No byte behind the first
-    /// that no literal can have is looked at.
-    ///
-    /// # Errors
-    ///
-    /// If no front of `text` is a literal, returns the error of [`read`][Self::read].
-    pub fn read_prefix<'a>(&self, text: &'a [u8]) -> Result<Front<'a>, ReadError>
-        ensures { IsReadPrefix (notation_of self.now) text.now result }
-    {
-        cut_front(text, self.find_front(text))
-    }
-}
-
-// Returns the parts of `text` with the lengths that were found.
-fn cut_whole<'a>(
-    text: &'a [u8],
-    found: Result<[usize; 9], ReadError>,
-) -> Result<Parts<'a>, ReadError>
-    requires { (m : Notation) × IsFound m text.now found }
-    ensures { (m : Notation) → IsFound m text.now found → IsRead m text.now result }
-{
-    match found {
-        Ok(counts) => Ok(cut(text, counts)),
-        Err(error) => Err(error),
-    }
-}
-
-// Returns the front of `text` that was found, with its parts.
-fn cut_front<'a>(text: &'a [u8], found: Result<Found, ReadError>) -> Result<Front<'a>, ReadError>
-    requires { (m : Notation) × IsFoundFront m text.now found }
-    ensures { (m : Notation) → IsFoundFront m text.now found → IsReadPrefix m text.now result }
-{
-    match found {
-        Ok(found) => {
-            let Found { size, counts } = found;
-            let parts = cut(front_of(text, size), counts);
-            Ok(Front { parts, size })
+        match self.find(text) {
+            Ok(counts) => Ok(cut(text, counts)),
+            Err(error) => Err(error),
         }
-        Err(error) => Err(error),
+    }
+
+    /// Returns the longest front of `text` that is a literal. What follows it may be anything. No byte behind the first
+    /// character that no literal can have is looked at.
+    ///
+    /// # Errors
+    ///
+    /// If no front of `text` is a literal, returns the error of [`read`][Self::read].
+    pub fn read_prefix<'a>(&self, text: &'a [u8]) -> Result<Front<'a>, ReadError>
+        ensures { IsReadPrefix (notation_of self.now) text.now result }
+    {
+        match self.find_front(text) {
+            Ok(found) => {
+                let Found { size, counts } = found;
+                let parts = cut(front_of(text, size), counts);
+                Ok(Front { parts, size })
+            }
+            Err(error) => Err(error),
+        }
     }
 }

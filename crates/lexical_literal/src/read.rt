@@ -1,22 +1,22 @@
 //! How literals are found, and the lengths of their parts.
 
-ghost use Rattle.std.specs.Prelude.{◌≡◌, ◌++◌, ◌&&◌, ◌<◌, ◌≤◌, Bool, ℕ, List, false, length, slice_get, take};
+ghost use Rattle.std.specs.Prelude.{◌≡◌, ◌++◌, ◌∷◌, ◌&&◌, ◌<◌, ◌≤◌, Bool, ℕ, List, [], false, length, slice_get, take};
 ghost use Rattle.lexical_literal.specs.Additions.Causes.{allows, class_of_next};
-ghost use Rattle.lexical_literal.specs.Additions.Summary.{HasLengths, class_of, is_complete};
-ghost use Rattle.lexical_literal.specs.Additions.Tables.{HasTables, IsStep, cuts_of, summary_at};
-ghost use Rattle.std.specs.Option.{ForSome};
+ghost use Rattle.lexical_literal.specs.Additions.Explained.{tail_byte, tail_size};
 ghost use Rattle.lexical_literal.specs.Additions.Longest.{IsFound, IsFoundFront, IsScanned};
+ghost use Rattle.lexical_literal.specs.Additions.Summary.{HasLengths, is_complete};
+ghost use Rattle.lexical_literal.specs.Additions.Tables.{cuts_of, summary_at};
+ghost use Rattle.lexical_literal.specs.Cause.{IsRefusal};
 ghost use Rattle.lexical_literal.specs.Front.{NoLiteral};
 ghost use Rattle.lexical_literal.specs.Literal.{Literal, text_of};
-ghost use Rattle.lexical_literal.specs.Cause.{IsRefusal};
 ghost use Rattle.lexical_literal.specs.Notation.{notation_of};
 ghost use Rattle.lexical_literal.specs.Parts.{literal_of};
-ghost use Rattle.lexical_literal.specs.Syntax.{IsSyntax};
+ghost use Rattle.lexical_literal.specs.declared.tables.TheConstants.{ROWS};
 
-use crate::cause::{ReadError, refusal};
-use crate::steps::{Class, class_of};
-use crate::syntax::{Grammar, Syntax};
-use crate::tables::{START, Step, Tables, is_complete, piece_number, step_from, summary_at};
+use crate::cause::{ReadError, Spot};
+use crate::span::marks;
+use crate::syntax::Syntax;
+use crate::tables::{START, Tables, piece_number};
 use lexical_util::laws::flags::role_facts;
 use std::marker::Model;
 
@@ -50,31 +50,12 @@ pub(crate) struct Found {
     pub(crate) counts: [usize; 9],
 }
 
-impl Syntax {
-    // Returns the lengths of the parts of the literal `text`, or why it is not one.
-    #[inline(always)]
-    pub(crate) const fn find(&self, text: &[u8]) -> Result<[usize; 9], ReadError>
-        ensures { IsFound (notation_of self.now) text.now result }
-    {
-        find(self.grammar(), None, text)
-    }
-
-    // Returns the longest front of `text` that is a literal, or why there is none.
-    #[inline(always)]
-    pub(crate) fn find_front(&self, text: &[u8]) -> Result<Found, ReadError>
-        ensures { IsFoundFront (notation_of self.now) text.now result }
-    {
-        find_front(self.grammar(), None, text)
-    }
-}
-
-/// A syntax with tables of all its steps. It reads literals in less time than [`Syntax::read`]. Making one takes as long
-/// as [`Syntax::read`] takes for some 30 texts. For a `static`, as in the first example of this module, the compiler
-/// makes it.
+/// A syntax with tables of all its steps, which reads literals. To make one takes as long as to read some hundred texts
+/// with it. For a `static`, as in the first example of this module, the compiler makes it.
 #[derive(Drop)]
 pub struct Reader {
-    grammar: Grammar,
-    tables: Tables,
+    pub(crate) syntax: Syntax,
+    pub(crate) tables: Tables,
 }
 
 impl Model for Reader {
@@ -86,9 +67,9 @@ impl Model for Reader {
     ghost use Rattle.lexical_literal.specs.Syntax.{IsSyntax};
     ghost use Rattle.lexical_literal.specs.Additions.Tables.{HasTables};
 
-    ghost view = { λ reader. reader.grammar };
+    ghost view = { λ reader. reader.syntax };
 
-    ghost invariant = { λ reader. IsSyntax reader.grammar × HasTables (notation_of reader.grammar) reader.tables };
+    ghost invariant = { λ reader. IsSyntax reader.syntax × HasTables (notation_of reader.syntax) reader.tables };
 }
 
 impl Reader {
@@ -97,10 +78,9 @@ impl Reader {
     pub const fn new(syntax: Syntax) -> Reader
         ensures { result ≡ syntax }
     {
-        let grammar = syntax.grammar();
         Reader {
-            grammar,
-            tables: Tables::new(grammar),
+            syntax,
+            tables: Tables::new(syntax.grammar()),
         }
     }
 
@@ -109,9 +89,7 @@ impl Reader {
     pub const fn syntax(&self) -> Syntax
         ensures { result ≡ self.now }
     {
-        Syntax {
-            grammar: self.grammar,
-        }
+        self.syntax
     }
 
     // Returns the lengths of the parts of the literal `text`, or why it is not one.
@@ -119,7 +97,12 @@ impl Reader {
     pub(crate) const fn find(&self, text: &[u8]) -> Result<[usize; 9], ReadError>
         ensures { IsFound (notation_of self.now) text.now result }
     {
-        find(self.grammar, Some(&self.tables), text)
+        let scanned = self.scan(text, false);
+        if scanned.valid_up_to == text.len() && self.is_complete(scanned.row) {
+            Ok(scanned.counts)
+        } else {
+            Err(self.refuse(text, scanned))
+        }
     }
 
     // Returns the longest front of `text` that is a literal, or why there is none.
@@ -127,7 +110,96 @@ impl Reader {
     pub(crate) fn find_front(&self, text: &[u8]) -> Result<Found, ReadError>
         ensures { IsFoundFront (notation_of self.now) text.now result }
     {
-        find_front(self.grammar, Some(&self.tables), text)
+        let scanned = self.scan(text, true);
+        let Some(size) = scanned.literal else {
+            return Err(self.refuse(text, scanned));
+        };
+        if size == scanned.valid_up_to {
+            let counts = scanned.counts;
+            return Ok(Found { size, counts });
+        }
+        match self.find(front_of(text, size)) {
+            Ok(counts) => Ok(Found { size, counts }),
+            Err(error) => Err(error),
+        }
+    }
+
+    // Reads `text` until no literal begins with what has been read. Seeks the longest front that is a literal if `seeks`
+    // is true.
+    #[inline(always)]
+    const fn scan(&self, text: &[u8], seeks: bool) -> Scanned
+        ensures { IsScanned (notation_of self.now) seeks text.now result }
+    {
+        role_facts();
+        let tables = &self.tables;
+        let mut row = START;
+        let mut counts = [0; 9];
+        let mut literal = None;
+        let mut index = 0;
+        while index < text.len() {
+            let Some(next) = tables.step(row, text[index]) else {
+                return Scanned {
+                    valid_up_to: index,
+                    row,
+                    literal,
+                    counts,
+                };
+            };
+            row = next.row;
+            counts[piece_number(next.piece)] += 1;
+            if self.is_sought(row, seeks) {
+                literal = Some(index + 1);
+            }
+            index += 1;
+        }
+        Scanned {
+            valid_up_to: index,
+            row,
+            literal,
+            counts,
+        }
+    }
+
+    // Returns whether `seeks` is true and a row is that of a literal.
+    #[inline(always)]
+    const fn is_sought(&self, row: u8, seeks: bool) -> bool
+        requires { row < ROWS }
+        ensures { result ≡ (seeks && is_complete (notation_of self.now) (summary_at row)) }
+    {
+        seeks && self.is_complete(row)
+    }
+
+    // Returns whether a row is that of a literal.
+    #[inline(always)]
+    const fn is_complete(&self, row: u8) -> bool
+        requires { row < ROWS }
+        ensures { result ≡ is_complete (notation_of self.now) (summary_at row) }
+    {
+        self.tables.is_complete(row)
+    }
+
+    // Returns why `text` is not a literal.
+    #[inline(always)]
+    const fn refuse(&self, text: &[u8], scanned: Scanned) -> ReadError
+        requires scanned { (seeks : Bool) × IsScanned (notation_of self.now) seeks text.now scanned }
+        requires refused { allows (notation_of self.now) (summary_at scanned.row)
+            (class_of_next (notation_of self.now) (slice_get text.now scanned.valid_up_to)) ≡ false }
+        ensures refusal { IsRefusal (notation_of self.now) text.now result.refusal }
+        ensures none { NoLiteral (notation_of self.now) text.now }
+    {
+        role_facts();
+        let grammar = self.syntax.grammar();
+        let size = scanned.valid_up_to;
+        let byte = byte_at(text, size);
+        ReadError {
+            spot: Spot {
+                grammar,
+                row: scanned.row,
+                byte,
+                tail: tail_at(text, size, byte),
+                marks: marks(grammar, text, size),
+            },
+        }
     }
 }
 
@@ -141,85 +213,53 @@ struct Scanned {
     counts: [usize; 9],
 }
 
-// Returns the lengths of the parts of the literal `text`, or why it is not one.
-#[inline(always)]
-const fn find(
-    grammar: Grammar,
-    tables: Option<&Tables>,
-    text: &[u8],
-) -> Result<[usize; 9], ReadError>
-    requires syntax { IsSyntax grammar }
-    requires tables { ForSome tables (λ tables. HasTables (notation_of grammar) tables.now) }
-    ensures { IsFound (notation_of grammar) text.now result }
+// Returns the byte behind the first `size`, if there is one.
+const fn byte_at(text: &[u8], size: usize) -> Option<u8>
+    ensures { result ≡ slice_get text.now size }
 {
-    let scanned = scan(grammar, tables, text, false);
-    if scanned.valid_up_to == text.len() && is_complete_by(grammar, tables, scanned.row) {
-        Ok(scanned.counts)
+    if size < text.len() {
+        Some(text[size])
     } else {
-        Err(refuse(grammar, tables, text, scanned))
+        None
     }
 }
 
-// Returns the longest front of `text` that is a literal, or why there is none.
-#[inline(always)]
-fn find_front(grammar: Grammar, tables: Option<&Tables>, text: &[u8]) -> Result<Found, ReadError>
-    requires syntax { IsSyntax grammar }
-    requires tables { ForSome tables (λ tables. HasTables (notation_of grammar) tables.now) }
-    ensures { IsFoundFront (notation_of grammar) text.now result }
+// Returns the number of bytes that follow `byte` in its character, if it begins one in UTF-8.
+const fn tail_size(byte: Option<u8>) -> usize
+    ensures { result ≡ tail_size byte }
 {
-    let scanned = scan(grammar, tables, text, true);
-    let Some(size) = scanned.literal else {
-        return Err(refuse(grammar, tables, text, scanned));
-    };
-    if size == scanned.valid_up_to {
-        let counts = scanned.counts;
-        return Ok(Found { size, counts });
-    }
-    match find(grammar, tables, front_of(text, size)) {
-        Ok(counts) => Ok(Found { size, counts }),
-        Err(error) => Err(error),
+    match byte {
+        Some(0xC2..=0xDF) => 1,
+        Some(0xE0..=0xEF) => 2,
+        Some(0xF0..=0xF4) => 3,
+        _ => 0,
     }
 }
 
-// Returns why `text` is not a literal.
-#[inline(always)]
-const fn refuse(
-    grammar: Grammar,
-    tables: Option<&Tables>,
-    text: &[u8],
-    scanned: Scanned,
-) -> ReadError
-    requires syntax { IsSyntax grammar }
-    requires tables { ForSome tables (λ tables. HasTables (notation_of grammar) tables.now) }
-    requires scanned { (seeks : Bool) × IsScanned (notation_of grammar) seeks text.now scanned }
-    requires refused { allows (notation_of grammar) (summary_at scanned.row)
-        (class_of_next (notation_of grammar) (slice_get text.now scanned.valid_up_to)) ≡ false }
-    ensures refusal { IsRefusal (notation_of grammar) text.now result }
-    ensures none { NoLiteral (notation_of grammar) text.now }
+// Returns the bytes that follow `byte`, the one behind the first `size`, in its character, and 0 for each that does not.
+const fn tail_at(text: &[u8], size: usize, byte: Option<u8>) -> [u8; 3]
+    requires { size ≤ length text.now }
+    ensures { let tail = tail_size byte in
+        result ≡ tail_byte text.now size tail 1 ∷ tail_byte text.now size tail 2 ∷ tail_byte text.now size tail 3 ∷ [] }
 {
-    let size = scanned.valid_up_to;
-    let next = class_at(grammar, tables, text, size);
-    refusal(grammar, text, size, summary_at(scanned.row), next)
+    let tail = tail_size(byte);
+    [
+        tail_byte(text, size, tail, 1),
+        tail_byte(text, size, tail, 2),
+        tail_byte(text, size, tail, 3),
+    ]
 }
 
-// Returns the class of the byte behind the first `size`, if there is one, by the tables if there are any.
-#[inline(always)]
-const fn class_at(
-    grammar: Grammar,
-    tables: Option<&Tables>,
-    text: &[u8],
-    size: usize,
-) -> Option<Class>
-    requires tables { ForSome tables (λ tables. HasTables (notation_of grammar) tables.now) }
-    ensures { result ≡ class_of_next (notation_of grammar) (slice_get text.now size) }
+// Returns the byte behind the first `size + place` if `place` is at most `tail`, and 0 where there is none.
+const fn tail_byte(text: &[u8], size: usize, tail: usize, place: usize) -> u8
+    requires { size ≤ length text.now }
+    ensures { result ≡ tail_byte text.now size tail place }
 {
-    if size >= text.len() {
-        return None;
+    if place <= tail && place < text.len() - size {
+        text[size + place]
+    } else {
+        0
     }
-    Some(match tables {
-        None => class_of(grammar, text[size]),
-        Some(tables) => tables.class(text[size]),
-    })
 }
 
 // Returns the first `size` bytes.
@@ -265,77 +305,5 @@ pub(crate) fn cut<'a>(text: &'a [u8], counts: [usize; 9]) -> Parts<'a>
         exponent_sign,
         exponent,
         suffix,
-    }
-}
-
-// Reads `text` until no literal begins with what has been read. Seeks the longest front that is a literal if `seeks` is true.
-#[inline(always)]
-const fn scan(grammar: Grammar, tables: Option<&Tables>, text: &[u8], seeks: bool) -> Scanned
-    requires syntax { IsSyntax grammar }
-    requires tables { ForSome tables (λ tables. HasTables (notation_of grammar) tables.now) }
-    ensures { IsScanned (notation_of grammar) seeks text.now result }
-{
-    role_facts();
-    let mut row = START;
-    let mut counts = [0; 9];
-    let mut literal = None;
-    let mut index = 0;
-    while index < text.len() {
-        let Some(next) = step_by(grammar, tables, row, text[index]) else {
-            return Scanned {
-                valid_up_to: index,
-                row,
-                literal,
-                counts,
-            };
-        };
-        row = next.row;
-        counts[piece_number(next.piece)] += 1;
-        if is_sought(grammar, tables, row, seeks) {
-            literal = Some(index + 1);
-        }
-        index += 1;
-    }
-    Scanned {
-        valid_up_to: index,
-        row,
-        literal,
-        counts,
-    }
-}
-
-// Returns whether `seeks` is true and a row is that of a literal.
-#[inline(always)]
-const fn is_sought(grammar: Grammar, tables: Option<&Tables>, row: u8, seeks: bool) -> bool
-    requires row { row < 108 }
-    requires tables { ForSome tables (λ tables. HasTables (notation_of grammar) tables.now) }
-    ensures { result ≡ (seeks && is_complete (notation_of grammar) (summary_at row)) }
-{
-    seeks && is_complete_by(grammar, tables, row)
-}
-
-// Returns what `byte` makes of a row, by the tables if there are any.
-#[inline(always)]
-const fn step_by(grammar: Grammar, tables: Option<&Tables>, row: u8, byte: u8) -> Option<Step>
-    requires row { row < 108 }
-    requires tables { ForSome tables (λ tables. HasTables (notation_of grammar) tables.now) }
-    ensures { IsStep (notation_of grammar) row (class_of (notation_of grammar) byte) result }
-{
-    match tables {
-        None => step_from(grammar, row, class_of(grammar, byte)),
-        Some(tables) => tables.step(row, tables.class(byte)),
-    }
-}
-
-// Returns whether a row is that of a literal, by the tables if there are any.
-#[inline(always)]
-const fn is_complete_by(grammar: Grammar, tables: Option<&Tables>, row: u8) -> bool
-    requires row { row < 108 }
-    requires tables { ForSome tables (λ tables. HasTables (notation_of grammar) tables.now) }
-    ensures { result ≡ is_complete (notation_of grammar) (summary_at row) }
-{
-    match tables {
-        None => is_complete(grammar, row),
-        Some(tables) => tables.is_complete(row),
     }
 }

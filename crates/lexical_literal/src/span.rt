@@ -1,12 +1,13 @@
 //! The bytes to show for a cause, and the error of `lexical-util`.
 
-ghost use Rattle.std.specs.Prelude.{◌≡◌, ◌≤◌, length, take};
+ghost use Rattle.std.specs.Prelude.{◌≡◌, ◌≤◌, ◌<◌, ◌^◌, length, take};
 ghost use Rattle.lexical_literal.specs.Additions.Causes.{kind_set};
-ghost use Rattle.lexical_literal.specs.Cause.{behind, error_of, first_in, flag_at, requirement_error, requirement_span, span_of};
+ghost use Rattle.lexical_literal.specs.Cause.{behind, error_of, first_in, flag_at, is_in, marks_of, requirement_error};
+ghost use Rattle.lexical_literal.specs.Cause.{requirement_span, span_of};
 ghost use Rattle.lexical_literal.specs.Notation.{notation_of};
 
-use crate::cause::{Cause, Place};
-use crate::steps::{is_digit, is_exponent_character, is_point};
+use crate::cause::{Marks, Place, ReadErrorKind};
+use crate::steps::is_digit;
 use crate::syntax::Grammar;
 use lexical_util::error::Error;
 use lexical_util::format::Part;
@@ -15,46 +16,42 @@ use lexical_util::format::Part;
 #[derive(Clone, Copy)]
 enum Kind {
     Digit,
-    Separator,
     NotSeparator,
-    ExponentCharacter,
-    // A separator, a point or an exponent character.
-    Mark,
+    // Neither a separator nor a sign.
+    Body,
 }
 
 // Returns whether `byte` is of a kind.
+#[inline(always)]
 const fn is_kind(grammar: Grammar, kind: Kind, byte: u8) -> bool
     ensures { result ≡ kind_set (notation_of grammar) kind byte }
 {
     let separator = grammar.view().is_separator(byte);
     match kind {
         Kind::Digit => is_digit(grammar, Part::Integer, byte),
-        Kind::Separator => separator,
         Kind::NotSeparator => !separator,
-        Kind::ExponentCharacter => is_exponent_character(grammar, byte),
-        Kind::Mark => {
-            separator || is_point(grammar, byte) || is_exponent_character(grammar, byte)
-        }
+        Kind::Body => !(separator || byte == b'+' || byte == b'-'),
     }
 }
 
 // Returns the index behind the last byte of a kind among the first `end`, or 0 if there is none.
+#[inline(always)]
 const fn behind(grammar: Grammar, kind: Kind, text: &[u8], end: usize) -> usize
     requires { end ≤ length text.now }
     ensures { result ≡ behind (kind_set (notation_of grammar) kind) (take end text.now) }
 {
-    let mut found = 0;
-    let mut index = 0;
-    while index < end {
-        if is_kind(grammar, kind, text[index]) {
-            found = index + 1;
+    let mut index = end;
+    while index > 0 {
+        if is_kind(grammar, kind, text[index - 1]) {
+            return index;
         }
-        index += 1;
+        index -= 1;
     }
-    found
+    0
 }
 
 // Returns the index of the first byte of a kind among the first `end`, or `end` if there is none.
+#[inline(always)]
 const fn first(grammar: Grammar, kind: Kind, text: &[u8], end: usize) -> usize
     requires { end ≤ length text.now }
     ensures { result ≡ first_in (kind_set (notation_of grammar) kind) (take end text.now) }
@@ -69,57 +66,80 @@ const fn first(grammar: Grammar, kind: Kind, text: &[u8], end: usize) -> usize
     index
 }
 
-// The bytes that are right, which are the first `size`, and one more, if there is one, which are the first `end`.
-#[derive(Clone, Copy)]
-pub(crate) struct Limits {
-    pub(crate) size: usize,
-    pub(crate) end: usize,
+// Returns what spans and errors of `text` are made of, of which `size` bytes are right.
+#[inline(always)]
+pub(crate) const fn marks(grammar: Grammar, text: &[u8], size: usize) -> Marks
+    requires { size ≤ length text.now }
+    ensures { result ≡ marks_of (notation_of grammar) (take size text.now) }
+{
+    Marks {
+        size,
+        exponent: behind(grammar, Kind::Body, text, size),
+        first: first(grammar, Kind::Digit, text, size),
+        run: behind(grammar, Kind::NotSeparator, text, size),
+    }
+}
+
+// Returns whether the byte that cannot follow is a digit of the integer.
+const fn is_digit_next(grammar: Grammar, next: Option<u8>) -> bool
+    ensures { result ≡ is_in ((notation_of grammar).digit Part.Integer) next }
+{
+    match next {
+        None => false,
+        Some(byte) => is_digit(grammar, Part::Integer, byte),
+    }
+}
+
+// Returns whether the byte that cannot follow is a separator.
+const fn is_separator_next(grammar: Grammar, next: Option<u8>) -> bool
+    ensures { result ≡ is_in (notation_of grammar).separator next }
+{
+    match next {
+        None => false,
+        Some(byte) => grammar.view().is_separator(byte),
+    }
 }
 
 // Returns the first index and the end of the bytes to show for the flag with the number `number`.
 const fn requirement_span(
     grammar: Grammar,
-    text: &[u8],
-    limits: Limits,
+    marks: Marks,
+    next: Option<u8>,
     number: u32,
 ) -> (usize, usize)
-    requires size { limits.size ≤ length text.now }
-    requires end { limits.end ≤ length text.now }
-    ensures { result ≡ requirement_span (flag_at number) (notation_of grammar) (take limits.size text.now) (take limits.end text.now) }
+    requires { marks.size < 2 ^ 63 }
+    ensures { result ≡ requirement_span (flag_at number) (notation_of grammar) marks next }
 {
-    let Limits { size, end } = limits;
+    let size = marks.size;
     match number {
-        2 => (behind(grammar, Kind::ExponentCharacter, text, size), size),
-        12 | 13 => (
-            first(grammar, Kind::Digit, text, end),
-            behind(grammar, Kind::Digit, text, end),
-        ),
+        2 => (marks.exponent, size),
+        12 | 13 if is_digit_next(grammar, next) => (marks.first, size + 1),
+        12 | 13 => (marks.first, marks.run),
         4 | 6 | 7 | 9 => (size, size + 1),
         _ => (size, size),
     }
 }
 
-// Returns the first index and the end of the bytes to show for a cause and its lowest flag.
+// Returns the first index and the end of the bytes to show for a kind of error and its lowest flag.
 pub(crate) const fn span(
     grammar: Grammar,
-    text: &[u8],
-    limits: Limits,
-    cause: Cause,
+    marks: Marks,
+    next: Option<u8>,
+    kind: ReadErrorKind,
     number: u32,
 ) -> (usize, usize)
-    requires size { limits.size ≤ length text.now }
-    requires end { limits.end ≤ length text.now }
-    ensures { result ≡ span_of (notation_of grammar) (take limits.size text.now) (take limits.end text.now) cause (flag_at number) }
+    requires { marks.size < 2 ^ 63 }
+    ensures { result ≡ span_of (notation_of grammar) marks next kind (flag_at number) }
 {
-    let Limits { size, end } = limits;
-    match cause {
-        Cause::Requirement => requirement_span(grammar, text, limits, number),
-        Cause::Separator(_, Place::Consecutive) | Cause::Case | Cause::Byte => (size, size + 1),
-        Cause::Separator(_, _) => (
-            behind(grammar, Kind::NotSeparator, text, size),
-            behind(grammar, Kind::Separator, text, end),
-        ),
-        Cause::Missing(_) => (size, size),
+    let size = marks.size;
+    match kind {
+        ReadErrorKind::Requirement => requirement_span(grammar, marks, next, number),
+        ReadErrorKind::Separator(_, Place::Consecutive)
+        | ReadErrorKind::Case
+        | ReadErrorKind::Byte => (size, size + 1),
+        ReadErrorKind::Separator(_, _) if is_separator_next(grammar, next) => (marks.run, size + 1),
+        ReadErrorKind::Separator(_, _) => (marks.run, size),
+        ReadErrorKind::Missing(_) => (size, size),
     }
 }
 
@@ -146,21 +166,19 @@ const fn requirement_error(grammar: Grammar, number: u32, start: usize, size: us
     }
 }
 
-// Returns the error for a cause and its lowest flag, where the bytes to show begin at `start`.
+// Returns the error for a kind of error and its lowest flag, where the bytes to show begin at `start`.
 pub(crate) const fn error(
     grammar: Grammar,
-    text: &[u8],
-    size: usize,
-    cause: Cause,
+    marks: Marks,
+    kind: ReadErrorKind,
     number: u32,
     start: usize,
 ) -> Error
-    requires { size ≤ length text.now }
-    ensures { result ≡ error_of (notation_of grammar) (take size text.now) cause (flag_at number) start }
+    ensures { result ≡ error_of (notation_of grammar) marks kind (flag_at number) start }
 {
-    match cause {
-        Cause::Requirement => { requirement_error(grammar, number, start, size) }
-        Cause::Missing(_) if behind(grammar, Kind::Mark, text, size) == 0 => Error::Empty(start),
+    match kind {
+        ReadErrorKind::Requirement => requirement_error(grammar, number, start, marks.size),
+        ReadErrorKind::Missing(Part::Integer) if marks.run == marks.size => Error::Empty(start),
         _ => Error::InvalidDigit(start),
     }
 }

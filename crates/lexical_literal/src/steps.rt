@@ -5,7 +5,7 @@ ghost use Rattle.lexical_util.specs.Digits.{byte_value};
 ghost use Rattle.lexical_util.specs.Record.{raw};
 ghost use Rattle.lexical_literal.specs.Notation.{notation_of, radix_of, point_of, exponent_character_of};
 ghost use Rattle.lexical_literal.specs.Run.{is_place};
-ghost use Rattle.lexical_literal.specs.Additions.Summary.{class_of, role_of, in_part, piece_of, has_digit, may_follow};
+ghost use Rattle.lexical_literal.specs.Additions.Summary.{byte_class, role_of, in_part, piece_of, has_digit, may_follow};
 ghost use Rattle.lexical_literal.specs.Additions.Summary.{gap_fits, is_signed, needs_exponent, continues, ends, is_complete, takes, after, IsMove};
 
 use crate::syntax::Grammar;
@@ -104,8 +104,8 @@ pub(crate) const fn is_exponent_character(grammar: Grammar, byte: u8) -> bool
 }
 
 // Returns the class of `byte`.
-pub(crate) const fn class_of(grammar: Grammar, byte: u8) -> Class
-    ensures { result ≡ class_of (notation_of grammar) byte }
+pub(crate) const fn byte_class(grammar: Grammar, byte: u8) -> Class
+    ensures { result ≡ byte_class (notation_of grammar) byte }
 {
     let format = grammar.view();
     let mantissa = is_digit(grammar, Part::Integer, byte);

@@ -2,22 +2,20 @@
 
 ghost use Rattle.std.specs.Prelude.{◌≡◌, IfErr, Some, None};
 ghost use Rattle.std.specs.Result.{OkIff};
-ghost use Rattle.lexical_util.specs.NormalForm.{normal_form_of, IsNormal};
+ghost use Rattle.lexical_util.specs.NormalForm.{normal_form_of};
 ghost use Rattle.lexical_util.specs.Options.{OptionsFit, IsOptionsError};
-ghost use Rattle.lexical_util.specs.Rules.{Lawful, IsErrorOf};
+ghost use Rattle.lexical_util.specs.declared.lawful.Rejected.TheVariants as rejected;
 ghost use Rattle.lexical_literal.specs.declared.syntax.Options.{Options};
 ghost use Rattle.lexical_literal.specs.Notation.{notation_of, IsOnlyRole};
 ghost use Rattle.lexical_literal.specs.Syntax.{IsSyntax};
 
-use crate::steps::{class_of, role_of};
-use lexical_util::edits::normal_form;
-use lexical_util::error::Error;
-use lexical_util::format::{NumberFormat, Role, check, options_error};
+use crate::steps::{byte_class, role_of};
+use lexical_util::format::{Format, FormatError, NumberFormat, Role};
 use lexical_util::laws::flags::role_facts;
 use std::marker::Model;
 
 /// The bytes of numbers that a format does not define.
-#[derive(Debug, Clone, Copy, PartialEq, Eq, Hash)]
+#[derive(Debug, Clone, Copy, PartialEq, Eq, PartialOrd, Ord, Hash)]
 pub struct Options {
     /// The exponent character.
     pub exponent: u8,
@@ -26,7 +24,7 @@ pub struct Options {
 }
 
 // Any format, with any options. Without options, literals are integers alone.
-#[derive(Clone, Copy, PartialEq, Eq, Hash)]
+#[derive(Debug, Clone, Copy, PartialEq, Eq, Hash)]
 pub struct Grammar {
     pub(crate) word: u128,
     pub(crate) options: Option<Options>,
@@ -43,9 +41,12 @@ impl Grammar {
 
 /// What a literal is read by: a lawful format, with an exponent character and a decimal point that fit it, or without
 /// both. Without both, literals are integers.
-#[derive(Clone, Copy, PartialEq, Eq, Hash)]
+///
+/// Syntaxes are ordered by the words of their formats, and then by the options. Integers alone come first.
+#[derive(Clone, Copy, PartialEq, Eq, PartialOrd, Ord, Hash)]
 pub struct Syntax {
-    pub(crate) grammar: Grammar,
+    format: Format,
+    options: Option<Options>,
 }
 
 impl Model for Syntax {
@@ -55,67 +56,60 @@ impl Model for Syntax {
 
     ghost use Rattle.lexical_literal.specs.Syntax.{IsSyntax};
 
-    ghost view = { λ syntax. syntax.grammar };
+    ghost view = { λ syntax. record { word = syntax.format; options = syntax.options } };
 
-    ghost invariant = { λ syntax. IsSyntax syntax.grammar };
+    ghost invariant = { λ syntax. IsSyntax (record { word = syntax.format; options = syntax.options }) };
 
-    ghost inverse = { λ grammar. record { grammar = grammar } };
+    ghost inverse = { λ grammar. record { format = grammar.word; options = grammar.options } };
 }
 
 impl Syntax {
-    /// Returns the syntax of the format word `word` with the exponent character `exponent` and the decimal point
-    /// `point`.
+    /// Returns the syntax of a format with an exponent character and a decimal point.
     ///
-    /// Equivalent lawful words have the same syntax. The options are checked against the
-    /// [normal form][normal_form] of the word, in which a separator that no flag allows is absent. So they may be such
-    /// a separator, which [`options_error`] refuses.
+    /// Equivalent formats have the same syntax. The options are checked against the [normal form][Format::normal_form],
+    /// in which a separator that no flag allows is absent. So they may be such a separator, which
+    /// [`check_options`][Format::check_options] refuses.
     ///
     /// # Errors
     ///
-    /// If `word` is not lawful, returns the error of the first rule that it breaks. Otherwise, if the options do not
-    /// fit the normal form of `word`, returns the [error][options_error] of the first condition that they break.
-    pub const fn new(word: u128, exponent: u8, point: u8) -> Result<Syntax, Error>
-        ensures accepted { OkIff result (Lawful word × OptionsFit (normal_form_of word) exponent point) (record {
-          word = normal_form_of word;
+    /// If the options do not fit the normal form, returns an error with the reasons.
+    pub const fn new(format: Format, exponent: u8, point: u8) -> Result<Syntax, FormatError>
+        ensures accepted { OkIff result (OptionsFit (normal_form_of format) exponent point) (record {
+          word = normal_form_of format;
           options = Some (record { exponent = exponent; point = point });
         }) }
-        ensures word { IfErr result (λ error. (Lawful word → ⊥) → IsErrorOf word error) }
-        ensures options { IfErr result (λ error. Lawful word
-            → IsOptionsError (normal_form_of word) exponent point error) }
+        ensures error { IfErr result (λ error. IsOptionsError (normal_form_of format) exponent point error.code) }
+        ensures rejected { IfErr result (λ error.
+            error.rejected ≡ rejected.Options (normal_form_of format) exponent point) }
     {
-        match check(word) {
-            Err(error) => Err(error),
-            Ok(_) => with_options(normal_form(word), exponent, point),
-        }
-    }
-
-    /// Returns the syntax of the integers of the format word `word`. Equivalent lawful words have the same syntax.
-    ///
-    /// # Errors
-    ///
-    /// If `word` is not lawful, returns the error of the first rule that it breaks.
-    pub const fn integers(word: u128) -> Result<Syntax, Error>
-        ensures accepted { OkIff result (Lawful word) (record { word = normal_form_of word; options = None }) }
-        ensures error { IfErr result (IsErrorOf word) }
-    {
-        match check(word) {
-            Err(error) => Err(error),
-            Ok(_) => Ok(Syntax {
-                grammar: Grammar {
-                    word: normal_form(word),
-                    options: None,
-                },
+        let normal = format.normal_form();
+        match normal.check_options(exponent, point) {
+            Ok(()) => Ok(Syntax {
+                format: normal,
+                options: Some(Options { exponent, point }),
             }),
+            Err(error) => Err(error),
         }
     }
 
-    /// Returns a view of the format, which is in normal form.
+    /// Returns the syntax of the integers of a format. Equivalent formats have the same syntax.
     #[must_use]
-    pub const fn format(&self) -> NumberFormat
+    pub const fn integers(format: Format) -> Syntax
+        ensures { result ≡ record { word = normal_form_of format; options = None } }
+    {
+        Syntax {
+            format: format.normal_form(),
+            options: None,
+        }
+    }
+
+    /// Returns the format, which is in [normal form][Format::normal_form].
+    #[must_use]
+    pub const fn format(&self) -> Format
         ensures word { result ≡ self.now.word }
         ensures lawful { IsSyntax self.now }
     {
-        NumberFormat::new(self.grammar.word)
+        self.format
     }
 
     /// Returns the exponent character and the decimal point, or `None` if literals are integers.
@@ -123,7 +117,7 @@ impl Syntax {
     pub const fn options(&self) -> Option<Options>
         ensures { result ≡ self.now.options }
     {
-        self.grammar.options
+        self.options
     }
 
     /// Returns the only role of `byte`, or `None` if it plays no role.
@@ -132,7 +126,7 @@ impl Syntax {
         ensures { IsOnlyRole (notation_of self.now) byte result }
     {
         role_facts();
-        role_of(class_of(self.grammar(), byte))
+        role_of(byte_class(self.grammar(), byte))
     }
 
     // Returns the format and the options.
@@ -140,29 +134,9 @@ impl Syntax {
         ensures value { result ≡ self.now }
         ensures lawful { IsSyntax self.now }
     {
-        self.grammar
-    }
-}
-
-// Returns the syntax of the lawful normal form `normal` with these options, or the error of the options.
-const fn with_options(normal: u128, exponent: u8, point: u8) -> Result<Syntax, Error>
-    requires lawful { Lawful normal }
-    requires normal { IsNormal normal }
-    ensures accepted { OkIff result (OptionsFit normal exponent point) (record {
-      word = normal;
-      options = Some (record { exponent = exponent; point = point });
-    }) }
-    ensures error { IfErr result (IsOptionsError normal exponent point) }
-{
-    let error = options_error(normal, exponent, point);
-    if error.is_success() {
-        Ok(Syntax {
-            grammar: Grammar {
-                word: normal,
-                options: Some(Options { exponent, point }),
-            },
-        })
-    } else {
-        Err(error)
+        Grammar {
+            word: self.format.word(),
+            options: self.options,
+        }
     }
 }

@@ -1,18 +1,19 @@
 //! Tables of all classes and all steps of a syntax.
 
-ghost use Rattle.std.specs.Prelude.{◌≡◌, ◌<◌};
+ghost use Rattle.std.specs.Prelude.{◌≡◌, ◌<◌, length};
 ghost use Rattle.lexical_literal.specs.Notation.{Notation, notation_of};
-ghost use Rattle.lexical_literal.specs.Additions.Summary.{class_of, is_complete, piece_number};
+ghost use Rattle.lexical_literal.specs.Additions.Summary.{byte_class, is_complete, piece_number};
 ghost use Rattle.lexical_literal.specs.Additions.Tables.{EachIs, HasTables, IsClass, IsRow, IsStep, class_at, part_at, stage_at, summary_at};
 
 use crate::steps::{self, Class, Piece, Stage, Summary};
 use crate::syntax::Grammar;
 use lexical_util::format::Part;
 
-// The rows of a table are summaries. The columns are classes.
-const ROWS: usize = 108;
+// The rows of a table are summaries: a part, a stage, and whether there is a gap and whether the suffix has been read.
+pub(crate) const ROWS: usize = PARTS.len() * STAGES.len() * 4;
 
-const COLUMNS: usize = 12;
+// The columns are classes.
+const COLUMNS: usize = CLASSES.len();
 
 // All parts, stages and classes, each at its number.
 const PARTS: [Part; 3] = [Part::Integer, Part::Fraction, Part::Exponent];
@@ -29,7 +30,7 @@ const STAGES: [Stage; 9] = [
     Stage::Digits,
 ];
 
-const CLASSES: [Class; COLUMNS] = [
+const CLASSES: [Class; 12] = [
     Class::Other,
     Class::Zero,
     Class::Digit,
@@ -81,7 +82,7 @@ pub(crate) const fn piece_number(piece: Piece) -> usize
 #[inline(always)]
 const fn column(class: Class) -> usize
     ensures back { class_at result ≡ class }
-    ensures small { result < 12 }
+    ensures small { result < COLUMNS }
 {
     class as usize
 }
@@ -89,7 +90,7 @@ const fn column(class: Class) -> usize
 // Returns the place of a part in `PARTS`.
 const fn part_number(part: Part) -> usize
     ensures back { part_at result ≡ part }
-    ensures small { result < 3 }
+    ensures small { result < length PARTS }
 {
     part as usize
 }
@@ -97,7 +98,7 @@ const fn part_number(part: Part) -> usize
 // Returns the place of a stage in `STAGES`.
 const fn stage_number(stage: Stage) -> usize
     ensures back { stage_at result ≡ stage }
-    ensures small { result < 9 }
+    ensures small { result < length STAGES }
 {
     stage as usize
 }
@@ -106,21 +107,21 @@ const fn stage_number(stage: Stage) -> usize
 #[tactic(auto, using(crate::proofs::TableLemmas::number_back))]
 const fn row_number(read: Summary) -> u8
     ensures back { summary_at result ≡ read }
-    ensures small { result < 108 }
+    ensures small { result < ROWS }
 {
-    let digits = part_number(read.part) * 9 + stage_number(read.stage);
+    let digits = part_number(read.part) * STAGES.len() + stage_number(read.stage);
     (digits * 4 + read.gap as usize * 2 + read.ended as usize) as u8
 }
 
 // Returns the summary of a row.
 pub(crate) const fn summary_at(row: u8) -> Summary
-    requires { row < 108 }
+    requires { row < ROWS }
     ensures { result ≡ summary_at row }
 {
     let row = row as usize;
     Summary {
-        part: PARTS[row / 36],
-        stage: STAGES[row / 4 % 9],
+        part: PARTS[row / 4 / STAGES.len()],
+        stage: STAGES[row / 4 % STAGES.len()],
         gap: row / 2 % 2 == 1,
         ended: row % 2 == 1,
     }
@@ -128,7 +129,7 @@ pub(crate) const fn summary_at(row: u8) -> Summary
 
 // Returns what a byte of `class` makes of a row, or `None` if no literal begins so.
 pub(crate) const fn step_from(grammar: Grammar, from: u8, class: Class) -> Option<Step>
-    requires { from < 108 }
+    requires { from < ROWS }
     ensures { IsStep (notation_of grammar) from class result }
 {
     match steps::step(grammar, summary_at(from), class) {
@@ -142,7 +143,7 @@ pub(crate) const fn step_from(grammar: Grammar, from: u8, class: Class) -> Optio
 
 // Returns whether a row is that of a literal.
 pub(crate) const fn is_complete(grammar: Grammar, row: u8) -> bool
-    requires { row < 108 }
+    requires { row < ROWS }
     ensures { result ≡ is_complete (notation_of grammar) (summary_at row) }
 {
     steps::is_complete(grammar, summary_at(row))
@@ -155,7 +156,7 @@ const fn classes_of(grammar: Grammar) -> [Class; 256]
     let mut classes = [Class::Other; 256];
     let mut byte = 0;
     while byte < 256 {
-        classes[byte] = steps::class_of(grammar, byte as u8);
+        classes[byte] = steps::byte_class(grammar, byte as u8);
         byte += 1;
     }
     classes
@@ -163,7 +164,7 @@ const fn classes_of(grammar: Grammar) -> [Class; 256]
 
 // Returns what each class makes of a row.
 const fn row_of(grammar: Grammar, from: u8) -> Row
-    requires { from < 108 }
+    requires { from < ROWS }
     ensures { IsRow (notation_of grammar) from result }
 {
     let mut steps = [None; COLUMNS];
@@ -180,7 +181,7 @@ const fn row_of(grammar: Grammar, from: u8) -> Row
 
 // Returns all rows.
 const fn rows_of(grammar: Grammar) -> [Row; ROWS]
-    ensures { EachIs (IsRow (notation_of grammar)) result 108 }
+    ensures { EachIs (IsRow (notation_of grammar)) result ROWS }
 {
     let mut rows = [row_of(grammar, START); ROWS];
     let mut row = 0;
@@ -205,24 +206,24 @@ impl Tables {
     // Returns the class of `byte`.
     #[inline(always)]
     pub(crate) const fn class(&self, byte: u8) -> Class
-        ensures { (m : Notation) → HasTables m self.now → result ≡ class_of m byte }
+        ensures { (m : Notation) → HasTables m self.now → result ≡ byte_class m byte }
     {
         self.classes[byte as usize]
     }
 
-    // Returns what a byte of `class` makes of a row.
+    // Returns what `byte` makes of a row.
     #[inline(always)]
-    pub(crate) const fn step(&self, row: u8, class: Class) -> Option<Step>
-        requires { row < 108 }
-        ensures { (m : Notation) → HasTables m self.now → IsStep m row class result }
+    pub(crate) const fn step(&self, row: u8, byte: u8) -> Option<Step>
+        requires { row < ROWS }
+        ensures { (m : Notation) → HasTables m self.now → IsStep m row (byte_class m byte) result }
     {
-        self.rows[row as usize].steps[column(class)]
+        self.rows[row as usize].steps[column(self.class(byte))]
     }
 
     // Returns whether a row is that of a literal.
     #[inline(always)]
     pub(crate) const fn is_complete(&self, row: u8) -> bool
-        requires { row < 108 }
+        requires { row < ROWS }
         ensures { (m : Notation) → HasTables m self.now → result ≡ is_complete m (summary_at row) }
     {
         self.rows[row as usize].is_complete

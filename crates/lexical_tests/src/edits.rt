@@ -40,7 +40,7 @@ fn unused_separator() -> [Edit; 3] {
 }
 
 // The bits of all fields.
-const FIELDS: u128 = 0xFFFFFFFF_FF0000FF_00000000_00000000 | FLAGS;
+const FIELDS: u128 = 0xFFFFFFFF_FF0000FF_00001FFF_0003FFFF;
 
 // A word, its error, its normal form, and the error of the normal form.
 #[rattlefmt::skip]

@@ -4,6 +4,7 @@ use callers::formats::read_decimal;
 use lexical_literal::read::Reader;
 use lexical_literal::syntax::Syntax;
 use lexical_number::integer::Integer;
+use lexical_util::format::Format;
 use lexical_value::integer::ValueErrorKind;
 use lexical_value::parse::{ParseError, parse_integer};
 
@@ -18,13 +19,11 @@ const BASE_36: u128 = 0x24242400_0000005F_00000201_0000000C;
 
 // Returns whether the value of `text` is `wanted`, or the error of a literal.
 fn is<T: Integer + PartialEq>(word: u128, text: &str, wanted: Result<T, ValueErrorKind>) -> bool {
-    let Ok(syntax) = Syntax::integers(word) else {
+    let Ok(format) = Format::new(word) else {
         return false;
     };
-    match (
-        parse_integer::<T>(&Reader::new(syntax), text.as_bytes()),
-        wanted,
-    ) {
+    let reader = Reader::new(Syntax::integers(format));
+    match (parse_integer::<T>(&reader, text.as_bytes()), wanted) {
         (Ok(value), Ok(wanted)) => value == wanted,
         (Err(ParseError::Value(kind)), Err(wanted)) => kind == wanted,
         _ => false,

@@ -8,8 +8,7 @@ mod ChangeLemmas
 mod ImageLemmas
 mod Fewest
 mod FieldWrites
-pub mod ReasonLemmas
-mod NoteLemmas
+mod ReasonLemmas
 pub mod NumeralLemmas
 mod SettingLemmas
 mod WordTextLemmas

@@ -15,7 +15,7 @@ use Rattle.lexical_util.proofs.FieldWrites.{legal-field_writes, after-own}
 use Rattle.lexical_util.proofs.FieldWrites.{after-changes}
 use Rattle.lexical_util.specs.Edits.{flags_of, writes_of, all_writes}
 use Rattle.lexical_util.specs.Listing.{IsEditOf, field_writes, needed_writes, other_writes}
-use Rattle.lexical_util.specs.Additions.FieldEdits.{setter_of, edit_of_write, field_edits, needed_edits, other_edits}
+use Rattle.lexical_util.specs.Additions.FieldEdits.{flag_setter, edit_of_write, field_edits, needed_edits, other_edits}
 use Rattle.lexical_util.specs.Private.{differs_from_new}
 use Rattle.lexical_util.specs.declared.edits.setters.Edit.{Edit}
 
@@ -76,7 +76,7 @@ legal-both R h =
     (All-filter (λ x. not (changes new_record x)) IsLegal (field_writes R) legal))
 
 -- Each flag setter writes only its flag. Each case is computed.
-pub setter_alone : (f : Flag) → flags_of (setter_of f) ≡ f ∷ []
+pub setter_alone : (f : Flag) → flags_of (flag_setter f) ≡ f ∷ []
 setter_alone layout.required_integer_digits = refl
 setter_alone _ = refl
 

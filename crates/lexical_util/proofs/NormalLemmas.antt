@@ -1,18 +1,15 @@
 -- Lemmas on normal forms: the words that are their own normal form, what a normal form keeps, and when two are equal.
-use Rattle.std.proofs.Common.{◌≡◌, ℕ, ◌+◌, ◌*◌, ◌%◌, ◌<◌, ◌^◌, Bool, cond, IsTrue, bit_and, bit_or}
+use Rattle.std.proofs.Common.{◌≡◌, ℕ, ◌<◌, ◌^◌, Bool, cond, IsTrue}
 use Rattle.std.proofs.Common.{arith, refl, sym, ap, ◌∙◌, subst, List, [], sum_by, if◌then◌else◌}
 use Rattle.std.specs.List.{list_any}
 use Rattle.std.proofs.lemmas.Bool.{cond-true}
 use Rattle.std.proofs.lemmas.Bool.Decides.{nat_tests}
 use Rattle.std.proofs.lemmas.List.Elements.{All-nil}
-use Rattle.std.proofs.lemmas.Nat.{or_comm, or_shifted, shl_whole}
-use Rattle.std.proofs.Math.Nat.{mod-lt}
 use Rattle.lexical_flags.specs.Layout.{Flag, Byte, bit, part, flags, bytes, digit_separator_flags, IsClean}
 use Rattle.lexical_flags.specs.Layout as layout
-use Rattle.lexical_flags.specs.Record.{Record, HasBytes, raw, trim, fill, pack, word_of, flag_bits, byte_bits, effective}
+use Rattle.lexical_flags.specs.Record.{Record, raw, trim, fill, pack, word_of, effective}
 use Rattle.lexical_flags.specs.Record.{separator_allowed, SeparatorAllowedOrAbsent}
-use Rattle.lexical_flags.specs.declared.format_flags.TheConstants.{FLAG_MASK}
-use Rattle.lexical_util.proofs.Lower.{kept_same, trimmed_unused, flags-lt, and_all, bit_value}
+use Rattle.lexical_util.proofs.Lower.{kept_same, trimmed_unused}
 use Rattle.lexical_builder.specs.Writes.{Write, IsLegal, after}
 use Rattle.lexical_util.proofs.EditLemmas.{edited-fields, edited-clean, edited-fits, edited-only}
 use Rattle.lexical_util.specs.Edits.{edited}
@@ -62,39 +59,6 @@ SameFormat-from_trim R S e =
 pub normal_form-is : (w : ℕ) → normal_form_of w ≡ pack (fill (raw w))
 unfolding after
 normal_form-is w = refl
-
--- The flags of a word under the mask of all flags are the sum of the flags.
-masked_flags : (w : ℕ) → bit_and w FLAG_MASK ≡ sum_by (flag_bits (raw w)) flags
-masked_flags w = and_all bit flags w refl
-    ∙ sym (λ i. sum_by (λ f. bit_value (part w (bit f) 1) (2 ^ bit f) (mod-lt _ (omega arith)) i) flags)
-
--- If the flags of a word and the bytes of its normal form are joined by `|`, then the result is the normal form.
-pub normal_joined : (w upper : ℕ) → upper < 2 ^ 64 → upper * 2 ^ 64 ≡ sum_by (byte_bits (trim (fill (raw w)))) bytes
-    → bit_or (bit_and w FLAG_MASK) (upper * 2 ^ 64 % 2 ^ 128) ≡ normal_form_of w
-unfolding word_of
-normal_joined w upper fits e =
-    (λ i. bit_or (masked_flags w i) (shl_whole upper 64 64 128 fits (omega arith) i))
-    ∙ or_comm (sum_by (flag_bits (raw w)) flags) (upper * 2 ^ 64)
-    ∙ or_shifted upper 64 (sum_by (flag_bits (raw w)) flags) (flags-lt (raw w)) ∙ omega (arith, e) ∙ sym (normal_form-is w)
-
--- `lower_bytes r` has the bytes of `r` below the exponent bytes, at their bits in the upper half.
-abbrev pub lower_bytes : Record → ℕ
-lower_bytes r = r.byte layout.digit_separator
-    + (r.byte layout.base_prefix + r.byte layout.base_suffix * 2 ^ 8 + r.byte layout.mantissa_radix * 2 ^ 16) * 2 ^ 24
-
--- If the exponent bytes of a record and its other bytes are joined by `|`, then the result is the sum of the bytes.
-pub bytes_joined : (r : Record) → HasBytes r → bit_or (bit_or (r.byte layout.exponent_base * 2 ^ 48)
-    (r.byte layout.exponent_radix * 2 ^ 56)) (lower_bytes r) * 2 ^ 64 ≡ sum_by (byte_bits r) bytes
-bytes_joined r h =
-    let base : ℕ = r.byte layout.exponent_base in
-    let radix : ℕ = r.byte layout.exponent_radix in
-    let each = h.each in
-    let fits : lower_bytes r < 2 ^ 48 = omega arith in
-    let base_fits : base * 2 ^ 48 < 2 ^ 56 = omega arith in
-    let exponents : bit_or (base * 2 ^ 48) (radix * 2 ^ 56) ≡ (base + radix * 2 ^ 8) * 2 ^ 48 =
-    or_comm (base * 2 ^ 48) (radix * 2 ^ 56) ∙ or_shifted radix 56 (base * 2 ^ 48) base_fits ∙ omega arith in
-    ap (λ n. n * 2 ^ 64) (ap (λ n. bit_or n (lower_bytes r)) exponents
-    ∙ or_shifted (base + radix * 2 ^ 8) 48 (lower_bytes r) fits) ∙ omega arith
 
 -- If two words are equivalent, then their normal forms are equal.
 pub normal_same : (a b : ℕ) → SameFormat (raw a) (raw b) → normal_form_of a ≡ normal_form_of b

@@ -1,10 +1,10 @@
 //! Edits, which are setter calls stored as values, and the normal form of a format word.
 
-ghost use Rattle.std.specs.Prelude.{◌≡◌, ◌≢◌, ℕ, IfErr, IfOk, ◌<◌, ◌+◌, ◌*◌, ◌^◌, ◌↔◌, IsTrue, List, All, if◌then◌else◌, sum_by};
+ghost use Rattle.std.specs.Prelude.{◌≡◌, ◌≢◌, ℕ, IfErr, IfOk, ◌<◌, ◌^◌, ◌↔◌, IsTrue, List, All};
 ghost use Rattle.std.specs.Result.{OkIff};
 ghost use Rattle.lexical_base.specs.declared.error.Error.{Error};
-ghost use Rattle.lexical_flags.specs.Layout.{Flag, IsClean, bytes, part};
-ghost use Rattle.lexical_flags.specs.Record.{raw, fill, trim, byte_bits, effective, separator_allowed, SeparatorAllowedOrAbsent};
+ghost use Rattle.lexical_flags.specs.Layout.{Flag, IsClean};
+ghost use Rattle.lexical_flags.specs.Record.{raw, fill, trim, SeparatorAllowedOrAbsent};
 ghost use Rattle.lexical_flags.specs.Rules.{Lawful, IsErrorOf};
 ghost use Rattle.lexical_builder.specs.Writes.{Write, IsLegal, write_flags, after, SameWrites};
 ghost use Rattle.lexical_util.specs.Edits.{flags_of, writes_of, all_writes, edited};
@@ -13,7 +13,6 @@ ghost use Rattle.lexical_util.specs.Groups.{any_flag, bits_of};
 
 use lexical_base::error::Error;
 use lexical_builder::format_builder::NumberFormatBuilder;
-use lexical_flags::format_flags as flags;
 use lexical_flags::format_flags::check;
 use lexical_flags::laws::rule_facts;
 
@@ -27,8 +26,8 @@ pub use setters::{
     ALL_SETTERS, ArgumentKind, Edit, FIELD_COUNT, FLAG_COUNT, FlagSetter, SETTERS, Setter,
     field_edits_of,
 };
-pub(crate) use settings::Fault;
-pub use settings::{SettingError, SettingErrorKind, byte_from_decimal};
+pub(crate) use settings::{Fault, likeness, nearest};
+pub use settings::{EditError, EditErrorKind, byte_from_decimal};
 
 /// Calls the setter of `edit` on `builder`, and returns the new builder.
 #[inline(always)]
@@ -178,55 +177,7 @@ pub const fn normal_form(format: u128) -> u128
     ensures normal { IsNormal result }
 {
     rule_facts();
-    format & flags::FLAG_MASK | (normal_upper(format) as u128) << 64
-}
-
-// The lowest bits of the radixes in the upper half of a format word.
-const MANTISSA_SHIFT: i32 = flags::MANTISSA_RADIX_SHIFT - 64;
-
-const BASE_SHIFT: i32 = flags::EXPONENT_BASE_SHIFT - 64;
-
-const RADIX_SHIFT: i32 = flags::EXPONENT_RADIX_SHIFT - 64;
-
-// The masks of the bytes in the upper half of a format word that stay as they are.
-const KEPT: u64 = ((flags::BASE_PREFIX | flags::BASE_SUFFIX | flags::MANTISSA_RADIX) >> 64) as u64;
-
-const KEPT_WITH_SEPARATOR: u64 = KEPT | (flags::DIGIT_SEPARATOR >> 64) as u64;
-
-// Returns the upper half of the normal form. It is joined without a builder, since one mask for the bytes that stay is
-// faster than a choice for the digit separator.
-const fn normal_upper(format: u128) -> u64
-    ensures { result * 2 ^ 64 ≡ sum_by (byte_bits (trim (fill (raw format)))) bytes }
-{
-    let high = (format >> 64) as u64;
-    exponent_base_bits(high) | exponent_radix_bits(high) | kept_bits(format)
-}
-
-// Returns the exponent base in the upper half of a format word, or the mantissa radix if the base is 0, at its bits.
-const fn exponent_base_bits(high: u64) -> u64
-    ensures { result ≡ effective (part high 48 8) (part high 40 8) * 2 ^ 48 }
-{
-    flags::byte_or_radix((high >> BASE_SHIFT) % 256, (high >> MANTISSA_SHIFT) % 256) << BASE_SHIFT
-}
-
-// Returns the exponent radix in the upper half of a format word, or the mantissa radix if the former is 0, at its bits.
-// The shift drops the bits above the mantissa radix.
-const fn exponent_radix_bits(high: u64) -> u64
-    ensures { result ≡ effective (part high 56 8) (part high 40 8) * 2 ^ 56 }
-{
-    flags::byte_or_radix(high >> RADIX_SHIFT, high >> MANTISSA_SHIFT) << RADIX_SHIFT
-}
-
-// Returns the other bytes at their bits in the upper half, without a digit separator that no flag allows.
-const fn kept_bits(format: u128) -> u64
-    ensures { result ≡ (if separator_allowed (raw format) then part format 64 8 else 0) + part format 88 24 * 2 ^ 24 }
-{
-    let high = (format >> 64) as u64;
-    if flags::is_separator_allowed(format) {
-        high & KEPT_WITH_SEPARATOR
-    } else {
-        high & KEPT
-    }
+    NumberFormatBuilder::rebuild(format).build_unchecked()
 }
 
 /// Returns the [normal form][normal_form] of `format` if that form is [lawful][lexical_flags::format_flags::Rule].

@@ -1,4 +1,4 @@
-//! The standard format, the view of a format word, two functions that check a word, and all items of `format_flags` and
+//! The standard format, lawful formats, the view of a format word, two functions that check a word, and all items of `format_flags` and
 //! `format_builder`.
 
 ghost use Rattle.std.specs.Prelude.{◌≡◌, ◌↔◌, IsTrue};
@@ -6,6 +6,8 @@ ghost use Rattle.lexical_flags.specs.Rules.{Lawful, IsErrorOf};
 
 #[doc(no_inline)]
 pub use crate::feature_format::{NumberFormat, Role, Separators};
+#[doc(no_inline)]
+pub use crate::lawful::{Format, FormatError};
 use lexical_base::error::Error;
 #[doc(no_inline)]
 pub use lexical_builder::format_builder::{NonZeroU8, NumberFormatBuilder, OptionU8};

@@ -8,6 +8,7 @@
 pub mod edits;
 pub mod feature_format;
 pub mod format;
+mod lawful;
 pub mod laws;
 pub mod numeral;
 pub mod reasons;

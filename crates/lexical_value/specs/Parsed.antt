@@ -14,6 +14,6 @@ use Rattle.lexical_value.specs.declared.parse.ParseError.TheVariants as errors
 -- literal, or why the value of the literal is not in `range`.
 abbrev pub IsParsed : {T : Type 0} → Range T → Grammar → List ℕ → Result T ParseError → Type 0
 IsParsed range g text (Ok x) = (l : Literal) × Reads (notation_of g) l text × IsInteger (raw g.word) l (range.value x)
-IsParsed range g text (Err (errors.Read error)) = IsRefusal (notation_of g) text error
+IsParsed range g text (Err (errors.Read error)) = IsRefusal (notation_of g) text error.refusal
 IsParsed range g text (Err (errors.Value kind)) =
     (l : Literal) × Reads (notation_of g) l text × IsNoInteger range.least range.largest (raw g.word) l kind

@@ -25,7 +25,7 @@ pub enum ParseError {
 pub fn parse_integer<T: Integer>(reader: &Reader, text: &[u8]) -> Result<T, ParseError>
     ensures { IsParsed T.range reader.now text.now result }
 {
-    let format = reader.syntax().format();
+    let format = reader.syntax().format().view();
     if let Some(value) = plain_integer(format, text) {
         return Ok(value);
     }

@@ -1,12 +1,11 @@
 //! Calls that find languages, and that read special values.
 
 use crate::arguments::{input, Out};
-use crate::literals::{checked, Syntax};
+use crate::literals::{given, reader, Reader};
 use crate::names::{at, texts};
-use crate::numbers::ErrorNumber;
 use core::ffi::CStr;
+use core::ptr;
 use peltzivar::literal::{self, Language, Sign, Special, Spelling};
-use peltzivar::Error;
 
 /// The spellings of special values, as null-terminated strings. A null pointer is an absent one.
 #[repr(C)]
@@ -48,14 +47,14 @@ impl From<Special> for NumberedSpecial {
 
 const COUNT: usize = Language::ALL.len();
 
-/// The syntaxes of the languages. They are copied, so that the library does not have the readers of languages.
-static SYNTAXES: [literal::Syntax; COUNT] = {
-    let (mut syntaxes, mut index) = ([Language::JSON.syntax(); COUNT], 0);
+/// The readers of the languages.
+static READERS: [Reader; COUNT] = {
+    let (mut readers, mut index) = ([const { reader(Language::JSON.syntax()) }; COUNT], 0);
     while index < COUNT {
-        syntaxes[index] = Language::ALL[index].syntax();
+        readers[index] = reader(Language::ALL[index].syntax());
         index += 1;
     }
-    syntaxes
+    readers
 };
 
 const fn or_empty(spelling: Option<&'static [u8]>) -> &'static [u8] {
@@ -74,19 +73,19 @@ texts! {
 
 calls! {
     fn peltzivar_read_special(
-        syntax: &Syntax, specials: &Specials, text: *const u8, len: usize, out: Out<NumberedSpecial>
-    ) -> ErrorNumber {
+        reader: Option<&Reader>, specials: &Specials, text: *const u8, len: usize, out: Out<NumberedSpecial>
+    ) -> bool {
         let (nan, inf, infinity) = (spelling(specials.nan), spelling(specials.inf), spelling(specials.infinity));
         let specials = literal::Specials { nan, inf, infinity };
-        let read = checked(syntax, text, len).map(|(syntax, text)| specials.read(&syntax, text));
-        out.write_ok(read.and_then(|special| special.ok_or(Error::InvalidDigit(0))))
+        let given = given(reader, text, len).ok();
+        out.write_some(given.and_then(|(reader, text)| specials.read(&reader.syntax(), text)))
     }
 
-    fn peltzivar_language(name: *const u8, len: usize, syntax: Out<Syntax>, specials: Out<Specials>) -> bool {
+    fn peltzivar_language(name: *const u8, len: usize, specials: Out<Specials>) -> *const Reader {
         let name = input(name, len).unwrap_or_default();
         let index = NAMES.iter().position(|it| it.split(|byte| *byte == 0).next() == Some(name));
         specials.write_some(index.map(|it| Specials { nan: at(&NAN, it), inf: at(&INF, it), infinity: at(&INFINITY, it) }));
-        syntax.write_some(index.map(|it| SYNTAXES[it]))
+        index.map_or(ptr::null(), |it| &READERS[it])
     }
 
     fn peltzivar_language_name(index: usize) -> *const u8 { at(&NAMES, index) }

@@ -1,13 +1,14 @@
-//! Calls that check syntaxes, that read literals, and that print why a text is not one.
+//! Calls that make readers, that read literals, and that print why a text is not one.
 
 use crate::arguments::{input, write_text, Out};
-use crate::numbers::{ErrorNumber, Setter, Word, NO_PART, NO_SETTER};
+use crate::numbers::{error_number, ErrorNumber, Setter, Word, NO_PART, NO_SETTER};
+use core::fmt::Display;
+use core::mem::ManuallyDrop;
 use core::ops::Range;
-use peltzivar::literal::{self, Cause};
+use peltzivar::literal::{self, ReadErrorKind};
 use peltzivar::{Error, Format, FormatError};
 
-/// A word with an exponent character and a decimal point, which may not pass the check. If both are 0, literals are
-/// integers.
+/// A word with an exponent character and a decimal point, which may be refused. If both are 0, literals are integers.
 #[repr(C)]
 pub struct Syntax {
     format: Word,
@@ -24,16 +25,71 @@ impl Syntax {
             (exponent, point) => literal::Syntax::new(format, exponent, point),
         }
     }
+
+    /// Returns the numbers of a syntax.
+    const fn of(syntax: literal::Syntax) -> Syntax {
+        let (exponent, decimal_point) = match (syntax.exponent(), syntax.point()) {
+            (Some(exponent), Some(point)) => (exponent, point),
+            _ => (0, 0),
+        };
+        Syntax { format: Word::of(syntax.format().word()), exponent, decimal_point }
+    }
 }
 
 impl From<literal::Syntax> for Syntax {
     fn from(syntax: literal::Syntax) -> Syntax {
-        Syntax {
-            format: syntax.format().word().into(),
-            exponent: syntax.exponent().unwrap_or(0),
-            decimal_point: syntax.point().unwrap_or(0),
-        }
+        Syntax::of(syntax)
     }
+}
+
+/// A value that calls make, and that C sees as a number that tells it from other memory, what `shown` has, and words.
+#[repr(C)]
+pub struct Made<Shown, T, const WORDS: usize> {
+    magic: u64,
+    shown: Shown,
+    words: Words<T, WORDS>,
+}
+
+/// A value in words of C.
+#[repr(C)]
+union Words<T, const WORDS: usize> {
+    value: ManuallyDrop<T>,
+    _words: [u64; WORDS],
+}
+
+impl<Shown, T, const WORDS: usize> Made<Shown, T, WORDS> {
+    const MAGIC: u64 = u64::from_le_bytes(*b"\0\0zivar\xB6") + WORDS as u64;
+
+    const fn new(shown: Shown, value: T) -> Self {
+        Made { magic: Self::MAGIC, shown, words: Words { value: ManuallyDrop::new(value) } }
+    }
+
+    /// Returns the value, or `None` if no call has made it.
+    fn value(&self) -> Option<&T> {
+        // SAFETY: with this number, `new` made the value, as the header requires.
+        (self.magic == Self::MAGIC).then(|| unsafe { &*self.words.value })
+    }
+}
+
+/// A reader. It has no pointer, so a copy is a reader, too.
+pub type Reader = Made<Syntax, literal::Reader, 508>;
+
+/// Where reading stopped, with the length of what is valid.
+pub type ReadError = Made<usize, Refusal, 12>;
+
+// The sizes and the alignment in the header.
+const _: () = assert!(size_of::<Reader>() == 4096 && align_of::<Reader>() <= 16);
+const _: () = assert!(size_of::<ReadError>() == 112 && align_of::<ReadError>() <= 16);
+
+/// Why a call refuses a text: a sentence on its other arguments, or where reading stopped.
+pub enum Refusal {
+    Argument(&'static str),
+    Text(literal::ReadError),
+}
+
+/// Returns the reader of a syntax.
+pub const fn reader(syntax: literal::Syntax) -> Reader {
+    Made::new(Syntax::of(syntax), literal::Reader::new(syntax))
 }
 
 /// The range of a piece of a text.
@@ -52,6 +108,7 @@ pub struct Literal {
 }
 
 impl From<literal::Literal<'_>> for Literal {
+    #[inline(always)]
     fn from(literal: literal::Literal<'_>) -> Literal {
         let mut size = 0;
         let parts = [
@@ -70,92 +127,112 @@ impl From<literal::Literal<'_>> for Literal {
             size += part.len();
             Span { start, end: size }
         });
-        Literal { parts, size, is_float: literal.is_float() }
+        // `is_float` is not inlined.
+        let is_float = !literal.point().is_empty() || !literal.exponent_character().is_empty();
+        Literal { parts, size, is_float }
     }
 }
 
-/// Why a text is not a literal, and where.
+/// Why a text is not a literal, and the bytes to show.
 #[repr(C)]
-pub struct ReadError {
-    valid_up_to: usize,
+pub struct Explanation {
     span: Span,
     index: usize,
     mask: Word,
-    cause: u8,
+    code: ErrorNumber,
+    kind: u8,
     number: Setter,
     part: u8,
 }
 
-impl From<literal::ReadError> for ReadError {
-    fn from(error: literal::ReadError) -> ReadError {
-        let (cause, part) = match error.cause() {
-            Cause::Requirement => (1, None),
-            Cause::Separator(part, _) => (2, Some(part)),
-            Cause::Case => (3, None),
-            Cause::Byte => (4, None),
-            Cause::Missing(part) => (5, Some(part)),
+impl From<literal::ReadError> for Explanation {
+    fn from(error: literal::ReadError) -> Explanation {
+        let (kind, part) = match error.kind() {
+            ReadErrorKind::Requirement => (1, None),
+            ReadErrorKind::Separator(part, _) => (2, Some(part)),
+            ReadErrorKind::Case => (3, None),
+            ReadErrorKind::Byte => (4, None),
+            ReadErrorKind::Missing(part) => (5, Some(part)),
             _ => (0, None),
         };
-        let Range { start, end } = error.span();
-        ReadError {
-            valid_up_to: error.valid_up_to(),
+        let (Range { start, end }, code, mask) = (error.span(), error.code(), error.mask());
+        Explanation {
             span: Span { start, end },
-            index: error.code().index().copied().unwrap_or(0),
-            mask: error.mask().into(),
-            cause,
-            number: if error.mask() == 0 { NO_SETTER } else { error.mask().trailing_zeros() as Setter },
+            index: code.index().copied().unwrap_or(0),
+            mask: mask.into(),
+            code: error_number(code),
+            kind,
+            number: if mask == 0 { NO_SETTER } else { mask.trailing_zeros() as Setter },
             part: part.map_or(NO_PART, |part| part as u8),
         }
     }
 }
 
-/// Returns the checked syntax and the text, unless no object in C has so many bytes.
+/// Returns the reader and the text, or why there are none.
 ///
 /// # Safety
 ///
 /// As that of [`input`].
-pub unsafe fn checked<'a>(syntax: &Syntax, text: *const u8, len: usize) -> Result<(literal::Syntax, &'a [u8]), Error> {
-    Ok((syntax.checked()?, input(text, len).ok_or(Error::Overflow(0))?))
+pub unsafe fn given(
+    reader: Option<&Reader>,
+    text: *const u8,
+    len: usize,
+) -> Result<(&literal::Reader, &[u8]), Refusal> {
+    let reader = reader.and_then(Reader::value).ok_or(Refusal::Argument("no call has made this reader"))?;
+    Ok((reader, input(text, len).ok_or(Refusal::Argument("the text has more than PTRDIFF_MAX bytes"))?))
 }
 
-/// Writes what `read` returns for a text, unless the syntax or the text is refused.
+/// Writes what `read` returns for a text, and returns whether it is a literal.
 unsafe fn read_by<'a>(
-    (syntax, text, len): (&Syntax, *const u8, usize),
+    (reader, text, len): (Option<&'a Reader>, *const u8, usize),
     (literal, error): (Out<Literal>, Out<ReadError>),
-    read: impl Fn(literal::Syntax, &'a [u8]) -> Result<literal::Literal<'a>, literal::ReadError>,
-) -> ErrorNumber {
-    let read = checked(syntax, text, len).map(|(syntax, text)| read(syntax, text));
-    literal.write_ok(read.and_then(|read| {
-        read.map_err(|refused| {
-            error.write(refused.into());
-            refused.code()
-        })
-    }))
+    read: impl Fn(&'a literal::Reader, &'a [u8]) -> Result<literal::Literal<'a>, literal::ReadError>,
+) -> bool {
+    let (valid_up_to, refusal) = match given(reader, text, len) {
+        Err(refusal) => (0, refusal),
+        Ok((reader, text)) => match read(reader, text) {
+            Err(error) => (error.valid_up_to(), Refusal::Text(error)),
+            Ok(found) => {
+                literal.write(found.into());
+                return true;
+            }
+        },
+    };
+    error.write(Made::new(valid_up_to, refusal));
+    false
 }
 
 calls! {
-    fn peltzivar_syntax_check(format: Word, exponent: u8, decimal_point: u8, out: Out<Syntax>) -> ErrorNumber {
-        let syntax = Syntax { format, exponent, decimal_point };
-        out.write_ok(syntax.checked().map_err(Error::from))
+    fn peltzivar_reader_init(reader: Out<Reader>, syntax: &Syntax) -> ErrorNumber {
+        reader.write_ok(syntax.checked().map(self::reader).map_err(Error::from))
+    }
+
+    fn peltzivar_syntax_error_text(syntax: &Syntax, text: *mut u8, len: usize) -> usize {
+        write_text(text, len, syntax.checked().err())
     }
 
     fn peltzivar_read(
-        syntax: &Syntax, text: *const u8, len: usize, literal: Out<Literal>, error: Out<ReadError>
-    ) -> ErrorNumber {
-        read_by((syntax, text, len), (literal, error), |syntax, text| syntax.read(text))
+        reader: Option<&Reader>, text: *const u8, len: usize, literal: Out<Literal>, error: Out<ReadError>
+    ) -> bool {
+        read_by((reader, text, len), (literal, error), |reader, text| reader.read(text))
     }
 
     fn peltzivar_read_prefix(
-        syntax: &Syntax, text: *const u8, len: usize, literal: Out<Literal>, error: Out<ReadError>
-    ) -> ErrorNumber {
-        read_by((syntax, text, len), (literal, error), |syntax, text| Ok(syntax.read_prefix(text)?.0))
+        reader: Option<&Reader>, text: *const u8, len: usize, literal: Out<Literal>, error: Out<ReadError>
+    ) -> bool {
+        read_by((reader, text, len), (literal, error), |reader, text| Ok(reader.read_prefix(text)?.0))
     }
 
-    fn peltzivar_read_error_text(syntax: &Syntax, text: *const u8, len: usize, to: *mut u8, to_len: usize) -> usize {
-        match (syntax.checked(), input(text, len)) {
-            (Err(refused), _) => write_text(to, to_len, Some(refused)),
-            (_, None) => write_text(to, to_len, Some(Error::Overflow(0))),
-            (Ok(syntax), Some(text)) => write_text(to, to_len, syntax.read(text).err()),
-        }
+    fn peltzivar_explain(error: &ReadError, out: Out<Explanation>) -> bool {
+        out.write_some(if let Some(Refusal::Text(error)) = error.value() { Some(*error) } else { None })
+    }
+
+    fn peltzivar_read_error_text(error: &ReadError, text: *mut u8, len: usize) -> usize {
+        write_text(text, len, error.value().map(|refusal| -> &dyn Display {
+            match refusal {
+                Refusal::Argument(sentence) => sentence,
+                Refusal::Text(error) => error,
+            }
+        }))
     }
 }

@@ -5,10 +5,10 @@ use crate::literals::Syntax;
 use crate::numbers::{setter_number, setter_of, NumberedEdit, Setter, Word, NO_SETTER};
 use core::fmt::Display;
 use core::str::from_utf8;
-use peltzivar::{edits, Edit, SettingError, Settings};
+use peltzivar::{edits, Edit, EditError, Settings};
 
 /// Parses a setting. A string that is too long or not UTF-8 is read as one with an unknown name.
-unsafe fn parsed(text: *const u8, len: usize) -> Result<Edit, SettingError> {
+unsafe fn parsed(text: *const u8, len: usize) -> Result<Edit, EditError> {
     let text = input(text, len).and_then(|it| from_utf8(it).ok());
     text.unwrap_or("=").parse()
 }

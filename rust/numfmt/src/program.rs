@@ -101,12 +101,13 @@ fn parse_byte(text: &String) -> Result<u8, Refusal> {
     byte_from_decimal(text.as_str()).ok_or(Refusal::BadByte)
 }
 
-// Parses NAME=VALUE, where a byte has only its decimal form. The library also reads '_' and 0x5F.
+// Parses NAME=VALUE. A byte has only its decimal form here, and no blank is skipped, unlike in a setting of the library.
 fn parse_edit(text: &String) -> Result<Edit, Refusal> {
-    let text = text.as_str();
-    let has_other_form = text.contains('\'') || text.contains("=0x");
-    match Edit::from_text(text) {
-        Ok(edit) if !has_other_form => Ok(edit),
+    let Some((name, value)) = text.as_str().split_once('=') else {
+        return Err(Refusal::BadEdit);
+    };
+    match Edit::from_setting(name, value) {
+        Ok(edit) if !value.starts_with('\'') && !value.starts_with("0x") => Ok(edit),
         _ => Err(Refusal::BadEdit),
     }
 }

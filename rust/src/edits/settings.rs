@@ -2,29 +2,31 @@
 
 //! Settings, which are edits written as text: `NAME=VALUE`.
 
-use crate::edits::{ArgumentKind, Edit, Setter};
+use crate::edits::{ArgumentKind, Edit, Setter, ALL_SETTERS};
 use crate::numeral::read_numeral;
 use core::fmt;
 
 /// The error for a string that is not a setting. A setting has the form `NAME=VALUE`, where `NAME` is the name of a
 /// setter and `VALUE` is a value that the setter takes.
 ///
-/// The error message never repeats any part of the string, since the string may come from an untrusted file.
+/// The error message never repeats any part of the string, since the string may come from an untrusted file. If the
+/// name is unknown, it suggests the setter with the most similar name.
 #[derive(Debug, Clone, Copy, PartialEq, Eq, Hash)]
-pub struct SettingError(pub(crate) Fault);
+pub struct EditError(pub(crate) Fault);
 
-// What is wrong with a string that is not a setting. `BadValue` has the setter that does not take the value.
+// What is wrong with a string that is not a setting. `UnknownName` has the setter that the message suggests, and
+// `BadValue` the one that does not take the value.
 #[derive(Debug, Clone, Copy, PartialEq, Eq, Hash)]
 pub(crate) enum Fault {
     NoEquals,
-    UnknownName,
+    UnknownName(Option<Setter>),
     BadValue(Setter),
 }
 
 /// What is wrong with a string that is not a setting.
 #[derive(Debug, Clone, Copy, PartialEq, Eq, Hash)]
 #[non_exhaustive]
-pub enum SettingErrorKind {
+pub enum EditErrorKind {
     /// The string has no `=`.
     NoEquals,
     /// No setter has the name.
@@ -33,14 +35,14 @@ pub enum SettingErrorKind {
     BadValue,
 }
 
-impl SettingError {
+impl EditError {
     /// Returns what is wrong.
     #[must_use]
-    pub const fn kind(&self) -> SettingErrorKind {
+    pub const fn kind(&self) -> EditErrorKind {
         match self.0 {
-            Fault::NoEquals => SettingErrorKind::NoEquals,
-            Fault::UnknownName => SettingErrorKind::UnknownName,
-            Fault::BadValue(_) => SettingErrorKind::BadValue,
+            Fault::NoEquals => EditErrorKind::NoEquals,
+            Fault::UnknownName(_) => EditErrorKind::UnknownName,
+            Fault::BadValue(_) => EditErrorKind::BadValue,
         }
     }
 
@@ -48,18 +50,19 @@ impl SettingError {
     #[must_use]
     pub const fn name(&self) -> Option<&'static str> {
         match self.0 {
-            Fault::NoEquals | Fault::UnknownName => None,
+            Fault::NoEquals | Fault::UnknownName(_) => None,
             Fault::BadValue(setter) => Some(setter.name()),
         }
     }
 }
 
 /// Prints the error message, such as ``no_special takes `true` or `false` `` or `unknown setting name`.
-impl fmt::Display for SettingError {
+impl fmt::Display for EditError {
     fn fmt(&self, f: &mut fmt::Formatter<'_>) -> fmt::Result {
         match self.0 {
             Fault::NoEquals => f.write_str("expected NAME=VALUE"),
-            Fault::UnknownName => f.write_str("unknown setting name"),
+            Fault::UnknownName(None) => f.write_str("unknown setting name"),
+            Fault::UnknownName(Some(it)) => write!(f, "unknown setting name; did you mean `{}`?", it.name()),
             Fault::BadValue(setter) => write!(f, "{} takes {}", setter.name(), taken(setter)),
         }
     }
@@ -67,105 +70,87 @@ impl fmt::Display for SettingError {
 
 // Returns the words that state which values the setter takes.
 const fn taken(setter: Setter) -> &'static str {
-    match setter {
-        Setter::Flag(_) => "`true` or `false`",
-        Setter::DigitSeparator | Setter::BasePrefix | Setter::BaseSuffix => {
-            "a character such as '_', a number from 0 to 255, or `none`"
-        }
-        Setter::MantissaRadix | Setter::Radix => "a number, 2 to 36 in a lawful format",
-        Setter::ExponentBase | Setter::ExponentRadix => "a number, 2 to 36 in a lawful format, or `none`",
+    match setter.kind() {
+        ArgumentKind::Flag => "`true` or `false`",
+        ArgumentKind::OptionalCharacter => "a character such as '_', a number from 0 to 255, or `none`",
+        ArgumentKind::Number => "a number, 2 to 36 in a lawful format",
+        ArgumentKind::OptionalNumber => "a number, 2 to 36 in a lawful format, or `none`",
     }
 }
 
 impl Setter {
     /// Parses `value` as the argument of the setter, and returns the edit that calls the setter with it.
     ///
-    /// A flag setter or group setter takes `true` or `false`. A byte setter takes a byte in one of three forms:
-    ///
-    /// - an ASCII character in single quotes, such as `'_'`
-    /// - `0x` followed by one or two hexadecimal digits
-    /// - one to three decimal digits with a value of at most 255
-    ///
-    /// Every byte setter except `mantissa_radix` and `radix` also takes `none`, which is the same as 0. Spaces are not
-    /// ignored.
+    /// - A flag setter or group setter takes `true` or `false`.
+    /// - Every byte setter takes a number from 0 to 255: one to three decimal digits, or `0x` followed by one or two
+    ///   hexadecimal digits. All except `mantissa_radix` and `radix` also take `none`, which is the same as 0.
+    /// - `digit_separator`, `base_prefix` and `base_suffix` also take a character in single quotes, such as `'_'`, that
+    ///   is ASCII and not a control character. White space is not skipped.
     ///
     /// # Errors
     ///
-    /// Returns a [`SettingError`] if the setter does not take the value.
-    pub fn parse(self, value: &str) -> Result<Edit, SettingError> {
+    /// Returns an [`EditError`] if the setter does not take the value.
+    pub fn parse(self, value: &str) -> Result<Edit, EditError> {
         let byte = match (self.kind(), value) {
             (ArgumentKind::Flag, "true") => Some(1),
-            (ArgumentKind::Flag, "false") | (ArgumentKind::OptionalByte, "none") => Some(0),
+            (ArgumentKind::Flag, "false") => Some(0),
             (ArgumentKind::Flag, _) => None,
-            (_, value) => byte_from_text(value),
+            (ArgumentKind::OptionalCharacter | ArgumentKind::OptionalNumber, "none") => Some(0),
+            (ArgumentKind::OptionalCharacter, value) => byte_from_character(value),
+            (_, value) => byte_from_number(value),
         };
         match byte {
             Some(byte) => Ok(self.with_byte(byte)),
-            None => Err(self.refusal()),
+            None => Err(EditError(Fault::BadValue(self))),
         }
-    }
-
-    // Returns the error for a value that the setter does not take.
-    const fn refusal(self) -> SettingError {
-        SettingError(Fault::BadValue(self))
     }
 }
 
-// Returns the setter with a name.
-fn setter_named(name: &str) -> Result<Setter, SettingError> {
-    match Setter::from_name(name) {
-        Some(setter) => Ok(setter),
-        None => Err(SettingError(Fault::UnknownName)),
+// Returns the setter whose name is most like `name`, if they have at least half of their pairs of letters in common. A
+// separator of thousands is the digit separator. The decimal point and the exponent character have no setter.
+pub(crate) fn nearest(name: &str) -> Option<Setter> {
+    let alike = |setter: &Setter| likeness(name.as_bytes(), setter.name());
+    let setters = ALL_SETTERS.into_iter().filter(|it| alike(it) >= 50);
+    match name {
+        _ if name.starts_with("thousand") => Some(Setter::DigitSeparator),
+        _ if name.starts_with("decimal") || name == "exponent" => None,
+        _ => setters.max_by_key(alike),
     }
+}
+
+// Returns how much of two names are pairs of adjacent letters that they have in common, in percent.
+pub(crate) fn likeness(name: &[u8], other: &str) -> usize {
+    let is_shared = |pair: &&[u8]| name.windows(2).any(|it| it.eq_ignore_ascii_case(pair));
+    let shared = other.as_bytes().windows(2).filter(is_shared).count();
+    let all = name.len().saturating_add(other.len()).saturating_sub(2);
+    shared.saturating_mul(200) / all.max(1)
 }
 
 impl Edit {
-    /// Returns the edit that calls the flag setter or group setter `name` with `flag`.
-    ///
-    /// # Errors
-    ///
-    /// Returns a [`SettingError`] if no setter has the name, or if the setter takes a byte.
-    pub fn flag(name: &str, flag: bool) -> Result<Edit, SettingError> {
-        match setter_named(name)? {
-            Setter::Flag(setter) => Ok(Edit::Flag(setter, flag)),
-            setter => Err(setter.refusal()),
-        }
-    }
-
-    /// Returns the edit that calls the byte setter `name` with `byte`. If the byte may be absent, 0 means absent.
-    ///
-    /// # Errors
-    ///
-    /// Returns a [`SettingError`] if no setter has the name, or if the setter takes a flag.
-    pub fn byte(name: &str, byte: u8) -> Result<Edit, SettingError> {
-        match setter_named(name)? {
-            setter @ Setter::Flag(_) => Err(setter.refusal()),
-            setter => Ok(setter.with_byte(byte)),
-        }
-    }
-
     /// Parses `value` as the argument of the setter `name`, as [`Setter::parse`] does.
     ///
     /// # Errors
     ///
-    /// Returns a [`SettingError`] if no setter has the name, or if the setter does not take the value.
-    pub fn from_setting(name: &str, value: &str) -> Result<Edit, SettingError> {
-        setter_named(name)?.parse(value)
+    /// Returns an [`EditError`] if no setter has the name, or if the setter does not take the value.
+    pub fn from_setting(name: &str, value: &str) -> Result<Edit, EditError> {
+        match Setter::from_name(name) {
+            Some(setter) => setter.parse(value),
+            None => Err(EditError(Fault::UnknownName(nearest(name)))),
+        }
     }
 
-    /// Parses `text` as `NAME=VALUE`, split at the first `=`.
-    ///
-    /// The name and the value are parsed as in [`Edit::from_setting`].
+    /// Parses `text` as `NAME=VALUE`, split at the first `=`. The name and the value are parsed as in
+    /// [`Edit::from_setting`], without the white space at both ends of each.
     ///
     /// # Errors
     ///
-    /// Returns a [`SettingError`] if `text` has no `=`, if no setter has the name, or if the setter does not take the
+    /// Returns an [`EditError`] if `text` has no `=`, if no setter has the name, or if the setter does not take the
     /// value.
     #[doc(hidden)]
-    pub fn from_text(text: &str) -> Result<Edit, SettingError> {
+    pub fn from_text(text: &str) -> Result<Edit, EditError> {
         match text.split_once('=') {
-            Some((name, value)) => Edit::from_setting(name, value),
-            None => Err(SettingError(Fault::NoEquals)),
+            Some((name, value)) => Edit::from_setting(name.trim_ascii(), value.trim_ascii()),
+            None => Err(EditError(Fault::NoEquals)),
         }
     }
 }
@@ -177,16 +162,23 @@ impl fmt::Display for Edit {
         f.write_str(self.name())?;
         match (self.setter().kind(), self.argument_byte()) {
             (ArgumentKind::Flag, byte) => f.write_str(if byte != 0 { "=true" } else { "=false" }),
-            (ArgumentKind::OptionalByte, 0) => f.write_str("=none"),
-            (_, byte) => write!(f, "={byte}"),
+            (ArgumentKind::Number, byte) | (_, byte @ 1..) => write!(f, "={byte}"),
+            (_, 0) => f.write_str("=none"),
         }
     }
 }
 
-// Parses a byte: a character in single quotes, `0x` followed by hexadecimal digits, or decimal digits.
-fn byte_from_text(text: &str) -> Option<u8> {
+// Parses a byte: a character in single quotes, or a number.
+fn byte_from_character(text: &str) -> Option<u8> {
     match text.as_bytes() {
-        [b'\'', byte, b'\''] => Some(*byte),
+        [b'\'', byte @ b' '..=b'~', b'\''] => Some(*byte),
+        _ => byte_from_number(text),
+    }
+}
+
+// Parses a number: `0x` followed by hexadecimal digits, or decimal digits.
+fn byte_from_number(text: &str) -> Option<u8> {
+    match text.as_bytes() {
         [b'0', b'x', digits @ ..] => byte_from_digits(digits, 16, 2),
         digits => byte_from_digits(digits, 10, 3),
     }

@@ -14,8 +14,9 @@ impl NumberFormatBuilder {
     /// Sets the digit separator: the byte that separates groups of digits, such as the `_` in `1_000`.
     ///
     /// The digit separator flags define where the digit separator is allowed. If none of these flags is set, the digit
-    /// separator is not packed into the word. In a lawful format, it is punctuation: a byte that `is_valid_ascii`
-    /// accepts and that is neither a sign nor a digit in the mantissa radix or the exponent radix.
+    /// separator is not packed into the word. This is not an error: the builder's `notes` report it. In a lawful format,
+    /// it is punctuation: a byte that `is_valid_ascii` accepts and that is neither a sign nor a digit in the mantissa
+    /// radix or the exponent radix.
     pub const fn digit_separator(self, character: OptionU8) -> Self {
         self.with_byte(DIGIT_SEPARATOR, byte_or_zero(character))
     }

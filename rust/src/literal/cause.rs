@@ -3,11 +3,12 @@
 //! Why a text is not a literal.
 
 use crate::error::Error;
-use crate::literal::span::{error, span, Limits};
+use crate::literal::span::{error, span};
 use crate::literal::steps::{
-    self, class_of, has_digit, in_part, is_exponent_character, needs_exponent, Class, Stage, Summary,
+    self, byte_class, has_digit, in_part, is_exponent_character, needs_exponent, Class, Summary,
 };
 use crate::literal::syntax::Grammar;
+use crate::literal::tables::summary_at;
 use crate::word as masks;
 use crate::word::{Part, Role};
 
@@ -23,11 +24,11 @@ pub enum Place {
     Consecutive,
 }
 
-/// Why a text is not a literal. Another cause may follow when this one is mended. The `Cause` of a `Reason` is another
-/// enum: why a format word is not lawful.
+/// The kind of a [`ReadError`]: the cause, without the flags that are to blame. Another cause may follow when this one is
+/// mended.
 #[derive(Debug, Clone, Copy, PartialEq, Eq, Hash)]
 #[non_exhaustive]
-pub enum Cause {
+pub enum ReadErrorKind {
     /// Flags are set whose requirements the text does not satisfy.
     Requirement,
     /// A digit separator is not allowed in this part at this place.
@@ -40,18 +41,49 @@ pub enum Cause {
     Missing(Part),
 }
 
-/// Why a text is not a literal, and where. If a byte cannot follow, the error is that of the byte, as in `1e;`. To say
-/// what is missing before it, read the front of the text that ends at [`valid_up_to`][Self::valid_up_to]. If this front
-/// is not a literal either, its error says it.
+// What spans and errors are made of: the number of bytes that are right, and the indexes at which the exponent, the
+// integer digits and the last separators begin.
 #[derive(Debug, Clone, Copy, PartialEq, Eq, Hash)]
-pub struct ReadError {
+pub struct Marks {
+    pub(crate) size: usize,
+    pub(crate) exponent: usize,
+    pub(crate) first: usize,
+    pub(crate) run: usize,
+}
+
+// Where reading stopped: the row of what has been read, the byte that cannot follow, or `None` if bytes are missing, and the
+// bytes that follow it in its character, or 0 for each that does not.
+#[derive(Debug, Clone, Copy, PartialEq, Eq, Hash)]
+pub struct Spot {
+    pub(crate) grammar: Grammar,
+    pub(crate) row: u8,
+    pub(crate) byte: Option<u8>,
+    pub(crate) tail: [u8; 3],
+    pub(crate) marks: Marks,
+}
+
+// What an error answers.
+#[derive(Clone, Copy)]
+pub struct Refusal {
     pub(crate) valid_up_to: usize,
-    pub(crate) cause: Cause,
+    pub(crate) byte: Option<u8>,
+    pub(crate) kind: ReadErrorKind,
     pub(crate) mask: u128,
     pub(crate) start: usize,
     pub(crate) end: usize,
     pub(crate) code: Error,
-    pub(crate) byte: Option<u8>,
+}
+
+/// Why a text is not a literal, and where. If a byte cannot follow, the error is that of the byte, as in `1e;`. To say
+/// what is missing before it, read the front of the text that ends at [`valid_up_to`][Self::valid_up_to]. If this front
+/// is not a literal either, its error says it.
+///
+/// An error holds where reading stopped. Each call but `valid_up_to` and `byte` finds the cause anew. Two errors are
+/// equal if they have the same syntax, and if reading stopped at the same index, at the same character, after bytes that
+/// the same may follow. Equal errors have equal answers. Errors of two syntaxes differ, even if their answers are the same.
+#[derive(Clone, Copy, PartialEq, Eq, Hash)]
+pub struct ReadError {
+    pub(crate) spot: Spot,
 }
 
 impl ReadError {
@@ -59,38 +91,75 @@ impl ReadError {
     /// that cannot follow the bytes before it, or the length of the text if bytes are missing.
     #[must_use]
     pub const fn valid_up_to(&self) -> usize {
-        self.valid_up_to
+        self.spot.marks.size
     }
 
-    /// Returns the cause.
+    /// Returns the byte that cannot follow, or `None` if bytes are missing.
     #[must_use]
-    pub const fn cause(&self) -> Cause {
-        self.cause
+    pub const fn byte(&self) -> Option<u8> {
+        self.spot.byte
+    }
+
+    /// Returns the kind.
+    #[must_use]
+    pub const fn kind(&self) -> ReadErrorKind {
+        self.explain().kind
     }
 
     /// Returns the mask of the flags in a format word that are to blame. It is 0 for a wrong byte and for missing digits.
     #[must_use]
     pub const fn mask(&self) -> u128 {
-        self.mask
+        self.explain().mask
     }
 
     /// Returns the first index and the end of the bytes to show. They may be none.
     #[must_use]
     #[doc(hidden)]
     pub const fn bounds(&self) -> (usize, usize) {
-        (self.start, self.end)
+        let Refusal { start, end, .. } = self.explain();
+        (start, end)
     }
 
     /// Returns the error that `lexical-util` has for the cause.
     #[must_use]
     pub const fn code(&self) -> Error {
-        self.code
+        self.explain().code
     }
 
-    /// Returns the byte that cannot follow, or `None` if bytes are missing.
-    #[must_use]
-    pub const fn byte(&self) -> Option<u8> {
-        self.byte
+    // Returns all answers. It finds the cause once.
+    pub(crate) const fn explain(&self) -> Refusal {
+        let Spot { grammar, byte, marks, .. } = self.spot;
+        let Blame { kind, mask } = self.spot.blame();
+        let number = mask.trailing_zeros();
+        let (start, end) = span(grammar, marks, byte, kind, number);
+        Refusal {
+            valid_up_to: marks.size,
+            byte,
+            kind,
+            mask,
+            start,
+            end,
+            code: error(grammar, marks, kind, number, start),
+        }
+    }
+}
+
+impl Spot {
+    // Returns the kind, and the mask of the flags that are to blame.
+    const fn blame(self) -> Blame {
+        let stop =
+            Stop { grammar: self.grammar, read: summary_at(self.row), next: class_of_next(self.grammar, self.byte) };
+        let Blame { kind, mask } = stop.blame(self.byte);
+        // No bit of the mask is set but those of flags.
+        Blame { kind, mask: mask & masks::FLAG_MASK }
+    }
+}
+
+// Returns the class of a byte, if there is one.
+const fn class_of_next(grammar: Grammar, next: Option<u8>) -> Option<Class> {
+    match next {
+        None => None,
+        Some(byte) => Some(byte_class(grammar, byte)),
     }
 }
 
@@ -106,10 +175,16 @@ const REQUIREMENTS: u128 = masks::REQUIRED_DIGITS
     | masks::NO_FLOAT_LEADING_ZEROS
     | masks::REQUIRED_EXPONENT_NOTATION;
 
-// A cause, and the flags that are to blame.
+// Those that bind where each literal has an exponent, and none is an integer.
+const FLOAT_REQUIREMENTS: u128 = REQUIREMENTS & !masks::NO_INTEGER_LEADING_ZEROS;
+
+// The flags on leading zeros.
+const ZEROS: u128 = masks::NO_INTEGER_LEADING_ZEROS | masks::NO_FLOAT_LEADING_ZEROS;
+
+// A kind of error, and the flags that are to blame.
 #[derive(Clone, Copy)]
 struct Blame {
-    cause: Cause,
+    kind: ReadErrorKind,
     mask: u128,
 }
 
@@ -139,7 +214,7 @@ impl Stop {
     // Returns the flags that are set and require something.
     const fn binding(self) -> u128 {
         if needs_exponent(self.grammar) {
-            self.grammar.word & (REQUIREMENTS & !masks::NO_INTEGER_LEADING_ZEROS)
+            self.grammar.word & FLOAT_REQUIREMENTS
         } else {
             self.grammar.word & REQUIREMENTS
         }
@@ -153,76 +228,23 @@ impl Stop {
         }
     }
 
-    // Returns whether the flag with the number `number` alone refuses what has the role `role`.
-    #[inline(always)]
-    const fn refuses(self, role: Option<Role>, number: u32) -> bool {
-        let Summary { part, stage, .. } = self.read;
-        let is_sign = matches!(role, Some(Role::Sign));
-        match (number, part) {
-            (0, Part::Integer) | (1, Part::Fraction) | (2, Part::Exponent) => ends_part(role) && !has_digit(stage),
-            (3, Part::Integer) => matches!(role, Some(Role::Exponent)) && !has_digit(stage),
-            (3, Part::Fraction) => ends_part(role) && matches!(stage, Stage::Lone),
-            (4, Part::Integer | Part::Fraction) | (7, Part::Exponent) => {
-                is_sign && matches!(self.next, Some(Class::Plus))
-            }
-            (5, Part::Integer | Part::Fraction) | (8, Part::Exponent) => {
-                !is_sign && matches!(stage, Stage::Start | Stage::Mark)
-            }
-            (6, _) | (9, Part::Integer) => matches!(role, Some(Role::Exponent)),
-            (12, _) => self.leads(role),
-            (13, Part::Integer) => matches!(role, Some(Role::Point | Role::Exponent)) && matches!(stage, Stage::Led),
-            (14, Part::Integer | Part::Fraction) => {
-                matches!(role, Some(Role::Suffix)) && matches!(self.grammar.options, Some(_))
-            }
-            _ => false,
-        }
-    }
-
-    // Returns whether what has the role `role` is a digit or a separator behind a zero that must not lead, where literals
-    // are integers, or ends an integer with a leading zero.
-    const fn leads(self, role: Option<Role>) -> bool {
-        let Summary { part, stage, .. } = self.read;
-        let integers = matches!(self.grammar.options, None);
-        let zero = matches!(stage, Stage::Bare | Stage::Zero);
-        match role {
-            Some(Role::Digit) => integers && zero,
-            Some(Role::Separator) => integers && zero && !self.grammar.view().separators(part).trailing,
-            Some(Role::Suffix) => matches!(stage, Stage::Led) && matches!(part, Part::Integer),
-            _ => false,
-        }
-    }
-
-    // Returns the mask of the flag with the number `number` if it alone refuses what has the role `role`.
-    #[inline(always)]
-    const fn row(self, role: Option<Role>, number: u32) -> u128 {
-        if self.refuses(role, number) {
-            1 << number
-        } else {
-            0
-        }
-    }
-
     // Returns the flags that alone refuse what cannot follow.
     const fn refusing(self) -> u128 {
-        let role = self.role();
-        let digits = self.row(role, 0) | self.row(role, 1) | self.row(role, 2) | self.row(role, 3);
-        let signs = self.row(role, 4) | self.row(role, 5) | self.row(role, 7) | self.row(role, 8);
-        let exponents = self.row(role, 6) | self.row(role, 9) | self.row(role, 14);
-        let zeros = self.row(role, 12) | self.row(role, 13);
-        digits | signs | exponents | zeros
+        let digits = self.permitted(0) | self.permitted(1) | self.permitted(2) | self.permitted(3);
+        let signs = self.permitted(4) | self.permitted(5) | self.permitted(7) | self.permitted(8);
+        let exponents = self.permitted(6) | self.permitted(9) | self.permitted(14);
+        let zeros = self.permitted(12) | self.permitted(13);
+        REQUIREMENTS & !(digits | signs | exponents | zeros)
     }
 
-    // Returns the flags to blame for a requirement: those that refuse alone, or the lower one of two on leading zeros that
-    // refuse together.
+    // Returns the flags to blame for a requirement: those that refuse alone, or else those on leading zeros.
     const fn requirements(self) -> u128 {
         let binding = self.binding();
         let alone = self.refusing() & binding;
         if alone != 0 {
             alone
-        } else if binding & masks::NO_INTEGER_LEADING_ZEROS != 0 {
-            masks::NO_INTEGER_LEADING_ZEROS
         } else {
-            masks::NO_FLOAT_LEADING_ZEROS
+            binding & ZEROS
         }
     }
 
@@ -271,7 +293,7 @@ impl Stop {
         if mask == 0 {
             return 0;
         }
-        let stop = Stop { grammar: self.grammar, read: self.read, next: Some(class_of(self.grammar, other)) };
+        let stop = Stop { grammar: self.grammar, read: self.read, next: Some(byte_class(self.grammar, other)) };
         flag_if(stop.allows(self.bare()), mask)
     }
 
@@ -279,28 +301,23 @@ impl Stop {
     const fn wrong(self, byte: u8) -> Blame {
         let separators = self.separators();
         if separators != 0 {
-            return Blame { cause: Cause::Separator(self.read.part, self.place()), mask: separators };
+            return Blame { kind: ReadErrorKind::Separator(self.read.part, self.place()), mask: separators };
         }
         let mask = self.case_flag(byte);
-        let cause = if mask == 0 { Cause::Byte } else { Cause::Case };
-        Blame { cause, mask }
+        let kind = if mask == 0 { ReadErrorKind::Byte } else { ReadErrorKind::Case };
+        Blame { kind, mask }
     }
 
-    // Returns the cause.
+    // Returns the kind, and the flags that are to blame.
     const fn blame(self, next: Option<u8>) -> Blame {
         if self.allows(self.bare()) {
-            return Blame { cause: Cause::Requirement, mask: self.requirements() };
+            return Blame { kind: ReadErrorKind::Requirement, mask: self.requirements() };
         }
         match next {
-            None => Blame { cause: Cause::Missing(self.read.part), mask: 0 },
+            None => Blame { kind: ReadErrorKind::Missing(self.read.part), mask: 0 },
             Some(byte) => self.wrong(byte),
         }
     }
-}
-
-// Returns whether a byte with the role `role` ends a part of a number.
-const fn ends_part(role: Option<Role>) -> bool {
-    matches!(role, Some(Role::Point | Role::Exponent | Role::Suffix))
 }
 
 // Returns the number of the flag that allows a digit separator between digits of `part`. Those that allow it before digits,
@@ -335,43 +352,5 @@ const fn other_case(byte: u8) -> u8 {
         b'A'..=b'Z' => byte + 32,
         b'a'..=b'z' => byte - 32,
         _ => byte,
-    }
-}
-
-// Returns the byte behind the first `size`, if there is one.
-const fn byte_at(text: &[u8], size: usize) -> Option<u8> {
-    if size < text.len() {
-        Some(text[size])
-    } else {
-        None
-    }
-}
-
-// Returns why `text` is not a literal, of which `size` bytes can be read, which makes `read` of them. The class of the byte
-// behind them is `next`, if there is one.
-#[cold]
-pub(crate) const fn refusal(
-    grammar: Grammar,
-    text: &[u8],
-    size: usize,
-    read: Summary,
-    next: Option<Class>,
-) -> ReadError {
-    let byte = byte_at(text, size);
-    let stop = Stop { grammar, read, next };
-    let Blame { cause, mask: bits } = stop.blame(byte);
-    // No bit of the mask is set but those of flags.
-    let mask = bits & masks::FLAG_MASK;
-    let number = mask.trailing_zeros();
-    let end = if size < text.len() { size + 1 } else { size };
-    let (start, end) = span(grammar, text, Limits { size, end }, cause, number);
-    ReadError {
-        valid_up_to: size,
-        cause,
-        mask,
-        start,
-        end,
-        code: error(grammar, text, size, cause, number, start),
-        byte,
     }
 }

@@ -198,7 +198,7 @@ languages! {
     );
 
     /// C's hexadecimal floating constants (C23, Floating constants): `0x1.8p3` is 1.5 × 2^3. A format cannot accept both
-    /// `0x1p3f` and `0x1p3L`.
+    /// `0x1p3f` and `0x1p3L`, reject `-0x1p3`, or require the prefix, so `1p3` is accepted.
     C_HEX_FLOAT = numbers(b'p', NumberFormatBuilder::new()
         .mantissa_radix(16) // the digits before and after the point
         .exponent_base(NonZeroU8::new(2)) // `p3` means 2^3
@@ -228,7 +228,8 @@ languages! {
         .no_special(true) // rejects `NaN` and `inf`
     );
 
-    /// Go's hexadecimal floats (Language Specification, Floating-point literals).
+    /// Go's hexadecimal floats (Language Specification, Floating-point literals). A format cannot reject `-0x1p3`, or
+    /// require the prefix, so `1p3` is accepted.
     GO_HEX_FLOAT = numbers(b'p', NumberFormatBuilder::new()
         .mantissa_radix(16) // the digits before and after the point
         .exponent_base(NonZeroU8::new(2)) // `p3` means 2^3
@@ -249,7 +250,7 @@ languages! {
         .no_special(true) // rejects `NaN` and `inf`
     );
 
-    /// Java's floats and decimal integers (Language Specification 21, 3.10.1 and 3.10.2). A format cannot accept
+    /// Java's decimal floats and integers (Language Specification 21, 3.10.1 and 3.10.2). A format cannot accept
     /// `1L`, `1f` and `1d`.
     JAVA = numbers(b'e', NumberFormatBuilder::new()
         .no_positive_mantissa_sign(true) // rejects `+1`, in which `+` is an operator
@@ -280,7 +281,7 @@ languages! {
         .no_special(true) // rejects `NaN` and `inf`
     );
 
-    /// Julia's floats and decimal integers (Manual 1.11, Integers and Floating-Point Numbers). A format cannot accept
+    /// Julia's decimal floats and integers (Manual 1.11, Integers and Floating-Point Numbers). A format cannot accept
     /// both `1e3` and `1f3`.
     JULIA = numbers(b'e', NumberFormatBuilder::new()
         .no_positive_mantissa_sign(true) // rejects `+1`, in which `+` is an operator
@@ -302,17 +303,19 @@ languages! {
         .consecutive_digit_separator(true) // accepts `1__0`
     );
 
-    /// NASM's hexadecimal integers with a suffix (NASM manual, Numeric Constants). A format cannot accept `0FFh` but
-    /// reject `FFh`, which is a name.
+    /// NASM's hexadecimal integers with the suffix `h` (NASM manual, Numeric Constants). A format cannot accept `0FFx`
+    /// too, reject `-1h` or `FFh`, which is a name, or require the suffix, so `10` is 16.
     NASM_HEX_INTEGER = integers(NumberFormatBuilder::new()
         .mantissa_radix(16) // digits 0-9, a-f and A-F
         .base_suffix(NonZeroU8::new(b'h')) // accepts `0C8h` and `0C8H`
         .no_positive_mantissa_sign(true) // rejects `+1h`, in which `+` is an operator
-        .digit_separator(NonZeroU8::new(b'_')) // the byte, which the flag below allows
-        .integer_internal_digit_separator(true) // accepts `0C8_00h`
+        .digit_separator(NonZeroU8::new(b'_')) // the byte, which the flags below allow
+        .integer_internal_digit_separator(true) // accepts `0C8_00h`, not `_1h`
+        .integer_trailing_digit_separator(true) // accepts `1_h`
+        .integer_consecutive_digit_separator(true) // accepts `1__0h`
     );
 
-    /// OCaml's floats and decimal integers (Manual 5.2, 11.1 Lexical conventions). A format cannot accept `1._`, whose
+    /// OCaml's decimal floats and integers (Manual 5.2, 11.1 Lexical conventions). A format cannot accept `1._`, whose
     /// fraction has a separator alone, or `1l`, `1L` and `1n`.
     OCAML = numbers(b'e', NumberFormatBuilder::new()
         .required_integer_digits(true) // rejects `.5`, not `1.`
@@ -335,7 +338,8 @@ languages! {
         .internal_digit_separator(true) // accepts `1_0.0_1e1_0`, not `1__0`, `_1` or `1_`
     );
 
-    /// Python's hexadecimal integers (Language Reference 3.12, 2.4.5).
+    /// Python's hexadecimal integers (Language Reference 3.12, 2.4.5). A format cannot reject `-0x1F`, or require the
+    /// prefix, so `10` is 16.
     PYTHON_HEX_INTEGER = integers(NumberFormatBuilder::new()
         .mantissa_radix(16) // digits 0-9, a-f and A-F
         .base_prefix(NonZeroU8::new(b'x')) // accepts `0x1F` and `0X1F`
@@ -345,7 +349,8 @@ languages! {
         .integer_leading_digit_separator(true) // accepts `0x_1F`
     );
 
-    /// Ruby's floats and decimal integers (ISO/IEC 30170:2012, 8.7.6.2). A format cannot accept `1r` and `1i`.
+    /// Ruby's floats and decimal integers (ISO/IEC 30170:2012, 8.7.6.2). A format cannot accept `1r` and `1i`, or
+    /// accept `0d10` but reject `0d1.5`.
     RUBY = numbers(b'e', NumberFormatBuilder::new()
         .required_digits(true) // rejects `.5`, `1.`, `1e` and `.`
         .no_integer_leading_zeros(true) // rejects `01`, which is octal
@@ -355,7 +360,8 @@ languages! {
         .internal_digit_separator(true) // accepts `1_0.0_1e1_0`, not `1__0`, `_1` or `1_`
     );
 
-    /// Rust's hexadecimal integers (Reference, Integer literals). A format cannot accept the suffix in `0x1F_u8`.
+    /// Rust's hexadecimal integers (Reference, Integer literals). A format cannot accept the suffix in `0x1F_u8`,
+    /// reject `-0x1F`, or require the prefix, so `10` is 16.
     RUST_HEX_INTEGER = integers(NumberFormatBuilder::new()
         .mantissa_radix(16) // digits 0-9, a-f and A-F
         .base_prefix(NonZeroU8::new(b'x')) // accepts `0x1F`
@@ -366,7 +372,8 @@ languages! {
     );
 
     /// Numbers in CSV, as spreadsheets write cells of the format `#,##0.00`, in quotes (RFC 4180): `"1,234.50"`. A format
-    /// cannot require groups of three digits. For `1.234,50` use the separator `.` and the decimal point `,`.
+    /// cannot require groups of three digits, or accept the minus sign U+2212 of Gnumeric: replace it by `-`. For
+    /// `1.234,50` use the separator `.` and the decimal point `,`.
     SPREADSHEET_CSV = numbers(b'e', NumberFormatBuilder::new()
         .required_digits(true) // rejects `.50`, `1.` and `.`
         .no_positive_mantissa_sign(true) // rejects `+1.00`
@@ -383,7 +390,8 @@ languages! {
         .no_special(true) // rejects `NaN` and `inf`
     );
 
-    /// Swift's hexadecimal floats (The Swift Programming Language, Lexical Structure, Floating-Point Literals).
+    /// Swift's hexadecimal floats (The Swift Programming Language, Lexical Structure, Floating-Point Literals). A
+    /// format cannot require the prefix, so `1p3` is accepted.
     SWIFT_HEX_FLOAT = numbers(b'p', NumberFormatBuilder::new()
         .mantissa_radix(16) // the digits before and after the point
         .exponent_base(NonZeroU8::new(2)) // `p3` means 2^3

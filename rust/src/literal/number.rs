@@ -6,47 +6,10 @@ use core::{iter::FusedIterator, slice};
 use crate::digit::char_to_valid_digit_const;
 use crate::format_flags::Part;
 use crate::literal::read::{cut, Found, Parts};
-use crate::literal::syntax::Grammar;
 use crate::literal::{ReadError, Reader, Syntax};
 use crate::view::FormatView;
 
 impl Syntax {
-    /// Returns `text` as a literal. For many texts, a [`Reader`] takes less time.
-    ///
-    /// # Errors
-    ///
-    /// If `text` is not a literal, returns why, and how far it is right.
-    pub const fn read<'a>(&self, text: &'a [u8]) -> Result<Literal<'a>, ReadError> {
-        literal(self.grammar(), text, self.find(text))
-    }
-
-    /// Returns the longest literal that `text` begins with, and the rest of `text`, which may be anything. It looks at
-    /// no byte behind the first one that cannot follow.
-    ///
-    /// ```
-    /// use peltzivar::{literal::Syntax, Format};
-    ///
-    /// let syntax = Syntax::new_or_panic(Format::default(), b'e', b'.');
-    /// let mut rest = &b"1.5-3e2+.25-;"[..];
-    /// while let Ok((literal, after)) = syntax.read_prefix(rest) {
-    ///     println!("{literal}"); // 1.5, then -3e2, then +.25
-    ///     rest = after;
-    /// }
-    /// let error = syntax.read_prefix(rest).unwrap_err();
-    /// assert_eq!((error.valid_up_to(), error.to_string()), (1, "no literal has the byte ';' here".into()));
-    /// let missing = syntax.read(&rest[..error.valid_up_to()]).unwrap_err();
-    /// assert_eq!(missing.to_string(), "expected a digit of the integer");
-    /// ```
-    ///
-    /// # Errors
-    ///
-    /// If `text` does not begin with a literal, returns the error of [`read`][Self::read]. For a wrong byte, the text
-    /// before it may have an error that states what is missing, as above. A text such as `1e;` begins with the literal
-    /// `1`. To refuse it, the example `tokenizer` first finds the end of the token, and reads all of it.
-    pub const fn read_prefix<'a>(&self, text: &'a [u8]) -> Result<(Literal<'a>, &'a [u8]), ReadError> {
-        front(self.grammar(), text, self.find_front(text))
-    }
-
     /// Returns the exponent character, or `None` if literals are integers.
     #[must_use]
     pub const fn exponent(&self) -> Option<u8> {
@@ -67,53 +30,70 @@ impl Syntax {
 }
 
 impl Reader {
-    /// Returns `text` as a literal, as [`Syntax::read`] does.
+    /// Returns `text` as a literal.
     ///
     /// # Errors
     ///
     /// If `text` is not a literal, returns why, and how far it is right.
     pub const fn read<'a>(&self, text: &'a [u8]) -> Result<Literal<'a>, ReadError> {
-        literal(self.grammar, text, self.find(text))
+        let view = self.syntax.format().view();
+        match self.find(text) {
+            Ok(counts) => Ok(Literal { text, counts, view }),
+            Err(error) => Err(error),
+        }
     }
 
-    /// Returns the longest literal that `text` begins with, and the rest of `text`, as [`Syntax::read_prefix`] does.
+    /// Returns the longest literal that `text` begins with, and the rest of `text`, which may be anything. It looks at
+    /// no byte behind the first character that cannot follow.
+    ///
+    /// ```
+    /// use peltzivar::literal::{Reader, Syntax};
+    /// use peltzivar::{format::STANDARD, Format};
+    ///
+    /// static READER: Reader = Reader::new(Syntax::new_or_panic(Format::of::<STANDARD>(), b'e', b'.'));
+    /// let mut rest = &b"1.5-3e2+.25-;"[..];
+    /// while let Ok((literal, after)) = READER.read_prefix(rest) {
+    ///     println!("{literal}"); // 1.5, then -3e2, then +.25
+    ///     rest = after;
+    /// }
+    /// let error = READER.read_prefix(rest).unwrap_err();
+    /// assert_eq!((error.valid_up_to(), error.to_string()), (1, "unexpected character ';'".into()));
+    /// let missing = READER.read(&rest[..error.valid_up_to()]).unwrap_err();
+    /// assert_eq!(missing.to_string(), "expected a digit of the integer");
+    /// ```
     ///
     /// # Errors
     ///
-    /// If `text` does not begin with a literal, returns the error of [`read`][Self::read].
+    /// If `text` does not begin with a literal, returns the error of [`read`][Self::read]. For a wrong byte, the text
+    /// before it may have an error that states what is missing, as above. A text such as `1e;` begins with the literal
+    /// `1`. To refuse it, the example `tokenizer` first finds the end of the token, and reads all of it.
     pub const fn read_prefix<'a>(&self, text: &'a [u8]) -> Result<(Literal<'a>, &'a [u8]), ReadError> {
-        front(self.grammar, text, self.find_front(text))
-    }
-}
-
-#[inline(always)]
-const fn literal<'a>(
-    grammar: Grammar,
-    text: &'a [u8],
-    found: Result<[usize; 9], ReadError>,
-) -> Result<Literal<'a>, ReadError> {
-    let view = grammar.view();
-    match found {
-        Err(error) => Err(error),
-        Ok(counts) => Ok(Literal { text, counts, view }),
-    }
-}
-
-#[inline(always)]
-const fn front<'a>(
-    grammar: Grammar,
-    text: &'a [u8],
-    found: Result<Found, ReadError>,
-) -> Result<(Literal<'a>, &'a [u8]), ReadError> {
-    match found {
-        Err(error) => Err(error),
-        Ok(Found { size, counts }) => {
-            let (text, rest) = text.split_at(size);
-            let view = grammar.view();
-            Ok((Literal { text, counts, view }, rest))
+        let view = self.syntax.format().view();
+        match self.find_front(text) {
+            Ok(Found { size, counts }) => {
+                let (text, rest) = text.split_at(size);
+                Ok((Literal { text, counts, view }, rest))
+            }
+            Err(error) => Err(error),
         }
     }
 }
+
+/// Makes the tables of a syntax, as [`Reader::new`] does.
+impl From<Syntax> for Reader {
+    fn from(syntax: Syntax) -> Self {
+        Reader::new(syntax)
+    }
+}
+
+/// Readers are equal if they have the same syntax.
+impl PartialEq for Reader {
+    fn eq(&self, other: &Self) -> bool {
+        self.syntax == other.syntax
+    }
+}
+
+impl Eq for Reader {}
 
 /// A text that was read as a literal: its parts, and the values of its digits.
 ///

@@ -2,10 +2,10 @@
 
 //! How literals are found, and the lengths of their parts.
 
-use crate::literal::cause::{refusal, ReadError};
-use crate::literal::steps::{class_of, Class};
-use crate::literal::syntax::{Grammar, Syntax};
-use crate::literal::tables::{is_complete, piece_number, step_from, summary_at, Step, Tables, START};
+use crate::literal::cause::{ReadError, Spot};
+use crate::literal::span::marks;
+use crate::literal::syntax::Syntax;
+use crate::literal::tables::{piece_number, Tables, START};
 
 /// The parts of a literal, in the order of the text. An absent part has no bytes.
 #[derive(Debug, Clone, Copy, PartialEq, Eq, Hash)]
@@ -37,53 +37,105 @@ pub(crate) struct Found {
     pub(crate) counts: [usize; 9],
 }
 
-impl Syntax {
-    // Returns the lengths of the parts of the literal `text`, or why it is not one.
-    #[inline(always)]
-    pub(crate) const fn find(&self, text: &[u8]) -> Result<[usize; 9], ReadError> {
-        find(self.grammar(), None, text)
-    }
-
-    // Returns the longest front of `text` that is a literal, or why there is none.
-    #[inline(always)]
-    pub(crate) const fn find_front(&self, text: &[u8]) -> Result<Found, ReadError> {
-        find_front(self.grammar(), None, text)
-    }
-}
-
-/// A syntax with tables of all its steps. It reads literals in less time than [`Syntax::read`]. Making one takes as long
-/// as [`Syntax::read`] takes for some 30 texts. For a `static`, as in the first example of this module, the compiler
-/// makes it.
+/// A syntax with tables of all its steps, which reads literals. To make one takes as long as to read some hundred texts
+/// with it. For a `static`, as in the first example of this module, the compiler makes it.
 #[derive(Clone)]
 pub struct Reader {
-    pub(crate) grammar: Grammar,
-    tables: Tables,
+    pub(crate) syntax: Syntax,
+    pub(crate) tables: Tables,
 }
 
 impl Reader {
     /// Returns a reader of the literals of `syntax`.
     #[must_use]
     pub const fn new(syntax: Syntax) -> Reader {
-        let grammar = syntax.grammar();
-        Reader { grammar, tables: Tables::new(grammar) }
+        Reader { syntax, tables: Tables::new(syntax.grammar()) }
     }
 
     /// Returns the syntax.
     #[must_use]
     pub const fn syntax(&self) -> Syntax {
-        Syntax { grammar: self.grammar }
+        self.syntax
     }
 
     // Returns the lengths of the parts of the literal `text`, or why it is not one.
     #[inline(always)]
     pub(crate) const fn find(&self, text: &[u8]) -> Result<[usize; 9], ReadError> {
-        find(self.grammar, Some(&self.tables), text)
+        let scanned = self.scan(text, false);
+        if scanned.valid_up_to == text.len() && self.is_complete(scanned.row) {
+            Ok(scanned.counts)
+        } else {
+            Err(self.refuse(text, scanned))
+        }
     }
 
     // Returns the longest front of `text` that is a literal, or why there is none.
     #[inline(always)]
     pub(crate) const fn find_front(&self, text: &[u8]) -> Result<Found, ReadError> {
-        find_front(self.grammar, Some(&self.tables), text)
+        let scanned = self.scan(text, true);
+        let Some(size) = scanned.literal else {
+            return Err(self.refuse(text, scanned));
+        };
+        if size == scanned.valid_up_to {
+            let counts = scanned.counts;
+            return Ok(Found { size, counts });
+        }
+        match self.find(front_of(text, size)) {
+            Ok(counts) => Ok(Found { size, counts }),
+            Err(error) => Err(error),
+        }
+    }
+
+    // Reads `text` until no literal begins with what has been read. Seeks the longest front that is a literal if `seeks`
+    // is true.
+    #[inline(always)]
+    const fn scan(&self, text: &[u8], seeks: bool) -> Scanned {
+        let tables = &self.tables;
+        let mut row = START;
+        let mut counts = [0; 9];
+        let mut literal = None;
+        let mut index = 0;
+        while index < text.len() {
+            let Some(next) = tables.step(row, text[index]) else {
+                return Scanned { valid_up_to: index, row, literal, counts };
+            };
+            row = next.row;
+            counts[piece_number(next.piece)] += 1;
+            if self.is_sought(row, seeks) {
+                literal = Some(index + 1);
+            }
+            index += 1;
+        }
+        Scanned { valid_up_to: index, row, literal, counts }
+    }
+
+    // Returns whether `seeks` is true and a row is that of a literal.
+    #[inline(always)]
+    const fn is_sought(&self, row: u8, seeks: bool) -> bool {
+        seeks && self.is_complete(row)
+    }
+
+    // Returns whether a row is that of a literal.
+    #[inline(always)]
+    const fn is_complete(&self, row: u8) -> bool {
+        self.tables.is_complete(row)
+    }
+
+    // Returns why `text` is not a literal.
+    #[inline(always)]
+    const fn refuse(&self, text: &[u8], scanned: Scanned) -> ReadError {
+        let grammar = self.syntax.grammar();
+        let size = scanned.valid_up_to;
+        let byte = byte_at(text, size);
+        ReadError {
+            spot: Spot {
+                grammar,
+                row: scanned.row,
+                byte,
+                tail: tail_at(text, size, byte),
+                marks: marks(grammar, text, size),
+            },
+        }
     }
 }
 
@@ -97,52 +149,38 @@ struct Scanned {
     counts: [usize; 9],
 }
 
-// Returns the lengths of the parts of the literal `text`, or why it is not one.
-#[inline(always)]
-const fn find(grammar: Grammar, tables: Option<&Tables>, text: &[u8]) -> Result<[usize; 9], ReadError> {
-    let scanned = scan(grammar, tables, text, false);
-    if scanned.valid_up_to == text.len() && is_complete_by(grammar, tables, scanned.row) {
-        Ok(scanned.counts)
+// Returns the byte behind the first `size`, if there is one.
+const fn byte_at(text: &[u8], size: usize) -> Option<u8> {
+    if size < text.len() {
+        Some(text[size])
     } else {
-        Err(refuse(grammar, tables, text, scanned))
+        None
     }
 }
 
-// Returns the longest front of `text` that is a literal, or why there is none.
-#[inline(always)]
-const fn find_front(grammar: Grammar, tables: Option<&Tables>, text: &[u8]) -> Result<Found, ReadError> {
-    let scanned = scan(grammar, tables, text, true);
-    let Some(size) = scanned.literal else {
-        return Err(refuse(grammar, tables, text, scanned));
-    };
-    if size == scanned.valid_up_to {
-        let counts = scanned.counts;
-        return Ok(Found { size, counts });
-    }
-    match find(grammar, tables, front_of(text, size)) {
-        Ok(counts) => Ok(Found { size, counts }),
-        Err(error) => Err(error),
+// Returns the number of bytes that follow `byte` in its character, if it begins one in UTF-8.
+const fn tail_size(byte: Option<u8>) -> usize {
+    match byte {
+        Some(0xC2..=0xDF) => 1,
+        Some(0xE0..=0xEF) => 2,
+        Some(0xF0..=0xF4) => 3,
+        _ => 0,
     }
 }
 
-// Returns why `text` is not a literal.
-#[inline(always)]
-const fn refuse(grammar: Grammar, tables: Option<&Tables>, text: &[u8], scanned: Scanned) -> ReadError {
-    let size = scanned.valid_up_to;
-    let next = class_at(grammar, tables, text, size);
-    refusal(grammar, text, size, summary_at(scanned.row), next)
+// Returns the bytes that follow `byte`, the one behind the first `size`, in its character, and 0 for each that does not.
+const fn tail_at(text: &[u8], size: usize, byte: Option<u8>) -> [u8; 3] {
+    let tail = tail_size(byte);
+    [tail_byte(text, size, tail, 1), tail_byte(text, size, tail, 2), tail_byte(text, size, tail, 3)]
 }
 
-// Returns the class of the byte behind the first `size`, if there is one, by the tables if there are any.
-#[inline(always)]
-const fn class_at(grammar: Grammar, tables: Option<&Tables>, text: &[u8], size: usize) -> Option<Class> {
-    if size >= text.len() {
-        return None;
+// Returns the byte behind the first `size + place` if `place` is at most `tail`, and 0 where there is none.
+const fn tail_byte(text: &[u8], size: usize, tail: usize, place: usize) -> u8 {
+    if place <= tail && place < text.len() - size {
+        text[size + place]
+    } else {
+        0
     }
-    Some(match tables {
-        None => class_of(grammar, text[size]),
-        Some(tables) => tables.class(text[size]),
-    })
 }
 
 // Returns the first `size` bytes.
@@ -169,49 +207,4 @@ pub(crate) const fn cut<'a>(text: &'a [u8], counts: [usize; 9]) -> Parts<'a> {
     let (exponent_sign, after_exponent_sign) = split_front(after_character, counts[6]);
     let (exponent, suffix) = split_front(after_exponent_sign, counts[7]);
     Parts { sign, prefix, integer, point, fraction, exponent_character, exponent_sign, exponent, suffix }
-}
-
-// Reads `text` until no literal begins with what has been read. Seeks the longest front that is a literal if `seeks` is true.
-#[inline(always)]
-const fn scan(grammar: Grammar, tables: Option<&Tables>, text: &[u8], seeks: bool) -> Scanned {
-    let mut row = START;
-    let mut counts = [0; 9];
-    let mut literal = None;
-    let mut index = 0;
-    while index < text.len() {
-        let Some(next) = step_by(grammar, tables, row, text[index]) else {
-            return Scanned { valid_up_to: index, row, literal, counts };
-        };
-        row = next.row;
-        counts[piece_number(next.piece)] += 1;
-        if is_sought(grammar, tables, row, seeks) {
-            literal = Some(index + 1);
-        }
-        index += 1;
-    }
-    Scanned { valid_up_to: index, row, literal, counts }
-}
-
-// Returns whether `seeks` is true and a row is that of a literal.
-#[inline(always)]
-const fn is_sought(grammar: Grammar, tables: Option<&Tables>, row: u8, seeks: bool) -> bool {
-    seeks && is_complete_by(grammar, tables, row)
-}
-
-// Returns what `byte` makes of a row, by the tables if there are any.
-#[inline(always)]
-const fn step_by(grammar: Grammar, tables: Option<&Tables>, row: u8, byte: u8) -> Option<Step> {
-    match tables {
-        None => step_from(grammar, row, class_of(grammar, byte)),
-        Some(tables) => tables.step(row, tables.class(byte)),
-    }
-}
-
-// Returns whether a row is that of a literal, by the tables if there are any.
-#[inline(always)]
-const fn is_complete_by(grammar: Grammar, tables: Option<&Tables>, row: u8) -> bool {
-    match tables {
-        None => is_complete(grammar, row),
-        Some(tables) => tables.is_complete(row),
-    }
 }

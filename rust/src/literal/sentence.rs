@@ -1,9 +1,11 @@
 //! What a caller makes of a [`ReadError`], and its text, which are written by hand.
 
-use core::{fmt, ops::Range};
+use core::{fmt, ops::Range, str};
 
 use crate::edits::{Edit, FlagSetter};
-use crate::literal::{Cause, Place, ReadError};
+use crate::format_flags::{NO_FLOAT_LEADING_ZEROS, NO_INTEGER_LEADING_ZEROS};
+use crate::literal::cause::Refusal;
+use crate::literal::{Place, ReadError, ReadErrorKind};
 use crate::short_text::ShortText;
 
 impl ReadError {
@@ -14,11 +16,21 @@ impl ReadError {
         self.byte().is_none()
     }
 
-    /// Returns the range of the bytes to show. It may be empty, and in a UTF-8 text, it may end inside a character.
+    /// Returns the range of the bytes to show, which may be empty. A wrong byte is shown with all bytes of its character,
+    /// so `&text[span]` does not panic for the `str` that was read.
     #[must_use]
     pub const fn span(&self) -> Range<usize> {
-        let (start, end) = self.bounds();
-        start..end
+        let Refusal { kind, start, end, .. } = self.explain();
+        match kind {
+            ReadErrorKind::Byte => start..start + first_character(&self.wrong()).len(),
+            _ => start..end,
+        }
+    }
+
+    /// Returns the byte that cannot follow, and what may follow it in its character. Other bytes are 0.
+    const fn wrong(&self) -> [u8; 4] {
+        let [second, third, fourth] = self.spot.tail;
+        [if let Some(byte) = self.spot.byte { byte } else { 0 }, second, third, fourth]
     }
 
     /// Returns the edits that end the cause, one for each flag to blame. Each edit that sets a separator flag ends it
@@ -27,54 +39,91 @@ impl ReadError {
     /// wrong byte and for missing digits.
     ///
     /// ```
-    /// use peltzivar::literal::Syntax;
+    /// use peltzivar::literal::{Reader, Syntax};
     /// use peltzivar::{Format, FormatError, NumberFormatBuilder};
     ///
-    /// let error = Syntax::new(Format::default(), b'e', b'.')?.read(b"1e").unwrap_err();
+    /// let reader = Reader::new(Syntax::new(Format::default(), b'e', b'.')?);
+    /// let error = reader.read(b"1e").unwrap_err();
     /// assert!(error.is_incomplete());
     /// let mut builder = NumberFormatBuilder::from(Format::default());
     /// builder.extend(error.settings()); // required_exponent_digits=false
-    /// assert!(Syntax::new(builder.build_format()?, b'e', b'.')?.read(b"1e").is_ok());
+    /// let reader = Reader::new(Syntax::new(builder.build_format()?, b'e', b'.')?);
+    /// assert!(reader.read(b"1e").is_ok());
     /// # Ok::<(), FormatError>(())
     /// ```
     pub fn settings(&self) -> impl Iterator<Item = Edit> + Clone {
-        let is_separator = matches!(self.cause(), Cause::Separator(..));
-        self.blamed().map(move |flag| Edit::Flag(flag, is_separator))
+        let Refusal { kind, mask, .. } = self.explain();
+        let is_separator = matches!(kind, ReadErrorKind::Separator(..));
+        let blamed = FlagSetter::FLAGS.iter().copied().filter(move |flag| flag.is_set(mask));
+        blamed.map(move |flag| Edit::Flag(flag, is_separator))
     }
 
-    /// Returns the flags to blame.
-    fn blamed(&self) -> impl Iterator<Item = FlagSetter> + Clone {
-        let mask = self.mask();
-        FlagSetter::FLAGS.iter().copied().filter(move |flag| flag.is_set(mask))
+    /// Returns the text that `Display` prints. A `const fn` can panic with it, so that a constant that is not a literal
+    /// does not compile, and the compiler prints why:
+    ///
+    /// ```compile_fail,E0080
+    /// use peltzivar::literal::{Literal, Reader, Syntax};
+    /// use peltzivar::{format::STANDARD, Format};
+    ///
+    /// const READER: Reader = Reader::new(Syntax::new_or_panic(Format::of::<STANDARD>(), b'e', b'.'));
+    /// const LITERAL: Literal = match READER.read(b"1e") {
+    ///     Ok(literal) => literal,
+    ///     Err(error) => panic!("{}", error.text().as_str()), // expected a digit after the exponent character, ..
+    /// };
+    /// ```
+    #[must_use]
+    pub const fn text(&self) -> ShortText {
+        let Refusal { kind, mask, .. } = self.explain();
+        match kind {
+            ReadErrorKind::Requirement | ReadErrorKind::Case => requirement(mask),
+            ReadErrorKind::Separator(part, place) => {
+                let text = ShortText::of("unexpected digit separator in the ").and(part.name());
+                names(text.and(behind(place)).and(", which requires"), mask, " or ")
+            }
+            ReadErrorKind::Missing(part) => ShortText::of("expected a digit of the ").and(part.name()),
+            ReadErrorKind::Byte => unexpected(first_character(&self.wrong())),
+        }
     }
+}
+
+/// Appends the names of the flags of a mask.
+const fn names(mut text: ShortText, mask: u128, between: &str) -> ShortText {
+    let (mut index, mut before) = (0, " ");
+    while index < FlagSetter::FLAGS.len() {
+        let flag = FlagSetter::FLAGS[index];
+        if flag.is_set(mask) {
+            text = text.and(before).and(flag.name());
+            before = between;
+        }
+        index += 1;
+    }
+    text
+}
+
+/// Returns the sentence for flags that require or forbid something. It names the lowest, or both flags on leading zeros.
+const fn requirement(mask: u128) -> ShortText {
+    const ZEROS: u128 = NO_INTEGER_LEADING_ZEROS | NO_FLOAT_LEADING_ZEROS;
+    let lowest = mask & mask.wrapping_neg();
+    let named = if lowest & ZEROS == 0 { lowest } else { mask & ZEROS };
+    // Flags below bit 18 are at the index of their bit.
+    let flag = FlagSetter::FLAGS[lowest.trailing_zeros() as usize];
+    let text = names(ShortText::of(required_by(flag)).and(", which"), named, " and ");
+    text.and(match flag.name().as_bytes().first_chunk() {
+        Some(b"required") => " requires",
+        _ if named == ZEROS => " forbid",
+        _ => " forbids",
+    })
 }
 
 impl core::error::Error for ReadError {}
 
-/// Prints the cause as a sentence without a full stop, such as `a leading zero, which no_integer_leading_zeros forbids`.
-/// If several flags are to blame for a requirement, the sentence names the lowest. For users of a language, who know no
-/// flags, `{:#}` prints the sentence without them, such as `a leading zero` or `a digit separator before digits`.
+/// Prints `expected` and what is missing, or `unexpected` and what must not be there, and then the flags to blame, such as
+/// `unexpected plus sign, which no_positive_mantissa_sign forbids`. If several flags are to blame for a requirement, the
+/// sentence names the lowest, or both flags on leading zeros. For users of a language, who know no flags, `{:#}` leaves
+/// out the flags, as in `unexpected plus sign` or `unexpected digit separator in the fraction after another`.
 impl fmt::Display for ReadError {
     fn fmt(&self, f: &mut fmt::Formatter<'_>) -> fmt::Result {
-        let mut blamed = self.blamed();
-        let text = match (self.cause(), blamed.next()) {
-            (Cause::Missing(part), _) => ShortText::of("expected a digit of the ").and(part.name()),
-            (Cause::Separator(_, place), Some(flag)) => {
-                let text = ShortText::of(separator(place)).and(", which requires ");
-                let join = |text: ShortText, other: FlagSetter| text.and(" or ").and(other.name());
-                blamed.fold(text.and(flag.name()), join)
-            }
-            (_, Some(flag)) => {
-                let is_required = flag.name().starts_with("required");
-                let verb = if is_required { " requires" } else { " forbids" };
-                let text = ShortText::of(requirement(flag)).and(", which ");
-                text.and(flag.name()).and(verb)
-            }
-            (_, None) => {
-                let text = ShortText::of("no literal has the byte ");
-                text.quoted(self.byte().unwrap_or(0)).and(" here")
-            }
-        };
+        let text = self.text();
         f.pad(match text.as_str().split_once(", which ") {
             Some((front, _)) if f.alternate() => front,
             _ => text.as_str(),
@@ -82,32 +131,84 @@ impl fmt::Display for ReadError {
     }
 }
 
-fn separator(place: Place) -> &'static str {
-    match place {
-        Place::BeforeDigits => "a digit separator before digits",
-        Place::AfterDigit => "a digit separator after a digit",
-        Place::Consecutive => "a digit separator after another",
+/// Writes the answers, and what `Display` prints.
+impl fmt::Debug for ReadError {
+    fn fmt(&self, f: &mut fmt::Formatter<'_>) -> fmt::Result {
+        let Refusal { valid_up_to, byte, kind, start, end, .. } = self.explain();
+        let mut text = f.debug_struct("ReadError");
+        text.field("valid_up_to", &valid_up_to).field("byte", &byte).field("kind", &kind).field("span", &(start..end));
+        text.field("message", &format_args!("\"{self}\"")).finish()
     }
 }
 
-/// Returns what a flag requires or forbids. If a flag has no text here, its name without the first word is true, too.
-fn requirement(flag: FlagSetter) -> &'static str {
+/// Returns what is before a separator.
+const fn behind(place: Place) -> &'static str {
+    match place {
+        Place::BeforeDigits => " before digits",
+        Place::AfterDigit => " after a digit",
+        Place::Consecutive => " after another",
+    }
+}
+
+/// Returns what a flag requires or forbids.
+const fn required_by(flag: FlagSetter) -> &'static str {
     match flag {
         FlagSetter::RequiredIntegerDigits => "expected a digit of the integer",
         FlagSetter::RequiredFractionDigits => "expected a digit after the decimal point",
         FlagSetter::RequiredExponentDigits => "expected a digit after the exponent character",
         FlagSetter::RequiredMantissaDigits => "expected a digit of the integer or the fraction",
-        FlagSetter::NoPositiveMantissaSign => "a plus sign",
+        FlagSetter::NoPositiveMantissaSign => "unexpected plus sign",
         FlagSetter::RequiredMantissaSign => "expected a sign",
-        FlagSetter::NoExponentNotation => "an exponent",
-        FlagSetter::NoPositiveExponentSign => "a plus sign in the exponent",
+        FlagSetter::NoExponentNotation => "unexpected exponent",
+        FlagSetter::NoPositiveExponentSign => "unexpected plus sign in the exponent",
         FlagSetter::RequiredExponentSign => "expected a sign of the exponent",
-        FlagSetter::NoExponentWithoutFraction => "an exponent without a decimal point",
+        FlagSetter::NoExponentWithoutFraction => "unexpected exponent without a decimal point",
         FlagSetter::RequiredExponentNotation => "expected an exponent",
-        FlagSetter::CaseSensitiveExponent => "the other case of the exponent character",
-        FlagSetter::CaseSensitiveBasePrefix => "the other case of the base prefix",
-        FlagSetter::CaseSensitiveBaseSuffix => "the other case of the base suffix",
-        FlagSetter::NoIntegerLeadingZeros | FlagSetter::NoFloatLeadingZeros => "a leading zero",
-        _ => flag.name().split_once('_').map_or("", |(_, what)| what),
+        FlagSetter::CaseSensitiveExponent => "unexpected case of the exponent character",
+        FlagSetter::CaseSensitiveBasePrefix => "unexpected case of the base prefix",
+        FlagSetter::CaseSensitiveBaseSuffix => "unexpected case of the base suffix",
+        FlagSetter::NoIntegerLeadingZeros | FlagSetter::NoFloatLeadingZeros => "unexpected leading zero",
+        _ => flag.name(),
+    }
+}
+
+/// Returns the first character of bytes in UTF-8, or the first byte alone if it begins none.
+const fn first_character(bytes: &[u8; 4]) -> &[u8] {
+    let size = match bytes[0] {
+        0xC2..=0xDF => 2,
+        0xE0..=0xEF => 3,
+        0xF0..=0xF4 => 4,
+        _ => 1,
+    };
+    let (character, _) = bytes.split_at(size);
+    if str::from_utf8(character).is_ok() {
+        character
+    } else {
+        bytes.split_at(1).0
+    }
+}
+
+/// Returns the sentence for a character, or for a byte that begins none. It has no character that cannot be seen or that
+/// changes the order of others.
+const fn unexpected(wrong: &[u8]) -> ShortText {
+    let text = ShortText::of("unexpected ");
+    match wrong {
+        b" " => text.and("space"),
+        b"\t" => text.and("tab"),
+        b"\n" => text.and("line feed"),
+        b"\r" => text.and("carriage return"),
+        b"'" => text.and("character \"'\""),
+        [byte] if byte.is_ascii_graphic() => text.and("character ").quoted(*byte),
+        [byte] => text.and("byte ").decimal(*byte as usize),
+        b"\xC2\xA0" | b"\xE2\x80\xAF" => text.and("no-break space"),
+        [0xC2, 0x80..=0x9F | 0xAD]
+        | [0xE2, 0x80, 0x80..=0x8F | 0xA8..=0xAE]
+        | [0xE2, 0x81, 0x9F..=0xAF]
+        | [0xE3, 0x80, 0x80]
+        | [0xEF, 0xBB, 0xBF] => text.and("invisible character"),
+        _ => match str::from_utf8(wrong) {
+            Ok(character) => text.and("character '").and(character).and("'"),
+            Err(_) => text,
+        },
     }
 }

@@ -3,8 +3,8 @@
 //! The bytes to show for a cause, and the error of `lexical-util`.
 
 use crate::error::Error;
-use crate::literal::cause::{Cause, Place};
-use crate::literal::steps::{is_digit, is_exponent_character, is_point};
+use crate::literal::cause::{Marks, Place, ReadErrorKind};
+use crate::literal::steps::is_digit;
 use crate::literal::syntax::Grammar;
 use crate::word::Part;
 
@@ -12,39 +12,37 @@ use crate::word::Part;
 #[derive(Clone, Copy)]
 enum Kind {
     Digit,
-    Separator,
     NotSeparator,
-    ExponentCharacter,
-    // A separator, a point or an exponent character.
-    Mark,
+    // Neither a separator nor a sign.
+    Body,
 }
 
 // Returns whether `byte` is of a kind.
+#[inline(always)]
 const fn is_kind(grammar: Grammar, kind: Kind, byte: u8) -> bool {
     let separator = grammar.view().is_separator(byte);
     match kind {
         Kind::Digit => is_digit(grammar, Part::Integer, byte),
-        Kind::Separator => separator,
         Kind::NotSeparator => !separator,
-        Kind::ExponentCharacter => is_exponent_character(grammar, byte),
-        Kind::Mark => separator || is_point(grammar, byte) || is_exponent_character(grammar, byte),
+        Kind::Body => !(separator || byte == b'+' || byte == b'-'),
     }
 }
 
 // Returns the index behind the last byte of a kind among the first `end`, or 0 if there is none.
+#[inline(always)]
 const fn behind(grammar: Grammar, kind: Kind, text: &[u8], end: usize) -> usize {
-    let mut found = 0;
-    let mut index = 0;
-    while index < end {
-        if is_kind(grammar, kind, text[index]) {
-            found = index + 1;
+    let mut index = end;
+    while index > 0 {
+        if is_kind(grammar, kind, text[index - 1]) {
+            return index;
         }
-        index += 1;
+        index -= 1;
     }
-    found
+    0
 }
 
 // Returns the index of the first byte of a kind among the first `end`, or `end` if there is none.
+#[inline(always)]
 const fn first(grammar: Grammar, kind: Kind, text: &[u8], end: usize) -> usize {
     let mut index = 0;
     while index < end {
@@ -56,34 +54,60 @@ const fn first(grammar: Grammar, kind: Kind, text: &[u8], end: usize) -> usize {
     index
 }
 
-// The bytes that are right, which are the first `size`, and one more, if there is one, which are the first `end`.
-#[derive(Clone, Copy)]
-pub(crate) struct Limits {
-    pub(crate) size: usize,
-    pub(crate) end: usize,
+// Returns what spans and errors of `text` are made of, of which `size` bytes are right.
+#[inline(always)]
+pub(crate) const fn marks(grammar: Grammar, text: &[u8], size: usize) -> Marks {
+    Marks {
+        size,
+        exponent: behind(grammar, Kind::Body, text, size),
+        first: first(grammar, Kind::Digit, text, size),
+        run: behind(grammar, Kind::NotSeparator, text, size),
+    }
+}
+
+// Returns whether the byte that cannot follow is a digit of the integer.
+const fn is_digit_next(grammar: Grammar, next: Option<u8>) -> bool {
+    match next {
+        None => false,
+        Some(byte) => is_digit(grammar, Part::Integer, byte),
+    }
+}
+
+// Returns whether the byte that cannot follow is a separator.
+const fn is_separator_next(grammar: Grammar, next: Option<u8>) -> bool {
+    match next {
+        None => false,
+        Some(byte) => grammar.view().is_separator(byte),
+    }
 }
 
 // Returns the first index and the end of the bytes to show for the flag with the number `number`.
-const fn requirement_span(grammar: Grammar, text: &[u8], limits: Limits, number: u32) -> (usize, usize) {
-    let Limits { size, end } = limits;
+const fn requirement_span(grammar: Grammar, marks: Marks, next: Option<u8>, number: u32) -> (usize, usize) {
+    let size = marks.size;
     match number {
-        2 => (behind(grammar, Kind::ExponentCharacter, text, size), size),
-        12 | 13 => (first(grammar, Kind::Digit, text, end), behind(grammar, Kind::Digit, text, end)),
+        2 => (marks.exponent, size),
+        12 | 13 if is_digit_next(grammar, next) => (marks.first, size + 1),
+        12 | 13 => (marks.first, marks.run),
         4 | 6 | 7 | 9 => (size, size + 1),
         _ => (size, size),
     }
 }
 
-// Returns the first index and the end of the bytes to show for a cause and its lowest flag.
-pub(crate) const fn span(grammar: Grammar, text: &[u8], limits: Limits, cause: Cause, number: u32) -> (usize, usize) {
-    let Limits { size, end } = limits;
-    match cause {
-        Cause::Requirement => requirement_span(grammar, text, limits, number),
-        Cause::Separator(_, Place::Consecutive) | Cause::Case | Cause::Byte => (size, size + 1),
-        Cause::Separator(_, _) => {
-            (behind(grammar, Kind::NotSeparator, text, size), behind(grammar, Kind::Separator, text, end))
-        }
-        Cause::Missing(_) => (size, size),
+// Returns the first index and the end of the bytes to show for a kind of error and its lowest flag.
+pub(crate) const fn span(
+    grammar: Grammar,
+    marks: Marks,
+    next: Option<u8>,
+    kind: ReadErrorKind,
+    number: u32,
+) -> (usize, usize) {
+    let size = marks.size;
+    match kind {
+        ReadErrorKind::Requirement => requirement_span(grammar, marks, next, number),
+        ReadErrorKind::Separator(_, Place::Consecutive) | ReadErrorKind::Case | ReadErrorKind::Byte => (size, size + 1),
+        ReadErrorKind::Separator(_, _) if is_separator_next(grammar, next) => (marks.run, size + 1),
+        ReadErrorKind::Separator(_, _) => (marks.run, size),
+        ReadErrorKind::Missing(_) => (size, size),
     }
 }
 
@@ -108,18 +132,11 @@ const fn requirement_error(grammar: Grammar, number: u32, start: usize, size: us
     }
 }
 
-// Returns the error for a cause and its lowest flag, where the bytes to show begin at `start`.
-pub(crate) const fn error(
-    grammar: Grammar,
-    text: &[u8],
-    size: usize,
-    cause: Cause,
-    number: u32,
-    start: usize,
-) -> Error {
-    match cause {
-        Cause::Requirement => requirement_error(grammar, number, start, size),
-        Cause::Missing(_) if behind(grammar, Kind::Mark, text, size) == 0 => Error::Empty(start),
+// Returns the error for a kind of error and its lowest flag, where the bytes to show begin at `start`.
+pub(crate) const fn error(grammar: Grammar, marks: Marks, kind: ReadErrorKind, number: u32, start: usize) -> Error {
+    match kind {
+        ReadErrorKind::Requirement => requirement_error(grammar, number, start, marks.size),
+        ReadErrorKind::Missing(Part::Integer) if marks.run == marks.size => Error::Empty(start),
         _ => Error::InvalidDigit(start),
     }
 }

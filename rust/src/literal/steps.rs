@@ -91,7 +91,7 @@ pub(crate) const fn is_exponent_character(grammar: Grammar, byte: u8) -> bool {
 }
 
 // Returns the class of `byte`.
-pub(crate) const fn class_of(grammar: Grammar, byte: u8) -> Class {
+pub(crate) const fn byte_class(grammar: Grammar, byte: u8) -> Class {
     let format = grammar.view();
     let mantissa = is_digit(grammar, Part::Integer, byte);
     let exponent = is_digit(grammar, Part::Exponent, byte);

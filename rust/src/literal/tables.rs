@@ -6,10 +6,11 @@ use crate::literal::steps::{self, Class, Piece, Stage, Summary};
 use crate::literal::syntax::Grammar;
 use crate::word::Part;
 
-// The rows of a table are summaries. The columns are classes.
-const ROWS: usize = 108;
+// The rows of a table are summaries: a part, a stage, and whether there is a gap and whether the suffix has been read.
+pub(crate) const ROWS: usize = PARTS.len() * STAGES.len() * 4;
 
-const COLUMNS: usize = 12;
+// The columns are classes.
+const COLUMNS: usize = CLASSES.len();
 
 // All parts, stages and classes, each at its number.
 const PARTS: [Part; 3] = [Part::Integer, Part::Fraction, Part::Exponent];
@@ -26,7 +27,7 @@ const STAGES: [Stage; 9] = [
     Stage::Digits,
 ];
 
-const CLASSES: [Class; COLUMNS] = [
+const CLASSES: [Class; 12] = [
     Class::Other,
     Class::Zero,
     Class::Digit,
@@ -89,14 +90,19 @@ const fn stage_number(stage: Stage) -> usize {
 
 // Returns the row of a summary.
 const fn row_number(read: Summary) -> u8 {
-    let digits = part_number(read.part) * 9 + stage_number(read.stage);
+    let digits = part_number(read.part) * STAGES.len() + stage_number(read.stage);
     (digits * 4 + read.gap as usize * 2 + read.ended as usize) as u8
 }
 
 // Returns the summary of a row.
 pub(crate) const fn summary_at(row: u8) -> Summary {
     let row = row as usize;
-    Summary { part: PARTS[row / 36], stage: STAGES[row / 4 % 9], gap: row / 2 % 2 == 1, ended: row % 2 == 1 }
+    Summary {
+        part: PARTS[row / 4 / STAGES.len()],
+        stage: STAGES[row / 4 % STAGES.len()],
+        gap: row / 2 % 2 == 1,
+        ended: row % 2 == 1,
+    }
 }
 
 // Returns what a byte of `class` makes of a row, or `None` if no literal begins so.
@@ -117,7 +123,7 @@ const fn classes_of(grammar: Grammar) -> [Class; 256] {
     let mut classes = [Class::Other; 256];
     let mut byte = 0;
     while byte < 256 {
-        classes[byte] = steps::class_of(grammar, byte as u8);
+        classes[byte] = steps::byte_class(grammar, byte as u8);
         byte += 1;
     }
     classes
@@ -157,10 +163,10 @@ impl Tables {
         self.classes[byte as usize]
     }
 
-    // Returns what a byte of `class` makes of a row.
+    // Returns what `byte` makes of a row.
     #[inline(always)]
-    pub(crate) const fn step(&self, row: u8, class: Class) -> Option<Step> {
-        self.rows[row as usize].steps[column(class)]
+    pub(crate) const fn step(&self, row: u8, byte: u8) -> Option<Step> {
+        self.rows[row as usize].steps[column(self.class(byte))]
     }
 
     // Returns whether a row is that of a literal.

@@ -180,7 +180,7 @@ macro_rules! integers {
             impl Sealed for $type {
                 #[inline]
                 fn from_plain(reader: &Reader, text: &[u8]) -> Option<$type> {
-                    plain_integer(reader.grammar.view(), text)
+                    plain_integer(reader.syntax.format().view(), text)
                 }
             }
 

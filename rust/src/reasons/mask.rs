@@ -4,8 +4,8 @@
 
 use crate::edits::{mask_of, FlagSetter};
 use crate::format_flags as flags;
-use crate::format_flags::{Part, Rule};
-use crate::reasons::{Byte, Cause, Characters, Radixes, Reason};
+use crate::format_flags::{raw_exponent_base, raw_exponent_radix, Part, Rule};
+use crate::reasons::{Byte, Cause, NamedByte, Radixes, Reason};
 
 impl Byte {
     /// Returns the mask of the byte in a format word. The mask of a character that options choose is 0.
@@ -61,48 +61,54 @@ impl Reason {
     }
 }
 
-impl Characters {
-    // Returns the mask of the fields that a cause names, and of the absent exponent bytes that are to blame with the
-    // mantissa radix. An edit of this radix alone does not end the cause, since it first stores the old radix in them.
+impl Cause {
+    /// Returns the bytes that the cause names, in the order of its sentence. The other slots are `None`.
+    #[must_use]
     #[inline(always)]
-    pub(crate) const fn mask(&self, cause: &Cause) -> u128 {
-        match cause {
-            Cause::OutOfRange(byte) => byte.name.mask() | self.followers_mask(byte.name),
-            Cause::NotText(byte) | Cause::IsSign(byte) => byte.name.mask(),
-            Cause::IsDigit(byte, Radixes::Mantissa(_)) => {
-                byte.name.mask() | flags::MANTISSA_RADIX | self.absent_mask(Byte::ExponentRadix)
+    pub const fn bytes(&self) -> [Option<NamedByte>; 2] {
+        match self {
+            Cause::OutOfRange(byte) | Cause::NotText(byte) | Cause::IsSign(byte) | Cause::IsDigit(byte, _) => {
+                [Some(*byte), None]
             }
-            Cause::IsDigit(byte, Radixes::Exponent(_)) => byte.name.mask() | flags::EXPONENT_RADIX,
-            Cause::IsDigit(byte, Radixes::Both { .. }) => {
-                byte.name.mask() | flags::MANTISSA_RADIX | flags::EXPONENT_RADIX
-            }
-            Cause::Same(first, second) => first.name.mask() | second.name.mask(),
-            Cause::DifferInCase { first, first_flag, second, second_flag } => {
-                first.name.mask() | second.name.mask() | flag_mask(*first_flag) | flag_mask(*second_flag)
-            }
+            Cause::Same(first, second) | Cause::DifferInCase { first, second, .. } => [Some(*first), Some(*second)],
+            _ => [None, None],
+        }
+    }
+
+    // Returns the mask of what the cause blames in a word.
+    #[inline(always)]
+    pub(crate) const fn mask(&self, format: u128) -> u128 {
+        let [first, second] = self.bytes();
+        mask_if_named(first) | mask_if_named(second) | self.mask_beside(format)
+    }
+
+    // Returns the mask of what the cause blames beside the bytes that it names. An absent exponent byte is to blame with
+    // the mantissa radix. An edit of this radix alone does not end the cause, since it first stores the old radix in it.
+    #[inline(always)]
+    const fn mask_beside(&self, format: u128) -> u128 {
+        let base = mask_if(raw_exponent_base(format) == 0, flags::EXPONENT_BASE);
+        let radix = mask_if(raw_exponent_radix(format) == 0, flags::EXPONENT_RADIX);
+        match self {
+            Cause::OutOfRange(NamedByte { name: Byte::MantissaRadix, .. }) => base | radix,
+            Cause::IsDigit(_, Radixes::Mantissa(_)) => flags::MANTISSA_RADIX | radix,
+            Cause::IsDigit(_, Radixes::Exponent(_)) => flags::EXPONENT_RADIX,
+            Cause::IsDigit(_, Radixes::Both { .. }) => flags::MANTISSA_RADIX | flags::EXPONENT_RADIX,
+            Cause::DifferInCase { first_flag, second_flag, .. } => flag_mask(*first_flag) | flag_mask(*second_flag),
             Cause::BothSet(first, second) => mask_of(*first) as u128 | mask_of(*second) as u128,
             Cause::NeedsPosition(Part::Integer) => flags::INTEGER_DIGIT_SEPARATOR_FLAG_MASK,
             Cause::NeedsPosition(Part::Fraction) => flags::FRACTION_DIGIT_SEPARATOR_FLAG_MASK,
             Cause::NeedsPosition(Part::Exponent) => flags::EXPONENT_DIGIT_SEPARATOR_FLAG_MASK,
             Cause::ReservedBits(bits) => *bits,
-        }
-    }
-
-    // Returns the mask of the absent exponent bytes if `name` is the mantissa radix, and 0 otherwise.
-    const fn followers_mask(&self, name: Byte) -> u128 {
-        match name {
-            Byte::MantissaRadix => self.absent_mask(Byte::ExponentBase) | self.absent_mask(Byte::ExponentRadix),
             _ => 0,
         }
     }
+}
 
-    // Returns the mask of a byte if it is absent, and 0 otherwise.
-    const fn absent_mask(&self, name: Byte) -> u128 {
-        if self.named(name).value == 0 {
-            name.mask()
-        } else {
-            0
-        }
+// Returns the mask of a byte, or 0 if there is none.
+const fn mask_if_named(byte: Option<NamedByte>) -> u128 {
+    match byte {
+        Some(byte) => byte.name.mask(),
+        None => 0,
     }
 }
 
@@ -111,6 +117,15 @@ const fn flag_mask(flag: Option<FlagSetter>) -> u128 {
     match flag {
         Some(flag) => mask_of(flag) as u128,
         None => 0,
+    }
+}
+
+// Returns the mask if the condition is true, and 0 otherwise.
+const fn mask_if(condition: bool, mask: u128) -> u128 {
+    if condition {
+        mask
+    } else {
+        0
     }
 }
 

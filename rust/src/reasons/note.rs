@@ -5,7 +5,7 @@
 use crate::edits::{mask_of, FlagSetter};
 use crate::format_builder::NumberFormatBuilder;
 use crate::format_flags as flags;
-use crate::reasons::{reasons, some_if, Byte, Characters, NamedByte, Reason};
+use crate::reasons::{is_cased, named, reasons, some_if, Byte, NamedByte, Reason};
 
 /// The maximum number of notes on a format word.
 pub const MAX_NOTES: usize = 3;
@@ -55,7 +55,7 @@ pub const fn notes(format: u128) -> [Option<Note>; MAX_NOTES] {
 /// Returns the notes on a format word for which [`reasons`] returns `reasons`, as [`notes`] does.
 #[must_use]
 pub const fn notes_beside_reasons(format: u128, reasons: &[Option<Reason>]) -> [Option<Note>; MAX_NOTES] {
-    notes_beside(blamed(reasons), format, flags::digit_separator(format))
+    notes_beside(reasons, format, flags::digit_separator(format))
 }
 
 /// Returns the notes on the fields of a builder, as [`notes`] does for a format word.
@@ -68,38 +68,39 @@ pub const fn notes_of_fields(builder: &NumberFormatBuilder) -> [Option<Note>; MA
         None => 0,
     };
     let format = builder.build_unchecked();
-    notes_beside(blamed(&reasons(format)), format, separator)
+    notes_beside(&reasons(format), format, separator)
 }
 
-// Returns the notes on a word in which the digit separator is replaced by `separator`, except those on `blamed` bits.
-const fn notes_beside(blamed: u128, format: u128, separator: u8) -> [Option<Note>; MAX_NOTES] {
-    let prefix = case_note(format, FlagSetter::CaseSensitiveBasePrefix, Byte::BasePrefix);
-    let suffix = case_note(format, FlagSetter::CaseSensitiveBaseSuffix, Byte::BaseSuffix);
+// Returns the notes on a word in which the digit separator is replaced by `separator`, beside `reasons`.
+const fn notes_beside(reasons: &[Option<Reason>], format: u128, separator: u8) -> [Option<Note>; MAX_NOTES] {
+    let prefix = named(Byte::BasePrefix, flags::base_prefix(format));
+    let suffix = named(Byte::BaseSuffix, flags::base_suffix(format));
     [
-        unless_blamed(blamed, separator_note(format, separator)),
-        unless_blamed(blamed, prefix),
-        unless_blamed(blamed, suffix),
+        unless_blamed(reasons, separator_note(format, separator)),
+        unless_blamed(reasons, case_note(format, FlagSetter::CaseSensitiveBasePrefix, prefix)),
+        unless_blamed(reasons, case_note(format, FlagSetter::CaseSensitiveBaseSuffix, suffix)),
     ]
 }
 
 // Returns the note on a digit separator and its flags, if any.
 const fn separator_note(format: u128, separator: u8) -> Option<Note> {
-    let byte = NamedByte { name: Byte::DigitSeparator, value: separator };
     if flags::is_separator_allowed(format) {
         some_if(separator == 0, Note::FlagsWithoutSeparator)
     } else {
+        let byte = named(Byte::DigitSeparator, separator);
         some_if(separator != 0, Note::SeparatorWithoutFlag(byte))
     }
 }
 
 // Returns the note on the case flag of a byte, if any.
 #[inline(always)]
-const fn case_note(format: u128, flag: FlagSetter, byte: Byte) -> Option<Note> {
-    let word = Characters { format, exponent: 0, point: 0 };
-    let named = word.named(byte);
-    let note =
-        if named.value == 0 { Note::CaseFlagWithoutByte(flag, byte) } else { Note::CaseFlagOfNonLetter(flag, named) };
-    some_if(word.is_cased(byte) & has_no_case(named.value), note)
+const fn case_note(format: u128, flag: FlagSetter, byte: NamedByte) -> Option<Note> {
+    let note = if byte.value == 0 {
+        Note::CaseFlagWithoutByte(flag, byte.name)
+    } else {
+        Note::CaseFlagOfNonLetter(flag, byte)
+    };
+    some_if(is_cased(format, byte.name) & has_no_case(byte.value), note)
 }
 
 // Returns whether a byte is the same in both cases.
@@ -107,19 +108,19 @@ const fn has_no_case(byte: u8) -> bool {
     !byte.is_ascii_alphabetic()
 }
 
-// Returns a note if it describes no blamed bit.
-const fn unless_blamed(blamed: u128, note: Option<Note>) -> Option<Note> {
+// Returns a note unless a reason blames a field that it names.
+const fn unless_blamed(reasons: &[Option<Reason>], note: Option<Note>) -> Option<Note> {
     match note {
-        Some(note) => some_if(blamed & note.mask() == 0, note),
+        Some(note) => some_if(!is_blamed(reasons, note.mask()), note),
         None => None,
     }
 }
 
-// Returns the mask of the bits that these reasons blame.
-const fn blamed(reasons: &[Option<Reason>]) -> u128 {
+// Returns whether a reason blames a bit of `mask`.
+const fn is_blamed(reasons: &[Option<Reason>], mask: u128) -> bool {
     match reasons {
-        [] => 0,
-        [None, rest @ ..] => blamed(rest),
-        [Some(reason), rest @ ..] => reason.mask() | blamed(rest),
+        [] => false,
+        [None, rest @ ..] => is_blamed(rest, mask),
+        [Some(reason), rest @ ..] => reason.mask() & mask != 0 || is_blamed(rest, mask),
     }
 }

@@ -2,7 +2,6 @@
 
 use peltzivar::reasons::Byte;
 use peltzivar::{Cause, FormatView};
-use std::collections::HashSet;
 
 /// A word, the bits that its reasons and notes blame, and their sentences.
 #[rustfmt::skip]
@@ -58,16 +57,6 @@ fn each_reason_and_note_has_its_sentence_and_its_bits() {
         let (texts, masks): (Vec<String>, Vec<u128>) = reasons.chain(notes).unzip();
         assert_eq!(texts, sentences, "{word:#034X}");
         assert_eq!(masks.iter().fold(0, |all, it| all | it), mask, "{word:#034X}");
-    }
-}
-
-#[test]
-fn no_two_reasons_of_a_word_have_the_same_cause() {
-    let mut word = 1_u128;
-    for _ in 0..10_000 {
-        word = word.wrapping_mul(0xDA942042E4DD58B5DA942042E4DD58B5).wrapping_add(1);
-        let causes: Vec<Cause> = FormatView::new(word).reasons().map(|it| it.cause()).collect();
-        assert_eq!(causes.len(), HashSet::<Cause>::from_iter(causes).len(), "{word:#034X}");
     }
 }
 

@@ -1,8 +1,7 @@
 //! Settings as text.
 
-use peltzivar::edits::{ArgumentKind, Edit, FlagSetter, Setter};
-use peltzivar::SettingErrorKind::{BadValue, NoEquals, UnknownName};
-use std::num::NonZeroU8;
+use peltzivar::edits::{ArgumentKind, Edit, Setter};
+use peltzivar::EditErrorKind::{BadValue, NoEquals, UnknownName};
 
 /// Each edit is printed as `NAME=VALUE`, and is parsed from this text.
 #[test]
@@ -13,7 +12,7 @@ fn edits_are_read_back() {
             let edit = setter.with_byte(byte);
             let value = match (setter.kind(), byte) {
                 (ArgumentKind::Flag, _) => (byte == 1).to_string(),
-                (ArgumentKind::OptionalByte, 0) => "none".to_string(),
+                (ArgumentKind::OptionalCharacter | ArgumentKind::OptionalNumber, 0) => "none".to_string(),
                 _ => byte.to_string(),
             };
             assert_eq!(edit.to_string(), format!("{name}={value}"));
@@ -23,32 +22,40 @@ fn edits_are_read_back() {
     }
 }
 
-/// A byte is a character between quotes, hexadecimal digits after `0x`, or decimal digits.
+/// Each byte is a number. The separator, the prefix and the suffix may be a character between quotes.
 #[test]
-fn each_byte_setter_reads_the_same_values() {
+fn each_byte_setter_reads_numbers_and_some_read_characters() {
     #[rustfmt::skip]
-    let bytes = [
-        ("'_'", 0x5F), ("'''", 0x27), ("' '", 0x20), ("'='", 0x3D), ("'\0'", 0), ("'\x7F'", 0x7F),
+    let numbers = [
         ("0x5F", 0x5F), ("0x5f", 0x5F), ("0x0", 0), ("0xff", 255), ("0x10", 16),
-        ("0", 0), ("16", 16), ("016", 16), ("255", 255),
+        ("0", 0), ("16", 16), ("016", 16), ("255", 255), (" 16", 16), ("\t\n0x10\r\x0C ", 16),
     ];
+    let characters = [("'_'", 0x5F), ("'''", 0x27), ("' '", 0x20), ("'='", 0x3D), ("'~' ", 0x7E)];
     #[rustfmt::skip]
     let refused = [
-        "''", "'", "'ab'", "'_", "_'", "\"_\"", "'\u{E9}'", "\u{E9}", "'_' ", " '_'", "x", "_", "true",
-        "0x", "0X5F", "0xg1", "0x1g", "0x-1", "0x_", "x5F", "5F", "-1", "+1", "1_0", "", " 1", "NONE",
+        "''", "'", "'ab'", "'_", "_'", "\"_\"", "'\u{E9}'", "\u{E9}", "'\0'", "'\t'", "'\x1F'", "'\x7F'",
+        "x", "_", "true", "0x", "0X5F", "0xg1", "0x1g", "0x-1", "0x_", "x5F", "5F", "-1", "+1", "1_0", "", "NONE",
+        "\x0B1", "\u{A0}1", "1 6", "0x 5F",
         "0x100", "0x05F", "256", "0016", "99999999999999999999", "0xFFFFFFFFFFFFFFFFFFFFFFFFFFFFFFFFF",
     ];
     for setter in Setter::ALL.iter().filter(|setter| setter.kind() != ArgumentKind::Flag) {
         let read = |value| format!("{}={value}", setter.name()).parse();
-        for (value, byte) in bytes {
+        for (value, byte) in numbers {
             assert_eq!(read(value), Ok(setter.with_byte(byte)), "{setter:?} {value}");
+        }
+        let takes_characters = setter.kind() == ArgumentKind::OptionalCharacter;
+        for (value, byte) in characters {
+            assert_eq!(read(value).ok(), takes_characters.then_some(setter.with_byte(byte)), "{setter:?} {value}");
         }
         for value in refused {
             assert!(read(value).is_err(), "{setter:?} {value}");
         }
-        let is_optional = setter.kind() == ArgumentKind::OptionalByte;
+        let is_optional = setter.kind() != ArgumentKind::Number;
         assert_eq!(read("none").ok(), is_optional.then_some(setter.with_byte(0)), "{setter:?}");
     }
+    // Calls that take a name and a value skip nothing.
+    assert!(Setter::Radix.parse(" 16").is_err() && Edit::from_setting("radix ", "16").is_err());
+    assert_eq!(" radix =\t16\r\n".parse(), Ok(Edit::Radix(16)));
 }
 
 /// The sentence of a refused setting, which names the setter and what it takes.
@@ -72,38 +79,23 @@ fn a_refused_setting_has_a_sentence() {
         ("radix", None, "expected NAME=VALUE"),
         ("", None, "expected NAME=VALUE"),
         ("=7", None, "unknown setting name"),
-        ("no_special =true", None, "unknown setting name"),
-        ("RADIX=7", None, "unknown setting name"),
+        ("RADIX=7", None, "unknown setting name; did you mean `radix`?"),
+        ("digit_seperator=_", None, "unknown setting name; did you mean `digit_separator`?"),
+        ("no-special=true", None, "unknown setting name; did you mean `no_special`?"),
+        ("prefix='x'", None, "unknown setting name; did you mean `base_prefix`?"),
+        ("thousands=','", None, "unknown setting name; did you mean `digit_separator`?"),
+        ("decimal_separator=','", None, "unknown setting name"),
+        ("exponent='p'", None, "unknown setting name"),
+        ("colour=7", None, "unknown setting name"),
     ];
     for (text, name, sentence) in rows {
         let error = text.parse::<Edit>().unwrap_err();
         assert_eq!((error.name(), &*error.to_string()), (name, sentence), "{text}");
         let kind = match sentence {
             "expected NAME=VALUE" => NoEquals,
-            "unknown setting name" => UnknownName,
+            _ if name.is_none() => UnknownName,
             _ => BadValue,
         };
         assert_eq!(error.kind(), kind, "{text}");
-    }
-}
-
-#[test]
-fn edits_are_made_of_values() {
-    let byte = NonZeroU8::new;
-    #[rustfmt::skip]
-    let rows = [
-        (Edit::flag("no_special", true), Ok(Edit::Flag(FlagSetter::NoSpecial, true))),
-        (Edit::flag("required_digits", false), Ok(Edit::Flag(FlagSetter::RequiredDigits, false))),
-        (Edit::byte("base_prefix", b'x'), Ok(Edit::BasePrefix(byte(b'x')))),
-        (Edit::byte("exponent_base", 0), Ok(Edit::ExponentBase(None))),
-        (Edit::byte("radix", 0), Ok(Edit::Radix(0))),
-        (Edit::byte("mantissa_radix", 255), Ok(Edit::MantissaRadix(255))),
-        (Edit::flag("base_prefix", true), Err((BadValue, Some("base_prefix")))),
-        (Edit::byte("no_special", 1), Err((BadValue, Some("no_special")))),
-        (Edit::flag("no-special", true), Err((UnknownName, None))),
-        (Edit::byte("base_prefix ", b'x'), Err((UnknownName, None))),
-    ];
-    for (edit, wanted) in rows {
-        assert_eq!(edit.map_err(|error| (error.kind(), error.name())), wanted);
     }
 }

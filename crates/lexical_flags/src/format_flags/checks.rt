@@ -339,7 +339,6 @@ pub const fn is_clean(format: u128) -> bool
 /// Returns whether any flag of `format` allows a digit separator, in a number or in a special value (NaN or infinity).
 #[must_use]
 #[inline]
-#[tactic(auto, using(crate::proofs::FlagBits::separator_flag_set, crate::proofs::FlagBits::no_separator_flag_set))]
 pub const fn is_separator_allowed(format: u128) -> bool
     ensures { result ≡ separator_allowed (raw format) }
 {

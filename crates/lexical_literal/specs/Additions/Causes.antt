@@ -1,21 +1,20 @@
 -- What decides the cause of a refusal, computed from what has been read.
-use Rattle.std.specs.Prelude.{ℕ, ◌≡◌, ◌==◌, ◌&&◌, ◌||◌, ◌↔◌, IsTrue, List, [], ◌∷◌, not, if◌then◌else◌, Bool, true, false, Option, Some, None, is_some}
+use Rattle.std.specs.Prelude.{ℕ, ◌≡◌, ◌&&◌, ◌||◌, ◌↔◌, IsTrue, List, [], ◌∷◌, not, if◌then◌else◌, Bool, true, false, Option, Some, None, is_some}
 use Rattle.lexical_util.specs.Ascii.{ByteSet}
 use Rattle.lexical_util.specs.Layout.{Flag, part, separators_in}
+use Rattle.lexical_util.specs.Roles.{signs}
 use Rattle.lexical_util.specs.declared.feature_format.roles.Role.{Role}
 use Rattle.lexical_util.specs.declared.feature_format.roles.Role.TheVariants as roles
 use Rattle.lexical_util.specs.declared.format_flags.Part.{Part}
 use Rattle.lexical_util.specs.declared.format_flags.Part.TheVariants as parts
-use Rattle.lexical_literal.specs.Cause.{Allows, is_at, is_mark, is_one_of, last_part, requirement_flags, with_flags}
+use Rattle.lexical_literal.specs.Cause.{Allows, is_at, is_one_of, last_part, requirement_flags, with_flags}
 use Rattle.lexical_literal.specs.Notation.{Notation}
-use Rattle.lexical_literal.specs.Additions.Summary.{class_of, has_digit, in_part, is_complete, is_fresh, is_led, is_lone, is_plus, step}
+use Rattle.lexical_literal.specs.Additions.Summary.{byte_class, has_digit, in_part, is_complete, is_plus_class, step}
 use Rattle.lexical_literal.specs.declared.span.Kind.{Kind}
 use Rattle.lexical_literal.specs.declared.span.Kind.TheVariants as kinds
 use Rattle.lexical_literal.specs.declared.cause.Place.{Place}
 use Rattle.lexical_literal.specs.declared.cause.Place.TheVariants as places
 use Rattle.lexical_literal.specs.declared.steps.Class.{Class}
-use Rattle.lexical_literal.specs.declared.steps.Stage.{Stage}
-use Rattle.lexical_literal.specs.declared.steps.Stage.TheVariants as stages
 use Rattle.lexical_literal.specs.declared.steps.Summary.{Summary}
 
 -- `allows m s next` is true if a byte of the class `next` may follow, or if a literal has been read, where `next` is `None`.
@@ -26,10 +25,17 @@ allows m s (Some class) = is_some (step m s class)
 -- `kind_set m kind` is the set of the bytes of `kind`.
 abbrev pub kind_set : Notation → Kind → ByteSet
 kind_set m kinds.Digit byte = m.digit parts.Integer byte
-kind_set m kinds.Separator byte = m.separator byte
 kind_set m kinds.NotSeparator byte = not (m.separator byte)
-kind_set m kinds.ExponentCharacter byte = m.exponent_character byte
-kind_set m kinds.Mark byte = is_mark m byte
+kind_set m kinds.Body byte = not (m.separator byte || signs byte)
+
+-- `is_role role other` is true if `other` is the role `role`.
+abbrev pub is_role : Role → Option Role → Bool
+is_role roles.Exponent (Some roles.Exponent) = true
+is_role roles.Suffix (Some roles.Suffix) = true
+is_role roles.Sign (Some roles.Sign) = true
+is_role roles.Point (Some roles.Point) = true
+is_role roles.Separator (Some roles.Separator) = true
+is_role _ _ = false
 
 -- `IsWeaker m A` holds if the flags for which `A` is true require no more than those of `m`, and are no less otherwise.
 pub record IsWeaker (m : Notation) (A : Flag → Bool) : Type 0 where
@@ -44,7 +50,7 @@ Decides m s class front next = (A : Flag → Bool) → IsWeaker m A → (allows 
 -- `class_of_next m next` is the class of the byte `next`, if there is one.
 abbrev pub class_of_next : Notation → Option ℕ → Option Class
 class_of_next m None = None
-class_of_next m (Some byte) = Some (class_of m byte)
+class_of_next m (Some byte) = Some (byte_class m byte)
 
 -- `IsReadOf m s front` holds if what is allowed after `s` is what is allowed after `front`, and if `s` is in the part that
 -- `front` ends in, unless a suffix has been read.
@@ -60,36 +66,7 @@ role_of_next s (Some class) = in_part s.part class
 -- `is_plus_next next` is true if `next` is the class of plus signs.
 abbrev pub is_plus_next : Option Class → Bool
 is_plus_next None = false
-is_plus_next (Some class) = is_plus class
-
--- `ends_part role` is true if a byte with the role `role` ends a part of a number.
-abbrev pub ends_part : Option Role → Bool
-ends_part (Some roles.Point) = true
-ends_part (Some roles.Exponent) = true
-ends_part (Some roles.Suffix) = true
-ends_part _ = false
-
--- `is_part part other` is true if the two parts are the same.
-abbrev pub is_part : Part → Part → Bool
-is_part parts.Integer parts.Integer = true
-is_part parts.Fraction parts.Fraction = true
-is_part parts.Exponent parts.Exponent = true
-is_part _ _ = false
-
--- `is_role role other` is true if `other` is the role `role`.
-abbrev pub is_role : Role → Option Role → Bool
-is_role roles.Exponent (Some roles.Exponent) = true
-is_role roles.Suffix (Some roles.Suffix) = true
-is_role roles.Sign (Some roles.Sign) = true
-is_role roles.Point (Some roles.Point) = true
-is_role roles.Separator (Some roles.Separator) = true
-is_role _ _ = false
-
--- `is_after_zero stage` is true if the integer is the digit 0.
-abbrev pub is_after_zero : Stage → Bool
-is_after_zero stages.Bare = true
-is_after_zero stages.Zero = true
-is_after_zero _ = false
+is_plus_next (Some class) = is_plus_class class
 
 -- `place_of m s role` is where `m` does not allow a separator after `s`, before a byte with the role `role`.
 abbrev pub place_of : Notation → Summary → Option Role → Place
@@ -105,30 +82,3 @@ separates m s role f = (s.gap || is_role roles.Separator role) && is_at (place_o
 abbrev pub is_own : Part → Flag → Bool
 is_own part f = is_one_of ((separators_in part).internal ∷ (separators_in part).leading ∷ (separators_in part).trailing
     ∷ (separators_in part).consecutive ∷ []) f
-
--- `leads m s role` is true if a byte with the role `role` makes a leading zero of an integer, or ends one with a leading zero.
-abbrev pub leads : Notation → Summary → Option Role → Bool
-leads m s (Some roles.Suffix) = is_led s.stage && is_part parts.Integer s.part
-leads m s (Some roles.Digit) = m.integers_only && is_after_zero s.stage
-leads m s (Some roles.Separator) = m.integers_only && (is_after_zero s.stage && not (m.flag (separators_in s.part).trailing))
-leads m s _ = false
-
--- `refuses m s plus role number` is true if the flag with the number `number` alone refuses a byte with the role `role`, or
--- a plus sign, if `plus` is true, which is allowed without requirements.
-abbrev pub refuses : Notation → Summary → Bool → Option Role → ℕ → Bool
-refuses m s plus role number =
-    if number == 0 then ends_part role && (is_part parts.Integer s.part && not (has_digit s.stage))
-    else (if number == 1 then ends_part role && (is_part parts.Fraction s.part && not (has_digit s.stage))
-    else (if number == 2 then ends_part role && (is_part parts.Exponent s.part && not (has_digit s.stage))
-    else (if number == 3 then (is_part parts.Integer s.part && (is_role roles.Exponent role && not (has_digit s.stage)))
-    || (is_part parts.Fraction s.part && (ends_part role && is_lone s.stage))
-    else (if number == 4 then plus && (is_role roles.Sign role && not (is_part parts.Exponent s.part))
-    else (if number == 5 then is_fresh s.stage && (not (is_role roles.Sign role) && not (is_part parts.Exponent s.part))
-    else (if number == 6 then is_role roles.Exponent role
-    else (if number == 7 then plus && (is_role roles.Sign role && is_part parts.Exponent s.part)
-    else (if number == 8 then is_fresh s.stage && (not (is_role roles.Sign role) && is_part parts.Exponent s.part)
-    else (if number == 9 then is_role roles.Exponent role && is_part parts.Integer s.part
-    else (if number == 12 then leads m s role
-    else (if number == 13 then is_led s.stage && (is_part parts.Integer s.part && (is_role roles.Point role || is_role roles.Exponent role))
-    else (if number == 14 then is_role roles.Suffix role && (not (is_part parts.Exponent s.part) && not m.integers_only)
-    else false))))))))))))

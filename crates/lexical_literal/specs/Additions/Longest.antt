@@ -4,14 +4,14 @@ use Rattle.std.specs.Prelude.{◌≡◌, ◌<◌, ◌≤◌}
 use Rattle.std.specs.Option.{ForSome}
 use Rattle.lexical_literal.specs.Notation.{Notation}
 use Rattle.lexical_literal.specs.Literal.{Literal, Reads}
-use Rattle.lexical_literal.specs.Cause.{IsRefusal}
+use Rattle.lexical_literal.specs.Cause.{Explained, IsRefusal}
 use Rattle.lexical_literal.specs.Front.{IsValidUpTo, NoLiteral, ReadsFront}
 use Rattle.lexical_literal.specs.Additions.Causes.{allows, class_of_next}
 use Rattle.lexical_literal.specs.Additions.Summary.{HasLengths, is_complete, scan, start}
 use Rattle.lexical_literal.specs.Additions.Tables.{cuts_of, summary_at}
-use Rattle.lexical_literal.specs.declared.cause.ReadError.{ReadError}
 use Rattle.lexical_literal.specs.declared.read.Found.{Found}
 use Rattle.lexical_literal.specs.declared.read.Scanned.{Scanned}
+use Rattle.lexical_literal.specs.declared.tables.TheConstants.{ROWS}
 
 -- `IsLongest m text bound longest` holds if `longest` is the length of the longest front of `text` that is a literal and has
 -- at most `bound` bytes, or `None` if there is none.
@@ -24,7 +24,7 @@ pub record IsLongest (m : Notation) (text : List ℕ) (bound : ℕ) (longest : O
 -- parts if it is a literal, and the length of the longest front that is a literal if `seeks` is true.
 pub record IsScanned (m : Notation) (seeks : Bool) (text : List ℕ) (scanned : Scanned) : Type 0 where
   pub error : IsValidUpTo m text scanned.valid_up_to
-  pub row : scanned.row < 108
+  pub row : scanned.row < ROWS
   pub read : scan m (Some start) (take scanned.valid_up_to text) ≡ Some (summary_at scanned.row)
   pub refused : scanned.valid_up_to < length text
       → allows m (summary_at scanned.row) (class_of_next m (slice_get text scanned.valid_up_to)) ≡ false
@@ -35,14 +35,14 @@ pub record IsScanned (m : Notation) (seeks : Bool) (text : List ℕ) (scanned : 
 
 -- `IsFound m text result` holds if `result` has the lengths of the parts of the literal `text`, or is the error of a text
 -- that is not a literal.
-pub record IsFound (m : Notation) (text : List ℕ) (result : Result (List ℕ) ReadError) : Type 0 where
+pub record IsFound (m : Notation) (text : List ℕ) (result : Result (List ℕ) Explained) : Type 0 where
   pub found : IfOk result (λ counts. (l : Literal) × Reads m l text)
   pub counted : (l : Literal) → Reads m l text → IsOkAnd result (λ counts. HasLengths l (cuts_of counts))
-  pub error : IfErr result (IsRefusal m text)
+  pub error : IfErr result (λ error. IsRefusal m text error.refusal)
 
 -- `IsFoundFront m text result` holds if `result` has the length of the longest front of `text` that is a literal and the
 -- lengths of its parts, or is the error of a text of which no front is a literal.
-pub record IsFoundFront (m : Notation) (text : List ℕ) (result : Result Found ReadError) : Type 0 where
+pub record IsFoundFront (m : Notation) (text : List ℕ) (result : Result Found Explained) : Type 0 where
   pub found : IfOk result (λ found. (l : Literal) × ReadsFront m l text found.size × HasLengths l (cuts_of found.counts))
   pub none : IsErr result → (size : ℕ) → size ≤ length text → NoLiteral m (take size text)
-  pub error : IfErr result (IsRefusal m text)
+  pub error : IfErr result (λ error. IsRefusal m text error.refusal)

@@ -20,9 +20,9 @@ use Rattle.lexical_literal.specs.declared.steps.Stage.{Stage}
 use Rattle.lexical_literal.specs.declared.steps.Stage.TheVariants as stages
 use Rattle.lexical_literal.specs.declared.steps.Summary.{Summary}
 
--- `class_of m byte` is the class of `byte`.
-abbrev pub class_of : Notation → ℕ → Class
-class_of m byte =
+-- `byte_class m byte` is the class of `byte`.
+abbrev pub byte_class : Notation → ℕ → Class
+byte_class m byte =
     if m.digit parts.Integer byte then
     (if m.digit parts.Exponent byte then (if byte == 48 then classes.Zero else classes.Digit) else classes.MantissaDigit)
     else (if m.digit parts.Exponent byte then classes.ExponentDigit
@@ -58,10 +58,10 @@ abbrev pub is_zero : Class → Bool
 is_zero classes.Zero = true
 is_zero _ = false
 
--- `is_plus class` is true if the bytes of `class` are plus signs.
-abbrev pub is_plus : Class → Bool
-is_plus classes.Plus = true
-is_plus _ = false
+-- `is_plus_class class` is true if the bytes of `class` are plus signs.
+abbrev pub is_plus_class : Class → Bool
+is_plus_class classes.Plus = true
+is_plus_class _ = false
 
 -- `has_digit stage` is true if the part has a digit.
 abbrev pub has_digit : Stage → Bool
@@ -211,7 +211,7 @@ move m s plus zero (Some role) = if not s.ended && takes m s plus role then Some
 
 -- `step m s class` is the summary after one more byte of `class`, or `None` if no literal begins so.
 abbrev pub step : Notation → Summary → Class → Option Summary
-step m s class = move m s (is_plus class) (is_zero class) (in_part s.part class)
+step m s class = move m s (is_plus_class class) (is_zero class) (in_part s.part class)
 
 -- `digits_piece part` is the piece of the digits of `part`.
 abbrev pub digits_piece : Part → Piece
@@ -265,7 +265,7 @@ IsMove m s class (Some next) =
 abbrev pub scan : Notation → Option Summary → List ℕ → Option Summary
 scan m s [] = s
 scan m None (byte ∷ text) = None
-scan m (Some s) (byte ∷ text) = scan m (step m s (class_of m byte)) text
+scan m (Some s) (byte ∷ text) = scan m (step m s (byte_class m byte)) text
 
 -- `is_accepted m s` is true if a text that ends with the summary `s` is a literal.
 abbrev pub is_accepted : Notation → Option Summary → Bool
@@ -280,7 +280,7 @@ start = record { part = parts.Integer; stage = stages.Start; gap = false; ended 
 abbrev pub tally : Notation → Option Summary → Cuts → List ℕ → Cuts
 tally m s c [] = c
 tally m None c (byte ∷ text) = c
-tally m (Some s) c (byte ∷ text) = tally m (step m s (class_of m byte)) (count s.part (in_part s.part (class_of m byte)) c) text
+tally m (Some s) c (byte ∷ text) = tally m (step m s (byte_class m byte)) (count s.part (in_part s.part (byte_class m byte)) c) text
 
 -- `no_cuts` counts no bytes.
 abbrev pub no_cuts : Cuts

@@ -1,8 +1,12 @@
-//! Texts with two readings, in formats that are not lawful or with options that do not fit.
+//! Texts with two readings, in formats that are not lawful or with options that do not fit, and parts and causes for
+//! which predicates do not hold.
 
-ghost use Rattle.std.specs.Prelude.{Some, codes};
-ghost use Rattle.lexical_literal.specs.Notation.{notation_of};
-ghost use Rattle.lexical_literal.specs.Readings.{HasTwoReadings};
+ghost use Rattle.std.specs.Prelude.{◌≡◌, Some, codes, false, true};
+ghost use Rattle.lexical_literal.specs.Cause.{SameBlame};
+ghost use Rattle.lexical_literal.specs.Literal.{Literal};
+ghost use Rattle.lexical_literal.specs.Notation.{Notation, notation_of};
+ghost use Rattle.lexical_literal.specs.Readings.{HasTwoReadings, PartsHaveRoles};
+ghost use Rattle.lexical_literal.specs.declared.cause.ReadErrorKind.TheVariants as causes;
 
 /// States texts that have two readings because a byte plays two roles.
 #[tactic(auto, unfolding(lexical_util::specs::Unfoldable::on_literals))]
@@ -42,4 +46,12 @@ pub fn two_readings()
       word = 0x00000A00000000000000000000000000;
       options = Some (record { exponent = 43; point = 46 });
     })) (codes "+1") }
+{}
+
+/// States parts and causes for which `PartsHaveRoles` and `SameBlame` do not hold.
+pub fn counterexamples()
+    // The byte `x` is not a sign.
+    ensures sign { (m : Notation) → (l : Literal) → l.sign ≡ codes "x" → PartsHaveRoles m l → ⊥ }
+    ensures kinds { SameBlame causes.Byte causes.Case (λ f. false) (λ f. false) → ⊥ }
+    ensures flags { SameBlame causes.Case causes.Case (λ f. true) (λ f. false) → ⊥ }
 {}

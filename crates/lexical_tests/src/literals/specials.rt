@@ -2,6 +2,7 @@
 
 use lexical_literal::specials::{Sign, Special, Specials, Spelling};
 use lexical_literal::syntax::Syntax;
+use lexical_util::format::Format;
 
 const PLUS: Option<Sign> = Some(Sign::Plus);
 
@@ -47,10 +48,11 @@ fn a_special_value_is_a_sign_and_a_spelling(rt: HostRuntime) {
         infinity: Some(b"infinity"),
     };
     for (word, sign, spelling, texts) in &ROWS {
-        let Ok(syntax) = Syntax::integers(*word) else {
+        let Ok(format) = Format::new(*word) else {
             assert!(rt; false, "{word:#034X}");
             return;
         };
+        let syntax = Syntax::integers(format);
         let sign = *sign;
         let want = spelling.map(|spelling| Special { sign, spelling });
         for text in *texts {
@@ -61,10 +63,7 @@ fn a_special_value_is_a_sign_and_a_spelling(rt: HostRuntime) {
 
 #[test]
 fn the_first_spelling_that_is_not_empty_matches(rt: HostRuntime) {
-    let Ok(syntax) = Syntax::integers(ROWS[0].0) else {
-        assert!(rt; false);
-        return;
-    };
+    let syntax = Syntax::integers(Format::default());
     let mut specials = Specials {
         nan: None,
         inf: Some(b""),

@@ -14,13 +14,13 @@ use Rattle.lexical_util.specs.declared.edits.setters.TheConstants.{SETTERS}
 use Rattle.lexical_util.specs.declared.edits.setters.Edit.{Edit}
 use Rattle.lexical_util.specs.declared.edits.setters.Edit.TheVariants as edits
 
--- `setter_of f` is the setter that writes only the flag `f`.
-abbrev pub setter_of : Flag → FlagSetter
-setter_of f = unwrap_or (find (λ setter. bytes_eq (map bit (flags_of setter)) (bit f ∷ [])) SETTERS) setters.NoSpecial
+-- `flag_setter f` is the setter that writes only the flag `f`.
+abbrev pub flag_setter : Flag → FlagSetter
+flag_setter f = unwrap_or (find (λ setter. bytes_eq (map bit (flags_of setter)) (bit f ∷ [])) SETTERS) setters.NoSpecial
 
 -- `edit_of_write write` is the single-field edit whose only write is `write`.
 abbrev pub edit_of_write : Write → Edit
-edit_of_write (write_flag f value) = edits.Flag (setter_of f) value
+edit_of_write (write_flag f value) = edits.Flag (flag_setter f) value
 edit_of_write (write_byte layout.digit_separator value) = edits.DigitSeparator (option_of_byte value)
 edit_of_write (write_byte layout.base_prefix value) = edits.BasePrefix (option_of_byte value)
 edit_of_write (write_byte layout.base_suffix value) = edits.BaseSuffix (option_of_byte value)

@@ -1,19 +1,25 @@
--- What the reasons why a word breaks rules or does not accept options state of the word.
-use Rattle.std.specs.Prelude.{ℕ, ◌≡◌, ◌≢◌, ◌⊎◌, false, true, IsTrue, IsFalse, Option, None, Some, IfSome, List}
-use Rattle.std.specs.Prelude.{bit_and}
-use Rattle.std.specs.List.{AllByRecursion}
-use Rattle.lexical_base.specs.Ascii.{allowed_ascii}
+-- Why a word breaks rules, and why it does not accept an exponent character and a decimal point: a table of each.
+use Rattle.std.specs.Prelude.{ℕ, ◌≡◌, ◌⊎◌, ◌==◌, ◌&&◌, not, Bool, true, if◌then◌else◌, Option, None, Some, IfSome}
+use Rattle.std.specs.Prelude.{List, [], ◌∷◌, map, option_map, bit_and, bit_or}
+use Rattle.std.specs.Bool.{then_some}
+use Rattle.std.specs.List.{AllByRecursion, list_any}
+use Rattle.std.specs.Option.{option_map_or}
+use Rattle.lexical_base.specs.Ascii.{ByteSet, between, allowed_ascii}
 use Rattle.lexical_base.specs.Digits.{digits_of}
 use Rattle.lexical_flags.specs.Layout as layout
+use Rattle.lexical_flags.specs.Layout.{separator_flags_in}
 use Rattle.lexical_flags.specs.Record.{Record, raw}
-use Rattle.lexical_flags.specs.Roles.{signs, other_case}
-use Rattle.lexical_flags.specs.Rules.{IsRadix, Holds, lacks_position}
-use Rattle.lexical_flags.specs.Options.{OptionsFit}
-use Rattle.lexical_flags.specs.Additions.Masks.{byte_mask, reserved_mask}
+use Rattle.lexical_flags.specs.Roles.{are_disjoint, cased, signs}
+use Rattle.lexical_flags.specs.Rules.{lacks_position}
+use Rattle.lexical_flags.specs.Additions.Masks.{byte_mask, mask_of, reserved_mask}
+use Rattle.lexical_flags.specs.declared.format_flags.parts.Part.{Part}
+use Rattle.lexical_flags.specs.declared.format_flags.parts.Part.TheVariants as parts
 use Rattle.lexical_flags.specs.declared.format_flags.rule.Rule.{Rule}
+use Rattle.lexical_flags.specs.declared.format_flags.rule.Rule.TheVariants as rules
 use Rattle.lexical_util.specs.Edits.{flags_of}
-use Rattle.lexical_util.specs.Groups.{any_flag}
+use Rattle.lexical_util.specs.Additions.EditMasks.{mask_of_setter}
 use Rattle.lexical_util.specs.declared.edits.setters.FlagSetter.{FlagSetter}
+use Rattle.lexical_util.specs.declared.edits.setters.FlagSetter.TheVariants as setters
 use Rattle.lexical_util.specs.declared.reasons.Byte.{Byte}
 use Rattle.lexical_util.specs.declared.reasons.Byte.TheVariants as bytes
 use Rattle.lexical_util.specs.declared.reasons.NamedByte.{NamedByte}
@@ -23,18 +29,79 @@ use Rattle.lexical_util.specs.declared.reasons.Cause.{Cause}
 use Rattle.lexical_util.specs.declared.reasons.Cause.TheVariants as causes
 use Rattle.lexical_util.specs.declared.reasons.Reason.{Reason}
 
--- `value_of r exponent_byte point_byte name` is the value of the byte `name` in `r`, or in options with these characters.
-abbrev pub value_of : Record → ℕ → ℕ → Byte → ℕ
-value_of r exponent_byte point_byte bytes.DigitSeparator = r.byte layout.digit_separator
-value_of r exponent_byte point_byte bytes.BasePrefix = r.byte layout.base_prefix
-value_of r exponent_byte point_byte bytes.BaseSuffix = r.byte layout.base_suffix
-value_of r exponent_byte point_byte bytes.MantissaRadix = r.byte layout.mantissa_radix
-value_of r exponent_byte point_byte bytes.ExponentBase = r.byte layout.exponent_base
-value_of r exponent_byte point_byte bytes.ExponentRadix = r.byte layout.exponent_radix
-value_of r exponent_byte point_byte bytes.ExponentCharacter = exponent_byte
-value_of r exponent_byte point_byte bytes.DecimalPoint = point_byte
+-- `is_set r setter` is true if at least one of the flags of `setter` is set in `r`.
+abbrev pub is_set : Record → FlagSetter → Bool
+is_set r setter = list_any r.flag (flags_of setter)
 
--- `mask_of_byte byte` is the number with 1 in the bits of `byte` in a word. No bits hold what options choose.
+-- `case_flag name` is the flag that makes the byte `name` case-sensitive, if there is one.
+abbrev pub case_flag : Byte → Option FlagSetter
+case_flag bytes.BasePrefix = Some setters.CaseSensitiveBasePrefix
+case_flag bytes.BaseSuffix = Some setters.CaseSensitiveBaseSuffix
+case_flag bytes.ExponentCharacter = Some setters.CaseSensitiveExponent
+case_flag name = None
+
+-- `is_cased r name` is true if the byte `name` is case-sensitive in `r`: its case flag is set, or it has none.
+abbrev pub is_cased : Record → Byte → Bool
+is_cased r name = option_map_or (is_set r) (case_flag name) true
+
+-- `unset_flag r name` is the case flag of the byte `name`, if it has one that is not set in `r`.
+abbrev pub unset_flag : Record → Byte → Option FlagSetter
+unset_flag r name = if is_cased r name then None else case_flag name
+
+-- `role r byte` is the set of what `byte` matches in `r`: `byte` and, unless it is case-sensitive, its other case.
+abbrev pub role : Record → NamedByte → ByteSet
+role r byte = cased (is_cased r byte.name) byte.value
+
+-- CAUSES
+
+-- `if_present byte cause` is `cause` if `byte` is present, and `None` if it is absent.
+abbrev pub if_present : NamedByte → Option Cause → Option Cause
+if_present byte cause = if byte.value == 0 then None else cause
+
+-- `out_of_range byte` is the cause that the radix or base `byte` is not between 2 and 36, if it is not.
+abbrev pub out_of_range : NamedByte → Option Cause
+out_of_range byte = then_some (not (between 2 36 byte.value)) (causes.OutOfRange byte)
+
+-- `digit_radixes r value` has the radixes of `r` in which the byte `value` is a digit, if there are any. An absent
+-- exponent radix has no digits.
+abbrev pub digit_radixes : Record → ℕ → Option Radixes
+digit_radixes r value =
+    let mantissa = r.byte layout.mantissa_radix in
+    let exponent = r.byte layout.exponent_radix in
+    if digits_of mantissa value && digits_of exponent value then Some (radixes.Both mantissa exponent)
+    else if digits_of mantissa value then Some (radixes.Mantissa mantissa)
+    else then_some (digits_of exponent value) (radixes.Exponent exponent)
+
+-- `not_punctuation r byte` is the cause that `byte` is not punctuation in the format `r`, if it is not.
+abbrev pub not_punctuation : Record → NamedByte → Option Cause
+not_punctuation r byte =
+    if not (allowed_ascii byte.value) then Some (causes.NotText byte)
+    else if signs byte.value then Some (causes.IsSign byte)
+    else option_map (causes.IsDigit byte) (digit_radixes r byte.value)
+
+-- `clash r first second` is the cause that some byte plays the roles of both `first` and `second` in `r`, if one does.
+abbrev pub clash : Record → NamedByte → NamedByte → Option Cause
+clash r first second =
+    then_some (not (are_disjoint (role r first) (role r second)))
+    (if second.value == first.value then causes.Same first second
+    else causes.DifferInCase first (unset_flag r first.name) second (unset_flag r second.name))
+
+-- `both_set r first second` is the cause that both flags are set in `r`, if they are.
+abbrev pub both_set : Record → FlagSetter → FlagSetter → Option Cause
+both_set r first second = then_some (is_set r first && is_set r second) (causes.BothSet first second)
+
+-- `needs_position r part` is the cause that `r` allows consecutive separators in `part`, but none between, before or after
+-- its digits, if it does.
+abbrev pub needs_position : Record → Part → Option Cause
+needs_position r part = then_some (lacks_position r part) (causes.NeedsPosition part)
+
+-- `reserved_bits word` is the cause that reserved bits are set in `word`, if any are.
+abbrev pub reserved_bits : ℕ → Option Cause
+reserved_bits word = let bits = bit_and word reserved_mask in then_some (not (bits == 0)) (causes.ReservedBits bits)
+
+-- WHAT A REASON BLAMES
+
+-- `mask_of_byte name` is the number with 1 in the bits of a byte in a word. No bits hold what options choose.
 abbrev pub mask_of_byte : Byte → ℕ
 mask_of_byte bytes.DigitSeparator = byte_mask layout.digit_separator
 mask_of_byte bytes.BasePrefix = byte_mask layout.base_prefix
@@ -42,66 +109,137 @@ mask_of_byte bytes.BaseSuffix = byte_mask layout.base_suffix
 mask_of_byte bytes.MantissaRadix = byte_mask layout.mantissa_radix
 mask_of_byte bytes.ExponentBase = byte_mask layout.exponent_base
 mask_of_byte bytes.ExponentRadix = byte_mask layout.exponent_radix
-mask_of_byte _ = 0
+mask_of_byte name = 0
 
--- `Has word exponent_byte point_byte byte` holds if `byte` has its value in `word`, or in options with these characters.
-abbrev pub Has : ℕ → ℕ → ℕ → NamedByte → Type 0
-Has word exponent_byte point_byte byte = value_of (raw word) exponent_byte point_byte byte.name ≡ byte.value
+-- `bytes_of cause` has the bytes that `cause` names: none, one or two.
+abbrev pub bytes_of : Cause → Option NamedByte × Option NamedByte
+bytes_of (causes.OutOfRange byte) = (Some byte, None)
+bytes_of (causes.NotText byte) = (Some byte, None)
+bytes_of (causes.IsSign byte) = (Some byte, None)
+bytes_of (causes.IsDigit byte found) = (Some byte, None)
+bytes_of (causes.Same first second) = (Some first, Some second)
+bytes_of (causes.DifferInCase first first_flag second second_flag) = (Some first, Some second)
+bytes_of cause = (None, None)
 
--- `AreDigits word value found` holds if `word` has the radixes `found`, and `value` is a digit in each of them.
-abbrev pub AreDigits : ℕ → ℕ → Radixes → Type 0
-AreDigits word value (radixes.Mantissa radix) =
-    ((raw word).byte layout.mantissa_radix ≡ radix) × IsTrue (digits_of radix value)
-AreDigits word value (radixes.Exponent radix) =
-    ((raw word).byte layout.exponent_radix ≡ radix) × IsTrue (digits_of radix value)
-AreDigits word value (radixes.Both mantissa exponent) =
-    ((raw word).byte layout.mantissa_radix ≡ mantissa) × IsTrue (digits_of mantissa value)
-    × ((raw word).byte layout.exponent_radix ≡ exponent) × IsTrue (digits_of exponent value)
+-- `mask_if_absent r byte` is the mask of `byte` if it is absent from `r`, and 0 otherwise.
+abbrev pub mask_if_absent : Record → layout.Byte → ℕ
+mask_if_absent r byte = if r.byte byte == 0 then byte_mask byte else 0
 
--- `IsUnset word flag` holds if `flag`, if there is one, is not set in `word`.
-abbrev pub IsUnset : ℕ → Option FlagSetter → Type 0
-IsUnset word flag = IfSome flag (λ setter. any_flag word (flags_of setter) ≡ false)
+-- `mask_beside_radix r name` is the mask of the absent exponent bytes of `r` if `name` is the mantissa radix, which is
+-- used in their place, and 0 otherwise.
+abbrev pub mask_beside_radix : Record → Byte → ℕ
+mask_beside_radix r bytes.MantissaRadix =
+    bit_or (mask_if_absent r layout.exponent_base) (mask_if_absent r layout.exponent_radix)
+mask_beside_radix r name = 0
 
--- `IsTrueOf word exponent_byte point_byte cause` holds if `cause` is true of `word` and options with these characters.
-abbrev pub IsTrueOf : ℕ → ℕ → ℕ → Cause → Type 0
-IsTrueOf word exponent_byte point_byte (causes.OutOfRange byte) =
-    Has word exponent_byte point_byte byte × (IsRadix byte.value → ⊥)
-IsTrueOf word exponent_byte point_byte (causes.NotText byte) =
-    Has word exponent_byte point_byte byte × IsFalse (allowed_ascii byte.value)
-IsTrueOf word exponent_byte point_byte (causes.IsSign byte) =
-    Has word exponent_byte point_byte byte × IsTrue (signs byte.value)
-IsTrueOf word exponent_byte point_byte (causes.IsDigit byte found) =
-    Has word exponent_byte point_byte byte × AreDigits word byte.value found
-IsTrueOf word exponent_byte point_byte (causes.Same first second) =
-    Has word exponent_byte point_byte first × Has word exponent_byte point_byte second
-    × (first.value ≢ 0) × (second.value ≡ first.value)
-IsTrueOf word exponent_byte point_byte (causes.DifferInCase first first_flag second second_flag) =
-    Has word exponent_byte point_byte first × Has word exponent_byte point_byte second
-    × (second.value ≢ first.value) × (second.value ≡ other_case first.value)
-    × IsUnset word first_flag × IsUnset word second_flag
-IsTrueOf word exponent_byte point_byte (causes.BothSet first second) =
-    (any_flag word (flags_of first) ≡ true) × (any_flag word (flags_of second) ≡ true)
-IsTrueOf word exponent_byte point_byte (causes.NeedsPosition part) =
-    IsTrue (lacks_position (raw word) part)
-IsTrueOf word exponent_byte point_byte (causes.ReservedBits bits) =
-    (bits ≢ 0) × (bit_and bits reserved_mask ≡ bits) × (bit_and word bits ≡ bits)
+-- `mask_beside r cause` is the mask of what `cause` blames in `r` beside the bytes that it names.
+abbrev pub mask_beside : Record → Cause → ℕ
+mask_beside r (causes.OutOfRange byte) = mask_beside_radix r byte.name
+mask_beside r (causes.IsDigit byte (radixes.Mantissa radix)) =
+    bit_or (byte_mask layout.mantissa_radix) (mask_if_absent r layout.exponent_radix)
+mask_beside r (causes.IsDigit byte (radixes.Exponent radix)) = byte_mask layout.exponent_radix
+mask_beside r (causes.IsDigit byte (radixes.Both mantissa exponent)) =
+    bit_or (byte_mask layout.mantissa_radix) (byte_mask layout.exponent_radix)
+mask_beside r (causes.DifferInCase first first_flag second second_flag) =
+    bit_or (option_map_or mask_of_setter first_flag 0) (option_map_or mask_of_setter second_flag 0)
+mask_beside r (causes.BothSet first second) = bit_or (mask_of_setter first) (mask_of_setter second)
+mask_beside r (causes.NeedsPosition part) = mask_of (separator_flags_in part)
+mask_beside r (causes.ReservedBits bits) = bits
+mask_beside r cause = 0
+
+-- `mask_if_named byte` is the mask of `byte`, if there is one, and 0 otherwise.
+abbrev pub mask_if_named : Option NamedByte → ℕ
+mask_if_named byte = option_map_or (λ b. mask_of_byte b.name) byte 0
+
+-- `mask_of_cause r cause` is the mask of the bytes that `cause` names, and of what it blames in `r` beside them.
+abbrev pub mask_of_cause : Record → Cause → ℕ
+mask_of_cause r cause =
+    let named = bytes_of cause in bit_or (bit_or (mask_if_named named.0) (mask_if_named named.1)) (mask_beside r cause)
+
+-- REASONS
+
+-- `followers r rule` has the rules that `r` also breaks if it breaks `rule`: those of absent exponent bytes.
+abbrev pub followers : Record → Option Rule → Option Rule × Option Rule
+followers r (Some rules.MantissaRadixInRange) = (
+  then_some (r.byte layout.exponent_base == 0) rules.ExponentBaseInRange,
+  then_some (r.byte layout.exponent_radix == 0) rules.ExponentRadixInRange,
+)
+followers r rule = (None, None)
+
+-- `reason_of r rule cause` is the reason why `r` breaks `rule`, or does not accept options if `rule` is `None`.
+abbrev pub reason_of : Record → Option Rule → Cause → Reason
+reason_of r rule cause =
+    record { rule = rule; followers = followers r rule; cause = cause; mask = mask_of_cause r cause }
+
+-- `named name value` is the byte `name` with its value.
+abbrev pub named : Byte → ℕ → NamedByte
+named name value = record { name = name; value = value }
+
+-- `rule_causes word` lists the causes for which a word can break rules, each behind its rule, in the order of the rules.
+-- A cause that `word` does not have is `None`.
+abbrev pub rule_causes : ℕ → List (Rule × Option Cause)
+rule_causes word =
+    let r = raw word in
+    let separator = named bytes.DigitSeparator (r.byte layout.digit_separator) in
+    let prefix = named bytes.BasePrefix (r.byte layout.base_prefix) in
+    let suffix = named bytes.BaseSuffix (r.byte layout.base_suffix) in
+    let mantissa_radix = named bytes.MantissaRadix (r.byte layout.mantissa_radix) in
+    let exponent_base = named bytes.ExponentBase (r.byte layout.exponent_base) in
+    let exponent_radix = named bytes.ExponentRadix (r.byte layout.exponent_radix) in
+    (rules.MantissaRadixInRange, out_of_range mantissa_radix)
+    ∷ (rules.ExponentBaseInRange, if_present exponent_base (out_of_range exponent_base))
+    ∷ (rules.ExponentRadixInRange, if_present exponent_radix (out_of_range exponent_radix))
+    ∷ (rules.DigitSeparatorIsPunctuation, if_present separator (not_punctuation r separator))
+    ∷ (rules.BasePrefixIsPunctuation, if_present prefix (not_punctuation r prefix))
+    ∷ (rules.BaseSuffixIsPunctuation, if_present suffix (not_punctuation r suffix))
+    ∷ (rules.PunctuationDiffers, clash r separator prefix)
+    ∷ (rules.PunctuationDiffers, clash r separator suffix)
+    ∷ (rules.PunctuationDiffers, clash r prefix suffix)
+    ∷ (rules.ExponentFlagsAgree, both_set r setters.NoExponentNotation setters.RequiredExponentNotation)
+    ∷ (rules.MantissaSignFlagsAgree, both_set r setters.NoPositiveMantissaSign setters.RequiredMantissaSign)
+    ∷ (rules.ExponentSignFlagsAgree, both_set r setters.NoPositiveExponentSign setters.RequiredExponentSign)
+    ∷ (rules.SpecialCaseFlagsAgree, both_set r setters.NoSpecial setters.CaseSensitiveSpecial)
+    ∷ (rules.SpecialSeparatorFlagsAgree, both_set r setters.NoSpecial setters.SpecialDigitSeparator)
+    ∷ (rules.IntegerConsecutiveIsAllowed, needs_position r parts.Integer)
+    ∷ (rules.FractionConsecutiveIsAllowed, needs_position r parts.Fraction)
+    ∷ (rules.ExponentConsecutiveIsAllowed, needs_position r parts.Exponent)
+    ∷ (rules.ReservedBitsAreZero, reserved_bits word) ∷ []
+
+-- `reasons_of word` has a slot for each row of `rule_causes word`, with the reason for its cause, if there is one.
+abbrev pub reasons_of : ℕ → List (Option Reason)
+reasons_of word =
+    map (λ (row : Rule × Option Cause). option_map (reason_of (raw word) (Some row.0)) row.1) (rule_causes word)
+
+-- `options_causes word exponent_byte point_byte` lists the causes for which a word can refuse two options. A cause that
+-- these do not have with `word` is `None`.
+abbrev pub options_causes : ℕ → ℕ → ℕ → List (Option Cause)
+options_causes word exponent_byte point_byte =
+    let r = raw word in
+    let exponent = named bytes.ExponentCharacter exponent_byte in
+    let point = named bytes.DecimalPoint point_byte in
+    let separator = named bytes.DigitSeparator (r.byte layout.digit_separator) in
+    let prefix = named bytes.BasePrefix (r.byte layout.base_prefix) in
+    let suffix = named bytes.BaseSuffix (r.byte layout.base_suffix) in
+    not_punctuation r exponent
+    ∷ not_punctuation r point
+    ∷ clash r exponent point
+    ∷ clash r exponent separator
+    ∷ clash r exponent prefix
+    ∷ clash r exponent suffix
+    ∷ clash r point separator
+    ∷ clash r point prefix
+    ∷ clash r point suffix ∷ []
+
+-- `options_reasons_of word exponent_byte point_byte` has a slot for each row of `options_causes`, with the reason for
+-- its cause, if there is one.
+abbrev pub options_reasons_of : ℕ → ℕ → ℕ → List (Option Reason)
+options_reasons_of word exponent_byte point_byte =
+    map (option_map (reason_of (raw word) None)) (options_causes word exponent_byte point_byte)
 
 -- `Breaks reason rule` holds if a word that has `reason` breaks `rule` for this reason.
 abbrev pub Breaks : Reason → Rule → Type 0
 Breaks reason rule =
     (reason.rule ≡ Some rule) ⊎ ((reason.followers.0 ≡ Some rule) ⊎ (reason.followers.1 ≡ Some rule))
-
--- `Blames word other reason` holds if `reason` is true of `other` and `other` breaks every rule of `reason`, provided
--- that `word` and `other` have the same bits under the mask of `reason`.
-abbrev pub Blames : ℕ → ℕ → Reason → Type 0
-Blames word other reason = bit_and word reason.mask ≡ bit_and other reason.mask
-    → IsTrueOf other 0 0 reason.cause × ((rule : Rule) → Breaks reason rule → Holds rule other → ⊥)
-
--- `BlamesForOptions word exponent_byte point_byte other reason` holds if `reason` is true of `other` and these options,
--- and they do not fit `other`, provided that `word` and `other` have the same bits under the mask of `reason`.
-abbrev pub BlamesForOptions : ℕ → ℕ → ℕ → ℕ → Reason → Type 0
-BlamesForOptions word exponent_byte point_byte other reason = bit_and word reason.mask ≡ bit_and other reason.mask
-    → IsTrueOf other exponent_byte point_byte reason.cause × (OptionsFit other exponent_byte point_byte → ⊥)
 
 -- `EachReason P slots` holds if `P` holds for each reason in `slots`.
 abbrev pub EachReason : (Reason → Type 0) → List (Option Reason) → Type 0

@@ -1,8 +1,9 @@
--- The names of setters, and the settings that call them, for `Setter`, `Edit` and `SettingError`.
+-- The names of setters, and the settings that call them, for `Setter`, `Edit` and `EditError`.
 use Rattle.std.specs.Prelude.{ℕ, ◌≡◌, ◌≢◌, ◌==◌, ◌&&◌, Bool, true, false, nat_lt, if◌then◌else◌, Option, Some, None}
-use Rattle.std.specs.Prelude.{Result, Ok, Err, List, [], ◌∷◌, codes, take, drop, slice_index, bytes_eq}
+use Rattle.std.specs.Prelude.{Result, Ok, Err, MatchResult, List, [], ◌∷◌, codes, take, drop, slice_index, bytes_eq}
 use Rattle.std.specs.Bool.{then_some}
-use Rattle.lexical_base.specs.Ascii.{ByteSet}
+use Rattle.std.specs.Str.{IsTrimAscii}
+use Rattle.lexical_base.specs.Ascii.{ByteSet, between}
 use Rattle.lexical_base.specs.Digits.{numeral}
 use Rattle.lexical_util.specs.Additions.EditMasks.{argument_byte}
 use Rattle.lexical_util.specs.Additions.Numeral.{is_numeral}
@@ -14,7 +15,7 @@ use Rattle.lexical_util.specs.declared.edits.setters.FlagSetter.TheVariants as f
 use Rattle.lexical_util.specs.declared.edits.setters.Setter.{Setter}
 use Rattle.lexical_util.specs.declared.edits.setters.Setter.TheVariants as setters
 use Rattle.lexical_util.specs.declared.edits.settings.Fault.TheVariants as faults
-use Rattle.lexical_util.specs.declared.edits.settings.SettingError.{SettingError}
+use Rattle.lexical_util.specs.declared.edits.settings.EditError.{EditError}
 
 -- `name_of setter` is the name of `setter`.
 unfoldable pub name_of : Setter → List ℕ
@@ -80,9 +81,11 @@ setter_of (edits.ExponentRadix radix) = setters.ExponentRadix
 -- `kind_of setter` is the kind of argument that `setter` takes.
 abbrev pub kind_of : Setter → ArgumentKind
 kind_of (setters.Flag setter) = kinds.Flag
-kind_of setters.MantissaRadix = kinds.Byte
-kind_of setters.Radix = kinds.Byte
-kind_of _ = kinds.OptionalByte
+kind_of setters.MantissaRadix = kinds.Number
+kind_of setters.Radix = kinds.Number
+kind_of setters.ExponentBase = kinds.OptionalNumber
+kind_of setters.ExponentRadix = kinds.OptionalNumber
+kind_of _ = kinds.OptionalCharacter
 
 -- `takes_flag setter` is true if `setter` takes a flag.
 abbrev pub takes_flag : Setter → Bool
@@ -95,38 +98,45 @@ abbrev pub byte_of_digits : ℕ → ℕ → List ℕ → Option ℕ
 byte_of_digits radix most digits =
     then_some (is_numeral radix most digits && nat_lt (numeral radix digits) 256) (numeral radix digits)
 
--- `byte_of_text text` is the byte that `text` represents: the character between two single quotes, one or two
--- hexadecimal digits after `0x`, or one to three decimal digits.
-abbrev pub byte_of_text : List ℕ → Option ℕ
-byte_of_text text =
-    if bytes_eq text (39 ∷ slice_index text 1 ∷ 39 ∷ []) then Some (slice_index text 1)
-    else if bytes_eq (take 2 text) (codes "0x") then byte_of_digits 16 2 (drop 2 text) else byte_of_digits 10 3 text
+-- `byte_of_number text` is the number that `text` represents in one or two hexadecimal digits after `0x`, or in one to
+-- three decimal digits.
+abbrev pub byte_of_number : List ℕ → Option ℕ
+byte_of_number text =
+    if bytes_eq (take 2 text) (codes "0x") then byte_of_digits 16 2 (drop 2 text) else byte_of_digits 10 3 text
+
+-- `byte_of_character text` is the character between two single quotes, which is ASCII and not a control character, or
+-- the byte that `text` represents as a number.
+abbrev pub byte_of_character : List ℕ → Option ℕ
+byte_of_character text =
+    if bytes_eq text (39 ∷ slice_index text 1 ∷ 39 ∷ []) && between 32 126 (slice_index text 1)
+    then Some (slice_index text 1) else byte_of_number text
 
 -- `byte_of_value kind value` is the argument of this kind, as a byte, that the text `value` represents.
 abbrev pub byte_of_value : ArgumentKind → List ℕ → Option ℕ
 byte_of_value kinds.Flag value =
     if bytes_eq value (codes "true") then Some 1 else if bytes_eq value (codes "false") then Some 0 else None
-byte_of_value kinds.Byte value = byte_of_text value
-byte_of_value kinds.OptionalByte value = if bytes_eq value (codes "none") then Some 0 else byte_of_text value
+byte_of_value kinds.OptionalCharacter value = if bytes_eq value (codes "none") then Some 0 else byte_of_character value
+byte_of_value kinds.Number value = byte_of_number value
+byte_of_value kinds.OptionalNumber value = if bytes_eq value (codes "none") then Some 0 else byte_of_number value
 
 -- `is_equals` is the set that contains only the byte of the character `=`.
 abbrev pub is_equals : ByteSet
 is_equals byte = byte == 61
 
--- `no_equals`, `unknown_name` and `bad_value setter` are the errors of a text without `=`, of a name that no setter has,
--- and of a value that `setter` does not take.
-abbrev pub no_equals : SettingError
+-- `no_equals`, `unknown_name nearest` and `bad_value setter` are the errors of a text without `=`, of a name that no setter
+-- has, with the setter that the message suggests, if any, and of a value that `setter` does not take.
+abbrev pub no_equals : EditError
 no_equals = record { 0 = faults.NoEquals }
 
-abbrev pub unknown_name : SettingError
-unknown_name = record { 0 = faults.UnknownName }
+abbrev pub unknown_name : Option Setter → EditError
+unknown_name nearest = record { 0 = faults.UnknownName nearest }
 
-abbrev pub bad_value : Setter → SettingError
+abbrev pub bad_value : Setter → EditError
 bad_value setter = record { 0 = faults.BadValue setter }
 
 -- `IsParsed setter value result` holds if `result` is an edit that calls `setter` with the argument that `value`
 -- represents, or the error `bad_value setter` if it represents none.
-abbrev pub IsParsed : Setter → List ℕ → Result Edit SettingError → Type 0
+abbrev pub IsParsed : Setter → List ℕ → Result Edit EditError → Type 0
 IsParsed setter value (Ok edit) =
     (setter_of edit ≡ setter) × (byte_of_value (kind_of setter) value ≡ Some (argument_byte edit))
 IsParsed setter value (Err error) = (error ≡ bad_value setter) × (byte_of_value (kind_of setter) value ≡ None)
@@ -136,7 +146,14 @@ abbrev pub IsNoName : List ℕ → Type 0
 IsNoName name = (setter : Setter) → name_of setter ≢ name
 
 -- `IsSetting name value result` holds if `result` is what the setter with the name `name` makes of `value`, or the error
--- `unknown_name` if no setter has the name.
-pub record IsSetting (name value : List ℕ) (result : Result Edit SettingError) : Type 0 where
-  pub unknown : IsNoName name → result ≡ Err unknown_name
+-- of an unknown name, whatever its message suggests, if no setter has the name.
+pub record IsSetting (name value : List ℕ) (result : Result Edit EditError) : Type 0 where
+  pub unknown : IsNoName name
+      → MatchResult result (λ edit. ⊥) (λ error. (nearest : Option Setter) × (error ≡ unknown_name nearest))
   pub known : (setter : Setter) → name_of setter ≡ name → IsParsed setter value result
+
+-- `IsPadded name value result` holds if `result` is what the setting makes of `name` and `value` without the white space
+-- at both ends of each.
+abbrev pub IsPadded : List ℕ → List ℕ → Result Edit EditError → Type 0
+IsPadded name value result = (own argument : List ℕ) × IsTrimAscii name own × IsTrimAscii value argument
+    × IsSetting own argument result

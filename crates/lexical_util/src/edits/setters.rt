@@ -186,10 +186,12 @@ pub enum Setter {
 pub enum ArgumentKind {
     /// The setter takes a `bool`.
     Flag,
-    /// The setter takes a byte that cannot be absent.
-    Byte,
-    /// The setter takes a byte that may be absent.
-    OptionalByte,
+    /// The setter takes a byte that is a character, and that may be absent.
+    OptionalCharacter,
+    /// The setter takes a byte that is a number, and that cannot be absent.
+    Number,
+    /// The setter takes a byte that is a number, and that may be absent.
+    OptionalNumber,
 }
 
 /// A call to a setter of [`NumberFormatBuilder`][lexical_builder::format_builder::NumberFormatBuilder], stored as a
@@ -363,12 +365,11 @@ impl Setter {
     {
         match self {
             Setter::Flag(_) => ArgumentKind::Flag,
-            Setter::MantissaRadix | Setter::Radix => ArgumentKind::Byte,
-            Setter::DigitSeparator
-            | Setter::BasePrefix
-            | Setter::BaseSuffix
-            | Setter::ExponentBase
-            | Setter::ExponentRadix => ArgumentKind::OptionalByte,
+            Setter::DigitSeparator | Setter::BasePrefix | Setter::BaseSuffix => {
+                ArgumentKind::OptionalCharacter
+            }
+            Setter::MantissaRadix | Setter::Radix => ArgumentKind::Number,
+            Setter::ExponentBase | Setter::ExponentRadix => ArgumentKind::OptionalNumber,
         }
     }
 

@@ -1,17 +1,14 @@
 //! Notes on fields that are set but have no effect on any number.
 
-ghost use Rattle.std.specs.Prelude.{◌≡◌, ◌==◌, ℕ, [], ◌∷◌, Option, List, bit_and};
+ghost use Rattle.std.specs.Prelude.{◌≡◌, ◌==◌};
 ghost use Rattle.lexical_flags.specs.Layout as layout;
 ghost use Rattle.lexical_flags.specs.Record.{pack, raw, set_byte};
 ghost use Rattle.lexical_flags.specs.Roles.{other_case};
-ghost use Rattle.lexical_util.specs.Additions.Notes.{mask_of_note, IsIdle, AreNotes, AreReasons, ChangeNothing};
-ghost use Rattle.lexical_util.specs.Private.{separator_note, case_note, unless_blamed, blamed};
-ghost use Rattle.lexical_util.specs.declared.edits.setters.FlagSetter.TheVariants as setters;
-ghost use Rattle.lexical_util.specs.declared.reasons.Byte.TheVariants as bytes;
-ghost use Rattle.lexical_util.specs.declared.reasons.Reason.{Reason};
+ghost use Rattle.lexical_util.specs.Additions.Notes.{mask_of_note, notes_of, separator_note, case_note, is_blamed, unless_blamed};
+ghost use Rattle.lexical_util.specs.Additions.Reasons.{reasons_of};
 
 use crate::edits::{FlagSetter, mask_of};
-use crate::reasons::{Byte, Characters, NamedByte, Reason, reasons, some_if};
+use crate::reasons::{Byte, NamedByte, Reason, is_cased, named, reasons, some_if};
 use lexical_builder::format_builder::NumberFormatBuilder;
 use lexical_flags::format_flags as flags;
 
@@ -39,11 +36,8 @@ impl Note {
     /// Returns the mask of the bits of the fields that the note names. On a format word that has the same values in
     /// these bits, the note is as true. A note is left out if this mask and the mask of a reason share a bit.
     #[must_use]
-    #[tactic(auto, using(crate::proofs::NoteLemmas::idle_agrees))]
     pub const fn mask(&self) -> u128
-        ensures fields { result ≡ mask_of_note self.now }
-        ensures depends { (word other : ℕ) → bit_and word result ≡ bit_and other result
-            → IsIdle (raw word) self.now → IsIdle (raw other) self.now }
+        ensures { result ≡ mask_of_note self.now }
     {
         match self {
             Note::SeparatorWithoutFlag(_) | Note::FlagsWithoutSeparator => {
@@ -61,11 +55,7 @@ impl Note {
 /// fields that it names.
 #[must_use]
 pub const fn notes(format: u128) -> [Option<Note>; MAX_NOTES]
-    // No reason of the word blames a field of these notes, and these are all such notes.
-    ensures found { (slots : List (Option Reason)) × (AreReasons format slots × AreNotes (raw format) slots result) }
-
-    // What a note names can be cleared without changing a rule, a role or an option.
-    ensures idle { ChangeNothing format result }
+    ensures { result ≡ notes_of (raw format) (reasons_of format) }
 {
     notes_beside_reasons(format, &reasons(format))
 }
@@ -76,10 +66,9 @@ pub const fn notes_beside_reasons(
     format: u128,
     reasons: &[Option<Reason>],
 ) -> [Option<Note>; MAX_NOTES]
-    ensures found { AreNotes (raw format) reasons.now result }
-    ensures idle { AreReasons format reasons.now → ChangeNothing format result }
+    ensures { result ≡ notes_of (raw format) reasons.now }
 {
-    notes_beside(blamed(reasons), format, flags::digit_separator(format))
+    notes_beside(reasons, format, flags::digit_separator(format))
 }
 
 /// Returns the notes on the fields of a builder, as [`notes`] does for a format word.
@@ -87,39 +76,36 @@ pub const fn notes_beside_reasons(
 /// A digit separator that no flag allows has a note, although the builder does not pack it.
 #[must_use]
 pub const fn notes_of_fields(builder: &NumberFormatBuilder) -> [Option<Note>; MAX_NOTES]
-    ensures found { (slots : List (Option Reason))
-        × (AreReasons (pack builder.now) slots × AreNotes builder.now slots result) }
-    ensures idle { ChangeNothing (pack builder.now) result }
+    ensures { result ≡ notes_of builder.now (reasons_of (pack builder.now)) }
 {
     let separator = match builder.get_digit_separator() {
         Some(byte) => byte.get(),
         None => 0,
     };
     let format = builder.build_unchecked();
-    notes_beside(blamed(&reasons(format)), format, separator)
+    notes_beside(&reasons(format), format, separator)
 }
 
-// Returns the notes on a word in which the digit separator is replaced by `separator`, except those on `blamed` bits.
-const fn notes_beside(blamed: u128, format: u128, separator: u8) -> [Option<Note>; MAX_NOTES]
-    ensures { let r = set_byte (raw format) layout.digit_separator separator in
-        result ≡ unless_blamed blamed (separator_note r)
-        ∷ unless_blamed blamed (case_note r setters.CaseSensitiveBasePrefix bytes.BasePrefix)
-        ∷ unless_blamed blamed (case_note r setters.CaseSensitiveBaseSuffix bytes.BaseSuffix) ∷ [] }
+// Returns the notes on a word in which the digit separator is replaced by `separator`, beside `reasons`.
+const fn notes_beside(
+    reasons: &[Option<Reason>],
+    format: u128,
+    separator: u8,
+) -> [Option<Note>; MAX_NOTES]
+    ensures { result ≡ notes_of (set_byte (raw format) layout.digit_separator separator) reasons.now }
 {
-    let prefix = case_note(
-        format,
-        FlagSetter::CaseSensitiveBasePrefix,
-        Byte::BasePrefix,
-    );
-    let suffix = case_note(
-        format,
-        FlagSetter::CaseSensitiveBaseSuffix,
-        Byte::BaseSuffix,
-    );
+    let prefix = named(Byte::BasePrefix, flags::base_prefix(format));
+    let suffix = named(Byte::BaseSuffix, flags::base_suffix(format));
     [
-        unless_blamed(blamed, separator_note(format, separator)),
-        unless_blamed(blamed, prefix),
-        unless_blamed(blamed, suffix),
+        unless_blamed(reasons, separator_note(format, separator)),
+        unless_blamed(
+            reasons,
+            case_note(format, FlagSetter::CaseSensitiveBasePrefix, prefix),
+        ),
+        unless_blamed(
+            reasons,
+            case_note(format, FlagSetter::CaseSensitiveBaseSuffix, suffix),
+        ),
     ]
 }
 
@@ -127,34 +113,25 @@ const fn notes_beside(blamed: u128, format: u128, separator: u8) -> [Option<Note
 const fn separator_note(format: u128, separator: u8) -> Option<Note>
     ensures { result ≡ separator_note (set_byte (raw format) layout.digit_separator separator) }
 {
-    let byte = NamedByte {
-        name: Byte::DigitSeparator,
-        value: separator,
-    };
     if flags::is_separator_allowed(format) {
         some_if(separator == 0, Note::FlagsWithoutSeparator)
     } else {
+        let byte = named(Byte::DigitSeparator, separator);
         some_if(separator != 0, Note::SeparatorWithoutFlag(byte))
     }
 }
 
 // Returns the note on the case flag of a byte, if any.
 #[inline(always)]
-const fn case_note(format: u128, flag: FlagSetter, byte: Byte) -> Option<Note>
+const fn case_note(format: u128, flag: FlagSetter, byte: NamedByte) -> Option<Note>
     ensures { result ≡ case_note (raw format) flag byte }
 {
-    let word = Characters {
-        format,
-        exponent: 0,
-        point: 0,
-    };
-    let named = word.named(byte);
-    let note = if named.value == 0 {
-        Note::CaseFlagWithoutByte(flag, byte)
+    let note = if byte.value == 0 {
+        Note::CaseFlagWithoutByte(flag, byte.name)
     } else {
-        Note::CaseFlagOfNonLetter(flag, named)
+        Note::CaseFlagOfNonLetter(flag, byte)
     };
-    some_if(word.is_cased(byte) & has_no_case(named.value), note)
+    some_if(is_cased(format, byte.name) & has_no_case(byte.value), note)
 }
 
 // Returns whether a byte is the same in both cases.
@@ -164,23 +141,23 @@ const fn has_no_case(byte: u8) -> bool
     !byte.is_ascii_alphabetic()
 }
 
-// Returns a note if it describes no blamed bit.
-const fn unless_blamed(blamed: u128, note: Option<Note>) -> Option<Note>
-    ensures { result ≡ unless_blamed blamed note }
+// Returns a note unless a reason blames a field that it names.
+const fn unless_blamed(reasons: &[Option<Reason>], note: Option<Note>) -> Option<Note>
+    ensures { result ≡ unless_blamed reasons.now note }
 {
     match note {
-        Some(note) => some_if(blamed & note.mask() == 0, note),
+        Some(note) => some_if(!is_blamed(reasons, note.mask()), note),
         None => None,
     }
 }
 
-// Returns the mask of the bits that these reasons blame.
-const fn blamed(reasons: &[Option<Reason>]) -> u128
-    ensures { result ≡ blamed reasons.now }
+// Returns whether a reason blames a bit of `mask`.
+const fn is_blamed(reasons: &[Option<Reason>], mask: u128) -> bool
+    ensures { result ≡ is_blamed reasons.now mask }
 {
     match reasons {
-        [] => 0,
-        [None, rest @ ..] => blamed(rest),
-        [Some(reason), rest @ ..] => reason.mask() | blamed(rest),
+        [] => false,
+        [None, rest @ ..] => is_blamed(rest, mask),
+        [Some(reason), rest @ ..] => reason.mask() & mask != 0 || is_blamed(rest, mask),
     }
 }

@@ -10,6 +10,15 @@ exponent_base 10
 exponent_radix 10
 ";
 
+const LARGEST_FIELDS: &str = "flags 0x000000000000000000001FFF0003FFFF
+digit_separator 255
+base_prefix 255
+base_suffix 255
+mantissa_radix 255
+exponent_base 255
+exponent_radix 255
+";
+
 const ONE_TO_SIX: &str = "flags 0x0000000000000000000010000000000C
 digit_separator 1
 base_prefix 2
@@ -71,12 +80,14 @@ note: case_sensitive_base_suffix is set, but there is no base suffix
 
 /// Lists of arguments, the text that they print, and the exit status.
 #[rattlefmt::skip]
-pub const ANSWERS: [(&[&str], &str, u8); 31] = [
+pub const ANSWERS: [(&[&str], &str, u8); 33] = [
     (&[], STANDARD_FIELDS, 0),
     (&["show", "0x00000A0000000000000000000000000C"], STANDARD_FIELDS, 0),
     (&["show", "0xa0000000000000000000000000c"], STANDARD_FIELDS, 0),
+    (&["show", "0xFFFFFFFFFFFFFFFFFFFFFFFFFFFFFFFF"], LARGEST_FIELDS, 0),
     (&["show", "0x0605040302ABCD0100001000fed0000c"], ONE_TO_SIX, 0),
     (&["edit", "0xc", "radix=16", "digit_separator=95", "integer_digit_separator_flags=true"], "0x000010000000005F000002490000000C\n", 0),
+    (&["edit", "0xFFFFFFFFFFFFFFFFFFFFFFFFFFFFFFFF"], "0xFFFFFFFFFF0000FF00001FFF0003FFFF\n", 0),
     (&["edit", "0x00000A0000000000000000000000000C"], "0x0A0A0A0000000000000000000000000C\n", 0),
     (&["edit", "0x00000A0000000000000000000000000C", "radix=007"], "0x0A0A070000000000000000000000000C\n", 0),
     (&["edit", "0x00000A0000000000000000000000000C", "digit_separator=0", "exponent_base=none"], "0x0A000A0000000000000000000000000C\n", 0),
@@ -107,7 +118,7 @@ pub const ANSWERS: [(&[&str], &str, u8); 31] = [
 
 /// Lists of arguments that are refused, the text that states why, and the exit status.
 #[rattlefmt::skip]
-pub const REFUSALS: [(&[&str], &str, u8); 36] = [
+pub const REFUSALS: [(&[&str], &str, u8); 44] = [
     (&[""], "numfmt: unknown command\n", 2),
     (&["show 0xC"], "numfmt: unknown command\n", 2),
     (&["show"], "numfmt: wrong number of arguments\n", 2),
@@ -134,7 +145,15 @@ pub const REFUSALS: [(&[&str], &str, u8); 36] = [
     (&["source", ""], "numfmt: bad word\n", 2),
     (&["explain", "C"], "numfmt: bad word\n", 2),
     (&["edit", "0xC", "radix=256"], "numfmt: bad edit\n", 2),
+    (&["edit", "0xC", "radix"], "numfmt: bad edit\n", 2),
     (&["edit", "0xC", "radix=16", "radix"], "numfmt: bad edit\n", 2),
+    (&["edit", "0x00000A0000000000000000000000000C", "radix="], "numfmt: bad edit\n", 2),
+    (&["edit", "0x00000A0000000000000000000000000C", "radix=0010"], "numfmt: bad edit\n", 2),
+    (&["edit", "0x00000A0000000000000000000000000C", "radix=none"], "numfmt: bad edit\n", 2),
+    (&["edit", "0x00000A0000000000000000000000000C", "=true"], "numfmt: bad edit\n", 2),
+    (&["edit", "0x00000A0000000000000000000000000C", "no_special=True"], "numfmt: bad edit\n", 2),
+    (&["edit", "0x00000A0000000000000000000000000C", "no_special=true="], "numfmt: bad edit\n", 2),
+    (&["edit", "0x00000A0000000000000000000000000C", "STANDARD=true"], "numfmt: bad edit\n", 2),
     (&["edit", "0x00000A0000000000000000000000000C", "base_prefix='x'"], "numfmt: bad edit\n", 2),
     (&["edit", "0x00000A0000000000000000000000000C", "base_prefix=0x78"], "numfmt: bad edit\n", 2),
     (&["edit", "0xC", "radix = 16"], "numfmt: bad edit\n", 2),
@@ -144,4 +163,57 @@ pub const REFUSALS: [(&[&str], &str, u8); 36] = [
     (&["options", "0x00000A0000000000000000000000000C", "101", "none"], "numfmt: bad byte\n", 2),
     (&["options", "0x00000A0000000000000000000000000C", "101", ""], "numfmt: bad byte\n", 2),
     (&["options", "0xC", "101", "46\n"], "numfmt: bad byte\n", 2),
+];
+
+/// A setting, and the text that `edit` prints if it makes this edit to the word that has only the flag at bit 44.
+#[rattlefmt::skip]
+pub const EDITS: [(&str, &str); 48] = [
+    ("required_integer_digits=true", "0x00000000000000000000100000000001\n"),
+    ("required_fraction_digits=true", "0x00000000000000000000100000000002\n"),
+    ("required_exponent_digits=true", "0x00000000000000000000100000000004\n"),
+    ("required_mantissa_digits=true", "0x00000000000000000000100000000008\n"),
+    ("no_positive_mantissa_sign=true", "0x00000000000000000000100000000010\n"),
+    ("required_mantissa_sign=true", "0x00000000000000000000100000000020\n"),
+    ("no_exponent_notation=true", "0x00000000000000000000100000000040\n"),
+    ("no_positive_exponent_sign=true", "0x00000000000000000000100000000080\n"),
+    ("required_exponent_sign=true", "0x00000000000000000000100000000100\n"),
+    ("no_exponent_without_fraction=true", "0x00000000000000000000100000000200\n"),
+    ("no_special=true", "0x00000000000000000000100000000400\n"),
+    ("case_sensitive_special=true", "0x00000000000000000000100000000800\n"),
+    ("no_integer_leading_zeros=true", "0x00000000000000000000100000001000\n"),
+    ("no_float_leading_zeros=true", "0x00000000000000000000100000002000\n"),
+    ("required_exponent_notation=true", "0x00000000000000000000100000004000\n"),
+    ("case_sensitive_exponent=true", "0x00000000000000000000100000008000\n"),
+    ("case_sensitive_base_prefix=true", "0x00000000000000000000100000010000\n"),
+    ("case_sensitive_base_suffix=true", "0x00000000000000000000100000020000\n"),
+    ("integer_internal_digit_separator=true", "0x00000000000000000000100100000000\n"),
+    ("fraction_internal_digit_separator=true", "0x00000000000000000000100200000000\n"),
+    ("exponent_internal_digit_separator=true", "0x00000000000000000000100400000000\n"),
+    ("integer_leading_digit_separator=true", "0x00000000000000000000100800000000\n"),
+    ("fraction_leading_digit_separator=true", "0x00000000000000000000101000000000\n"),
+    ("exponent_leading_digit_separator=true", "0x00000000000000000000102000000000\n"),
+    ("integer_trailing_digit_separator=true", "0x00000000000000000000104000000000\n"),
+    ("fraction_trailing_digit_separator=true", "0x00000000000000000000108000000000\n"),
+    ("exponent_trailing_digit_separator=true", "0x00000000000000000000110000000000\n"),
+    ("integer_consecutive_digit_separator=true", "0x00000000000000000000120000000000\n"),
+    ("fraction_consecutive_digit_separator=true", "0x00000000000000000000140000000000\n"),
+    ("exponent_consecutive_digit_separator=true", "0x00000000000000000000180000000000\n"),
+    ("special_digit_separator=true", "0x00000000000000000000100000000000\n"),
+    ("required_digits=true", "0x0000000000000000000010000000000F\n"),
+    ("internal_digit_separator=true", "0x00000000000000000000100700000000\n"),
+    ("leading_digit_separator=true", "0x00000000000000000000103800000000\n"),
+    ("trailing_digit_separator=true", "0x0000000000000000000011C000000000\n"),
+    ("consecutive_digit_separator=true", "0x000000000000000000001E0000000000\n"),
+    ("digit_separator_flags=true", "0x000000000000000000001FFF00000000\n"),
+    ("integer_digit_separator_flags=true", "0x00000000000000000000124900000000\n"),
+    ("fraction_digit_separator_flags=true", "0x00000000000000000000149200000000\n"),
+    ("exponent_digit_separator_flags=true", "0x00000000000000000000192400000000\n"),
+    ("digit_separator=1", "0x00000000000000010000100000000000\n"),
+    ("base_prefix=1", "0x00000000010000000000100000000000\n"),
+    ("base_suffix=1", "0x00000001000000000000100000000000\n"),
+    ("mantissa_radix=1", "0x00000100000000000000100000000000\n"),
+    ("radix=1", "0x00000100000000000000100000000000\n"),
+    ("exponent_base=1", "0x00010000000000000000100000000000\n"),
+    ("exponent_radix=1", "0x01000000000000000000100000000000\n"),
+    ("special_digit_separator=false", "0x00000000000000000000000000000000\n"),
 ];

@@ -1,26 +1,31 @@
--- One more byte.
-use Rattle.std.proofs.Common.{◌≡◌, ◌<◌, length, take, get_or, ap, ◌∙◌, arith}
+-- One byte less.
+use Rattle.std.proofs.Common.{ℕ, ◌≡◌, ◌<◌, ◌≤◌, ◌+◌, ◌-◌, if◌then◌else◌, List, length, take, get_or, ap, sym, ◌∙◌, arith}
 use Rattle.std.proofs.lemmas.List.{take_more, length-take-le}
+use Rattle.lexical_util.specs.Ascii.{ByteSet}
 use Rattle.lexical_literal.specs.Additions.Causes.{kind_set}
 use Rattle.lexical_literal.specs.Cause.{behind}
 use Rattle.lexical_literal.specs.Notation.{notation_of}
 use Rattle.lexical_literal.proofs.CauseLemmas.{behind_more}
 use Rattle.lexical_literal.proofs.span.behind.Goals as goal
 
+step : (A : ByteSet) (text : List ℕ) (i : ℕ) → 0 < i → i ≤ length text
+    → behind A (take i text) ≡ (if A (get_or text (i - 1) 0) then i else behind A (take (i - 1) text))
+step A text i some within =
+    let size : length (take (i - 1) text) ≡ i - 1 = length-take-le (i - 1) text (omega (arith, within)) in
+    let same : i - 1 + 1 ≡ i = omega (arith, some) in
+    let more = ap (λ n. behind A (take n text)) (sym same) ∙ ap (behind A) (take_more text (i - 1) 0 (omega (arith, some, within)))
+    ∙ behind_more A (take (i - 1) text) (get_or text (i - 1) 0) in
+    more ∙ ap (λ n. if A (get_or text (i - 1) 0) then n else behind A (take (i - 1) text)) (ap (λ n. n + 1) size ∙ same)
+
+pub returns-then-is_kind : goal.returns-then-is_kind
+returns-then-is_kind c =
+    let now = step (kind_set (notation_of c.args.grammar) c.args.kind) c.args.text.now c.loop-index.index c.loop-index-test.true
+    (omega (arith, c.loop-index.invariant.within, c.requires)) in
+    let last = c.loop-index.invariant.last in let is = sym c.is_kind.ensures ∙ c.if-is_kind.true in grind arith
+
 pub loop-index-preserved : goal.loop-index-preserved
 loop-index-preserved c =
-    let A = kind_set (notation_of c.args.grammar) c.args.kind in
-    let text = c.args.text.now in
-    let i = c.loop-index.index in
-    let inside : i < length text = omega (arith, c.requires) in
-    let size : length (take i text) ≡ i = length-take-le i text (omega arith) in
-    let more = ap (behind A) (take_more text i 0 inside) ∙ behind_more A (take i text) (get_or text i 0) in
-    record {
-      within = omega arith;
-      last = let branch = c.if-is_kind.branch in let is = c.is_kind.ensures in let last = c.loop-index.invariant.last in grind arith;
-    }
-
-pub returns : goal.returns
-returns c =
-    let same : c.loop-index.index ≡ c.args.end = omega (arith, c.loop-index.invariant.within) in
-    c.loop-index.invariant.last ∙ ap (λ n. behind (kind_set (notation_of c.args.grammar) c.args.kind) (take n c.args.text.now)) same
+    let now = step (kind_set (notation_of c.args.grammar) c.args.kind) c.args.text.now c.loop-index.index c.loop-index-test.true
+    (omega (arith, c.loop-index.invariant.within, c.requires)) in
+    let last = c.loop-index.invariant.last in let is = sym c.is_kind.ensures ∙ c.if-is_kind.false in
+    record { within = omega (arith, c.loop-index.invariant.within); last = grind arith }

@@ -1,4 +1,4 @@
-use Rattle.std.proofs.Common.{◌-◌, ◌≡◌, ◌≤◌, take}
+use Rattle.std.proofs.Common.{◌≡◌, ◌≤◌, take}
 use Rattle.lexical_literal.specs.Additions.Causes.{kind_set}
 use Rattle.lexical_literal.specs.Cause.{behind}
 use Rattle.lexical_literal.specs.Notation.{notation_of}
@@ -7,8 +7,8 @@ use Rattle.lexical_literal.proofs.span.behind.Given as goal
 abbrev pub invariant-loop-index : goal.invariant-loop-index
 invariant-loop-index l = record {
   within : l.index ≤ l.end;
-  last : l.found ≡ behind (kind_set (notation_of l.grammar) l.kind) (take l.index l.text);
+  last : behind (kind_set (notation_of l.grammar) l.kind) (take l.end l.text) ≡ behind (kind_set (notation_of l.grammar) l.kind) (take l.index l.text);
 }
 
 abbrev pub decreases-loop-index : goal.decreases-loop-index
-decreases-loop-index l = l.end - l.index
+decreases-loop-index l = l.index

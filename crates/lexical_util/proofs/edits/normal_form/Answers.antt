@@ -1,7 +1,8 @@
 -- The result is the normal form, and each clause is a lemma on normal forms.
-use Rattle.std.proofs.Common.{refl, arith}
+use Rattle.std.proofs.Common.{◌∙◌, refl, sym, ap, arith}
+use Rattle.lexical_flags.specs.Record.{pack}
 use Rattle.lexical_util.specs.NormalForm.{normal_form_of}
-use Rattle.lexical_util.proofs.NormalLemmas.{normal_joined, raw_normal, clean_normal, normal_only, normal_again}
+use Rattle.lexical_util.proofs.NormalLemmas.{normal_form-is, raw_normal, clean_normal, normal_only, normal_again}
 use Rattle.lexical_util.proofs.NormalLemmas.{normal_from_fixed, fixed_from_normal, normal_keeps, groups_normal}
 use Rattle.lexical_util.proofs.NormalLemmas.{flags_normal, edited-normal}
 use Rattle.lexical_util.proofs.edits.normal_form.Goals as goal
@@ -10,7 +11,7 @@ pub returns : goal.returns
 returns c =
     let w = c.args.format in
     let rules = c.rule_facts.ensures in
-    rw (normal_joined w c.normal_upper.result (omega arith) c.normal_upper.ensures) (record {
+    rw (c.build_unchecked.ensures.word ∙ ap pack c.rebuild.ensures ∙ sym (normal_form-is w)) (record {
       word = refl;
       fields = raw_normal w;
       clean = clean_normal w;

@@ -1,35 +1,52 @@
 -- A requirement, missing digits, or what is wrong with a byte.
-use Rattle.std.proofs.Common.{◌≡◌, false, None, sym, ap, subst, ◌∙◌}
-use Rattle.std.proofs.lemmas.Bool.{false≢true, or_parts}
+use Rattle.std.proofs.Common.{ℕ, ◌≡◌, ◌∙◌, Bool, true, false, if◌then◌else◌, Option, None, refl, sym, ap}
+use Rattle.lexical_util.specs.Layout.{Flag}
 use Rattle.lexical_literal.specs.Additions.Causes.{allows, class_of_next}
-use Rattle.lexical_literal.specs.Cause.{IsCause, bare}
-use Rattle.lexical_literal.specs.Notation.{notation_of}
+use Rattle.lexical_literal.specs.Additions.Explained.{Blamed, blame, otherwise, requirements}
+use Rattle.lexical_literal.specs.Cause.{bare, with_flags}
 use Rattle.lexical_util.specs.Record.{raw}
-use Rattle.lexical_literal.specs.declared.cause.Cause.TheVariants as causes
-use Rattle.lexical_literal.proofs.BlameLemmas.{as_bare, bare_weaker}
+use Rattle.lexical_literal.specs.declared.cause.Stop.{Stop}
+use Rattle.lexical_literal.specs.Notation.{Notation, notation_of}
+use Rattle.lexical_literal.specs.declared.cause.ReadErrorKind.TheVariants as causes
+use Rattle.lexical_literal.proofs.BlameLemmas.{as_bare}
 use Rattle.lexical_literal.proofs.CauseLemmas.{flag_zero}
 use Rattle.lexical_literal.proofs.cause.Stop.blame.Goals as goal
 
-pub requirements-requires-clause-allowed : goal.requirements-requires-clause-allowed
-requirements-requires-clause-allowed c = rw (← as_bare (notation_of c.args.self.grammar) c.bare.result c.bare.ensures) (sym c.allows.ensures ∙ c.if-allows.true)
+module _ (stop : Stop) (next : Option ℕ) (is_next : stop.next ≡ class_of_next (notation_of stop.grammar) next)
+    (bits : ℕ) (each : (f : Flag) → (raw bits).flag f ≡ (bare (notation_of stop.grammar)).flag f) where
+  abbrev m : Notation
+  m = notation_of stop.grammar
+
+  by_test : (t : Bool) → t ≡ allows (with_flags m (raw bits).flag) stop.read stop.next → (o : Option ℕ) → next ≡ o
+      → blame m stop.read next
+      ≡ (if t then record { kind = causes.Requirement; flags = requirements m stop.read (class_of_next m next) } else otherwise m stop.read o)
+  by_test t is o same = λ j. if sym (is ∙ (λ j. allows (as_bare m bits each j) stop.read (is_next j))) j
+      then record { kind = causes.Requirement; flags = requirements m stop.read (class_of_next m next) } else otherwise m stop.read (same j)
 
 pub wrong-requires-clause-refused : goal.wrong-requires-clause-refused
 wrong-requires-clause-refused c = rw (← as_bare (notation_of c.args.self.grammar) c.bare.result c.bare.ensures) (sym c.allows.ensures ∙ c.if-allows.false)
 
-pub returns-then-allows : goal.returns-then-allows
-returns-then-allows c front is_read = c.requirements.ensures front c.args.next (rw (c.requires.next) (is_read.decides c.args.next))
+pub returns-then-allows-clause-kind : goal.returns-then-allows-clause-kind
+returns-then-allows-clause-kind c = sym (ap (λ (b : Blamed). b.kind) (by_test c.args.self c.args.next c.requires.next c.bare.result c.bare.ensures true (sym c.if-allows.true ∙ c.allows.ensures) c.args.next refl))
 
-pub returns-in-None : goal.returns-in-None
-returns-in-None c front is_read =
-    let m = notation_of c.args.self.grammar in
-    let s = c.args.self.read in
-    let refused : allows (bare m) s None ≡ false = sym (ap (allows (bare m) s) (c.requires.next ∙ ap (class_of_next m) c.in-None.is))
-    ∙ sym (ap (λ n. allows n s c.args.self.next) (as_bare m c.bare.result c.bare.ensures)) ∙ sym c.allows.ensures ∙ c.if-allows.false in
-    subst (λ next. IsCause m front next (causes.Missing s.part) (raw 0).flag) (sym c.in-None.is) (record {
-      refused = λ l reads. false≢true (sym refused ∙ (is_read.decides None (bare m).flag (bare_weaker m)).1 (l, reads));
-      last = is_read.part (or_parts s.ended _ refused).0;
-      none = flag_zero;
-    })
+pub returns-then-allows-clause-flags : goal.returns-then-allows-clause-flags
+returns-then-allows-clause-flags c f =
+    c.requirements.ensures f ∙ ap (λ next. requirements (notation_of c.args.self.grammar) c.args.self.read next f) c.requires.next
+    ∙ sym (ap (λ (b : Blamed). b.flags f) (by_test c.args.self c.args.next c.requires.next c.bare.result c.bare.ensures true (sym c.if-allows.true ∙ c.allows.ensures) c.args.next refl))
 
-pub returns-in-Some : goal.returns-in-Some
-returns-in-Some c front is_read = rw (c.in-Some.is) (c.wrong.ensures front is_read)
+pub returns-in-None-clause-kind : goal.returns-in-None-clause-kind
+returns-in-None-clause-kind c =
+    sym (ap (λ (b : Blamed). b.kind) (by_test c.args.self c.args.next c.requires.next c.bare.result c.bare.ensures false (sym c.if-allows.false ∙ c.allows.ensures) None c.in-None.is))
+
+pub returns-in-None-clause-flags : goal.returns-in-None-clause-flags
+returns-in-None-clause-flags c f =
+    flag_zero f ∙ sym (ap (λ (b : Blamed). b.flags f) (by_test c.args.self c.args.next c.requires.next c.bare.result c.bare.ensures false (sym c.if-allows.false ∙ c.allows.ensures) None c.in-None.is))
+
+pub returns-in-Some-clause-kind : goal.returns-in-Some-clause-kind
+returns-in-Some-clause-kind c =
+    c.wrong.ensures.kind ∙ sym (ap (λ (b : Blamed). b.kind) (by_test c.args.self c.args.next c.requires.next c.bare.result c.bare.ensures false (sym c.if-allows.false ∙ c.allows.ensures) _ c.in-Some.is))
+
+pub returns-in-Some-clause-flags : goal.returns-in-Some-clause-flags
+returns-in-Some-clause-flags c f =
+    c.wrong.ensures.flags f
+    ∙ sym (ap (λ (b : Blamed). b.flags f) (by_test c.args.self c.args.next c.requires.next c.bare.result c.bare.ensures false (sym c.if-allows.false ∙ c.allows.ensures) _ c.in-Some.is))

@@ -3,7 +3,7 @@ use Rattle.std.proofs.lemmas.Bool.{and_right}
 use Rattle.lexical_util.specs.Record.{raw}
 use Rattle.lexical_util.specs.Roles.{other_case}
 use Rattle.lexical_literal.specs.Additions.Causes.{allows}
-use Rattle.lexical_literal.specs.Additions.Summary.{class_of}
+use Rattle.lexical_literal.specs.Additions.Summary.{byte_class}
 use Rattle.lexical_literal.specs.Cause.{bare, case_set}
 use Rattle.lexical_literal.specs.Notation.{notation_of}
 use Rattle.lexical_literal.proofs.BlameLemmas.{as_bare}
@@ -14,7 +14,7 @@ pub returns-then-other-byte-clause-each : goal.returns-then-other-byte-clause-ea
 returns-then-other-byte-clause-each c f =
     let m = notation_of c.args.self.grammar in
     flag_zero f ∙ ap (λ t. t && case_set f m (other_case c.args.byte))
-    (sym (ap (λ byte. allows (bare m) c.args.self.read (Some (class_of m byte))) (sym c.other_case-other.ensures ∙ c.if-other-byte.true) ∙ c.requires))
+    (sym (ap (λ byte. allows (bare m) c.args.self.read (Some (byte_class m byte))) (sym c.other_case-other.ensures ∙ c.if-other-byte.true) ∙ c.requires))
 
 pub returns-then-mask-eq0-clause-each : goal.returns-then-mask-eq0-clause-each
 returns-then-mask-eq0-clause-each c f =
@@ -26,8 +26,8 @@ pub returns-clause-each : goal.returns-clause-each
 returns-clause-each c f =
     let m = notation_of c.args.self.grammar in
     let s = c.args.self.read in
-    let class = c.class_of.ensures ∙ ap (class_of m) c.other_case-other.ensures in
-    let allowed = c.allows.ensures ∙ ap (λ n. allows n s (Some c.class_of.result)) (as_bare m c.bare.result c.bare.ensures)
+    let class = c.byte_class.ensures ∙ ap (byte_class m) c.other_case-other.ensures in
+    let allowed = c.allows.ensures ∙ ap (λ n. allows n s (Some c.byte_class.result)) (as_bare m c.bare.result c.bare.ensures)
     ∙ ap (λ k. allows (bare m) s (Some k)) class in
     ap (λ n. (raw n).flag f) c.flag_if.ensures ∙ flag_if c.allows.result c.case_mask-mask.result f
     ∙ (λ j. allowed j && (c.case_mask-mask.ensures.each f ∙ ap (case_set f m) c.other_case-other.ensures) j)

@@ -7,7 +7,7 @@ use Rattle.lexical_literal.specs.Additions.Causes.{allows}
 use Rattle.lexical_literal.specs.Cause.{adding, bare, with_flags}
 use Rattle.lexical_literal.specs.Notation.{notation_of}
 use Rattle.lexical_literal.proofs.CauseLemmas.{flag_or, flag_pow, has_one, one_flag, shifted}
-use Rattle.lexical_literal.proofs.RefusalLemmas.{same_flag}
+use Rattle.lexical_literal.proofs.CauseLemmas.{same_flag}
 use Rattle.lexical_literal.proofs.cause.Stop.permitted.Goals as goal
 
 -- A mask with the flag `g` alone.

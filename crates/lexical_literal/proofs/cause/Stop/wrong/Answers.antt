@@ -1,92 +1,82 @@
 -- A separator, the case of a letter, or a byte.
-use Rattle.std.proofs.Common.{ℕ, ◌≡◌, ◌↔◌, ◌&&◌, ◌||◌, Bool, false, IsTrue, List, Option, Some, sym, ap, ◌∙◌}
-use Rattle.std.proofs.lemmas.Bool.{false≢true, and_parts, and_from}
-use Rattle.lexical_util.specs.Layout.{Flag}
+use Rattle.std.proofs.Common.{ℕ, ◌≡◌, ◌≢◌, Bool, true, false, if◌then◌else◌, Some, sym, ap, ◌∙◌}
+use Rattle.std.specs.List.{list_any}
+use Rattle.lexical_util.specs.Layout.{Flag, flags}
 use Rattle.lexical_util.specs.Record.{raw}
-use Rattle.lexical_util.specs.Roles.{other_case}
-use Rattle.lexical_util.specs.declared.feature_format.roles.Role.TheVariants as roles
-use Rattle.lexical_literal.specs.Additions.Causes.{IsReadOf, allows, is_own, is_role, place_of, role_of_next}
-use Rattle.lexical_literal.specs.Additions.Summary.{class_of}
-use Rattle.lexical_literal.specs.Cause.{Allows, IsCaseFlag, Permits, adding, bare, case_set, is_at}
+use Rattle.lexical_literal.specs.Additions.Causes.{allows, place_of, role_of_next}
+use Rattle.lexical_literal.specs.Additions.Explained.{Blamed, cases, separators, wrong}
+use Rattle.lexical_literal.specs.Additions.Summary.{byte_class}
+use Rattle.lexical_literal.specs.Cause.{bare}
 use Rattle.lexical_literal.specs.Notation.{Notation, notation_of}
+use Rattle.lexical_literal.specs.declared.cause.ReadErrorKind.TheVariants as causes
 use Rattle.lexical_literal.specs.declared.cause.Stop.{Stop}
 use Rattle.lexical_literal.specs.declared.steps.Class.{Class}
-use Rattle.lexical_literal.proofs.BlameLemmas.{bare_weaker, each_permits, found_at}
-use Rattle.lexical_literal.proofs.CauseLemmas.{flag_zero}
+use Rattle.lexical_literal.proofs.CauseLemmas.{HasFlag, any_flag, flag_zero, no_flag}
 use Rattle.lexical_literal.proofs.cause.Stop.wrong.Goals as goal
-
-module _ (stop : Stop) (byte : ℕ) (front : List ℕ) where
-  abbrev m : Notation
-  m = notation_of stop.grammar
-
-  abbrev class : Class
-  class = class_of m byte
-
-  -- `found next f` is true if the flag `f` allows a separator before a byte of the class `next`.
-  abbrev found : Option Class → Flag → Bool
-  found next f = (stop.read.gap || is_role roles.Separator (role_of_next stop.read next))
-      && (is_own stop.read.part f && allows (adding f (bare m)) stop.read next)
-
-  -- The flags of `separators` are found, and those of a mask `cases` are of the other case of the byte.
-  record Known (separators : ℕ) : Type 0 where
-    refused : Allows (bare m) front (Some byte) → ⊥
-    permits : (f : Flag) → IsTrue ((raw separators).flag f) ↔ Permits m front byte f
-    at : (f : Flag) → IsTrue ((raw separators).flag f) → IsTrue (is_at (place_of m stop.read (role_of_next stop.read stop.next)) stop.read.part f)
-    is_case : (cases : ℕ) (f : Flag) → (raw cases).flag f ≡ (allows (bare m) stop.read (Some (class_of m (other_case byte))) && case_set f m (other_case byte))
-        → IsTrue ((raw cases).flag f) ↔ IsCaseFlag m front byte f
-
-  known : (separators : ℕ) → IsReadOf m stop.read front → stop.next ≡ Some class → allows (bare m) stop.read stop.next ≡ false
-      → ((f : Flag) → (raw separators).flag f ≡ found stop.next f) → Known separators
-  known separators is_read is_next refused each =
-      let none = sym (ap (allows (bare m) stop.read) is_next) ∙ refused in
-      let same = λ (f : Flag). each f ∙ ap (λ next. found next f) is_next in
-      let decides = is_read.decides (Some byte) in
-      let other = is_read.decides (Some (other_case byte)) (bare m).flag (bare_weaker m) in
-      record {
-        refused = λ allowed. false≢true (sym none ∙ (decides (bare m).flag (bare_weaker m)).1 allowed);
-        permits = λ f.
-            let both = each_permits m stop.read class front byte decides none f in
-            (λ is. both.0 (sym (same f) ∙ is), λ is. same f ∙ both.1 is);
-        at = λ f is. ap (λ next. is_at (place_of m stop.read (role_of_next stop.read next)) stop.read.part f) is_next
-            ∙ found_at m stop.read class front byte decides none f (sym (same f) ∙ is);
-        is_case = λ cases f of_case. (
-          λ is. let both = and_parts _ (case_set f m (other_case byte)) (sym of_case ∙ is) in (both.1, other.0 both.0),
-          λ is. of_case ∙ and_from _ _ (other.1 is.1) is.0,
-        );
-      }
-
-none : (mask : ℕ) → mask ≡ 0 → (f : Flag) → (raw mask).flag f ≡ false
-none mask zero f = ap (λ n. (raw n).flag f) zero ∙ flag_zero f
 
 pub case_flag-mask-requires : goal.case_flag-mask-requires
 case_flag-mask-requires c = sym (ap (allows (bare (notation_of c.args.self.grammar)) c.args.self.read) c.requires.next) ∙ c.requires.refused
 
-pub returns-then-separators-ne0 : goal.returns-then-separators-ne0
-returns-then-separators-ne0 c front read =
-    let k = known c.args.self c.args.byte front c.separators-separators.result read c.requires.next c.requires.refused c.separators-separators.ensures.each in
-    record {
-      refused = k.refused;
-      some = c.separators-separators.ensures.some c.if-separators-ne0.true;
-      each = k.permits;
-      at = λ f is. ap (λ p. is_at p c.args.self.read.part f) c.place.ensures ∙ k.at f is;
-    }
+module _ (stop : Stop) (byte mask : ℕ) where
+  abbrev m : Notation
+  m = notation_of stop.grammar
 
-pub returns-then-mask-eq0 : goal.returns-then-mask-eq0
-returns-then-mask-eq0 c front read =
-    let k = known c.args.self c.args.byte front c.separators-separators.result read c.requires.next c.requires.refused c.separators-separators.ensures.each in
-    record {
-      refused = k.refused;
-      no_separator = λ f is. false≢true (sym (none c.separators-separators.result c.if-separators-ne0.false f) ∙ (k.permits f).1 is);
-      no_case = λ f is. false≢true (sym (none c.case_flag-mask.result c.if-mask-eq0.true f) ∙ (k.is_case _ f (c.case_flag-mask.ensures.each f)).1 is);
-      none = none c.case_flag-mask.result c.if-mask-eq0.true;
-    }
+  abbrev class : Class
+  class = byte_class m byte
 
-pub returns-else-mask-eq0 : goal.returns-else-mask-eq0
-returns-else-mask-eq0 c front read =
-    let k = known c.args.self c.args.byte front c.separators-separators.result read c.requires.next c.requires.refused c.separators-separators.ensures.each in
-    record {
-      refused = k.refused;
-      no_separator = λ f is. false≢true (sym (none c.separators-separators.result c.if-separators-ne0.false f) ∙ (k.permits f).1 is);
-      some = c.case_flag-mask.ensures.some c.if-mask-eq0.false;
-      each = λ f. k.is_case _ f (c.case_flag-mask.ensures.each f);
-    }
+  -- `by_tests s t` is why the byte cannot follow, if `s` is true of separators and `t` of the other case.
+  abbrev by_tests : Bool → Bool → Blamed
+  by_tests s t =
+      if s then record {
+        kind = causes.Separator stop.read.part (place_of m stop.read (role_of_next stop.read (Some class)));
+        flags = separators m stop.read (Some class);
+      } else (if t then record { kind = causes.Case; flags = cases m stop.read byte }
+      else record { kind = causes.Byte; flags = λ f. false })
+
+  module _ (is_next : stop.next ≡ Some class) (of_mask : (f : Flag) → (raw mask).flag f ≡ separators m stop.read stop.next f) where
+    each : (f : Flag) → (raw mask).flag f ≡ separators m stop.read (Some class) f
+    each f = of_mask f ∙ ap (λ next. separators m stop.read next f) is_next
+
+    is_separator : HasFlag mask → mask ≢ 0 → wrong m stop.read byte ≡ by_tests true (list_any (cases m stop.read byte) flags)
+    is_separator has some = ap (λ s. by_tests s (list_any (cases m stop.read byte) flags)) (any_flag _ mask each has some)
+
+    no_separator : mask ≡ 0 → (t : Bool) → list_any (cases m stop.read byte) flags ≡ t → wrong m stop.read byte ≡ by_tests false t
+    no_separator zero t is = λ j. by_tests (no_flag _ mask each zero j) (is j)
+
+pub returns-then-separators-ne0-clause-kind : goal.returns-then-separators-ne0-clause-kind
+returns-then-separators-ne0-clause-kind c =
+    let s = c.args.self.read in
+    let is = is_separator c.args.self c.args.byte _ c.requires.next c.separators-separators.ensures.each c.separators-separators.ensures.some
+    c.if-separators-ne0.true in
+    ap (causes.Separator s.part) (c.place.ensures ∙ ap (λ next. place_of (notation_of c.args.self.grammar) s (role_of_next s next)) c.requires.next)
+    ∙ sym (ap (λ (b : Blamed). b.kind) is)
+
+pub returns-then-separators-ne0-clause-flags : goal.returns-then-separators-ne0-clause-flags
+returns-then-separators-ne0-clause-flags c f =
+    let is = is_separator c.args.self c.args.byte _ c.requires.next c.separators-separators.ensures.each c.separators-separators.ensures.some
+    c.if-separators-ne0.true in
+    each c.args.self c.args.byte _ c.requires.next c.separators-separators.ensures.each f ∙ sym (ap (λ (b : Blamed). b.flags f) is)
+
+pub returns-then-mask-eq0-clause-kind : goal.returns-then-mask-eq0-clause-kind
+returns-then-mask-eq0-clause-kind c =
+    let is = no_separator c.args.self c.args.byte _ c.requires.next c.separators-separators.ensures.each c.if-separators-ne0.false false
+    (no_flag _ _ c.case_flag-mask.ensures.each c.if-mask-eq0.true) in
+    sym (ap (λ (b : Blamed). b.kind) is)
+
+pub returns-then-mask-eq0-clause-flags : goal.returns-then-mask-eq0-clause-flags
+returns-then-mask-eq0-clause-flags c f =
+    let is = no_separator c.args.self c.args.byte _ c.requires.next c.separators-separators.ensures.each c.if-separators-ne0.false false
+    (no_flag _ _ c.case_flag-mask.ensures.each c.if-mask-eq0.true) in
+    ap (λ n. (raw n).flag f) c.if-mask-eq0.true ∙ flag_zero f ∙ sym (ap (λ (b : Blamed). b.flags f) is)
+
+pub returns-else-mask-eq0-clause-kind : goal.returns-else-mask-eq0-clause-kind
+returns-else-mask-eq0-clause-kind c =
+    let is = no_separator c.args.self c.args.byte _ c.requires.next c.separators-separators.ensures.each c.if-separators-ne0.false true
+    (any_flag _ _ c.case_flag-mask.ensures.each c.case_flag-mask.ensures.some c.if-mask-eq0.false) in
+    sym (ap (λ (b : Blamed). b.kind) is)
+
+pub returns-else-mask-eq0-clause-flags : goal.returns-else-mask-eq0-clause-flags
+returns-else-mask-eq0-clause-flags c f =
+    let is = no_separator c.args.self c.args.byte _ c.requires.next c.separators-separators.ensures.each c.if-separators-ne0.false true
+    (any_flag _ _ c.case_flag-mask.ensures.each c.case_flag-mask.ensures.some c.if-mask-eq0.false) in
+    c.case_flag-mask.ensures.each f ∙ sym (ap (λ (b : Blamed). b.flags f) is)

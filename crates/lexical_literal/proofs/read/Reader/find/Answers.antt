@@ -1,10 +1,23 @@
-use Rattle.lexical_literal.specs.Additions.Tables.{HasTables}
-use Rattle.lexical_literal.specs.Notation.{notation_of}
-use Rattle.lexical_literal.proofs.TableLemmas.{lent}
+-- The lengths that were counted are those of the parts.
+use Rattle.std.proofs.Common.{sym, ◌∙◌, arith}
+use Rattle.lexical_literal.proofs.LongestLemmas.{whole_literal, whole_counted, refused_there}
 use Rattle.lexical_literal.proofs.read.Reader.find.Goals as goal
 
-pub find-requires-clause-tables : goal.find-requires-clause-tables
-find-requires-clause-tables c = lent (HasTables (notation_of c.self.inside.grammar)) _ c.self.invariant.1
+pub refuse-requires-clause-refused : goal.refuse-requires-clause-refused
+refuse-requires-clause-refused c = refused_there _ _ _ _ c.scan-scanned.ensures (λ all. let branch = c.else-scanned-text.branch in grind arith)
 
-pub returns : goal.returns
-returns c = rw (← c.self.view_is) c.find.ensures
+pub returns-then-is_complete : goal.returns-then-is_complete
+returns-then-is_complete c =
+    let is = c.scan-scanned.ensures in
+    record {
+      found = whole_literal _ _ _ _ is c.if-scanned-text.true (sym c.is_complete.ensures ∙ c.if-is_complete.true);
+      counted = whole_counted _ _ _ _ is;
+      error = tt;
+    }
+
+pub returns-else-scanned-text : goal.returns-else-scanned-text
+returns-else-scanned-text c = record {
+  found = tt;
+  counted = λ l reads. absurd (c.refuse.ensures.none l reads);
+  error = c.refuse.ensures.refusal;
+}

@@ -1,10 +1,40 @@
-use Rattle.lexical_literal.specs.Additions.Tables.{HasTables}
-use Rattle.lexical_literal.specs.Notation.{notation_of}
-use Rattle.lexical_literal.proofs.TableLemmas.{lent}
+-- The longest front that is a literal, and the lengths of its parts.
+use Rattle.std.proofs.lemmas.Bool.{false≢true}
+use Rattle.lexical_literal.proofs.LongestLemmas.{front_literal, front_counted, no_front, not_whole, refused_there}
 use Rattle.lexical_literal.proofs.read.Reader.find_front.Goals as goal
 
-pub find_front-requires-clause-tables : goal.find_front-requires-clause-tables
-find_front-requires-clause-tables c = lent (HasTables (notation_of c.self.inside.grammar)) _ c.self.invariant.1
+pub refuse-requires-clause-refused : goal.refuse-requires-clause-refused
+refuse-requires-clause-refused c =
+    let is = c.scan-scanned.ensures in
+    refused_there _ _ _ _ is (not_whole _ _ _ is c.in_default.not-Some)
 
-pub returns : goal.returns
-returns c = rw (← c.self.view_is) c.find_front.ensures
+pub returns-then-size-scanned : goal.returns-then-size-scanned
+returns-then-size-scanned c =
+    let is = c.scan-scanned.ensures in
+    let l = front_literal _ _ _ is c.in-Some.size c.in-Some.is in
+    record {
+      found = (l.0, l.1, front_counted _ _ _ is c.in-Some.size c.if-size-scanned.true l.0 l.1.reads);
+      none = λ err. absurd (false≢true err);
+      error = tt;
+    }
+
+pub returns-in-Ok : goal.returns-in-Ok
+returns-in-Ok c =
+    let l = front_literal _ _ _ c.scan-scanned.ensures c.in-Some.size c.in-Some.is in
+    record {
+      found = (l.0, l.1, c.in-Ok.ensures.counted l.0 (rw (c.front_of.ensures) l.1.reads));
+      none = λ err. absurd (false≢true err);
+      error = tt;
+    }
+
+pub returns-in-Err : goal.returns-in-Err
+returns-in-Err c =
+    let l = front_literal _ _ _ c.scan-scanned.ensures c.in-Some.size c.in-Some.is in
+    absurd (c.in-Err.ensures.counted l.0 (rw (c.front_of.ensures) l.1.reads))
+
+pub returns-in_default : goal.returns-in_default
+returns-in_default c = record {
+  found = tt;
+  none = λ err. no_front _ _ _ c.scan-scanned.ensures c.in_default.not-Some;
+  error = c.refuse.ensures.refusal;
+}

@@ -8,4 +8,4 @@ returns c =
     let g = c.args.self.now in
     let byte = c.args.byte in
     let is_ready = ready c.role_facts.ensures.disjoint c.role_facts.ensures.five c.role_facts.ensures.lawful g c.grammar.ensures.lawful in
-    rw (c.role_of.ensures, c.class_of.ensures, c.grammar.ensures.value) (only_role (notation_of g) is_ready.roles byte)
+    rw (c.role_of.ensures, c.byte_class.ensures, c.grammar.ensures.value) (only_role (notation_of g) is_ready.roles byte)

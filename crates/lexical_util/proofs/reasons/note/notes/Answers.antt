@@ -1,10 +1,7 @@
-use Rattle.lexical_util.specs.Additions.Notes.{AreReasons}
+use Rattle.std.proofs.Common.{◌∙◌, ap}
+use Rattle.lexical_flags.specs.Record.{raw}
+use Rattle.lexical_util.specs.Additions.Notes.{notes_of}
 use Rattle.lexical_util.proofs.reasons.note.notes.Goals as goal
 
 pub returns : goal.returns
-returns c =
-    let explains : AreReasons c.args.format c.reasons.result =
-    record { lawful = c.reasons.ensures.lawful; rules = c.reasons.ensures.rules; blame = c.reasons.ensures.blame } in record {
-      found = (c.reasons.result, (explains, c.notes_beside_reasons.ensures.found));
-      idle = c.notes_beside_reasons.ensures.idle explains;
-    }
+returns c = c.notes_beside_reasons.ensures ∙ ap (notes_of (raw c.args.format)) c.reasons.ensures.slots

@@ -1,0 +1,7 @@
+use Rattle.std.proofs.Common.{sym}
+use Rattle.std.proofs.lemmas.Bool.{false≢true}
+use Rattle.lexical_util.specs.Layout as layout
+use Rattle.lexical_literal.proofs.laws.examples.counterexamples.Goals as goal
+
+pub returns-clause-flags : goal.returns-clause-flags
+returns-clause-flags c same = false≢true (sym (same.flags layout.required_integer_digits))
