@@ -148,7 +148,7 @@ class Library {
         });
         if (rest || !settings.length) return { error: "This is neither a word nor a list of settings." };
         const { error, index, ...built } = this.build(settings);
-        return error ? { error: `${settings[index]}: ${error}.` } : { ...built, options };
+        return error ? { error: `${settings[index]}: ${error}${error.endsWith("?") ? "" : "."}` } : { ...built, options };
     }
 }
 

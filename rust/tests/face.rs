@@ -3,7 +3,7 @@
 
 use peltzivar::edits::edits_of;
 use peltzivar::format::{NumberFormatBuilder, BASE_PREFIX_SHIFT, BASE_SUFFIX_SHIFT, STANDARD};
-use peltzivar::literal::Syntax;
+use peltzivar::literal::{ReadError, Syntax};
 use peltzivar::reasons::{notes, reasons};
 use peltzivar::{Error, FlagSetter, Format, FormatView, Rule};
 use std::num::NonZeroU8;
@@ -24,6 +24,7 @@ const _: () = {
     let syntax = Syntax::new_or_panic(NumberFormatBuilder::new().build_format_or_panic(), b'e', b'.');
     assert!(matches!((syntax.exponent(), syntax.point()), (Some(b'e'), Some(b'.'))));
     assert!(Syntax::integers(syntax.format()).point().is_none() && size_of::<Syntax>() <= 32);
+    assert!(size_of::<ReadError>() <= 96);
 };
 
 /// Random words, random words with lawful radixes, and words near the standard format.

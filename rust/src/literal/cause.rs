@@ -78,9 +78,9 @@ pub struct Refusal {
 /// what is missing before it, read the front of the text that ends at [`valid_up_to`][Self::valid_up_to]. If this front
 /// is not a literal either, its error says it.
 ///
-/// An error holds where reading stopped. Each call but `valid_up_to` and `byte` finds the cause anew. Two errors are
-/// equal if they have the same syntax, and if reading stopped at the same index, at the same character, after bytes that
-/// the same may follow. Equal errors have equal answers. Errors of two syntaxes differ, even if their answers are the same.
+/// An error holds where reading stopped. Each call but `valid_up_to` and `byte` finds the cause anew. `==` compares the
+/// syntax, the index at which reading stopped, the character there, and the state of the reader, but not the bytes before
+/// it. Equal errors have equal answers. Errors of two syntaxes differ, even if their answers are the same.
 #[derive(Clone, Copy, PartialEq, Eq, Hash)]
 pub struct ReadError {
     pub(crate) spot: Spot,

@@ -31,8 +31,8 @@ separator_note r =
     if separator_allowed r then then_some (byte.value == 0) notes.FlagsWithoutSeparator
     else then_some (not (byte.value == 0)) (notes.SeparatorWithoutFlag byte)
 
--- `case_note r flag byte` is the note on `flag`, the case flag of `byte`, if it is set in `r` and `byte` is absent or not a
--- letter.
+-- `case_note r flag byte` is the note on `flag`, the case flag of `byte`, if it is set in `r` and `byte` is absent or not
+-- a letter.
 abbrev pub case_note : Record → FlagSetter → NamedByte → Option Note
 case_note r flag byte =
     then_some (is_cased r byte.name && (other_case byte.value == byte.value))
@@ -47,7 +47,8 @@ abbrev pub unless_blamed : List (Option Reason) → Option Note → Option Note
 unless_blamed reasons None = None
 unless_blamed reasons (Some note) = then_some (not (is_blamed reasons (mask_of_note note))) note
 
--- `notes_of r reasons` has a slot for each possible note on `r` beside `reasons`, in order.
+-- `notes_of r reasons` has three slots for notes on `r` beside `reasons`: on the separator, and on the case flags of the
+-- prefix and of the suffix.
 abbrev pub notes_of : Record → List (Option Reason) → List (Option Note)
 notes_of r reasons =
     let prefix = named bytes.BasePrefix (r.byte layout.base_prefix) in

@@ -114,12 +114,10 @@ impl Cause {
         let base = mask_if(raw_exponent_base(format) == 0, flags::EXPONENT_BASE);
         let radix = mask_if(raw_exponent_radix(format) == 0, flags::EXPONENT_RADIX);
         match self {
-            Cause::OutOfRange(
-                NamedByte {
-                    name: Byte::MantissaRadix,
-                    ..
-                },
-            ) => base | radix,
+            Cause::OutOfRange(byte) => match byte.name {
+                Byte::MantissaRadix => base | radix,
+                _ => 0,
+            },
             Cause::IsDigit(_, Radixes::Mantissa(_)) => flags::MANTISSA_RADIX | radix,
             Cause::IsDigit(_, Radixes::Exponent(_)) => flags::EXPONENT_RADIX,
             Cause::IsDigit(_, Radixes::Both { .. }) => flags::MANTISSA_RADIX
