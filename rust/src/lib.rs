@@ -81,8 +81,13 @@ mod lawful;
 mod lists;
 pub mod literal;
 mod number {
+    pub(crate) mod binary;
+    pub(crate) mod decimal;
+    pub(crate) mod float;
     pub(crate) mod integer;
+    pub(crate) mod leading;
     pub(crate) mod numeral;
+    pub(crate) mod parts;
 }
 mod numeral;
 #[doc(hidden)]
