@@ -1,7 +1,7 @@
 //! A number format states how numbers may be written: their radix, prefix, signs and digit separators. Here, a format
 //! is a `u128` that holds flags and six bytes. This crate is for code that parses, writes or checks numbers. It
 //! builds, reads, checks and edits formats, explains why a format is not lawful, and finds the parts and the value of a
-//! number, or why a text is not one. It does not compute values of floats.
+//! number, or why a text is not one.
 //!
 //! The [`u128`] is called the *format word*. It can be a const generic argument. The word is *lawful* if it satisfies
 //! every [`Rule`]: each radix is between 2 and 36, no two flags contradict each other, each character is allowed ASCII
@@ -19,7 +19,7 @@
 //! | take a checked format as an argument | [`Format`] |
 //! | read numbers of a language | [`Language`][literal::Language] |
 //! | read numbers of a format | [`Syntax`][literal::Syntax], or a [`Reader`][literal::Reader] for many texts; [`Specials`][literal::Specials] for NaN and infinity |
-//! | compute values | [`Reader::parse`][literal::Reader::parse], `try_from` of an integer type, and for floats [`Literal::plain`][literal::Literal::plain] |
+//! | compute values | [`Reader::parse`][literal::Reader::parse], and `try_from` of an integer type, `f64` or `f32` |
 //! | report why a text is not a number | [`ReadError`][literal::ReadError] |
 //! | write numbers | the example of [`literal`], and [`digit_to_char`][digit::digit_to_char] |
 //! | write a reader of your own | [`FormatView::is_separator`], [`separators`][FormatView::separators], [`role_of`][FormatView::role_of] |
@@ -57,8 +57,9 @@
 //! All other files are written by hand. They have [`Format`], [`FormatError`], [`Settings`], [`NumberFormat`] with the
 //! calls of [`mod@format`], [`Language`][literal::Language], the iterators and conversions, the names and texts of values
 //! (`name`, `condition`, `Display`, `FromStr` and `Debug`), absent bytes as `None`, the syntax of a [`Format`] and the
-//! format of a syntax, [`Literal`][literal::Literal] around the parts that the proved code finds, `is_incomplete`, `span`
-//! and `settings` of [`ReadError`][literal::ReadError], the methods that panic, and the tests of slices in [`ascii`]. A
+//! format of a syntax, [`Literal`][literal::Literal] around the parts that the proved code finds, `parse`, `try_from` and
+//! `to_i64` around the conversions that are proved, `is_incomplete`, `span` and `settings` of
+//! [`ReadError`][literal::ReadError], the methods that panic, and the tests of slices in [`ascii`]. A
 //! build of this crate proves nothing. You trust the program that generated the files, the handwritten parts, and
 //! `rustc`.
 #![no_std]

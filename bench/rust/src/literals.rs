@@ -26,6 +26,10 @@ pub struct Literals {
     /// As many texts that are refused as texts that are accepted, of the same shapes.
     refused: Texts,
     accepted: Texts,
+    /// Integers of 1 to 9 digits, alone, in groups of three, and hexadecimal after a prefix.
+    integers: Texts,
+    grouped: Texts,
+    prefixed: Texts,
 }
 
 const LANGUAGES: [Language; 3] = [Language::JSON, Language::TOML, Language::C_FLOAT];
@@ -47,6 +51,12 @@ impl Literals {
             shape: texts(random, 100_000, six_decimals, |_, _| true),
             refused: texts(random, 100_000, spoiled, |language, text| !accepts(language, text)),
             accepted: texts(random, 100_000, literal, |_, _| true),
+            integers: texts(random, 100_000, |random, _| integer(random, None), |_, _| true),
+            grouped: vec![Group::new(Language::TOML, (0..100_000).map(|_| integer(random, Some('_'))))],
+            prefixed: vec![Group::new(
+                Language::RUST_HEX_INTEGER,
+                (0..100_000).map(|_| format!("0x{:X}", random.below(1 << 36))),
+            )],
             mixed,
         }
     }
@@ -97,6 +107,12 @@ fn digits(random: &mut Random, most: u8, separator: Option<char>) -> String {
         text.extend(separator.filter(|_| left > 0 && left % 3 == 0));
     }
     text
+}
+
+/// An integer of 1 to 9 digits, of which the first is not 0.
+fn integer(random: &mut Random, separator: Option<char>) -> String {
+    let first = random.byte(b'1', b'9') as char;
+    format!("{first}{}", &digits(random, 9, separator)[1..])
 }
 
 /// A literal of JSON, TOML or C. Half have a fraction, a third has an exponent, and in TOML and C, a quarter has separators.
@@ -152,6 +168,15 @@ fn parse(_: &Group) -> impl Fn(&str) -> bool + use<> {
     |text| black_box(text.parse::<f64>()).is_ok()
 }
 
+fn value(group: &Group) -> impl Fn(&str) -> bool + use<> {
+    let reader = group.reader;
+    move |text| black_box(reader.parse::<i64>(text)).is_ok()
+}
+
+fn parse_integer(_: &Group) -> impl Fn(&str) -> bool + use<> {
+    |text| black_box(text.parse::<i64>()).is_ok()
+}
+
 /// Patterns with a group for each part.
 #[cfg(regex)]
 mod patterns {
@@ -199,6 +224,9 @@ pub fn rows(texts: &Literals) -> Vec<Row<'_>> {
         "Reader::read, one shape, over parse", shape.reader, shape.parse;
         "Syntax::read, mixed, over Reader::read", mixed.syntax, mixed.reader;
         "Reader::read, refused, over accepted", refused.refuses, accepted.reader;
+        "Reader::parse, 1 to 9 digits, over parse", integers.value, integers.parse_integer;
+        "Reader::parse, grouped, over Reader::read", grouped.value, grouped.reader;
+        "Reader::parse, prefixed, over Reader::read", prefixed.value, prefixed.reader;
     };
     #[cfg(regex)]
     rows.extend(rows! {

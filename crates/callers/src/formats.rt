@@ -4,7 +4,7 @@
 //! is lawful. After a call to the law, you can pass the constant where a lawful format is required. Nothing is tested
 //! at run time.
 
-ghost use Rattle.std.specs.Prelude.{◌≡◌, ◌↔◌, ◌-◌, ◌^◌, [], ◌∷◌, IsTrue, None, pos, true, false};
+ghost use Rattle.std.specs.Prelude.{◌≡◌, ◌↔◌, [], ◌∷◌, IsTrue, None, true, false};
 ghost use Rattle.lexical_util.specs.Layout as layout;
 ghost use Rattle.lexical_util.specs.Record.{raw};
 ghost use Rattle.lexical_util.specs.Rules.{Lawful};
@@ -14,6 +14,7 @@ ghost use Rattle.lexical_util.specs.Edits.{edited};
 ghost use Rattle.lexical_util.specs.NormalForm.{normal_form_of};
 ghost use Rattle.lexical_literal.specs.Literal.{Literal, Reads};
 ghost use Rattle.lexical_literal.specs.Notation.{notation_of};
+ghost use Rattle.lexical_number.specs.Numeral.{unsigned};
 ghost use Rattle.lexical_value.specs.Parsed.{IsParsed};
 
 use lexical_literal::read::Reader;
@@ -86,7 +87,7 @@ pub fn is_literal(syntax: &Syntax, text: &[u8]) -> bool
 ///
 /// If `text` is not such an integer, or if its value is not a `u64`, returns why.
 pub fn read_decimal(text: &[u8]) -> Result<u64, ParseError>
-    ensures { IsParsed pos 0 (2 ^ 64 - 1) (record { word = DECIMAL; options = None }) text.now result }
+    ensures { IsParsed (unsigned 64) (record { word = DECIMAL; options = None }) text.now result }
 {
     parse_integer(&Reader::new(decimal()), text)
 }

@@ -2,7 +2,7 @@
 use Rattle.std.proofs.Common.{◌≡◌, ℕ, suc, ◌+◌, ◌*◌, ◌<◌, ◌≤◌, List, ◌∷◌, length, drop, get_or, nat_lt}
 use Rattle.std.proofs.Common.{Bool, true, false, cond, refl}
 use Rattle.std.proofs.lemmas.Bool.Decides.{nat_tests}
-use Rattle.std.proofs.Common.{Option, Some, None, IsSome, sym, ap, ◌∙◌, arith, drop-cons, [], ◌++◌}
+use Rattle.std.proofs.Common.{Option, Some, None, IsSome, sym, ap, subst, ◌∙◌, arith, drop-cons, [], ◌++◌}
 use Rattle.std.proofs.lemmas.List.Elements.{filter_map-append}
 use Rattle.std.proofs.lemmas.Int.Digits.{number_after_ge}
 use Rattle.std.specs.Int.Digits.{number_from_digits_after}
@@ -24,15 +24,8 @@ module _ (radix n i : ℕ) (bytes : List ℕ) (inside : i < length bytes) where
       → number_after radix n (drop i bytes) ≡ number_from_digits_after radix n (cons_option o (digits_in radix (drop (i + 1) bytes)))
   at o e = ap (number_after radix n) next ∙ ap (λ d. number_from_digits_after radix n (cons_option d (digits_in radix (drop (i + 1) bytes)))) e
 
-  pub after_digit : (d : ℕ) → digit_of (get_or bytes i 0) radix ≡ Some d
-      → number_after radix (n * radix + d) (drop (i + 1) bytes) ≡ number_after radix n (drop i bytes)
-  after_digit d e = sym (at (Some d) e)
-
-  pub after_other : digit_of (get_or bytes i 0) radix ≡ None → number_after radix n (drop (i + 1) bytes) ≡ number_after radix n (drop i bytes)
-  after_other e = sym (at None e)
-
 -- More digits do not make a number smaller. A radix with a digit is not 0.
-pub grows : (radix n byte d : ℕ) (bytes : List ℕ) → digit_of byte radix ≡ Some d → n ≤ number_after radix n bytes
+grows : (radix n byte d : ℕ) (bytes : List ℕ) → digit_of byte radix ≡ Some d → n ≤ number_after radix n bytes
 grows radix n byte d bytes e = number_after_ge radix n (digits_in radix bytes) (go _ refl e)
   where
     go : (test : Bool) → nat_lt (byte_value byte) radix ≡ test → cond test (Some (byte_value byte)) None ≡ Some d → 0 < radix
@@ -46,3 +39,10 @@ number_after-append radix n xs ys = ap (number_from_digits_after radix n) (filte
     go : (n : ℕ) (ds : List ℕ) → number_from_digits_after radix n (ds ++ digits_in radix ys) ≡ number_after radix (number_from_digits_after radix n ds) ys
     go n [] = refl
     go n (d ∷ ds) = go (n * radix + d) ds
+
+-- The number is not smaller than that of the digits up to one at the index `i`.
+pub too_large : (radix n i d : ℕ) (bytes : List ℕ) → i < length bytes → digit_of (get_or bytes i 0) radix ≡ Some d
+    → n * radix + d ≤ number_after radix n (drop i bytes)
+too_large radix n i d bytes inside e =
+    subst (λ whole. n * radix + d ≤ whole) (sym (at radix n i bytes inside (Some d) e))
+    (grows radix (n * radix + d) (get_or bytes i 0) d (drop (i + 1) bytes) e)

@@ -1,5 +1,5 @@
 -- Digits with a sign, as a value of an integer type.
-use Rattle.std.specs.Prelude.{ℕ, ◌≡◌, ◌≤◌, Bool, false, IsSome, if◌then◌else◌, ℤ, pos, neg_ℤ}
+use Rattle.std.specs.Prelude.{ℕ, ◌≡◌, ◌-◌, ◌^◌, ◌≤◌, Bool, false, IsSome, if◌then◌else◌, ℤ, pos, neg_ℤ}
 use Rattle.std.specs.List.{AllByRecursion}
 use Rattle.lexical_base.specs.Digits.{digit_of}
 use Rattle.lexical_number.specs.Number.{number}
@@ -26,3 +26,17 @@ HasDigitsAlone numeral = AllByRecursion (λ byte. IsSome (digit_of byte numeral.
 pub record Fits (least largest : ℕ) (numeral : Numeral) : Type 0 where
   pub within : size_of numeral ≤ (if numeral.negative then least else largest)
   pub digits : numeral.separated ≡ false → HasDigitsAlone numeral
+
+-- `Range T` states which integers the values of the type `T` are: `value` of each, from `-least` to `largest`.
+pub record Range (T : Type 0) : Type 0 where
+  pub value : T → ℤ
+  pub least : ℕ
+  pub largest : ℕ
+
+-- `unsigned k` is the range of the integers of `k` bits without a sign.
+abbrev pub unsigned : ℕ → Range ℕ
+unsigned k = record { value = pos; least = 0; largest = 2 ^ k - 1 }
+
+-- `signed k` is the range of the integers of `k` bits, one of which is the sign.
+abbrev pub signed : ℕ → Range ℤ
+signed k = record { value = λ z. z; least = 2 ^ (k - 1); largest = 2 ^ (k - 1) - 1 }

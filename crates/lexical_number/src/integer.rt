@@ -1,25 +1,19 @@
 //! Integer types, and the values of theirs that digits with a sign represent.
 
-ghost use Rattle.std.specs.Prelude.{◌-◌, ◌^◌, ℕ, ℤ, option_map, pos};
+ghost use Rattle.std.specs.Prelude.{option_map};
 ghost use Rattle.std.specs.Option.{SomeIff};
-ghost use Rattle.lexical_number.specs.Numeral.{Fits, value_of};
+ghost use Rattle.lexical_number.specs.Numeral.{Fits, Range, signed, unsigned, value_of};
 
 use crate::numeral::{Numeral, signed};
 
 /// An integer type.
 pub trait Integer: Copy {
-    // The size of the least value, without its sign.
-    ghost least: { ℕ };
-
-    // The largest value.
-    ghost largest: { ℕ };
-
-    // The value as a number.
-    ghost value: { Self → ℤ };
+    // The integers that the values of this type are.
+    ghost range: { Range Self };
 
     /// Returns the value of `numeral`, or `None` if it is not a value of this type.
     fn from_numeral(numeral: &Numeral) -> Option<Self>
-        ensures { SomeIff (option_map value result) (Fits least largest numeral.now) (value_of numeral.now) };
+        ensures { SomeIff (option_map range.value result) (Fits range.least range.largest numeral.now) (value_of numeral.now) };
 }
 
 // Returns the value of a numeral as a value of a type that has no sign.
@@ -43,11 +37,7 @@ macro_rules! signed {
 }
 
 impl Integer for u8 {
-    ghost least = { 0 };
-
-    ghost largest = { 2 ^ 8 - 1 };
-
-    ghost value = { λ value. pos value };
+    ghost range = { unsigned 8 };
 
     fn from_numeral(numeral: &Numeral) -> Option<u8> {
         unsigned!(numeral as u8)
@@ -55,11 +45,7 @@ impl Integer for u8 {
 }
 
 impl Integer for u16 {
-    ghost least = { 0 };
-
-    ghost largest = { 2 ^ 16 - 1 };
-
-    ghost value = { λ value. pos value };
+    ghost range = { unsigned 16 };
 
     fn from_numeral(numeral: &Numeral) -> Option<u16> {
         unsigned!(numeral as u16)
@@ -67,11 +53,7 @@ impl Integer for u16 {
 }
 
 impl Integer for u32 {
-    ghost least = { 0 };
-
-    ghost largest = { 2 ^ 32 - 1 };
-
-    ghost value = { λ value. pos value };
+    ghost range = { unsigned 32 };
 
     fn from_numeral(numeral: &Numeral) -> Option<u32> {
         unsigned!(numeral as u32)
@@ -79,11 +61,7 @@ impl Integer for u32 {
 }
 
 impl Integer for u64 {
-    ghost least = { 0 };
-
-    ghost largest = { 2 ^ 64 - 1 };
-
-    ghost value = { λ value. pos value };
+    ghost range = { unsigned 64 };
 
     fn from_numeral(numeral: &Numeral) -> Option<u64> {
         numeral.as_u64()
@@ -91,11 +69,7 @@ impl Integer for u64 {
 }
 
 impl Integer for usize {
-    ghost least = { 0 };
-
-    ghost largest = { 2 ^ 64 - 1 };
-
-    ghost value = { λ value. pos value };
+    ghost range = { unsigned 64 };
 
     fn from_numeral(numeral: &Numeral) -> Option<usize> {
         unsigned!(numeral as usize)
@@ -103,11 +77,7 @@ impl Integer for usize {
 }
 
 impl Integer for u128 {
-    ghost least = { 0 };
-
-    ghost largest = { 2 ^ 128 - 1 };
-
-    ghost value = { λ value. pos value };
+    ghost range = { unsigned 128 };
 
     fn from_numeral(numeral: &Numeral) -> Option<u128> {
         numeral.as_u128()
@@ -115,11 +85,7 @@ impl Integer for u128 {
 }
 
 impl Integer for i8 {
-    ghost least = { 2 ^ 7 };
-
-    ghost largest = { 2 ^ 7 - 1 };
-
-    ghost value = { λ value. value };
+    ghost range = { signed 8 };
 
     fn from_numeral(numeral: &Numeral) -> Option<i8> {
         signed!(numeral as i8)
@@ -127,11 +93,7 @@ impl Integer for i8 {
 }
 
 impl Integer for i16 {
-    ghost least = { 2 ^ 15 };
-
-    ghost largest = { 2 ^ 15 - 1 };
-
-    ghost value = { λ value. value };
+    ghost range = { signed 16 };
 
     fn from_numeral(numeral: &Numeral) -> Option<i16> {
         signed!(numeral as i16)
@@ -139,11 +101,7 @@ impl Integer for i16 {
 }
 
 impl Integer for i32 {
-    ghost least = { 2 ^ 31 };
-
-    ghost largest = { 2 ^ 31 - 1 };
-
-    ghost value = { λ value. value };
+    ghost range = { signed 32 };
 
     fn from_numeral(numeral: &Numeral) -> Option<i32> {
         signed!(numeral as i32)
@@ -151,11 +109,7 @@ impl Integer for i32 {
 }
 
 impl Integer for i64 {
-    ghost least = { 2 ^ 63 };
-
-    ghost largest = { 2 ^ 63 - 1 };
-
-    ghost value = { λ value. value };
+    ghost range = { signed 64 };
 
     fn from_numeral(numeral: &Numeral) -> Option<i64> {
         numeral.as_i64()
@@ -163,11 +117,7 @@ impl Integer for i64 {
 }
 
 impl Integer for isize {
-    ghost least = { 2 ^ 63 };
-
-    ghost largest = { 2 ^ 63 - 1 };
-
-    ghost value = { λ value. value };
+    ghost range = { signed 64 };
 
     fn from_numeral(numeral: &Numeral) -> Option<isize> {
         signed!(numeral as isize)
@@ -175,11 +125,7 @@ impl Integer for isize {
 }
 
 impl Integer for i128 {
-    ghost least = { 2 ^ 127 };
-
-    ghost largest = { 2 ^ 127 - 1 };
-
-    ghost value = { λ value. value };
+    ghost range = { signed 128 };
 
     fn from_numeral(numeral: &Numeral) -> Option<i128> {
         numeral.as_i128()

@@ -35,17 +35,21 @@ plain negative digits = record {
 }
 
 module _ (m : Notation) (no_sign : m.flag layout.required_mantissa_sign ≡ false) (no_exponent : m.flag layout.required_exponent_notation ≡ false) where
+  -- Digits fit wherever they are.
   all_fit : (before digits : List ℕ) → AllIn (m.digit parts.Integer) digits → are_fit m parts.Integer before digits ≡ true
   all_fit before [] all = refl
   all_fit before (byte ∷ digits) all = let rest = all_fit (before ++ byte ∷ []) digits all.1 in let digit = all.0 in grind arith
 
   module _ (first : ℕ) (digits : List ℕ) (not_zero : first ≢ 48) (all : AllIn (m.digit parts.Integer) (first ∷ digits)) where
+    -- A first digit that is not 0 is no leading zero.
     no_leading_zero : has_leading_zero (m.digit parts.Integer) (first ∷ digits) ≡ false
     no_leading_zero = let digit = all.0 in grind arith
 
+    -- Each flag that is set requires nothing that is not there.
     met : (negative : Bool) (f : Flag) → IsTrue (m.flag f) → IsTrue (requirement f m (plain negative (first ∷ digits)))
     met negative f set = let zero = no_leading_zero in grind arith
 
+    -- A sign and these digits are a literal.
     is : (negative : Bool) → IsTrue (is_none_or_one signs (minus_if negative)) → IsLiteral m (plain negative (first ∷ digits))
     is negative sign = record {
       sign = sign;
@@ -63,6 +67,7 @@ module _ (m : Notation) (no_sign : m.flag layout.required_mantissa_sign ≡ fals
       requirements = met negative;
     }
 
+    -- The text is that literal.
     reads : (negative : Bool) → Reads m (plain negative (first ∷ digits)) (minus_if negative ++ first ∷ digits)
     reads true = record { whole = ap (λ t. 45 ∷ t) (sym (append-nil (first ∷ digits))); literal = is true refl }
     reads false = record { whole = sym (append-nil (first ∷ digits)); literal = is false refl }
@@ -83,7 +88,8 @@ pub plain_value : {T : Type 0} (value : T → ℤ) (word : ℕ) (negative : Bool
     → 1 ≤ length bytes → slice_index_or bytes 0 0 ≢ 48 → radix ≡ (raw word).byte layout.mantissa_radix
     → (Fits : Type 0) → (Fits → AllByRecursion (λ byte. IsSome (digit_of byte radix)) bytes)
     → SomeIff (option_map value result) Fits (with_sign negative (number radix bytes))
-    → IfSome result (λ x. (options : Option Options) → (l : Literal) × Reads (notation_of (record { word = word; options = options })) l (minus_if negative ++ bytes) × IsInteger (raw word) l (value x))
+    → IfSome result (λ x. (options : Option Options) → (l : Literal)
+    × Reads (notation_of (record { word = word; options = options })) l (minus_if negative ++ bytes) × IsInteger (raw word) l (value x))
 plain_value value word negative radix bytes None no_sign no_exponent some not_zero same Fits digits s = tt
 plain_value value word negative radix (first ∷ digits) (Some x) no_sign no_exponent some not_zero same Fits alone s =
     let all = subst (λ r. AllByRecursion (λ byte. IsTrue (nat_lt (byte_value byte) r)) (first ∷ digits)) same

@@ -25,10 +25,11 @@ same_word r s l same = record {
   denominator = grind (arith, same.mantissa_radix, same.exponent_base, same.exponent_radix);
 }
 
--- The case of a letter does not change its value.
+-- A byte in uppercase is in uppercase.
 twice : (byte : ℕ) → uppercase (uppercase byte) ≡ uppercase byte
 twice byte = grind (arith, nat_tests)
 
+-- The case of a letter does not change its value.
 uppercase_value : (byte : ℕ) → byte_value (uppercase byte) ≡ byte_value byte
 unfolding byte_value
 uppercase_value byte = ap (λ letter. unwrap_or (position (λ character. character == letter) digit_characters) 255) (twice byte)
@@ -52,10 +53,11 @@ module _ (m : Notation) (radix : ℕ) (apart : (byte : ℕ) → byte_value byte 
       go true is rest = rest ∙ sym (ap (λ d. cons_option d (digits_in radix bytes)) (no_digit _ refl is))
       go false is rest = (λ i. cons_option (same_digit byte i) (rest i))
 
+  -- Two runs that are spelled alike have the same digits.
   pub same_digits : (xs ys : List ℕ) → spelled m xs ≡ spelled m ys → digits_in radix xs ≡ digits_in radix ys
   same_digits xs ys same = sym (spelled_digits xs) ∙ ap (digits_in radix) same ∙ spelled_digits ys
 
--- No digit is a separator.
+-- Where no separator is a digit, literals with the same digits have the same value.
 module _ (r : Record) (m : Notation) (l k : Literal) (same : SameDigits m l k)
     (mantissa_apart : (byte : ℕ) → byte_value byte < r.byte layout.mantissa_radix → IsTrue (m.separator byte) → ⊥)
     (exponent_apart : (byte : ℕ) → byte_value byte < effective_exponent_radix r → IsTrue (m.separator byte) → ⊥) where
@@ -80,7 +82,7 @@ module _ (r : Record) (m : Notation) (l k : Literal) (same : SameDigits m l k)
     denominator = λ i. radix ^ length (same_fraction i) * (if same.exponent_sign i then same_power i else 1);
   }
 
--- The value of an integer.
+-- Without fraction and exponent, the numerator is the number that the integer digits represent.
 pub integer_numerator : (m : Notation) (r : Record) (l : Literal) (text : List ℕ) → Reads m l text → IsFalse (is_float l)
     → numerator r l ≡ integer_size r l
 integer_numerator m r l text reads whole =
@@ -88,7 +90,8 @@ integer_numerator m r l text reads whole =
     let exponent : l.exponent ≡ [] = (reads.literal.after_character (grind arith)).1 in
     let same : mantissa r l ≡ integer_size r l =
     ap (number (r.byte layout.mantissa_radix)) (ap (λ bytes. l.integer ++ bytes) fraction ∙ append-nil l.integer) in
-    let one : power r l ≡ 1 = ap (λ bytes. effective_exponent_base r ^ number (effective_exponent_radix r) bytes) exponent ∙ pow-zero (effective_exponent_base r) in
+    let base = effective_exponent_base r in
+    let one : power r l ≡ 1 = ap (λ bytes. base ^ number (effective_exponent_radix r) bytes) exponent ∙ pow-zero base in
     times_one (is_minus l.exponent_sign) _ _ one ∙ same
   where
     times_one : (minus : Bool) (size n : ℕ) → n ≡ 1 → size * (if minus then 1 else n) ≡ size

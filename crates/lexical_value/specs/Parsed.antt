@@ -1,18 +1,19 @@
 -- What a call returns that reads a text and computes its value.
-use Rattle.std.specs.Prelude.{ℕ, List, ℤ, Result, Ok, Err}
+use Rattle.std.specs.Prelude.{ℕ, List, Result, Ok, Err}
 use Rattle.lexical_util.specs.Record.{raw}
 use Rattle.lexical_literal.specs.Cause.{IsRefusal}
 use Rattle.lexical_literal.specs.Literal.{Literal, Reads}
 use Rattle.lexical_literal.specs.Notation.{notation_of}
 use Rattle.lexical_literal.specs.declared.syntax.Grammar.{Grammar}
+use Rattle.lexical_number.specs.Numeral.{Range}
 use Rattle.lexical_value.specs.Integer.{IsInteger, IsNoInteger}
 use Rattle.lexical_value.specs.declared.parse.ParseError.{ParseError}
 use Rattle.lexical_value.specs.declared.parse.ParseError.TheVariants as errors
 
--- `IsParsed value least largest g text result` holds if `result` is the value of the integer `text`, by `value`. If `text`
--- is not an integer from `-least` to `largest`, it is why `text` is not a literal, or why the literal has no such value.
-abbrev pub IsParsed : {T : Type 0} → (T → ℤ) → ℕ → ℕ → Grammar → List ℕ → Result T ParseError → Type 0
-IsParsed value least largest g text (Ok x) = (l : Literal) × Reads (notation_of g) l text × IsInteger (raw g.word) l (value x)
-IsParsed value least largest g text (Err (errors.Read error)) = IsRefusal (notation_of g) text error
-IsParsed value least largest g text (Err (errors.Value kind)) =
-    (l : Literal) × Reads (notation_of g) l text × IsNoInteger least largest (raw g.word) l kind
+-- `IsParsed range g text result` holds if `result` is the value of the integer `text` in `range`, why `text` is not a
+-- literal, or why the value of the literal is not in `range`.
+abbrev pub IsParsed : {T : Type 0} → Range T → Grammar → List ℕ → Result T ParseError → Type 0
+IsParsed range g text (Ok x) = (l : Literal) × Reads (notation_of g) l text × IsInteger (raw g.word) l (range.value x)
+IsParsed range g text (Err (errors.Read error)) = IsRefusal (notation_of g) text error
+IsParsed range g text (Err (errors.Value kind)) =
+    (l : Literal) × Reads (notation_of g) l text × IsNoInteger range.least range.largest (raw g.word) l kind

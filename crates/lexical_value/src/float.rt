@@ -48,7 +48,10 @@ pub fn to_float<F: Float>(format: NumberFormat, parts: &Parts) -> Result<F, Valu
 pub const fn supports_floats(format: NumberFormat) -> bool
     ensures { result ≡ (is_decimal (raw format) || is_binary (raw format)) }
 {
-    let radixes = (bits_of(format.mantissa_radix()), bits_of(format.exponent_base()));
+    let radixes = (
+        bits_of(format.mantissa_radix()),
+        bits_of(format.exponent_base()),
+    );
     has_decimal_floats(format) || matches!(radixes, (Some(_), Some(_)))
 }
 

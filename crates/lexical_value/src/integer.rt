@@ -14,7 +14,7 @@ use lexical_number::integer::Integer;
 use lexical_number::numeral::Numeral;
 use lexical_util::format::NumberFormat;
 
-/// Why a literal has no value in a type.
+/// Why a number has no value in a type.
 #[derive(Debug, Clone, Copy, PartialEq, Eq, Hash)]
 pub enum ValueErrorKind {
     /// The type is an integer type, and the literal has a decimal point or an exponent, even if its value is whole.
@@ -26,7 +26,7 @@ pub enum ValueErrorKind {
     /// The type is a float type, and the mantissa radix and the exponent base of the format are neither both 10 nor both
     /// powers of two.
     UnsupportedRadix,
-    /// The type is an integer type, and the number is NaN or infinity.
+    /// The type is an integer type, and the number is NaN or infinity, which no literal is.
     Special,
 }
 
@@ -49,8 +49,8 @@ impl ValueErrorKind {
 ///
 /// If the literal has a decimal point or an exponent, or if its value is not in the range of the type, returns which.
 pub fn to_integer<T: Integer>(format: NumberFormat, parts: &Parts) -> Result<T, ValueErrorKind>
-    ensures { MatchResult result (λ value. IsInteger (raw format) (literal_of parts.now) (T.value value))
-        (IsNoInteger T.least T.largest (raw format) (literal_of parts.now)) }
+    ensures { MatchResult result (λ value. IsInteger (raw format) (literal_of parts.now) (T.range.value value))
+        (IsNoInteger T.range.least T.range.largest (raw format) (literal_of parts.now)) }
 {
     let Some(numeral) = integer_digits(format, parts) else {
         return Err(ValueErrorKind::Float);

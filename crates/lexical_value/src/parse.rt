@@ -23,7 +23,7 @@ pub enum ParseError {
 ///
 /// If `text` is not a literal, or if it has no value in the type, returns why.
 pub fn parse_integer<T: Integer>(reader: &Reader, text: &[u8]) -> Result<T, ParseError>
-    ensures { IsParsed T.value T.least T.largest reader.now text.now result }
+    ensures { IsParsed T.range reader.now text.now result }
 {
     let format = reader.syntax().format();
     if let Some(value) = plain_integer(format, text) {

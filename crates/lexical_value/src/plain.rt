@@ -18,7 +18,7 @@ use lexical_util::format::NumberFormat;
 pub(crate) fn plain_integer<T: Integer>(format: NumberFormat, text: &[u8]) -> Option<T>
     ensures { IfSome result (λ value. (options : Option Options) → (l : Literal)
         × Reads (notation_of (record { word = format; options = options })) l text.now
-        × IsInteger (raw format) l (T.value value)) }
+        × IsInteger (raw format) l (T.range.value value)) }
 {
     if format.required_mantissa_sign() || format.required_exponent_notation() {
         return None;

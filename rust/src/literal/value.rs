@@ -17,7 +17,7 @@ use plain::plain_integer;
 
 /// A type that can be [parsed][Reader::parse]: each integer type of Rust, `f64` and `f32`.
 ///
-/// Each of these types is also [made][TryFrom] from a [`Literal`], as in `u16::try_from(literal)`, and from a [`Number`].
+/// Each of these types is also [made][TryFrom] from a [`Literal`] or a [`Number`], as in `u16::try_from(literal)`.
 ///
 /// A float is the value of the literal, rounded once to the nearest float, or to the even one if two are as near. Values
 /// from halfway above the largest float on are infinite, and `-0` is `-0.0`. A decimal number with few digits takes one
@@ -31,7 +31,7 @@ pub trait Sealed: for<'a> TryFrom<Literal<'a>, Error = ValueError> {
 }
 
 impl Reader {
-    /// Returns the value of the literal `text`. A minus sign before 0 changes no integer.
+    /// Returns the value of the literal `text`. That of `-0` is 0 in each integer type.
     ///
     /// ```
     /// use peltzivar::literal::Language;
@@ -102,7 +102,7 @@ impl fmt::Display for Plain<'_> {
     }
 }
 
-/// Why a literal has no value in a type.
+/// Why a number has no value in a type.
 #[derive(Debug, Clone, Copy, PartialEq, Eq, Hash)]
 pub struct ValueError {
     kind: ValueErrorKind,
@@ -206,14 +206,16 @@ macro_rules! integers {
                 }
             }
 
-            /// Makes the value of an integer from the number of a language.
+            /// Makes the value of an integer from a number of a language.
             impl TryFrom<Number<'_>> for $type {
                 type Error = ValueError;
 
                 fn try_from(number: Number<'_>) -> Result<$type, ValueError> {
                     match number {
                         Number::Literal(literal) => literal.try_into(),
-                        Number::Special(_) => Err(ValueError { kind: ValueErrorKind::Special, target: Target::$Target }),
+                        Number::Special(_) => {
+                            Err(ValueError { kind: ValueErrorKind::Special, target: Target::$Target })
+                        }
                     }
                 }
             }

@@ -17,17 +17,22 @@ pub struct Numeral<'a> {
     pub separated: bool,
 }
 
-// Returns the size of a numeral, to which `$push` appends digits, or `None` if it is above `$most`.
+// Returns the size of a numeral in a type, or `None` if it is above `$most`.
 macro_rules! size {
-    ($numeral:ident, $push:ident, $most:ident) => {{
-        let mut size = 0;
+    ($numeral:ident, $type:ident, $most:ident) => {{
+        let mut size: $type = 0;
         let mut index = 0;
         while index < $numeral.bytes.len() {
             match char_to_digit($numeral.bytes[index], $numeral.radix) {
-                Some(digit) => match $push(size, $numeral.radix, digit, $most) {
-                    Some(longer) => size = longer,
-                    None => return None,
-                },
+                Some(digit) => {
+                    let Some(shifted) = size.checked_mul($numeral.radix as $type) else {
+                        return None;
+                    };
+                    match shifted.checked_add(digit as $type) {
+                        Some(longer) if longer <= $most => size = longer,
+                        _ => return None,
+                    }
+                }
                 None if $numeral.separated => (),
                 None => return None,
             }
@@ -45,7 +50,7 @@ impl Numeral<'_> {
     #[inline(always)]
     pub const fn size(&self, least: u64, largest: u64) -> Option<u64> {
         let most = if self.negative { least } else { largest };
-        size!(self, push, most)
+        size!(self, u64, most)
     }
 
     /// Returns the number without its sign, as [`size`][Self::size] does, with 128 bits.
@@ -53,7 +58,7 @@ impl Numeral<'_> {
     #[inline(always)]
     pub const fn wide_size(&self, least: u128, largest: u128) -> Option<u128> {
         let most = if self.negative { least } else { largest };
-        size!(self, wide_push, most)
+        size!(self, u128, most)
     }
 
     /// Returns the value, or `None` if it is not a `u64`.
@@ -89,30 +94,6 @@ impl Numeral<'_> {
             Some(size) => Some(size as i128),
             None => None,
         }
-    }
-}
-
-// Returns the number `size` with one more digit, or `None` if this is above `most`.
-#[inline(always)]
-const fn push(size: u64, radix: u32, digit: u32, most: u64) -> Option<u64> {
-    let Some(shifted) = size.checked_mul(radix as u64) else {
-        return None;
-    };
-    match shifted.checked_add(digit as u64) {
-        Some(longer) if longer <= most => Some(longer),
-        _ => None,
-    }
-}
-
-// Returns the same as `push`, with 128 bits.
-#[inline(always)]
-const fn wide_push(size: u128, radix: u32, digit: u32, most: u128) -> Option<u128> {
-    let Some(shifted) = size.checked_mul(radix as u128) else {
-        return None;
-    };
-    match shifted.checked_add(digit as u128) {
-        Some(longer) if longer <= most => Some(longer),
-        _ => None,
     }
 }
 

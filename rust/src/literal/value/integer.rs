@@ -7,7 +7,7 @@ use crate::number::integer::Integer;
 use crate::number::numeral::Numeral;
 use crate::word::FormatView;
 
-/// Why a literal has no value in a type.
+/// Why a number has no value in a type.
 #[derive(Debug, Clone, Copy, PartialEq, Eq, Hash)]
 #[non_exhaustive]
 pub enum ValueErrorKind {
@@ -20,7 +20,7 @@ pub enum ValueErrorKind {
     /// The type is a float type, and the mantissa radix and the exponent base of the format are neither both 10 nor both
     /// powers of two.
     UnsupportedRadix,
-    /// The type is an integer type, and the number is NaN or infinity.
+    /// The type is an integer type, and the number is NaN or infinity, which no literal is.
     Special,
 }
 

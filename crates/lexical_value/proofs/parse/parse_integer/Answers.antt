@@ -12,12 +12,12 @@ returns-in-Some g c =
     let word = c.format-format.ensures.word ∙ ap (λ s. s.word) c.syntax.ensures in
     let now = c.args.reader.now in
     subst (λ w. (l : Literal) × Reads (notation_of (record { word = w; options = now.options })) l c.args.text.now
-    × IsInteger (raw w) l (g.T.Integer.value c.in-Some.value)) word (c.in-Some.ensures now.options)
+    × IsInteger (raw w) l (g.T.Integer.range.value c.in-Some.value)) word (c.in-Some.ensures now.options)
 
 pub returns-in-Ok-to_integer : goal.returns-in-Ok-to_integer
 returns-in-Ok-to_integer g c =
     let word = c.format-format.ensures.word ∙ ap (λ s. s.word) c.syntax.ensures in
-    let value = g.T.Integer.value c.in-Ok-to_integer.value in
+    let value = g.T.Integer.range.value c.in-Ok-to_integer.value in
     (literal_of c.in-Ok.parts, c.in-Ok.ensures.found, subst (λ w. IsInteger (raw w) (literal_of c.in-Ok.parts) value) word c.in-Ok-to_integer.ensures)
 
 pub returns-in-Err-to_integer : goal.returns-in-Err-to_integer
@@ -26,5 +26,5 @@ returns-in-Err-to_integer g c =
     let kind = c.in-Err-to_integer.kind in (
       literal_of c.in-Ok.parts,
       c.in-Ok.ensures.found,
-      subst (λ w. IsNoInteger g.T.Integer.least g.T.Integer.largest (raw w) (literal_of c.in-Ok.parts) kind) word c.in-Err-to_integer.ensures,
+      subst (λ w. IsNoInteger g.T.Integer.range.least g.T.Integer.range.largest (raw w) (literal_of c.in-Ok.parts) kind) word c.in-Err-to_integer.ensures,
     )

@@ -12,9 +12,9 @@ pub returns-in-len1-up : goal.returns-in-len1-up
 returns-in-len1-up g c =
     let word = c.args.format in
     subst (λ text. IfSome c.from_numeral.result (λ value. (options : Option Options) → (l : Literal)
-    × Reads (notation_of (record { word = word; options = options })) l text × IsInteger (raw word) l (g.T.Integer.value value)))
+    × Reads (notation_of (record { word = word; options = options })) l text × IsInteger (raw word) l (g.T.Integer.range.value value)))
     (sym c.split_minus-negative.ensures)
-    (plain_value g.T.Integer.value word c.split_minus-negative.result.0 _ _ c.from_numeral.result
+    (plain_value g.T.Integer.range.value word c.split_minus-negative.result.0 _ _ c.from_numeral.result
     (sym c.required_mantissa_sign.ensures ∙ c.if-required_mantissa_sign.false)
     (sym c.required_exponent_notation.ensures ∙ c.if-required_exponent_notation.false)
     c.in-len1-up.len_at_least c.if-first-ne48.true c.mantissa_radix.ensures.value _ (λ fits. fits.digits refl) c.from_numeral.ensures)
