@@ -137,15 +137,3 @@ unsaturated v e h s = omega arith
 
 pub at_scale : (num den digits up down up' down' : ℕ) (more : Bool) → up ≡ up' → down ≡ down' → IsBinary num den digits more up down → IsBinary num den digits more up' down'
 at_scale num den digits up down up' down' more p q h = subst (λ u. IsBinary num den digits more u down') p (subst (λ d. IsBinary num den digits more up d) q h)
-
-pub negative_up : (b : Bool) (x y : ℕ) → b ≡ true → x + (if b then 0 else y) ≡ x
-negative_up b x y t = ap (λ c. x + (if c then 0 else y)) t ∙ omega arith
-
-pub negative_down : (b : Bool) (x e v w : ℕ) → b ≡ true → e ≡ v → x + (if b then e * w else 0) ≡ x + v * w
-negative_down b x e v w t s = ap (λ c. x + (if c then e * w else 0)) t ∙ ap (λ y. x + y * w) s
-
-pub positive_up : (b : Bool) (x e v w : ℕ) → b ≡ false → e ≡ v → x + (if b then 0 else e * w) ≡ x + v * w
-positive_up b x e v w t s = ap (λ c. x + (if c then 0 else e * w)) t ∙ ap (λ y. x + y * w) s
-
-pub positive_down : (b : Bool) (x y : ℕ) → b ≡ false → x + (if b then y else 0) ≡ x
-positive_down b x y t = ap (λ c. x + (if c then y else 0)) t ∙ omega arith

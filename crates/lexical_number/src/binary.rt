@@ -71,9 +71,8 @@ const fn cut(digits: u128, dropped: u64) -> (u128, u128, u128)
 const fn settle(double: bool, digits: u128, more: bool, dropped: u64, exponent: u128) -> u64
     requires dropped { (2 ≤ dropped) × (dropped < 128) }
     requires kept { IsSignificand (format_of double) (digits / 2 ^ dropped) exponent }
-    ensures value { (num den : ℕ) → 0 < den → IsCutAt (format_of double) num den digits more dropped exponent
+    ensures { (num den : ℕ) → 0 < den → IsCutAt (format_of double) num den digits more dropped exponent
         → IsNearestBits (format_of double) num den result }
-    ensures no_nan { result ≤ ones (format_of double) * hid (format_of double) }
 {
     let (kept, rest, half) = cut(digits, dropped);
     let significand = kept as u64;
@@ -128,10 +127,8 @@ pub const fn nearest_bits(double: bool, digits: u128, more: bool, up: u128, down
     requires size { digits < 2 ^ 120 }
     requires more { more ≡ true → 2 ^ 64 ≤ digits }
     requires scale { (up < 2 ^ 120) × (down < 2 ^ 120) }
-    ensures value { (num den : ℕ) → 0 < den → IsBinary num den digits more up down
+    ensures { (num den : ℕ) → 0 < den → IsBinary num den digits more up down
         → IsNearestBits (format_of double) num den result }
-    // The bits are not those of a NaN.
-    ensures no_nan { result ≤ ones (format_of double) * hid (format_of double) }
 {
     if digits == 0 {
         return 0;

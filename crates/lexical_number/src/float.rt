@@ -5,7 +5,6 @@ ghost use Rattle.std.specs.Float as float;
 ghost use Rattle.std.specs.Float.Ieee.{hid, neg, ones, round};
 ghost use Rattle.std.specs.Float.Parse.{parse_float};
 ghost use Rattle.lexical_number.specs.Binary.{format_of};
-ghost use Rattle.core.specs.Dec2flt.Exact.{IsTenTo};
 
 /// A float type.
 pub trait Float: Copy {
@@ -49,22 +48,6 @@ static TENS_F64: [f64; 23] = [
 
 static TENS_F32: [f32; 11] = [1e0, 1e1, 1e2, 1e3, 1e4, 1e5, 1e6, 1e7, 1e8, 1e9, 1e10];
 
-#[inline(always)]
-fn ten_to_f64(power: u64) -> f64
-    requires { power ≤ 22 }
-    ensures { IsTenTo power result }
-{
-    TENS_F64[power as usize]
-}
-
-#[inline(always)]
-fn ten_to_f32(power: u64) -> f32
-    requires { power ≤ 10 }
-    ensures { IsTenTo power result }
-{
-    TENS_F32[power as usize]
-}
-
 impl Float for f64 {
     const DOUBLE: bool = true;
 
@@ -92,7 +75,7 @@ impl Float for f64 {
         if digits > 1 << 53 || up > 22 {
             return None;
         }
-        Some(digits as f64 * ten_to_f64(up))
+        Some(digits as f64 * TENS_F64[up as usize])
     }
 
     #[inline(always)]
@@ -100,7 +83,7 @@ impl Float for f64 {
         if digits > 1 << 53 || down > 22 {
             return None;
         }
-        Some(digits as f64 / ten_to_f64(down))
+        Some(digits as f64 / TENS_F64[down as usize])
     }
 }
 
@@ -131,7 +114,7 @@ impl Float for f32 {
         if digits > 1 << 24 || up > 10 {
             return None;
         }
-        Some(digits as f32 * ten_to_f32(up))
+        Some(digits as f32 * TENS_F32[up as usize])
     }
 
     #[inline(always)]
@@ -139,6 +122,6 @@ impl Float for f32 {
         if digits > 1 << 24 || down > 10 {
             return None;
         }
-        Some(digits as f32 / ten_to_f32(down))
+        Some(digits as f32 / TENS_F32[down as usize])
     }
 }

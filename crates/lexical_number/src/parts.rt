@@ -1,7 +1,6 @@
 //! The float nearest to digits with an exponent, if both are in radixes that are powers of two.
 
 ghost use Rattle.std.specs.Prelude.{◌≡◌, ℕ, ◌+◌, ◌*◌, ◌^◌, ◌<◌, ◌≤◌, ◌++◌, min, true, false, length, IfSome, is_some, if◌then◌else◌};
-ghost use Rattle.std.specs.Float.Ieee.{hid, ones};
 ghost use Rattle.core.specs.Dec2flt.Rounding.{IsNearestBits};
 ghost use Rattle.lexical_number.specs.Binary.{format_of, is_power_of_two, raised_up, raised_down};
 ghost use Rattle.lexical_number.specs.Leading.{number_after, Leads};
@@ -62,11 +61,10 @@ pub const fn raised_bits(
     requires leading { (n : ℕ) × Leads (2 ^ radix_bits) n leading.digits leading.more leading.dropped }
     requires dropped { leading.dropped ≤ 2 ^ 65 }
     requires exponent { exponent ≤ 2 ^ 90 }
-    ensures value { (n e : ℕ) → Leads (2 ^ radix_bits) n leading.digits leading.more leading.dropped
+    ensures { (n e : ℕ) → Leads (2 ^ radix_bits) n leading.digits leading.more leading.dropped
         → exponent ≡ min e (2 ^ 90)
         → IsNearestBits (format_of double) (n * raised_up negative (2 ^ base_bits) e)
         ((2 ^ radix_bits) ^ places * raised_down negative (2 ^ base_bits) e) result }
-    ensures no_nan { result ≤ ones (format_of double) * hid (format_of double) }
 {
     let Leading {
         digits,
@@ -79,12 +77,25 @@ pub const fn raised_bits(
     if exponent == 1 << 90 {
         return if negative { 0 } else { infinity(double) };
     }
-    let shift = exponent * base_bits as u128;
-    let up = dropped * radix_bits as u128;
-    let down = places as u128 * radix_bits as u128;
+    let (up, down) = scales(
+        dropped * radix_bits as u128,
+        places as u128 * radix_bits as u128,
+        negative,
+        exponent * base_bits as u128,
+    );
+    nearest_bits(double, digits, more, up, down)
+}
+
+// Returns the exponents above and below the line of a fraction.
+#[inline(always)]
+pub(crate) const fn scales(up: u128, down: u128, negative: bool, exponent: u128) -> (u128, u128)
+    requires { (up < 2 ^ 70) × (down < 2 ^ 70) × (exponent ≤ 2 ^ 93) }
+    ensures up { result.0 ≡ up + (if negative then 0 else exponent) }
+    ensures down { result.1 ≡ down + (if negative then exponent else 0) }
+{
     if negative {
-        nearest_bits(double, digits, more, up, down + shift)
+        (up, down + exponent)
     } else {
-        nearest_bits(double, digits, more, up + shift, down)
+        (up + exponent, down)
     }
 }

@@ -1,7 +1,7 @@
 //! The floats of literals: ties, subnormals, values that are infinite, long digits and exponents, and radixes that have none.
 
 use lexical_literal::read::Reader;
-use lexical_literal::syntax::{Options, Syntax};
+use lexical_literal::syntax::Syntax;
 use lexical_value::float::to_float;
 use lexical_value::integer::ValueErrorKind;
 
@@ -17,11 +17,7 @@ const TERNARY: u128 = 0x03030300_0000005F_00000201_0000000C;
 
 // Returns the bits of both floats of `text`, whose exponent character is `^`.
 fn bits(word: u128, text: &str) -> Option<(u64, u32)> {
-    let options = Options {
-        exponent: b'^',
-        point: b'.',
-    };
-    let syntax = Syntax::new(word, options).ok()?;
+    let syntax = Syntax::new(word, b'^', b'.').ok()?;
     let parts = Reader::new(syntax).read(text.as_bytes()).ok()?;
     let double: f64 = to_float(syntax.format(), &parts).ok()?;
     let single: f32 = to_float(syntax.format(), &parts).ok()?;

@@ -31,16 +31,6 @@ static TENS_F64: [f64; 23] = [
 
 static TENS_F32: [f32; 11] = [1e0, 1e1, 1e2, 1e3, 1e4, 1e5, 1e6, 1e7, 1e8, 1e9, 1e10];
 
-#[inline(always)]
-fn ten_to_f64(power: u64) -> f64 {
-    TENS_F64[power as usize]
-}
-
-#[inline(always)]
-fn ten_to_f32(power: u64) -> f32 {
-    TENS_F32[power as usize]
-}
-
 impl Float for f64 {
     const DOUBLE: bool = true;
 
@@ -64,7 +54,7 @@ impl Float for f64 {
         if digits > 1 << 53 || up > 22 {
             return None;
         }
-        Some(digits as f64 * ten_to_f64(up))
+        Some(digits as f64 * TENS_F64[up as usize])
     }
 
     #[inline(always)]
@@ -72,7 +62,7 @@ impl Float for f64 {
         if digits > 1 << 53 || down > 22 {
             return None;
         }
-        Some(digits as f64 / ten_to_f64(down))
+        Some(digits as f64 / TENS_F64[down as usize])
     }
 }
 
@@ -99,7 +89,7 @@ impl Float for f32 {
         if digits > 1 << 24 || up > 10 {
             return None;
         }
-        Some(digits as f32 * ten_to_f32(up))
+        Some(digits as f32 * TENS_F32[up as usize])
     }
 
     #[inline(always)]
@@ -107,6 +97,6 @@ impl Float for f32 {
         if digits > 1 << 24 || down > 10 {
             return None;
         }
-        Some(digits as f32 / ten_to_f32(down))
+        Some(digits as f32 / TENS_F32[down as usize])
     }
 }

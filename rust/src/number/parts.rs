@@ -53,12 +53,21 @@ pub const fn raised_bits(
     if exponent == 1 << 90 {
         return if negative { 0 } else { infinity(double) };
     }
-    let shift = exponent * base_bits as u128;
-    let up = dropped * radix_bits as u128;
-    let down = places as u128 * radix_bits as u128;
+    let (up, down) = scales(
+        dropped * radix_bits as u128,
+        places as u128 * radix_bits as u128,
+        negative,
+        exponent * base_bits as u128,
+    );
+    nearest_bits(double, digits, more, up, down)
+}
+
+// Returns the exponents above and below the line of a fraction.
+#[inline(always)]
+pub(crate) const fn scales(up: u128, down: u128, negative: bool, exponent: u128) -> (u128, u128) {
     if negative {
-        nearest_bits(double, digits, more, up, down + shift)
+        (up, down + exponent)
     } else {
-        nearest_bits(double, digits, more, up + shift, down)
+        (up + exponent, down)
     }
 }

@@ -10,8 +10,8 @@ use Rattle.lexical_number.specs.Binary.{format_of, IsBinary}
 use Rattle.lexical_number.proofs.BinaryLemmas.{bits_of, significand_at, cut_at, within_one, zero_digits}
 use Rattle.lexical_number.proofs.binary.nearest_bits.Goals as goal
 
-pub returns-then-digits-eq0-clause-value : goal.returns-then-digits-eq0-clause-value
-returns-then-digits-eq0-clause-value c num den D near =
+pub returns-then-digits-eq0 : goal.returns-then-digits-eq0
+returns-then-digits-eq0 c num den D near =
     nearest_of_zero (format_of c.args.double) num den D (zero_digits num den c.args.digits c.args.up c.args.down c.args.more c.if-digits-eq0.true c.requires.more near)
 
 pub overflow_sub-size-2 : goal.overflow_sub-size-2
@@ -20,8 +20,8 @@ overflow_sub-size-2 c =
     let b = bits_of c.lifted-lifted.result.0 c.lifted-lifted.ensures.size.0 c.lifted-lifted.ensures.size.1 in
     omega (arith, b.1.zeros, b.1.range)
 
-pub returns-then-dropped-gt121-clause-value : goal.returns-then-dropped-gt121-clause-value
-returns-then-dropped-gt121-clause-value c num den D near =
+pub returns-then-dropped-gt121 : goal.returns-then-dropped-gt121
+returns-then-dropped-gt121 c num den D near =
     let f = format_of c.args.double in
     let h = c.lifted-lifted.result.0 in
     let d = c.dropped-dropped.result.0 in
@@ -52,9 +52,9 @@ settle-requires-clause-kept c =
     (omega (arith, b.1.zeros, b.1.range, c.dropped-dropped.ensures.least))
     (λ K. omega (arith, b.1.zeros, b.1.range, c.dropped-dropped.ensures.normal K))
 
-pub returns-clause-value : goal.returns-clause-value
-returns-clause-value c num den D near =
-    c.settle.ensures.value num den D
+pub returns : goal.returns
+returns c num den D near =
+    c.settle.ensures num den D
     (cut_at (format_of c.args.double) num den c.args.digits c.lifted-lifted.result.0 c.lifted-lifted.result.1 c.args.up c.args.down
     c.dropped-dropped.result.0 c.dropped-dropped.result.1 c.args.more c.lifted-lifted.ensures.value
     (λ m. c.lifted-lifted.ensures.none (c.requires.more m)) (omega (arith, c.dropped-dropped.ensures.places)) near)

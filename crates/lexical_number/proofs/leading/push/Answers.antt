@@ -1,7 +1,7 @@
 use Rattle.std.proofs.Common.{◌≡◌, ℕ, ◌+◌, ◌*◌, ◌^◌, ◌<◌, ◌≤◌, Bool, true, false, not, refl, sym, ap, ◌∙◌, arith}
 use borrow.Author.Tests.{ne_eqb, eq-eqb}
 use Rattle.lexical_number.specs.Leading.{Leads}
-use Rattle.lexical_number.proofs.LeadingLemmas.{keep, drop_digit, unit_pos}
+use Rattle.lexical_number.proofs.LeadingLemmas.{keep, drop_digit}
 use Rattle.lexical_number.proofs.leading.push.Goals as goal
 use Rattle.lexical_number.proofs.leading.push.Goals.{then-more, else-more}
 
@@ -17,4 +17,4 @@ returns-after-more-clause-value c n l =
     (elim c.if-more.branch [ then-more w ↦ λ e. w.result-is ∙ w.if-more.true | else-more w ↦ λ e. (let f : true ≡ false = sym e ∙ w.if-more.false in cc) ])
     (elim c.if-more.branch [ then-more w ↦ λ e p. w.result-is ∙ w.if-more.true | else-more w ↦ λ e p. w.result-is ∙ ap not (ne_eqb c.args.digit 0 (omega arith)) ])
     (elim c.if-more.branch [ then-more w ↦ λ e z. (let f : true ≡ false = sym w.if-more.true ∙ e in cc) | else-more w ↦ λ e z. w.result-is ∙ ap not (eq-eqb c.args.digit 0 z) ])
-    (unit_pos c.args.radix c.args.leading.dropped (omega arith)) l
+    l

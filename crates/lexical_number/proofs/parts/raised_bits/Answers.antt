@@ -5,19 +5,19 @@ use native.Mathlib.Nat.{mul-pos, mul-le-mul}
 use lib.Pow.{pow_pos, pow-add}
 use Rattle.core.specs.Dec2flt.Rounding.{IsNearestBits}
 use Rattle.core.proofs.dec2flt.Extremes.{nearest_of_zero}
-use Rattle.lexical_number.specs.Binary.{IsBinary, format_of, raised_up, raised_down}
-use Rattle.lexical_number.specs.Leading.{Leads, IsCutTo}
-use Rattle.lexical_number.proofs.PartsLemmas.{pow_of, is_binary, bound, some_number, no_number, vanishes, explodes, den_pos, with_exponent, small, saturated, unsaturated, at_scale, negative_up, negative_down, positive_up, positive_down}
+use Rattle.lexical_number.specs.Binary.{format_of, raised_up, raised_down}
+use Rattle.lexical_number.specs.Leading.{Leads}
+use Rattle.lexical_number.proofs.PartsLemmas.{bound, some_number, no_number, vanishes, explodes, den_pos, with_exponent, small, saturated, unsaturated, at_scale}
 use Rattle.lexical_number.proofs.parts.raised_bits.Goals as goal
 
-pub returns-then-digits-eq0-clause-value : goal.returns-then-digits-eq0-clause-value
-returns-then-digits-eq0-clause-value c n e l h =
+pub returns-then-digits-eq0 : goal.returns-then-digits-eq0
+returns-then-digits-eq0 c n e l h =
     let z : n ≡ 0 = no_number c.args.radix_bits n c.args.leading.digits c.args.leading.dropped c.args.leading.more c.if-digits-eq0.true l in
     nearest_of_zero (format_of c.args.double) _ _ (den_pos c.args.radix_bits c.args.places c.args.base_bits e c.args.negative)
     (ap (λ x. x * raised_up c.args.negative (2 ^ c.args.base_bits) e) z ∙ omega arith)
 
-pub returns-then-negative-clause-value : goal.returns-then-negative-clause-value
-returns-then-negative-clause-value c n e l h =
+pub returns-then-negative : goal.returns-then-negative
+returns-then-negative c n e l h =
     subst (λ b. IsNearestBits (format_of c.args.double) (n * raised_up b (2 ^ c.args.base_bits) e) ((2 ^ c.args.radix_bits) ^ c.args.places * raised_down b (2 ^ c.args.base_bits) e) 0)
     (sym c.if-negative.true)
     (vanishes (format_of c.args.double) n (c.args.leading.dropped * c.args.radix_bits) c.args.radix_bits c.args.places c.args.base_bits e
@@ -25,8 +25,8 @@ returns-then-negative-clause-value c n e l h =
     (small c.args.leading.dropped c.args.radix_bits c.requires.dropped c.requires.radix.1)
     c.requires.base.0 (saturated c.args.exponent e h c.if-exponent.true))
 
-pub returns-else-negative-clause-value : goal.returns-else-negative-clause-value
-returns-else-negative-clause-value c n e l h =
+pub returns-else-negative : goal.returns-else-negative
+returns-else-negative c n e l h =
     let f = format_of c.args.double in
     subst (λ b. IsNearestBits f (n * raised_up b (2 ^ c.args.base_bits) e) ((2 ^ c.args.radix_bits) ^ c.args.places * raised_down b (2 ^ c.args.base_bits) e) c.infinity.result)
     (sym c.if-negative.false)
@@ -35,24 +35,11 @@ returns-else-negative-clause-value c n e l h =
     (some_number c.args.radix_bits n c.args.leading.digits c.args.leading.dropped c.args.leading.more (omega arith) l)
     c.requires.radix.1 c.ranges.places.fits c.requires.base.0 (saturated c.args.exponent e h c.if-exponent.true)))
 
-pub returns-then-negative-2-clause-value : goal.returns-then-negative-2-clause-value
-returns-then-negative-2-clause-value c n e l h =
+pub returns : goal.returns
+returns c n e l h =
     let same : e ≡ c.args.exponent = unsaturated c.args.exponent e h c.if-exponent.false in
-    let b : IsBinary (n * raised_up c.args.negative (2 ^ c.args.base_bits) e) ((2 ^ c.args.radix_bits) ^ c.args.places * raised_down c.args.negative (2 ^ c.args.base_bits) e)
-    c.args.leading.digits c.args.leading.more (c.args.leading.dropped * c.args.radix_bits + (if c.args.negative then 0 else e * c.args.base_bits))
-    (c.args.places * c.args.radix_bits + (if c.args.negative then e * c.args.base_bits else 0)) =
-    with_exponent n c.args.leading.digits c.args.leading.dropped c.args.radix_bits c.args.places c.args.base_bits e c.args.leading.more c.args.negative l.cut in
-    c.nearest_bits.ensures.value _ _ (den_pos c.args.radix_bits c.args.places c.args.base_bits e c.args.negative)
-    (at_scale _ _ c.args.leading.digits _ _ _ _ c.args.leading.more (negative_up c.args.negative _ _ c.if-negative-2.true)
-    (negative_down c.args.negative _ _ _ _ c.if-negative-2.true same) b)
-
-pub returns-else-negative-2-clause-value : goal.returns-else-negative-2-clause-value
-returns-else-negative-2-clause-value c n e l h =
-    let same : e ≡ c.args.exponent = unsaturated c.args.exponent e h c.if-exponent.false in
-    let b : IsBinary (n * raised_up c.args.negative (2 ^ c.args.base_bits) e) ((2 ^ c.args.radix_bits) ^ c.args.places * raised_down c.args.negative (2 ^ c.args.base_bits) e)
-    c.args.leading.digits c.args.leading.more (c.args.leading.dropped * c.args.radix_bits + (if c.args.negative then 0 else e * c.args.base_bits))
-    (c.args.places * c.args.radix_bits + (if c.args.negative then e * c.args.base_bits else 0)) =
-    with_exponent n c.args.leading.digits c.args.leading.dropped c.args.radix_bits c.args.places c.args.base_bits e c.args.leading.more c.args.negative l.cut in
-    c.nearest_bits-else-negative-2.ensures.value _ _ (den_pos c.args.radix_bits c.args.places c.args.base_bits e c.args.negative)
-    (at_scale _ _ c.args.leading.digits _ _ _ _ c.args.leading.more (positive_up c.args.negative _ _ _ _ c.if-negative-2.false same)
-    (positive_down c.args.negative _ _ c.if-negative-2.false) b)
+    c.nearest_bits.ensures _ _ (den_pos c.args.radix_bits c.args.places c.args.base_bits e c.args.negative)
+    (at_scale _ _ c.args.leading.digits _ _ _ _ c.args.leading.more
+    (ap (λ x. c.args.leading.dropped * c.args.radix_bits + (if c.args.negative then 0 else x * c.args.base_bits)) same ∙ sym c.scales-up.ensures.up)
+    (ap (λ x. c.args.places * c.args.radix_bits + (if c.args.negative then x * c.args.base_bits else 0)) same ∙ sym c.scales-up.ensures.down)
+    (with_exponent n c.args.leading.digits c.args.leading.dropped c.args.radix_bits c.args.places c.args.base_bits e c.args.leading.more c.args.negative l.cut))

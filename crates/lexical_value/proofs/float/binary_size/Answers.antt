@@ -31,4 +31,4 @@ returns-clause-value c =
     (ap (λ r. number r l.exponent) c.exponent_radix.ensures.value)
     (c.count-places.ensures.value ∙ ap (λ r. places r l.fraction) radix)
     c.is_minus-negative.ensures
-    (c.raised_bits.ensures.value n (number c.exponent_radix.result l.exponent) leads c.saturating-exponent.ensures)
+    (c.raised_bits.ensures n (number c.exponent_radix.result l.exponent) leads c.saturating-exponent.ensures)
