@@ -30,6 +30,10 @@ pub struct Literals {
     integers: Texts,
     grouped: Texts,
     prefixed: Texts,
+    /// Floats of 17 digits with an exponent, of 17 digits after `0.`, and hexadecimal.
+    exponents: Texts,
+    fractions: Texts,
+    hexadecimal: Texts,
 }
 
 const LANGUAGES: [Language; 3] = [Language::JSON, Language::TOML, Language::C_FLOAT];
@@ -56,6 +60,21 @@ impl Literals {
             prefixed: vec![Group::new(
                 Language::RUST_HEX_INTEGER,
                 (0..100_000).map(|_| format!("0x{:X}", random.below(1 << 36))),
+            )],
+            exponents: vec![Group::new(
+                Language::JSON,
+                (0..100_000).map(|_| {
+                    let (digits, exponent) = (random.below(10_u64.pow(16)), random.below(600));
+                    format!("{}.{digits:016}e{}", 1 + random.below(9), exponent as i64 - 300)
+                }),
+            )],
+            fractions: vec![Group::new(
+                Language::JSON,
+                (0..100_000).map(|_| format!("0.{:017}", random.below(10_u64.pow(17)))),
+            )],
+            hexadecimal: vec![Group::new(
+                Language::C_HEX_FLOAT,
+                (0..100_000).map(|_| format!("0x1.{:013x}p{}", random.below(1 << 52), random.below(100))),
             )],
             mixed,
         }
@@ -173,6 +192,11 @@ fn value(group: &Group) -> impl Fn(&str) -> bool + use<> {
     move |text| black_box(reader.parse::<i64>(text)).is_ok()
 }
 
+fn float(group: &Group) -> impl Fn(&str) -> bool + use<> {
+    let reader = group.reader;
+    move |text| black_box(reader.parse::<f64>(text)).is_ok()
+}
+
 fn parse_integer(_: &Group) -> impl Fn(&str) -> bool + use<> {
     |text| black_box(text.parse::<i64>()).is_ok()
 }
@@ -227,6 +251,11 @@ pub fn rows(texts: &Literals) -> Vec<Row<'_>> {
         "Reader::parse, 1 to 9 digits, over parse", integers.value, integers.parse_integer;
         "Reader::parse, grouped, over Reader::read", grouped.value, grouped.reader;
         "Reader::parse, prefixed, over Reader::read", prefixed.value, prefixed.reader;
+        "Reader::parse::<f64>, mixed, over parse", floats.float, floats.parse;
+        "Reader::parse::<f64>, one shape, over parse", shape.float, shape.parse;
+        "Reader::parse::<f64>, 17 digits, over parse", exponents.float, exponents.parse;
+        "Reader::parse::<f64>, fractions, over parse", fractions.float, fractions.parse;
+        "Reader::parse::<f64>, hexadecimal, over Reader::read", hexadecimal.float, hexadecimal.reader;
     };
     #[cfg(regex)]
     rows.extend(rows! {

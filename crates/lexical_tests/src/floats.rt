@@ -17,10 +17,18 @@ const TERNARY: u128 = 0x03030300_0000005F_00000201_0000000C;
 
 // Returns the bits of both floats of `text`, whose exponent character is `^`.
 fn bits(word: u128, text: &str) -> Option<(u64, u32)> {
-    let syntax = Syntax::new(word, b'^', b'.').ok()?;
-    let parts = Reader::new(syntax).read(text.as_bytes()).ok()?;
-    let double: f64 = to_float(syntax.format(), &parts).ok()?;
-    let single: f32 = to_float(syntax.format(), &parts).ok()?;
+    let Ok(syntax) = Syntax::new(word, b'^', b'.') else {
+        return None;
+    };
+    let Ok(parts) = Reader::new(syntax).read(text.as_bytes()) else {
+        return None;
+    };
+    let Ok(double) = to_float::<f64>(syntax.format(), &parts) else {
+        return None;
+    };
+    let Ok(single) = to_float::<f32>(syntax.format(), &parts) else {
+        return None;
+    };
     Some((double.to_bits(), single.to_bits()))
 }
 
@@ -32,10 +40,16 @@ fn floats_are_rounded_once(rt: HostRuntime) {
     assert!(rt; bits(DECIMAL, "1_2.0") == Some((0x4028_0000_0000_0000, 0x4140_0000)));
     assert!(rt; bits(DECIMAL, "-0") == Some((0x8000_0000_0000_0000, 0x8000_0000)));
     // Ties are even, unless a digit follows.
-    assert!(rt; bits(HEXADECIMAL, "20_0000_0000_0001") == Some((0x4340_0000_0000_0000, 0x5A00_0000)));
-    assert!(rt; bits(HEXADECIMAL, "20_0000_0000_0001.00001") == Some((0x4340_0000_0000_0001, 0x5A00_0000)));
+    assert!(rt;
+        bits(HEXADECIMAL, "20_0000_0000_0001") == Some((0x4340_0000_0000_0000, 0x5A00_0000))
+    );
+    assert!(rt;
+        bits(HEXADECIMAL, "20_0000_0000_0001.00001") == Some((0x4340_0000_0000_0001, 0x5A00_0000))
+    );
     assert!(rt; bits(DECIMAL, "9007199254740993") == Some((0x4340_0000_0000_0000, 0x5A00_0000)));
-    assert!(rt; bits(DECIMAL, "9007199254740993.00001") == Some((0x4340_0000_0000_0001, 0x5A00_0000)));
+    assert!(rt;
+        bits(DECIMAL, "9007199254740993.00001") == Some((0x4340_0000_0000_0001, 0x5A00_0000))
+    );
     // The least float, what is below half of it, and values that are infinite.
     assert!(rt; bits(HEXADECIMAL, "1^-1074") == Some((1, 0)));
     assert!(rt; bits(DECIMAL, "5^-324") == Some((1, 0)));
@@ -57,6 +71,11 @@ fn reason(word: u128, text: &str) -> Option<ValueErrorKind> {
 
 #[test]
 fn a_ternary_integer_has_no_float(rt: HostRuntime) {
-    assert!(rt; matches!(reason(TERNARY, "12"), Some(ValueErrorKind::UnsupportedRadix)));
+    assert!(rt;
+        matches!(
+            reason(TERNARY, "12"),
+            Some(ValueErrorKind::UnsupportedRadix)
+        )
+    );
     assert!(rt; reason(DECIMAL, "12").is_none());
 }
