@@ -63,18 +63,12 @@ impl Literals {
             )],
             exponents: vec![Group::new(
                 Language::JSON,
-                (0..100_000).map(|_| {
-                    let (digits, exponent) = (random.below(10_u64.pow(16)), random.below(600));
-                    format!("{}.{digits:016}e{}", 1 + random.below(9), exponent as i64 - 300)
-                }),
+                (0..100_000).map(|_| format!("1.{}e{}", fixed(random, 16), random.below(600) as i64 - 300)),
             )],
-            fractions: vec![Group::new(
-                Language::JSON,
-                (0..100_000).map(|_| format!("0.{:017}", random.below(10_u64.pow(17)))),
-            )],
+            fractions: vec![Group::new(Language::JSON, (0..100_000).map(|_| format!("0.{}", fixed(random, 17))))],
             hexadecimal: vec![Group::new(
                 Language::C_HEX_FLOAT,
-                (0..100_000).map(|_| format!("0x1.{:013x}p{}", random.below(1 << 52), random.below(100))),
+                (0..100_000).map(|_| format!("0x1.{}p{}", fixed(random, 13), random.below(100))),
             )],
             mixed,
         }
@@ -126,6 +120,11 @@ fn digits(random: &mut Random, most: u8, separator: Option<char>) -> String {
         text.extend(separator.filter(|_| left > 0 && left % 3 == 0));
     }
     text
+}
+
+/// As many digits.
+fn fixed(random: &mut Random, count: u8) -> String {
+    (0..count).map(|_| random.byte(b'0', b'9') as char).collect()
 }
 
 /// An integer of 1 to 9 digits, of which the first is not 0.

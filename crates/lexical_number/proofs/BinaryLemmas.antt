@@ -1,14 +1,14 @@
 -- From a whole number times a power of two to units of least floats, and to the nearest float.
-use Rattle.core.specs.Prelude.{◌≡◌, ℕ, suc, ◌+◌, ◌-◌, ◌*◌, ◌/◌, ◌%◌, ◌^◌, ◌<◌, ◌≤◌, Bool, true, false}
+use Rattle.core.specs.Prelude.{◌≡◌, ℕ, suc, ◌+◌, ◌*◌, ◌/◌, ◌%◌, ◌^◌, ◌<◌, ◌≤◌, Bool, true, false}
 use mathlib.Core.Path.{refl, sym, ap, ◌∙◌, subst}
 use native.Mathlib.Omega.{arith}
-use native.Mathlib.Nat.{mul-pos, mul-le-mul_right, mul-lt-mul_of_pos_right, le_of_mul-le-mul_right, lt_of_mul-lt-mul_right, lt_of_lt_of_le, lt_of_le_of_lt, le_of_eq, le_antisymm, eq_of_mul-eq-mul_right, div-add-mod', div-eq_of_lt, lt_of_not-le, pow-suc}
+use native.Mathlib.Nat.{mul-pos, mul-lt-mul_of_pos_right, lt_of_mul-lt-mul_right, le_of_eq, eq_of_mul-eq-mul_right, div-add-mod', div-eq_of_lt, lt_of_not-le, pow-suc}
 use lib.Pow.{pow_pos, pow_mono, pow-add}
 use lib.Count.{leading_top, count_leading_zeros}
-use lib.Ieee.{Format, prec, low, hid}
-use Rattle.core.specs.Dec2flt.Rounding.{scaled_bits, IsNearestBits, IsJustAbove, IsCut, IsSignificand, IsWithin}
+use lib.Ieee.{Format, prec, low}
+use Rattle.core.specs.Dec2flt.Rounding.{scaled_bits, IsNearestBits, IsCut, IsSignificand, IsWithin}
 use Rattle.core.proofs.dec2flt.RoundingLemmas.{nearest_tie, nearest_above}
-use Rattle.core.proofs.dec2flt.Settle.{kept_small, rounds_down, rounds_up, lies_above, rounds_to_zero, significand_of}
+use Rattle.core.proofs.dec2flt.Settle.{lies_above, significand_of}
 use Rattle.lexical_number.specs.Binary.{IsBinary, IsCutAt}
 
 -- In units of least floats, both sides are multiplied by the same power of two.

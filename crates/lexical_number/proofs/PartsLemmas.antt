@@ -1,13 +1,13 @@
 -- From leading digits and an exponent to a whole number times a power of two.
-use Rattle.core.specs.Prelude.{◌≡◌, ℕ, zero, suc, ◌+◌, ◌-◌, ◌*◌, ◌/◌, ◌%◌, ◌^◌, ◌<◌, ◌≤◌, min, Bool, true, false, if◌then◌else◌}
-use mathlib.Core.Path.{refl, sym, ap, ◌∙◌, subst}
+use Rattle.core.specs.Prelude.{◌≡◌, ℕ, zero, suc, ◌+◌, ◌*◌, ◌^◌, ◌<◌, ◌≤◌, min, Bool, true, false, if◌then◌else◌}
+use mathlib.Core.Path.{sym, ap, ◌∙◌, subst}
 use native.Mathlib.Omega.{arith}
 use native.Mathlib.Nat.{mul-pos, mul-le-mul, mul-le-mul_right, mul-le-mul_left, mul-lt-mul_of_pos_right, le_trans, le_of_eq, pow-suc, pow-zero}
 use lib.Dec.{lit≤}
 use lib.Pow.{pow_pos, pow_mono, pow-add}
 use lib.Ieee.{Format, hid, ones}
 use Rattle.core.specs.Dec2flt.Rounding.{IsNearestBits}
-use Rattle.core.proofs.dec2flt.Extremes.{nearest_of_tiny, nearest_of_huge, nearest_of_zero}
+use Rattle.core.proofs.dec2flt.Extremes.{nearest_of_tiny, nearest_of_huge}
 use Rattle.lexical_number.specs.Binary.{IsBinary, raised_up, raised_down}
 use Rattle.lexical_number.specs.Leading.{IsCutTo, Leads}
 use Rattle.lexical_number.proofs.LeadingLemmas.{all_kept}

@@ -1,5 +1,5 @@
 -- The fraction that a literal is, by its parts, and floats that are no NaN.
-use Rattle.std.proofs.Common.{ℕ, ◌≡◌, ◌+◌, ◌*◌, ◌^◌, ◌++◌, ◌≤◌, not, Bool, true, false, cond, ap, ◌∙◌, refl, subst, sym, zero, suc}
+use Rattle.std.proofs.Common.{ℕ, ◌≡◌, ◌+◌, ◌*◌, ◌^◌, ◌≤◌, not, Bool, true, false, cond, ap, ◌∙◌, refl, subst, sym, zero, suc}
 use lib.Ieee.{Float, Format, emax, inf, is_nan, low, odd, prec, round, units}
 use lib.Ieee.Fits.{round_is}
 use lib.Pow.{pow_mono}

@@ -1,8 +1,8 @@
-use Rattle.core.specs.Prelude.{◌≡◌, suc, ◌+◌, ◌*◌, ◌%◌, ◌^◌, ◌<◌, ◌≤◌}
+use Rattle.core.specs.Prelude.{◌≡◌, suc, ◌+◌, ◌*◌, ◌%◌, ◌^◌, ◌<◌}
 use mathlib.Core.Path.{sym, ap, ◌∙◌}
 use native.Mathlib.Omega.{arith}
-use native.Mathlib.Nat.{mul-le-mul_right, mul-lt-mul_of_pos_right, pow-suc}
-use lib.Pow.{pow_pos, pow-add, shl_exact}
+use native.Mathlib.Nat.{mul-le-mul_right}
+use lib.Pow.{pow-add, shl_exact}
 use lib.Count.{leading_top, count_leading_zeros}
 use Rattle.lexical_number.proofs.binary.lifted.Goals as goal
 

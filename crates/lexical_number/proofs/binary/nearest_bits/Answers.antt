@@ -1,12 +1,10 @@
-use Rattle.core.specs.Prelude.{◌≡◌, ℕ, suc, ◌+◌, ◌-◌, ◌*◌, ◌/◌, ◌%◌, ◌^◌, ◌<◌, ◌≤◌, Bool, true, false}
-use mathlib.Core.Path.{refl, sym, subst, ap, ◌∙◌}
+use Rattle.core.specs.Prelude.{◌^◌, ◌≤◌}
 use native.Mathlib.Omega.{arith}
 use lib.Pow.{pow_mono}
-use lib.Ieee.{prec, low}
 use Rattle.core.proofs.dec2flt.Patterns.{shape}
 use Rattle.core.proofs.dec2flt.Extremes.{nearest_of_zero}
 use Rattle.core.proofs.dec2flt.Settle.{rounds_to_zero}
-use Rattle.lexical_number.specs.Binary.{format_of, IsBinary}
+use Rattle.lexical_number.specs.Binary.{format_of}
 use Rattle.lexical_number.proofs.BinaryLemmas.{bits_of, significand_at, cut_at, within_one, zero_digits}
 use Rattle.lexical_number.proofs.binary.nearest_bits.Goals as goal
 

@@ -1,7 +1,6 @@
-use Rattle.core.specs.Prelude.{◌≡◌, ℕ, suc, ◌+◌, ◌*◌, ◌/◌, ◌%◌, ◌^◌, ◌<◌, ◌≤◌, Bool, true, false}
-use mathlib.Core.Path.{refl, sym, subst, ap}
+use Rattle.core.specs.Prelude.{◌≡◌, ◌^◌, ◌≤◌}
+use mathlib.Core.Path.{sym, subst}
 use native.Mathlib.Omega.{arith}
-use native.Mathlib.Nat.{div-add-mod'}
 use lib.Pow.{pow_mono}
 use Rattle.core.specs.Dec2flt.Rounding.{IsNearestBits, IsCut}
 use Rattle.core.proofs.dec2flt.Settle.{rounds_down, rounds_up}

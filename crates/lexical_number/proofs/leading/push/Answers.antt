@@ -1,6 +1,5 @@
-use Rattle.std.proofs.Common.{◌≡◌, ℕ, ◌+◌, ◌*◌, ◌^◌, ◌<◌, ◌≤◌, Bool, true, false, not, refl, sym, ap, ◌∙◌, arith}
+use Rattle.std.proofs.Common.{◌≡◌, true, false, not, sym, ap, ◌∙◌, arith}
 use borrow.Author.Tests.{ne_eqb, eq-eqb}
-use Rattle.lexical_number.specs.Leading.{Leads}
 use Rattle.lexical_number.proofs.LeadingLemmas.{keep, drop_digit}
 use Rattle.lexical_number.proofs.leading.push.Goals as goal
 use Rattle.lexical_number.proofs.leading.push.Goals.{then-more, else-more}

@@ -1,12 +1,9 @@
-use Rattle.core.specs.Prelude.{◌≡◌, ℕ, ◌+◌, ◌*◌, ◌^◌, ◌<◌, ◌≤◌, min, Bool, true, false, if◌then◌else◌}
-use mathlib.Core.Path.{refl, sym, subst, ap, ◌∙◌}
+use Rattle.core.specs.Prelude.{◌≡◌, ◌+◌, ◌*◌, ◌^◌, if◌then◌else◌}
+use mathlib.Core.Path.{sym, subst, ap, ◌∙◌}
 use native.Mathlib.Omega.{arith}
-use native.Mathlib.Nat.{mul-pos, mul-le-mul}
-use lib.Pow.{pow_pos, pow-add}
 use Rattle.core.specs.Dec2flt.Rounding.{IsNearestBits}
 use Rattle.core.proofs.dec2flt.Extremes.{nearest_of_zero}
 use Rattle.lexical_number.specs.Binary.{format_of, raised_up, raised_down}
-use Rattle.lexical_number.specs.Leading.{Leads}
 use Rattle.lexical_number.proofs.PartsLemmas.{bound, some_number, no_number, vanishes, explodes, den_pos, with_exponent, small, saturated, unsaturated, at_scale}
 use Rattle.lexical_number.proofs.parts.raised_bits.Goals as goal
 

@@ -1,5 +1,5 @@
 -- The leading digits and the exponent make the value.
-use Rattle.std.proofs.Common.{◌≡◌, ◌^◌, ◌++◌, ℕ, ap, ◌∙◌, sym}
+use Rattle.std.proofs.Common.{◌^◌, ◌++◌, ap, ◌∙◌, sym}
 use Rattle.core.specs.Dec2flt.Rounding.{IsNearestBits}
 use Rattle.lexical_util.specs.Record.{raw}
 use Rattle.lexical_literal.specs.Parts.{literal_of}
