@@ -2,7 +2,8 @@
 use Rattle.core.specs.Prelude.{◌≡◌, ℕ, suc, ◌+◌, ◌*◌, ◌/◌, ◌%◌, ◌^◌, ◌<◌, ◌≤◌, Bool, true, false}
 use mathlib.Core.Path.{refl, sym, ap, ◌∙◌, subst}
 use native.Mathlib.Omega.{arith}
-use native.Mathlib.Nat.{mul-pos, mul-lt-mul_of_pos_right, lt_of_mul-lt-mul_right, le_of_eq, eq_of_mul-eq-mul_right, div-add-mod', div-eq_of_lt, lt_of_not-le, pow-suc}
+use native.Mathlib.Nat.{mul-pos, mul-lt-mul_of_pos_right, lt_of_mul-lt-mul_right, le_of_eq}
+use native.Mathlib.Nat.{eq_of_mul-eq-mul_right, div-add-mod', div-eq_of_lt, lt_of_not-le, pow-suc}
 use lib.Pow.{pow_pos, pow_mono, pow-add}
 use lib.Count.{leading_top, count_leading_zeros}
 use lib.Ieee.{Format, prec, low}

@@ -1,4 +1,4 @@
--- Fractions that are a whole number times a power of two, or a little more.
+-- The formats of floats, and fractions that are a whole number times a power of two, or a little more.
 use Rattle.std.specs.Prelude.{ℕ, ◌≡◌, ◌+◌, ◌*◌, ◌^◌, ◌<◌, ◌==◌, ◌||◌, Bool, true, false, if◌then◌else◌}
 use Rattle.std.specs.Float.{Format, binary32, binary64}
 use Rattle.std.specs.Float.Ieee.{low}

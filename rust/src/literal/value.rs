@@ -21,7 +21,7 @@ use plain::plain_integer;
 ///
 /// A float is the value of the literal, rounded once to the nearest float, or to the even one if two are as near. Values
 /// from halfway above the largest float on are infinite, and `-0` is `-0.0`. A decimal number with few digits takes one
-/// multiplication or division. With more digits, it takes 1.5 kB of the stack.
+/// multiplication or division. With more than 20 bytes before or after the point, it takes 1.5 kB of the stack.
 pub trait FromLiteral: Sealed {}
 
 /// The conversions of a type, which only this crate calls.

@@ -1,3 +1,4 @@
+-- The lower bits are cut off.
 use Rattle.core.specs.Prelude.{◌≡◌, suc, ◌-◌, ◌^◌}
 use mathlib.Core.Path.{refl, ap}
 use native.Mathlib.Omega.{arith}

@@ -1,3 +1,4 @@
+-- What is cut off decides how the kept bits are rounded.
 use Rattle.core.specs.Prelude.{◌≡◌, ◌^◌, ◌≤◌}
 use mathlib.Core.Path.{sym, subst}
 use native.Mathlib.Omega.{arith}

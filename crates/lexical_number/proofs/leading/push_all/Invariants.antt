@@ -9,7 +9,8 @@ invariant-loop-index l = record {
   small : l.leading.digits < 2 ^ 64 * l.radix;
   dropped : l.leading.dropped ≤ l.initial.leading.dropped + l.index;
   value : (n : ℕ) → Leads l.radix n l.initial.leading.digits l.initial.leading.more l.initial.leading.dropped
-      → (m : ℕ) × Leads l.radix m l.leading.digits l.leading.more l.leading.dropped × (number_after l.radix m (drop l.index l.bytes) ≡ number_after l.radix n l.bytes);
+      → (m : ℕ) × Leads l.radix m l.leading.digits l.leading.more l.leading.dropped × (number_after l.radix m (drop l.index l.bytes)
+      ≡ number_after l.radix n l.bytes);
 }
 
 abbrev pub decreases-loop-index : goal.decreases-loop-index

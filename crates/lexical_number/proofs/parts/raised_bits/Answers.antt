@@ -1,10 +1,12 @@
+-- A large exponent makes 0 or infinity, and another one a scale.
 use Rattle.core.specs.Prelude.{◌≡◌, ◌+◌, ◌*◌, ◌^◌, if◌then◌else◌}
 use mathlib.Core.Path.{sym, subst, ap, ◌∙◌}
 use native.Mathlib.Omega.{arith}
 use Rattle.core.specs.Dec2flt.Rounding.{IsNearestBits}
 use Rattle.core.proofs.dec2flt.Extremes.{nearest_of_zero}
 use Rattle.lexical_number.specs.Binary.{format_of, raised_up, raised_down}
-use Rattle.lexical_number.proofs.PartsLemmas.{bound, some_number, no_number, vanishes, explodes, den_pos, with_exponent, small, saturated, unsaturated, at_scale}
+use Rattle.lexical_number.proofs.PartsLemmas.{bound, some_number, no_number, vanishes, explodes}
+use Rattle.lexical_number.proofs.PartsLemmas.{den_pos, with_exponent, small, saturated, unsaturated, at_scale}
 use Rattle.lexical_number.proofs.parts.raised_bits.Goals as goal
 
 pub returns-then-digits-eq0 : goal.returns-then-digits-eq0
@@ -15,7 +17,8 @@ returns-then-digits-eq0 c n e l h =
 
 pub returns-then-negative : goal.returns-then-negative
 returns-then-negative c n e l h =
-    subst (λ b. IsNearestBits (format_of c.args.double) (n * raised_up b (2 ^ c.args.base_bits) e) ((2 ^ c.args.radix_bits) ^ c.args.places * raised_down b (2 ^ c.args.base_bits) e) 0)
+    subst (λ b. IsNearestBits (format_of c.args.double) (n * raised_up b (2 ^ c.args.base_bits) e)
+        ((2 ^ c.args.radix_bits) ^ c.args.places * raised_down b (2 ^ c.args.base_bits) e) 0)
     (sym c.if-negative.true)
     (vanishes (format_of c.args.double) n (c.args.leading.dropped * c.args.radix_bits) c.args.radix_bits c.args.places c.args.base_bits e
     (bound c.args.radix_bits n c.args.leading.digits c.args.leading.dropped c.args.leading.more c.requires.radix.1 l)
@@ -25,7 +28,8 @@ returns-then-negative c n e l h =
 pub returns-else-negative : goal.returns-else-negative
 returns-else-negative c n e l h =
     let f = format_of c.args.double in
-    subst (λ b. IsNearestBits f (n * raised_up b (2 ^ c.args.base_bits) e) ((2 ^ c.args.radix_bits) ^ c.args.places * raised_down b (2 ^ c.args.base_bits) e) c.infinity.result)
+    subst (λ b. IsNearestBits f (n * raised_up b (2 ^ c.args.base_bits) e) ((2 ^ c.args.radix_bits) ^ c.args.places * raised_down b
+        (2 ^ c.args.base_bits) e) c.infinity.result)
     (sym c.if-negative.false)
     (subst (IsNearestBits f (n * (2 ^ c.args.base_bits) ^ e) ((2 ^ c.args.radix_bits) ^ c.args.places * 1)) (sym c.infinity.ensures.value)
     (explodes f n c.args.radix_bits c.args.places c.args.base_bits e

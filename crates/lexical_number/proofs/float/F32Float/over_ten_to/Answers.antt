@@ -1,3 +1,4 @@
+-- Both numbers are floats.
 use Rattle.std.proofs.Common.{arith}
 use Rattle.std.specs.Float.{binary32}
 use Rattle.lexical_number.specs.declared.float.TheConstants.{TENS_F32}

@@ -1,3 +1,4 @@
+-- The bits are those of no NaN.
 use Rattle.std.specs.Float.{binary64}
 use Rattle.core.proofs.num.Patterns.{up_to_infinity}
 use Rattle.lexical_number.proofs.float.F64Float.from_magnitude.Goals as goal

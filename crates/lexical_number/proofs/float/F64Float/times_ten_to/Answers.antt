@@ -1,3 +1,4 @@
+-- Both factors are floats.
 use Rattle.std.proofs.Common.{arith}
 use Rattle.std.specs.Float.{binary64}
 use Rattle.lexical_number.specs.declared.float.TheConstants.{TENS_F64}
