@@ -1,7 +1,7 @@
 //! A number format states how numbers may be written: their radix, prefix, signs and digit separators. Here, a format
 //! is a `u128` that holds flags and six bytes. This crate is for code that parses, writes or checks numbers. It
 //! builds, reads, checks and edits formats, explains why a format is not lawful, and finds the parts and the value of a
-//! number, or why a text is not one. It does not compute values of floats.
+//! number, or why a text is not one.
 //!
 //! The [`u128`] is called the *format word*. It can be a const generic argument. The word is *lawful* if it satisfies
 //! every [`Rule`]: each radix is between 2 and 36, no two flags contradict each other, each character is allowed ASCII
@@ -19,7 +19,7 @@
 //! | take a checked format as an argument | [`Format`] |
 //! | read numbers of a language | [`Language`][literal::Language] |
 //! | read numbers of a format | a [`Reader`][literal::Reader] of its [`Syntax`][literal::Syntax]; [`Specials`][literal::Specials] for NaN and infinity |
-//! | compute values | [`Reader::parse`][literal::Reader::parse], `try_from` of an integer type, and for floats [`Literal::plain`][literal::Literal::plain] |
+//! | compute values | [`Reader::parse`][literal::Reader::parse], and `try_from` of an integer type, `f64` or `f32` |
 //! | report why a text is not a number | [`ReadError`][literal::ReadError] |
 //! | write numbers | the example of [`literal`], and [`digit_to_char`][digit::digit_to_char] |
 //! | write a reader of your own | [`FormatView::is_separator`], [`separators`][FormatView::separators], [`role_of`][FormatView::role_of] |
@@ -82,8 +82,13 @@ mod lawful;
 mod lists;
 pub mod literal;
 mod number {
+    pub(crate) mod binary;
+    pub(crate) mod decimal;
+    pub(crate) mod float;
     pub(crate) mod integer;
+    pub(crate) mod leading;
     pub(crate) mod numeral;
+    pub(crate) mod parts;
 }
 mod numeral;
 #[doc(hidden)]

@@ -406,6 +406,8 @@ names! { literal::Literal<'static>:
     [const fn(a: &literal::Literal<'static>) -> &'static str] as_str;
     [const fn(a: &literal::Literal<'static>) -> bool] is_float is_negative;
     [const fn(a: &literal::Literal<'static>, b: Part) -> u32] radix;
+    [const fn(a: literal::Literal<'static>) -> Result<f32, literal::ValueError>] binary_to_f32;
+    [const fn(a: literal::Literal<'static>) -> Result<f64, literal::ValueError>] binary_to_f64;
     [const fn(a: literal::Literal<'static>) -> Result<i128, literal::ValueError>] to_i128;
     [const fn(a: literal::Literal<'static>) -> Result<i64, literal::ValueError>] to_i64;
     [const fn(a: literal::Literal<'static>) -> Result<u128, literal::ValueError>] to_u128;
@@ -413,8 +415,11 @@ names! { literal::Literal<'static>:
     [fn(a: &literal::Literal<'static>) -> Option<impl Display + Clone + 'static>] plain;
     [fn(a: &literal::Literal<'static>) -> impl Iterator<Item = (&'static str, &'static [u8])> + Clone] parts;
     [fn(a: &literal::Literal<'static>, b: Part) -> literal::Digits<'static>] digits;
+    [fn(a: literal::Literal<'static>) -> Result<f32, literal::ValueError>] to_f32;
+    [fn(a: literal::Literal<'static>) -> Result<f64, literal::ValueError>] to_f64;
 }
 names! { literal::Number<'static>:
+    [fn(a: &literal::Number<'static>) -> f64] to_f64;
     [fn(literal::Literal<'static>) -> literal::Number<'static>] Literal;
     [fn(literal::Special) -> literal::Number<'static>] Special;
 }
@@ -452,6 +457,10 @@ names! { literal::Reader:
 names! { literal::Sign:
     [literal::Sign] Minus Plus;
 }
+names! { literal::Special:
+    [const fn(a: literal::Special) -> f32] to_f32;
+    [const fn(a: literal::Special) -> f64] to_f64;
+}
 names! { literal::Specials<'static>:
     [const fn(a: &literal::Specials<'static>, b: &literal::Syntax, c: &[u8]) -> Option<literal::Special>] read;
 }
@@ -461,6 +470,7 @@ names! { literal::Spelling:
 names! { literal::Syntax:
     [const fn(a: &literal::Syntax) -> Format] format;
     [const fn(a: &literal::Syntax) -> Option<u8>] exponent point;
+    [const fn(a: &literal::Syntax) -> bool] supports_floats;
     [const fn(a: &literal::Syntax, b: u8) -> Option<Role>] role_of;
     [const fn(a: Format) -> literal::Syntax] integers;
     [const fn(a: Format, b: u8, c: u8) -> Result<literal::Syntax, FormatError>] new;
@@ -471,7 +481,7 @@ names! { literal::ValueError:
     [const fn(a: &literal::ValueError) -> literal::ValueErrorKind] kind;
 }
 names! { literal::ValueErrorKind:
-    [literal::ValueErrorKind] Float Special TooLarge TooSmall;
+    [literal::ValueErrorKind] Float Special TooLarge TooSmall UnsupportedRadix;
 }
 names! { mod ascii:
     [const fn(a: &[u8]) -> bool] is_valid_ascii_slice is_valid_letter_slice;
@@ -551,6 +561,12 @@ has! { Settings: Clone + Debug + Default + Eq + Hash + PartialEq }
 has! { ShortText: Clone + Copy + Debug + Display }
 has! { edits::ArgumentKind: Clone + Copy + Debug + Eq + Hash + PartialEq }
 has! { error::Class: Clone + Copy + Debug + Eq + Hash + Ord + PartialEq + PartialOrd }
+has! { f32: TryFrom<literal::Literal<'static>, Error = literal::ValueError> + TryFrom<literal::Number<'static>, Error =
+literal::ValueError> }
+has! { f32: literal::FromLiteral }
+has! { f64: TryFrom<literal::Literal<'static>, Error = literal::ValueError> + TryFrom<literal::Number<'static>, Error =
+literal::ValueError> }
+has! { f64: literal::FromLiteral }
 has! { i128: TryFrom<literal::Literal<'static>, Error = literal::ValueError> + TryFrom<literal::Number<'static>, Error =
 literal::ValueError> }
 has! { i128: literal::FromLiteral }

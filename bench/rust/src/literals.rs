@@ -32,6 +32,10 @@ pub struct Literals {
     integers: Texts,
     grouped: Texts,
     prefixed: Texts,
+    /// Floats of 17 digits with an exponent, of 17 digits after `0.`, and hexadecimal.
+    exponents: Texts,
+    fractions: Texts,
+    hexadecimal: Texts,
     /// A hundred texts.
     hundred: Texts,
 }
@@ -61,6 +65,15 @@ impl Literals {
             prefixed: vec![Group::new(
                 Language::RUST_HEX_INTEGER,
                 (0..100_000).map(|_| format!("0x{:X}", random.below(1 << 36))),
+            )],
+            exponents: vec![Group::new(
+                Language::JSON,
+                (0..100_000).map(|_| format!("1.{}e{}", fixed(random, 16), random.below(600) as i64 - 300)),
+            )],
+            fractions: vec![Group::new(Language::JSON, (0..100_000).map(|_| format!("0.{}", fixed(random, 17))))],
+            hexadecimal: vec![Group::new(
+                Language::C_HEX_FLOAT,
+                (0..100_000).map(|_| format!("0x1.{}p{}", fixed(random, 13), random.below(100))),
             )],
             hundred: vec![Group::new(Language::TOML, (0..100).map(|_| literal(random, Language::TOML)))],
             #[cfg(regex)]
@@ -118,6 +131,11 @@ fn digits(random: &mut Random, most: u8, separator: Option<char>) -> String {
         text.extend(separator.filter(|_| left > 0 && left % 3 == 0));
     }
     text
+}
+
+/// As many digits.
+fn fixed(random: &mut Random, count: u8) -> String {
+    (0..count).map(|_| random.byte(b'0', b'9') as char).collect()
 }
 
 /// An integer of 1 to 9 digits, of which the first is not 0.
@@ -195,6 +213,11 @@ fn value(group: &Group) -> impl Fn(&str) -> bool + use<> {
     move |text| black_box(reader.parse::<i64>(text)).is_ok()
 }
 
+fn float(group: &Group) -> impl Fn(&str) -> bool + use<> {
+    let reader = group.reader;
+    move |text| black_box(reader.parse::<f64>(text)).is_ok()
+}
+
 fn parse_integer(_: &Group) -> impl Fn(&str) -> bool + use<> {
     |text| black_box(text.parse::<i64>()).is_ok()
 }
@@ -251,6 +274,11 @@ pub fn rows(texts: &Literals) -> Vec<Row<'_>> {
         "Reader::parse, 1 to 9 digits, over parse", integers.value, integers.parse_integer;
         "Reader::parse, grouped, over Reader::read", grouped.value, grouped.reader;
         "Reader::parse, prefixed, over Reader::read", prefixed.value, prefixed.reader;
+        "Reader::parse::<f64>, mixed, over parse", floats.float, floats.parse;
+        "Reader::parse::<f64>, one shape, over parse", shape.float, shape.parse;
+        "Reader::parse::<f64>, 17 digits, over parse", exponents.float, exponents.parse;
+        "Reader::parse::<f64>, fractions, over parse", fractions.float, fractions.parse;
+        "Reader::parse::<f64>, hexadecimal, over Reader::read", hexadecimal.float, hexadecimal.reader;
     };
     #[cfg(regex)]
     rows.extend(rows! {

@@ -2,16 +2,14 @@
 use Rattle.std.proofs.Common.{◌≡◌, ℕ, suc, ◌+◌, ◌*◌, ◌<◌, ◌≤◌, List, ◌∷◌, length, drop, get_or, nat_lt}
 use Rattle.std.proofs.Common.{Bool, true, false, cond, refl}
 use Rattle.std.proofs.lemmas.Bool.Decides.{nat_tests}
-use Rattle.std.proofs.Common.{Option, Some, None, IsSome, sym, ap, subst, ◌∙◌, arith, drop-cons}
+use Rattle.std.proofs.Common.{Option, Some, None, IsSome, sym, ap, subst, ◌∙◌, arith, drop-cons, [], ◌++◌}
+use Rattle.std.proofs.lemmas.List.Elements.{filter_map-append}
 use Rattle.std.proofs.lemmas.Int.Digits.{number_after_ge}
 use Rattle.std.specs.Int.Digits.{number_from_digits_after}
 use Rattle.std.specs.List.{AllByRecursion, cons_option}
 use Rattle.lexical_base.specs.Digits.{byte_value, digit_of}
+use Rattle.lexical_number.specs.Leading.{number_after}
 use Rattle.lexical_number.specs.Number.{digits_in}
-
--- `number_after radix n bytes` is the number that the digits among `bytes` represent after those of `n`.
-abbrev pub number_after : ℕ → ℕ → List ℕ → ℕ
-number_after radix n bytes = number_from_digits_after radix n (digits_in radix bytes)
 
 -- `AreDigits radix bytes` holds if each of `bytes` is a digit.
 abbrev pub AreDigits : ℕ → List ℕ → Type 0
@@ -33,6 +31,14 @@ grows radix n byte d bytes e = number_after_ge radix n (digits_in radix bytes) (
     go : (test : Bool) → nat_lt (byte_value byte) radix ≡ test → cond test (Some (byte_value byte)) None ≡ Some d → 0 < radix
     go true is e = grind (arith, nat_tests)
     go false is e = absurd (let apart : None ≡ Some d = e in cc)
+
+-- Digits that follow others are read after them.
+pub number_after-append : (radix n : ℕ) (xs ys : List ℕ) → number_after radix n (xs ++ ys) ≡ number_after radix (number_after radix n xs) ys
+number_after-append radix n xs ys = ap (number_from_digits_after radix n) (filter_map-append _ xs ys) ∙ go n (digits_in radix xs)
+  where
+    go : (n : ℕ) (ds : List ℕ) → number_from_digits_after radix n (ds ++ digits_in radix ys) ≡ number_after radix (number_from_digits_after radix n ds) ys
+    go n [] = refl
+    go n (d ∷ ds) = go (n * radix + d) ds
 
 -- The number is not smaller than that of the digits up to one at the index `i`.
 pub too_large : (radix n i d : ℕ) (bytes : List ℕ) → i < length bytes → digit_of (get_or bytes i 0) radix ≡ Some d

@@ -1,2 +1,5 @@
 pub mod Number
 pub mod Numeral
+pub mod Binary
+pub mod Leading
+pub mod Decimal

@@ -1,7 +1,13 @@
-//! The numbers that digits represent, as values of integer types.
+//! The numbers that digits represent, as values of integer types, and the floats nearest to them.
 //!
 //! This crate knows digits and bytes, and nothing of formats and literals. No function allocates memory.
 #![tactic(auto)]
 
+pub mod binary;
+pub mod decimal;
+pub mod float;
 pub mod integer;
+pub mod laws;
+pub mod leading;
 pub mod numeral;
+pub mod parts;

@@ -7,6 +7,7 @@ mod bytes;
 mod edits;
 mod errors;
 mod example;
+mod floats;
 mod integers;
 mod literals;
 mod roles;

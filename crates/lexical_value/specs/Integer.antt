@@ -22,4 +22,4 @@ abbrev pub IsNoInteger : ℕ → ℕ → Record → Literal → ValueErrorKind �
 IsNoInteger least largest r l kinds.Float = IsTrue (is_float l)
 IsNoInteger least largest r l kinds.TooLarge = IsFalse (is_float l) × IsFalse (is_minus l.sign) × (largest < integer_size r l)
 IsNoInteger least largest r l kinds.TooSmall = IsFalse (is_float l) × IsTrue (is_minus l.sign) × (least < integer_size r l)
-IsNoInteger least largest r l kinds.Special = ⊥
+IsNoInteger least largest r l _ = ⊥

@@ -1,4 +1,5 @@
 pub mod Value
 pub mod Integer
+pub mod Float
 pub mod Parsed
 pub mod Private

@@ -168,6 +168,7 @@ macro_rules! languages {
                 impl Grammar for It {
                     const SYNTAX: Syntax = $syntax;
                 }
+                assert!(It::SYNTAX.supports_floats());
                 Language(&Definition {
                     name: stringify!($name),
                     syntax: It::SYNTAX,

@@ -100,8 +100,8 @@ impl Eq for Reader {}
 /// A part that is absent has no bytes. All bytes are ASCII. Two literals are equal if they have the same format, up to
 /// its [normal form][crate::Format::normal_form], and the same parts.
 ///
-/// An integer type of Rust can be made from a literal, also in a constant. A [`Reader`] can [parse][Reader::parse] a text
-/// in one call.
+/// An integer type of Rust, `f64` or `f32` can be made from a literal. Some of these can be made in a constant. A [`Reader`]
+/// can [parse][Reader::parse] a text in one call.
 ///
 /// ```
 /// use peltzivar::literal::{Language, ParseError, ValueErrorKind};
@@ -111,11 +111,10 @@ impl Eq for Reader {}
 /// assert_eq!(i32::try_from(literal).unwrap_err().to_string(), "below -2147483648, the least i32");
 /// assert_eq!(Language::RUST_HEX_INTEGER.reader().parse::<u16>("0xFFFF")?, u16::MAX);
 ///
-/// // A float is no integer, even if its value is whole. Its plain text can be parsed.
+/// // A float is no integer, even if its value is whole.
 /// let literal = Language::SPREADSHEET_CSV.reader().read(b"1,234.50")?;
 /// assert_eq!(literal.to_i64().unwrap_err().kind(), ValueErrorKind::Float);
-/// let plain = literal.plain().expect("the radixes are 10").to_string();
-/// assert_eq!((plain.as_str(), plain.parse()), ("1234.50", Ok(1234.5)));
+/// assert_eq!(f64::try_from(literal)?, 1234.5);
 /// # Ok::<(), ParseError>(())
 /// ```
 #[derive(Clone, Copy, PartialEq, Eq, Hash)]

@@ -3,19 +3,25 @@
 use core::fmt::{self, Write};
 
 use crate::format_flags::Part;
-use crate::literal::{Literal, Number, ReadError, Reader};
+use crate::literal::{Literal, Number, ReadError, Reader, Sign, Special, Spelling, Syntax};
 
+mod float;
 mod integer;
 mod plain;
 
 pub use integer::ValueErrorKind;
 
+use float::{binary_size, to_float};
 use integer::{integer_digits, to_integer};
 use plain::plain_integer;
 
-/// A type that can be [parsed][Reader::parse]: each integer type of Rust.
+/// A type that can be [parsed][Reader::parse]: each integer type of Rust, `f64` and `f32`.
 ///
 /// Each of these types is also [made][TryFrom] from a [`Literal`] or a [`Number`], as in `u16::try_from(literal)`.
+///
+/// A float is the value of the literal, rounded once to the nearest float, or to the even one if two are as near. Values
+/// from halfway above the largest float on are infinite, and `-0` is `-0.0`. A decimal number with few digits takes one
+/// multiplication or division. With more than 20 bytes before or after the point, it takes 1.5 kB of the stack.
 pub trait FromLiteral: Sealed {}
 
 /// The conversions of a type, which only this crate calls.
@@ -30,6 +36,7 @@ impl Reader {
     /// ```
     /// use peltzivar::literal::Language;
     ///
+    /// assert_eq!(Language::C_HEX_FLOAT.reader().parse::<f64>("0x1.8p3"), Ok(12.0));
     /// let reader = Language::TOML.reader();
     /// assert_eq!(reader.parse::<u16>("65_535"), Ok(65535));
     /// let error = reader.parse::<u16>("65_536").unwrap_err();
@@ -119,11 +126,15 @@ impl ValueError {
 /// Prints the reason with the type and its limit, such as `above 65535, the largest u16`.
 impl fmt::Display for ValueError {
     fn fmt(&self, f: &mut fmt::Formatter<'_>) -> fmt::Result {
+        let target = self.target();
         match self.kind {
-            ValueErrorKind::Float => write!(f, "a float, and {} is an integer type", self.target()),
+            ValueErrorKind::Float => write!(f, "a float, and {target} is an integer type"),
+            ValueErrorKind::Special => write!(f, "NaN or infinity, and {target} is an integer type"),
+            ValueErrorKind::UnsupportedRadix => {
+                write!(f, "no {target}: the mantissa radix and the exponent base are not both 10 or both powers of two")
+            }
             ValueErrorKind::TooLarge => self.target.write_limit(f, true),
             ValueErrorKind::TooSmall => self.target.write_limit(f, false),
-            ValueErrorKind::Special => write!(f, "NaN or infinity, and {} is an integer type", self.target()),
         }
     }
 }
@@ -213,12 +224,16 @@ macro_rules! integers {
         #[derive(Debug, Clone, Copy, PartialEq, Eq, Hash)]
         enum Target {
             $($Target,)*
+            F64,
+            F32,
         }
 
         impl Target {
             const fn name(self) -> &'static str {
                 match self {
                     $(Target::$Target => stringify!($type),)*
+                    Target::F64 => "f64",
+                    Target::F32 => "f32",
                 }
             }
 
@@ -229,6 +244,7 @@ macro_rules! integers {
                         Target::$Target if too_large => write!(f, "above {}, the largest {name}", $type::MAX),
                         Target::$Target => write!(f, "below {}, the least {name}", $type::MIN),
                     )*
+                    Target::F64 | Target::F32 => Ok(()),
                 }
             }
         }
@@ -267,4 +283,115 @@ macro_rules! constant_calls {
 
 constant_calls! {
     to_i64 as_i64 i64 I64, to_u64 as_u64 u64 U64, to_i128 as_i128 i128 I128, to_u128 as_u128 u128 U128,
+}
+
+/// Makes the conversions to a float type.
+macro_rules! floats {
+    ($($type:ident $Target:ident $to_float:ident $binary_to_float:ident $bits:ident,)*) => {
+        $(
+            impl FromLiteral for $type {}
+
+            impl Sealed for $type {
+                #[inline]
+                fn from_plain(_: &Reader, _: &[u8]) -> Option<$type> {
+                    None
+                }
+            }
+
+            /// Makes the value of a number, rounded once, from its literal.
+            impl TryFrom<Literal<'_>> for $type {
+                type Error = ValueError;
+
+                #[inline]
+                fn try_from(literal: Literal<'_>) -> Result<$type, ValueError> {
+                    literal.$to_float()
+                }
+            }
+
+            /// Makes the value of a number of a language, rounded once.
+            impl TryFrom<Number<'_>> for $type {
+                type Error = ValueError;
+
+                fn try_from(number: Number<'_>) -> Result<$type, ValueError> {
+                    match number {
+                        Number::Literal(literal) => literal.$to_float(),
+                        Number::Special(special) => Ok(special.$to_float()),
+                    }
+                }
+            }
+
+            impl Literal<'_> {
+                #[doc = concat!("Returns the value, rounded once to the nearest `", stringify!($type), "`, or to the even")]
+                /// one if two are as near. It can be infinite, and the sign is that of the literal, also for 0.
+                ///
+                /// # Errors
+                ///
+                /// If the mantissa radix and the exponent base are neither both 10 nor both powers of two, as
+                /// [`Syntax::supports_floats`] finds out once for all literals.
+                pub fn $to_float(self) -> Result<$type, ValueError> {
+                    to_float(self.view, &self.cut()).map_err(|kind| ValueError { kind, target: Target::$Target })
+                }
+
+                #[doc = concat!("Returns the same as [`", stringify!($to_float), "`][Self::", stringify!($to_float), "], ")]
+                /// also in a constant, where the mantissa radix and the exponent base are powers of two.
+                ///
+                /// # Errors
+                ///
+                /// If they are not both powers of two.
+                pub const fn $binary_to_float(self) -> Result<$type, ValueError> {
+                    let Some(bits) = binary_size(matches!(Target::$Target, Target::F64), self.view, &self.cut()) else {
+                        let kind = ValueErrorKind::UnsupportedRadix;
+                        return Err(ValueError { kind, target: Target::$Target });
+                    };
+                    let size = $type::from_bits(bits as $bits);
+                    Ok(if self.is_negative() { -size } else { size })
+                }
+            }
+
+            impl Special {
+                #[doc = concat!("Returns the NaN or infinity as an `", stringify!($type), "`, with its sign.")]
+                #[must_use]
+                pub const fn $to_float(self) -> $type {
+                    let size = match self.spelling {
+                        Spelling::Nan => $type::NAN,
+                        Spelling::Inf | Spelling::Infinity => $type::INFINITY,
+                    };
+                    match self.sign {
+                        Some(Sign::Minus) => -size,
+                        _ => size,
+                    }
+                }
+            }
+        )*
+    };
+}
+
+floats! {
+    f64 F64 to_f64 binary_to_f64 u64, f32 F32 to_f32 binary_to_f32 u32,
+}
+
+impl Syntax {
+    /// Returns whether literals have values of float types: whether the mantissa radix and the exponent base of the format
+    /// are both 10 or both powers of two. Where this is true, [`Literal::to_f64`] returns no error.
+    #[must_use]
+    pub const fn supports_floats(&self) -> bool {
+        float::supports_floats(self.grammar().view())
+    }
+}
+
+impl Number<'_> {
+    /// Returns the value, rounded once to the nearest `f64`. The literals of each [`Language`][crate::literal::Language]
+    /// have one, and NaN and infinity keep their sign. For a literal of another syntax that has none, returns NaN.
+    ///
+    /// ```
+    /// use peltzivar::literal::Language;
+    ///
+    /// assert_eq!(Language::TOML.read(b"6.022_140_76e23")?.to_f64(), 6.02214076e23);
+    /// assert_eq!(Language::TOML.read(b"-inf")?.to_f64(), f64::NEG_INFINITY);
+    /// # Ok::<(), peltzivar::literal::ReadError>(())
+    /// ```
+    #[must_use]
+    pub fn to_f64(&self) -> f64 {
+        f64::try_from(*self).unwrap_or(f64::NAN)
+    }
 }

@@ -17,6 +17,9 @@ pub enum ValueErrorKind {
     TooLarge,
     /// The value is below the least value of the type.
     TooSmall,
+    /// The type is a float type, and the mantissa radix and the exponent base of the format are neither both 10 nor both
+    /// powers of two.
+    UnsupportedRadix,
     /// The type is an integer type, and the number is NaN or infinity, which no literal is.
     Special,
 }
@@ -54,9 +57,15 @@ pub(crate) const fn integer_digits<'a>(format: FormatView, parts: &Parts<'a>) ->
         return None;
     }
     Some(Numeral {
-        negative: matches!(parts.sign, [b'-', ..]),
+        negative: is_minus(parts.sign),
         bytes: parts.integer,
         radix: format.mantissa_radix(),
         separated: true,
     })
+}
+
+// Returns whether a sign is a minus sign.
+#[inline(always)]
+pub(crate) const fn is_minus(sign: &[u8]) -> bool {
+    matches!(sign, [b'-', ..])
 }

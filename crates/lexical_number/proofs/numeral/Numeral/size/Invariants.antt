@@ -1,6 +1,7 @@
 use Rattle.std.proofs.Common.{length, drop, ◌-◌, ◌≡◌, ◌≤◌, ◌↔◌, false}
 use Rattle.lexical_number.specs.Numeral.{HasDigitsAlone, size_of}
-use Rattle.lexical_number.proofs.NumberLemmas.{AreDigits, number_after}
+use Rattle.lexical_number.specs.Leading.{number_after}
+use Rattle.lexical_number.proofs.NumberLemmas.{AreDigits}
 use Rattle.lexical_number.proofs.numeral.Numeral.size.Given as goal
 
 -- The digits of what is left, after those of the size so far, are the number. If all of what is left are digits, all bytes are.

@@ -1,0 +1,11 @@
+-- Both factors are floats.
+use Rattle.std.proofs.Common.{arith}
+use Rattle.std.specs.Float.{binary32}
+use Rattle.lexical_number.specs.declared.float.TheConstants.{TENS_F32}
+use Rattle.core.proofs.dec2flt.ExactLemmas.{IsTenTo-get_or, mul-IsTenTo}
+use Rattle.lexical_number.proofs.float.F32Float.times_ten_to.Goals as goal
+use lib.Ieee.{of_bits}
+
+pub returns : goal.returns
+unfolding of_bits
+returns c = mul-IsTenTo binary32 c.args.digits c.args.up _ c.requires (omega arith) (IsTenTo-get_or TENS_F32 c.args.up _ tt (omega arith))

@@ -1,0 +1,127 @@
+//! Float types.
+
+ghost use Rattle.std.specs.Prelude.{◌≡◌, ℕ, ◌*◌, ◌^◌, ◌<◌, ◌≤◌, Bool, true, false, IfSome, Some, from_bits};
+ghost use Rattle.std.specs.Float as float;
+ghost use Rattle.std.specs.Float.Ieee.{hid, neg, ones, round};
+ghost use Rattle.std.specs.Float.Parse.{parse_float};
+ghost use Rattle.lexical_number.specs.Binary.{format_of};
+
+/// A float type.
+pub trait Float: Copy {
+    /// Whether the type is `f64`. Otherwise, it is `f32`.
+    const DOUBLE: bool;
+
+    ghost DOUBLE: { Bool };
+
+    // The value as std's specifications have it.
+    ghost value: { Self → float.Float };
+
+    /// Returns the float with these bits, which are not those of a NaN.
+    fn from_magnitude(bits: u64) -> Self
+        requires { bits ≤ ones (format_of DOUBLE) * hid (format_of DOUBLE) }
+        ensures { value result ≡ from_bits (format_of DOUBLE) bits };
+
+    /// Returns the float with the other sign.
+    fn negated(self) -> Self
+        ensures { value result ≡ neg (value self) };
+
+    /// Returns the float nearest to the number that `text` writes.
+    fn from_text(text: &str) -> Self
+        ensures { (x : float.Float) → parse_float (format_of DOUBLE) text.now ≡ Some x → value result ≡ x };
+
+    /// Returns `digits * 10 ^ up`, rounded once, if both factors are floats.
+    fn times_ten_to(digits: u64, up: u64) -> Option<Self>
+        requires { 0 < digits }
+        ensures { IfSome result (λ x. value x ≡ round (format_of DOUBLE) false (digits * 10 ^ up) 1) };
+
+    /// Returns `digits / 10 ^ down`, rounded once, if both are floats.
+    fn over_ten_to(digits: u64, down: u64) -> Option<Self>
+        requires { 0 < digits }
+        ensures { IfSome result (λ x. value x ≡ round (format_of DOUBLE) false digits (10 ^ down)) };
+}
+
+// The powers of ten that are floats.
+static TENS_F64: [f64; 23] = [
+    1e0, 1e1, 1e2, 1e3, 1e4, 1e5, 1e6, 1e7, 1e8, 1e9, 1e10, 1e11, 1e12, 1e13, 1e14, 1e15, 1e16,
+    1e17, 1e18, 1e19, 1e20, 1e21, 1e22,
+];
+
+static TENS_F32: [f32; 11] = [1e0, 1e1, 1e2, 1e3, 1e4, 1e5, 1e6, 1e7, 1e8, 1e9, 1e10];
+
+impl Float for f64 {
+    const DOUBLE: bool = true;
+
+    ghost DOUBLE = { true };
+
+    ghost value = { λ value. value };
+
+    #[inline(always)]
+    fn from_magnitude(bits: u64) -> f64 {
+        f64::from_bits(bits)
+    }
+
+    #[inline(always)]
+    fn negated(self) -> f64 {
+        -self
+    }
+
+    #[inline]
+    fn from_text(text: &str) -> f64 {
+        text.parse().unwrap_or(0.0)
+    }
+
+    #[inline(always)]
+    fn times_ten_to(digits: u64, up: u64) -> Option<f64> {
+        if digits > 1 << 53 || up > 22 {
+            return None;
+        }
+        Some(digits as f64 * TENS_F64[up as usize])
+    }
+
+    #[inline(always)]
+    fn over_ten_to(digits: u64, down: u64) -> Option<f64> {
+        if digits > 1 << 53 || down > 22 {
+            return None;
+        }
+        Some(digits as f64 / TENS_F64[down as usize])
+    }
+}
+
+impl Float for f32 {
+    const DOUBLE: bool = false;
+
+    ghost DOUBLE = { false };
+
+    ghost value = { λ value. value };
+
+    #[inline(always)]
+    fn from_magnitude(bits: u64) -> f32 {
+        f32::from_bits(bits as u32)
+    }
+
+    #[inline(always)]
+    fn negated(self) -> f32 {
+        -self
+    }
+
+    #[inline]
+    fn from_text(text: &str) -> f32 {
+        text.parse().unwrap_or(0.0)
+    }
+
+    #[inline(always)]
+    fn times_ten_to(digits: u64, up: u64) -> Option<f32> {
+        if digits > 1 << 24 || up > 10 {
+            return None;
+        }
+        Some(digits as f32 * TENS_F32[up as usize])
+    }
+
+    #[inline(always)]
+    fn over_ten_to(digits: u64, down: u64) -> Option<f32> {
+        if digits > 1 << 24 || down > 10 {
+            return None;
+        }
+        Some(digits as f32 / TENS_F32[down as usize])
+    }
+}

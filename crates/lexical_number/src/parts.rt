@@ -1,0 +1,101 @@
+//! The float nearest to digits with an exponent, if both are in radixes that are powers of two.
+
+ghost use Rattle.std.specs.Prelude.{◌≡◌, ℕ, ◌+◌, ◌*◌, ◌^◌, ◌<◌, ◌≤◌, ◌++◌, min, true, false, length, IfSome, is_some, if◌then◌else◌};
+ghost use Rattle.core.specs.Dec2flt.Rounding.{IsNearestBits};
+ghost use Rattle.lexical_number.specs.Binary.{format_of, is_power_of_two, raised_up, raised_down};
+ghost use Rattle.lexical_number.specs.Leading.{number_after, Leads};
+ghost use Rattle.lexical_number.specs.Number.{number, places};
+
+use crate::binary::{infinity, nearest_bits};
+use crate::leading::Leading;
+use lexical_base::digit::char_is_digit;
+
+/// Returns the number of digits of `radix` among `bytes`.
+#[must_use]
+pub const fn count(bytes: &[u8], radix: u32) -> usize
+    ensures value { result ≡ places radix bytes.now }
+    ensures within { result ≤ length bytes.now }
+{
+    let mut count = 0;
+    let mut index = 0;
+    while index < bytes.len() {
+        if char_is_digit(bytes[index], radix) {
+            count += 1;
+        }
+        index += 1;
+    }
+    count
+}
+
+/// Returns the number of bits of a digit of `radix`, if `radix` is a power of two up to 32.
+#[must_use]
+#[inline(always)]
+pub const fn bits_of(radix: u32) -> Option<u32>
+    ensures some { IfSome result (λ bits. (radix ≡ 2 ^ bits) × (1 ≤ bits) × (bits ≤ 5)) }
+    ensures power { is_power_of_two radix ≡ is_some result }
+{
+    match radix {
+        2 => Some(1),
+        4 => Some(2),
+        8 => Some(3),
+        16 => Some(4),
+        32 => Some(5),
+        _ => None,
+    }
+}
+
+/// Returns the bits of the float nearest to a number by its leading digits, over the radix to the power of `places`, times
+/// a power of two with `bits` bits to the exponent `exponent`, or `2 ^ 90` or more.
+#[must_use]
+pub const fn raised_bits(
+    double: bool,
+    leading: Leading,
+    radix_bits: u32,
+    places: u64,
+    negative: bool,
+    exponent: u128,
+    base_bits: u32,
+) -> u64
+    requires radix { (1 ≤ radix_bits) × (radix_bits ≤ 5) }
+    requires base { (1 ≤ base_bits) × (base_bits ≤ 5) }
+    requires leading { (n : ℕ) × Leads (2 ^ radix_bits) n leading.digits leading.more leading.dropped }
+    requires dropped { leading.dropped ≤ 2 ^ 65 }
+    requires exponent { exponent ≤ 2 ^ 90 }
+    ensures { (n e : ℕ) → Leads (2 ^ radix_bits) n leading.digits leading.more leading.dropped
+        → exponent ≡ min e (2 ^ 90)
+        → IsNearestBits (format_of double) (n * raised_up negative (2 ^ base_bits) e)
+        ((2 ^ radix_bits) ^ places * raised_down negative (2 ^ base_bits) e) result }
+{
+    let Leading {
+        digits,
+        more,
+        dropped,
+    } = leading;
+    if digits == 0 {
+        return 0;
+    }
+    if exponent == 1 << 90 {
+        return if negative { 0 } else { infinity(double) };
+    }
+    let (up, down) = scales(
+        dropped * radix_bits as u128,
+        places as u128 * radix_bits as u128,
+        negative,
+        exponent * base_bits as u128,
+    );
+    nearest_bits(double, digits, more, up, down)
+}
+
+// Returns the exponents above and below the line of a fraction.
+#[inline(always)]
+pub(crate) const fn scales(up: u128, down: u128, negative: bool, exponent: u128) -> (u128, u128)
+    requires { (up < 2 ^ 70) × (down < 2 ^ 70) × (exponent ≤ 2 ^ 93) }
+    ensures up { result.0 ≡ up + (if negative then 0 else exponent) }
+    ensures down { result.1 ≡ down + (if negative then exponent else 0) }
+{
+    if negative {
+        (up, down + exponent)
+    } else {
+        (up + exponent, down)
+    }
+}

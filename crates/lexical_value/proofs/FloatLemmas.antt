@@ -1,0 +1,50 @@
+-- The fraction that a literal is, by its parts, and floats that are no NaN.
+use Rattle.std.proofs.Common.{ℕ, ◌≡◌, ◌+◌, ◌*◌, ◌^◌, ◌≤◌, not, Bool, true, false, cond, ap, ◌∙◌, refl, subst, sym, zero, suc}
+use lib.Ieee.{Float, Format, emax, inf, is_nan, low, odd, prec, round, units}
+use lib.Ieee.Fits.{round_is}
+use lib.Pow.{pow_mono}
+use Rattle.core.specs.Prelude.{T, ltb}
+use Rattle.std.specs.Float.{NotNan}
+use Rattle.lexical_util.specs.Layout as layout
+use Rattle.lexical_util.specs.Record.{Record, effective_exponent_base, effective_exponent_radix}
+use Rattle.lexical_literal.specs.Literal.{Literal}
+use Rattle.lexical_number.specs.Binary.{raised_down, raised_up}
+use Rattle.lexical_number.specs.Leading.{Leads}
+use Rattle.lexical_number.specs.Number.{number, places}
+use Rattle.lexical_value.specs.Value.{denominator, is_minus, mantissa, numerator}
+
+-- What holds of the fraction by its parts holds of the value of the literal.
+pub of_value : (P : ℕ → ℕ → Type 0) (r : Record) (l : Literal) (n m b e k : ℕ) (s : Bool) → n ≡ mantissa r l → m ≡ r.byte layout.mantissa_radix
+    → b ≡ effective_exponent_base r → e ≡ number (effective_exponent_radix r) l.exponent → k ≡ places (r.byte layout.mantissa_radix) l.fraction
+    → s ≡ is_minus l.exponent_sign → P (n * raised_up s b e) (m ^ k * raised_down s b e) → P (numerator r l) (denominator r l)
+of_value P r l n m b e k s N M B E K S is =
+    let up : n * raised_up s b e ≡ numerator r l = λ i. N i * raised_up (S i) (B i) (E i) in
+    let down : m ^ k * raised_down s b e ≡ denominator r l = λ i. M i ^ K i * raised_down (S i) (B i) (E i) in
+    subst (λ d. P (numerator r l) d) down (subst (λ n. P n (m ^ k * raised_down s b e)) up is)
+
+-- A rounded fraction is no NaN.
+odd_number : (d : ℕ) (s : Bool) (q k l : ℕ) → is_nan (odd d s q k l) ≡ false
+unfolding is_nan odd
+odd_number d s zero k l = refl
+odd_number d s (suc q) k l = refl
+
+units_number : (f : Format) (s : Bool) (q k : ℕ) → is_nan (units f s q k) ≡ false
+unfolding is_nan units
+units_number f s q k = go (ltb (q * 2 ^ k) (2 ^ (low f + suc (emax f))))
+  where
+    go : (b : Bool) → is_nan (cond b (odd (suc (prec f)) s q k (low f)) (inf s)) ≡ false
+    go true = odd_number (suc (prec f)) s q k (low f)
+    go false = refl
+
+round_number : (f : Format) (s : Bool) (num den : ℕ) → is_nan (round f s num den) ≡ false
+round_number f s num den = ap is_nan (round_is f s num den) ∙ units_number f s _ _
+
+pub not_nan : (f : Format) (s : Bool) (num den : ℕ) (value : Float) → value ≡ round f s num den → NotNan value
+not_nan f s num den value is = subst T (sym (ap (λ x. not (is_nan x)) is ∙ ap not (round_number f s num den))) tt
+
+pub two_le : (radix bits : ℕ) → radix ≡ 2 ^ bits → 1 ≤ bits → 2 ≤ radix
+two_le radix bits is some = subst (λ r. 2 ≤ r) (sym is) (pow_mono {i = 1} {j = bits} some)
+
+-- Leading digits in a radix by its number of bits.
+pub by_bits : (radix bits n digits dropped : ℕ) (more : Bool) → radix ≡ 2 ^ bits → Leads radix n digits more dropped → Leads (2 ^ bits) n digits more dropped
+by_bits radix bits n digits dropped more is = subst (λ r. Leads r n digits more dropped) is

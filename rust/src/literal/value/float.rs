@@ -1,0 +1,66 @@
+// Made by rust/tools/erase.py from crates/lexical_value/src/float.rt: change that file.
+
+//! The value of a literal as a value of a float type.
+
+use crate::literal::read::Parts;
+use crate::literal::value::integer::{is_minus, ValueErrorKind};
+use crate::number::decimal::decimal_to_float;
+use crate::number::float::Float;
+use crate::number::leading::{push_all, saturating, Leading};
+use crate::number::parts::{bits_of, count, raised_bits};
+use crate::word::FormatView;
+
+/// Returns the value of a literal of `format` as a value of a float type: rounded once to the nearest float, or to the even
+/// one if two are as near. The value is infinite if it is that large. Its sign is that of the literal, also for 0.
+///
+/// # Errors
+///
+/// If the mantissa radix and the exponent base are neither both 10 nor both powers of two, of any literal.
+pub fn to_float<F: Float>(format: FormatView, parts: &Parts) -> Result<F, ValueErrorKind> {
+    let size = if has_decimal_floats(format) {
+        decimal_size(format, parts)
+    } else if let Some(bits) = binary_size(F::DOUBLE, format, parts) {
+        F::from_magnitude(bits)
+    } else {
+        return Err(ValueErrorKind::UnsupportedRadix);
+    };
+    let negative = is_minus(parts.sign);
+    Ok(if negative { size.negated() } else { size })
+}
+
+/// Returns whether a literal of `format` has a value of a float type: whether the mantissa radix and the exponent base are
+/// both 10 or both powers of two.
+#[must_use]
+pub const fn supports_floats(format: FormatView) -> bool {
+    let radixes = (bits_of(format.mantissa_radix()), bits_of(format.exponent_base()));
+    has_decimal_floats(format) || matches!(radixes, (Some(_), Some(_)))
+}
+
+// Returns whether floats of `format` are decimal.
+#[inline(always)]
+const fn has_decimal_floats(format: FormatView) -> bool {
+    format.mantissa_radix() == 10 && format.exponent_base() == 10
+}
+
+// Returns the float nearest to a decimal literal, without its sign.
+fn decimal_size<F: Float>(format: FormatView, parts: &Parts) -> F {
+    let negative = is_minus(parts.exponent_sign);
+    let exponent = saturating(parts.exponent, format.exponent_radix());
+    decimal_to_float(parts.integer, parts.fraction, negative, exponent)
+}
+
+// Returns the bits of the float nearest to a literal, without its sign, or `None` if a radix is not a power of two.
+pub(crate) const fn binary_size(double: bool, format: FormatView, parts: &Parts) -> Option<u64> {
+    let radix = format.mantissa_radix();
+    let Some(radix_bits) = bits_of(radix) else {
+        return None;
+    };
+    let Some(base_bits) = bits_of(format.exponent_base()) else {
+        return None;
+    };
+    let leading = push_all(push_all(Leading::ZERO, radix, parts.integer), radix, parts.fraction);
+    let places = count(parts.fraction, radix) as u64;
+    let negative = is_minus(parts.exponent_sign);
+    let exponent = saturating(parts.exponent, format.exponent_radix());
+    Some(raised_bits(double, leading, radix_bits, places, negative, exponent, base_bits))
+}

@@ -1,0 +1,114 @@
+// Made by rust/tools/erase.py from crates/lexical_number/src/binary.rt: change that file.
+
+//! The float nearest to a whole number times a power of two.
+
+#[inline(always)]
+const fn precision(double: bool) -> u64 {
+    if double {
+        53
+    } else {
+        24
+    }
+}
+
+#[inline(always)]
+const fn lowest(double: bool) -> u64 {
+    if double {
+        1074
+    } else {
+        149
+    }
+}
+
+#[inline(always)]
+const fn hidden(double: bool) -> u64 {
+    if double {
+        1 << 52
+    } else {
+        1 << 23
+    }
+}
+
+#[inline(always)]
+pub(crate) const fn infinity(double: bool) -> u64 {
+    if double {
+        0x7ff0_0000_0000_0000
+    } else {
+        0x7f80_0000
+    }
+}
+
+// Returns the bits of `significand * 2 ^ exponent` least floats, or those of infinity.
+#[inline(always)]
+const fn scaled_bits(double: bool, significand: u64, exponent: u128) -> u64 {
+    if exponent >= 2047 {
+        return infinity(double);
+    }
+    let bits = exponent as u64 * hidden(double) + significand;
+    let infinity = infinity(double);
+    if bits < infinity {
+        bits
+    } else {
+        infinity
+    }
+}
+
+// Returns what is kept when the lower `dropped` bits are cut off, what is cut off, and half of the lowest kept bit.
+#[inline(always)]
+const fn cut(digits: u128, dropped: u64) -> (u128, u128, u128) {
+    (digits >> dropped, digits & ((1 << dropped) - 1), 1 << (dropped - 1))
+}
+
+// Returns the bits of the float nearest to a number of which `dropped` bits are cut off.
+#[inline(always)]
+const fn settle(double: bool, digits: u128, more: bool, dropped: u64, exponent: u128) -> u64 {
+    let (kept, rest, half) = cut(digits, dropped);
+    let significand = kept as u64;
+    if rest > half {
+        scaled_bits(double, significand + 1, exponent)
+    } else if rest < half {
+        scaled_bits(double, significand, exponent)
+    } else if more {
+        scaled_bits(double, significand + 1, exponent)
+    } else {
+        scaled_bits(double, significand + significand % 2, exponent)
+    }
+}
+
+// Returns digits with the same value that are at least `2 ^ 64`, and by how many bits they are longer.
+#[inline(always)]
+const fn lifted(digits: u128) -> (u128, u64) {
+    if digits >= 1 << 64 {
+        return (digits, 0);
+    }
+    let small = digits as u64;
+    let zeros = small.leading_zeros();
+    ((small << zeros) as u128 * 2, zeros as u64 + 1)
+}
+
+// Returns how many bits to drop, and the exponent.
+#[inline(always)]
+const fn dropped(least: u64, above: u128, below: u128) -> (u128, u128) {
+    let least = least as u128;
+    if above + least >= below {
+        (least, above + least - below)
+    } else {
+        (below - above, 0)
+    }
+}
+
+/// Returns the bits of the float nearest to `digits * 2 ^ up / 2 ^ down`, or to a number that is above this, if `more` is
+/// true, and below the same with `digits + 1`.
+#[must_use]
+pub const fn nearest_bits(double: bool, digits: u128, more: bool, up: u128, down: u128) -> u64 {
+    if digits == 0 {
+        return 0;
+    }
+    let (lifted, lift) = lifted(digits);
+    let size = 128 - lifted.leading_zeros() as u64;
+    let (dropped, exponent) = dropped(size - precision(double), up + lowest(double) as u128, down + lift as u128);
+    if dropped > 121 {
+        return 0;
+    }
+    settle(double, lifted, more, dropped as u64, exponent)
+}

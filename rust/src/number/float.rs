@@ -1,0 +1,102 @@
+// Made by rust/tools/erase.py from crates/lexical_number/src/float.rt: change that file.
+
+//! Float types.
+
+/// A float type.
+pub trait Float: Copy {
+    /// Whether the type is `f64`. Otherwise, it is `f32`.
+    const DOUBLE: bool;
+
+    /// Returns the float with these bits, which are not those of a NaN.
+    fn from_magnitude(bits: u64) -> Self;
+
+    /// Returns the float with the other sign.
+    fn negated(self) -> Self;
+
+    /// Returns the float nearest to the number that `text` writes.
+    fn from_text(text: &str) -> Self;
+
+    /// Returns `digits * 10 ^ up`, rounded once, if both factors are floats.
+    fn times_ten_to(digits: u64, up: u64) -> Option<Self>;
+
+    /// Returns `digits / 10 ^ down`, rounded once, if both are floats.
+    fn over_ten_to(digits: u64, down: u64) -> Option<Self>;
+}
+
+// The powers of ten that are floats.
+static TENS_F64: [f64; 23] = [
+    1e0, 1e1, 1e2, 1e3, 1e4, 1e5, 1e6, 1e7, 1e8, 1e9, 1e10, 1e11, 1e12, 1e13, 1e14, 1e15, 1e16, 1e17, 1e18, 1e19, 1e20,
+    1e21, 1e22,
+];
+
+static TENS_F32: [f32; 11] = [1e0, 1e1, 1e2, 1e3, 1e4, 1e5, 1e6, 1e7, 1e8, 1e9, 1e10];
+
+impl Float for f64 {
+    const DOUBLE: bool = true;
+
+    #[inline(always)]
+    fn from_magnitude(bits: u64) -> f64 {
+        f64::from_bits(bits)
+    }
+
+    #[inline(always)]
+    fn negated(self) -> f64 {
+        -self
+    }
+
+    #[inline]
+    fn from_text(text: &str) -> f64 {
+        text.parse().unwrap_or(0.0)
+    }
+
+    #[inline(always)]
+    fn times_ten_to(digits: u64, up: u64) -> Option<f64> {
+        if digits > 1 << 53 || up > 22 {
+            return None;
+        }
+        Some(digits as f64 * TENS_F64[up as usize])
+    }
+
+    #[inline(always)]
+    fn over_ten_to(digits: u64, down: u64) -> Option<f64> {
+        if digits > 1 << 53 || down > 22 {
+            return None;
+        }
+        Some(digits as f64 / TENS_F64[down as usize])
+    }
+}
+
+impl Float for f32 {
+    const DOUBLE: bool = false;
+
+    #[inline(always)]
+    fn from_magnitude(bits: u64) -> f32 {
+        f32::from_bits(bits as u32)
+    }
+
+    #[inline(always)]
+    fn negated(self) -> f32 {
+        -self
+    }
+
+    #[inline]
+    fn from_text(text: &str) -> f32 {
+        text.parse().unwrap_or(0.0)
+    }
+
+    #[inline(always)]
+    fn times_ten_to(digits: u64, up: u64) -> Option<f32> {
+        if digits > 1 << 24 || up > 10 {
+            return None;
+        }
+        Some(digits as f32 * TENS_F32[up as usize])
+    }
+
+    #[inline(always)]
+    fn over_ten_to(digits: u64, down: u64) -> Option<f32> {
+        if digits > 1 << 24 || down > 10 {
+            return None;
+        }
+        Some(digits as f32 / TENS_F32[down as usize])
+    }
+}
