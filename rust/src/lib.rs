@@ -57,11 +57,11 @@
 //! All other files are written by hand. They have [`Settings`], [`NumberFormat`] with the calls of [`mod@format`],
 //! [`Language`][literal::Language], the iterators and conversions, the names and texts of values (`name`, `condition`,
 //! `text`, `Display`, `FromStr` and `Debug`), absent bytes as `None`, the getters of [`Format`], which call those of its
-//! view, [`Literal`][literal::Literal] around the parts that the proved code finds, `parse`, `try_from` and `to_i64`
-//! around the conversions that are proved, `is_incomplete`, `span`, `settings` and `text` of
-//! [`ReadError`][literal::ReadError], the methods that panic, and the tests of slices in [`ascii`]. A
-//! build of this crate proves nothing. You trust the program that generated the files, the handwritten parts, and
-//! `rustc`.
+//! view, [`Literal`][literal::Literal] around the parts that the proved code finds, `parse`, `try_from`, `to_i64` and
+//! `to_f64` around the conversions that are proved, `is_incomplete`, `span`, `settings` and `text` of
+//! [`ReadError`][literal::ReadError], the methods that panic, and the tests of slices in [`ascii`]. A build of this crate
+//! proves nothing. You trust the program that generated the files, the handwritten parts, `rustc`, and for decimal floats
+//! the standard library's `parse`, whose counterpart in Rattle is proved.
 #![no_std]
 #![forbid(unsafe_code)]
 
