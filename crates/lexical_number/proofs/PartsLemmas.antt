@@ -70,12 +70,12 @@ vanishes f n x bits places base e N X B E =
     let far = far_down x base e X B E in
     let ten : 10 ^ 343 ≤ 2 ^ 1140 = lit≤ tt in
     let top : n * 10 ^ 343 ≤ 2 ^ (e * base) = le_trans (mul-le-mul N ten) (le_trans (le_of_eq (sym (pow-add 2 (69 + x) 1140)))
-        (pow_mono {i = 69 + x + 1140} {j = e * base} far)) in
+    (pow_mono {i = 69 + x + 1140} {j = e * base} far)) in
     let D : 1 ≤ (2 ^ bits) ^ places = rw pow_of (pow_pos (places * bits)) in
     let p : 1 * (2 ^ base) ^ e ≤ (2 ^ bits) ^ places * (2 ^ base) ^ e = mul-le-mul_right ((2 ^ base) ^ e) D in
     let q : 2 ^ (e * base) ≡ (2 ^ base) ^ e = sym (pow_of base e) in
     nearest_of_tiny f (n * 1) _ (mul-pos D (rw pow_of (pow_pos (e * base)))) (tiny n (10 ^ 343) (2 ^ (e * base)) ((2 ^ base) ^ e)
-        ((2 ^ bits) ^ places * (2 ^ base) ^ e) top q p)
+    ((2 ^ bits) ^ places * (2 ^ base) ^ e) top q p)
   where
     tiny : (n t a b c : ℕ) → n * t ≤ a → a ≡ b → 1 * b ≤ c → n * 1 * t ≤ 2 ^ 64 * c
     tiny n t a b c h e p = (let r : n * 1 * t ≡ n * t = ap (λ y. y * t) {x = n * 1} {y = n} (omega arith) in omega arith)
@@ -94,7 +94,7 @@ explodes f n bits places base e N C P B E =
     let D : 1 ≤ (2 ^ bits) ^ places = rw pow_of (pow_pos (places * bits)) in
     let den : 10 ^ 309 * (2 ^ bits) ^ places ≤ 2 ^ (e * base) =
     le_trans (mul-le-mul ten (le_of_eq (pow_of bits places))) (le_trans (le_of_eq (sym (pow-add 2 1027 (places * bits))))
-        (pow_mono {i = 1027 + places * bits} {j = e * base} far)) in
+    (pow_mono {i = 1027 + places * bits} {j = e * base} far)) in
     let p : 1 * (2 ^ base) ^ e ≤ n * (2 ^ base) ^ e = mul-le-mul_right ((2 ^ base) ^ e) N in
     let q : 2 ^ (e * base) ≡ (2 ^ base) ^ e = sym (pow_of base e) in
     nearest_of_huge f _ ((2 ^ bits) ^ places * 1) (omega (arith, D)) (huge (10 ^ 309) ((2 ^ bits) ^ places) (2 ^ (e * base)) ((2 ^ base) ^ e) _ den q p)
@@ -125,7 +125,7 @@ with_exponent n digits dropped bits places base e more negative cut = go negativ
     go false =
         let num : n * 2 ^ (e * base) ≡ n * (2 ^ base) ^ e = ap (λ x. n * x) (sym (pow_of base e)) in
         let den : 2 ^ (places * bits + 0) ≡ (2 ^ bits) ^ places * 1 = ap (λ x. 2 ^ x) {x = places * bits + 0} {y = places * bits} (omega arith)
-            ∙ sym (pow_of bits places) ∙ omega arith in
+        ∙ sym (pow_of bits places) ∙ omega arith in
         subst (λ x. IsBinary x ((2 ^ bits) ^ places * 1) digits more (dropped * bits + e * base) (places * bits + 0)) num
         (subst (λ d. IsBinary (n * 2 ^ (e * base)) d digits more (dropped * bits + e * base) (places * bits + 0)) den
         (is_binary n digits (e * base) (places * bits + 0) (dropped * bits) more c))

@@ -12,7 +12,7 @@ use Rattle.lexical_number.proofs.binary.nearest_bits.Goals as goal
 pub returns-then-digits-eq0 : goal.returns-then-digits-eq0
 returns-then-digits-eq0 c num den D near =
     nearest_of_zero (format_of c.args.double) num den D
-        (zero_digits num den c.args.digits c.args.up c.args.down c.args.more c.if-digits-eq0.true c.requires.more near)
+    (zero_digits num den c.args.digits c.args.up c.args.down c.args.more c.if-digits-eq0.true c.requires.more near)
 
 pub overflow_sub-size-2 : goal.overflow_sub-size-2
 overflow_sub-size-2 c =

@@ -15,8 +15,14 @@ returns-after-more-clause-value c n l =
     let next = c.if-more.result in
     drop_digit c.args.radix n c.args.leading.digits c.args.leading.dropped c.args.digit m next (omega arith) c.requires.digit (omega arith)
     (elim c.if-more.branch [ then-more w ↦ λ e. w.result-is ∙ w.if-more.true | else-more w ↦ λ e. (let f : true ≡ false = sym e ∙ w.if-more.false in cc) ])
-    (elim c.if-more.branch [ then-more w ↦ λ e p. w.result-is ∙ w.if-more.true | else-more w ↦ λ e p. w.result-is
-        ∙ ap not (ne_eqb c.args.digit 0 (omega arith)) ])
-    (elim c.if-more.branch [ then-more w ↦ λ e z. (let f : true ≡ false = sym w.if-more.true ∙ e in cc) | else-more w ↦ λ e z. w.result-is
-        ∙ ap not (eq-eqb c.args.digit 0 z) ])
+    (elim c.if-more.branch [
+      | then-more w ↦ λ e p. w.result-is ∙ w.if-more.true
+      | else-more w ↦ λ e p. w.result-is
+          ∙ ap not (ne_eqb c.args.digit 0 (omega arith))
+    ])
+    (elim c.if-more.branch [
+      | then-more w ↦ λ e z. (let f : true ≡ false = sym w.if-more.true ∙ e in cc)
+      | else-more w ↦ λ e z. w.result-is
+          ∙ ap not (eq-eqb c.args.digit 0 z)
+    ])
     l

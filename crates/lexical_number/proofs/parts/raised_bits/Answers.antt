@@ -18,7 +18,7 @@ returns-then-digits-eq0 c n e l h =
 pub returns-then-negative : goal.returns-then-negative
 returns-then-negative c n e l h =
     subst (λ b. IsNearestBits (format_of c.args.double) (n * raised_up b (2 ^ c.args.base_bits) e)
-        ((2 ^ c.args.radix_bits) ^ c.args.places * raised_down b (2 ^ c.args.base_bits) e) 0)
+    ((2 ^ c.args.radix_bits) ^ c.args.places * raised_down b (2 ^ c.args.base_bits) e) 0)
     (sym c.if-negative.true)
     (vanishes (format_of c.args.double) n (c.args.leading.dropped * c.args.radix_bits) c.args.radix_bits c.args.places c.args.base_bits e
     (bound c.args.radix_bits n c.args.leading.digits c.args.leading.dropped c.args.leading.more c.requires.radix.1 l)
@@ -29,7 +29,7 @@ pub returns-else-negative : goal.returns-else-negative
 returns-else-negative c n e l h =
     let f = format_of c.args.double in
     subst (λ b. IsNearestBits f (n * raised_up b (2 ^ c.args.base_bits) e) ((2 ^ c.args.radix_bits) ^ c.args.places * raised_down b
-        (2 ^ c.args.base_bits) e) c.infinity.result)
+    (2 ^ c.args.base_bits) e) c.infinity.result)
     (sym c.if-negative.false)
     (subst (IsNearestBits f (n * (2 ^ c.args.base_bits) ^ e) ((2 ^ c.args.radix_bits) ^ c.args.places * 1)) (sym c.infinity.ensures.value)
     (explodes f n c.args.radix_bits c.args.places c.args.base_bits e
