@@ -8,6 +8,7 @@ use crate::literal::{Literal, Number, ReadError, Reader, Sign, Special, Spelling
 mod float;
 mod integer;
 mod plain;
+#[allow(clippy::len_zero, reason = "as it is proved")]
 mod text;
 
 pub use integer::ValueErrorKind;
