@@ -1,3 +1,4 @@
 mod FloatLemmas
+mod TextLemmas
 mod PlainLemmas
 mod ValueLemmas

@@ -8,3 +8,4 @@ pub mod integer;
 pub mod laws;
 pub mod parse;
 mod plain;
+mod text;

@@ -8,12 +8,15 @@ use crate::literal::{Literal, Number, ReadError, Reader, Sign, Special, Spelling
 mod float;
 mod integer;
 mod plain;
+#[allow(clippy::len_zero, reason = "as it is proved")]
+mod text;
 
 pub use integer::ValueErrorKind;
 
 use float::{binary_size, to_float};
 use integer::{integer_digits, to_integer};
 use plain::plain_integer;
+use text::text_to_float;
 
 /// A type that can be [parsed][Reader::parse]: each integer type of Rust, `f64` and `f32`.
 ///
@@ -329,7 +332,11 @@ macro_rules! floats {
                 /// If the mantissa radix and the exponent base are neither both 10 nor both powers of two, as
                 /// [`Syntax::supports_floats`] finds out once for all literals.
                 pub fn $to_float(self) -> Result<$type, ValueError> {
-                    to_float(self.view, &self.cut()).map_err(|kind| ValueError { kind, target: Target::$Target })
+                    let parts = self.cut();
+                    match text_to_float(self.view, self.as_bytes(), &parts) {
+                        Some(value) => Ok(value),
+                        None => to_float(self.view, &parts).map_err(|kind| ValueError { kind, target: Target::$Target }),
+                    }
                 }
 
                 #[doc = concat!("Returns the same as [`", stringify!($to_float), "`][Self::", stringify!($to_float), "], ")]
