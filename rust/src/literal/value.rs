@@ -332,8 +332,10 @@ macro_rules! floats {
                 /// If the mantissa radix and the exponent base are neither both 10 nor both powers of two, as
                 /// [`Syntax::supports_floats`] finds out once for all literals.
                 pub fn $to_float(self) -> Result<$type, ValueError> {
-                    let parts = self.cut();
-                    match text_to_float(self.view, self.as_bytes(), &parts) {
+                    let (text, parts) = (self.as_bytes(), self.cut());
+                    // Of short texts, the digits make the value in less time.
+                    let plain = if text.len() > 16 { text_to_float(self.view, text, &parts) } else { None };
+                    match plain {
                         Some(value) => Ok(value),
                         None => to_float(self.view, &parts).map_err(|kind| ValueError { kind, target: Target::$Target }),
                     }
