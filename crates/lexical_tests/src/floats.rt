@@ -2,6 +2,7 @@
 
 use lexical_literal::read::Reader;
 use lexical_literal::syntax::Syntax;
+use lexical_util::format::Format;
 use lexical_value::float::to_float;
 use lexical_value::integer::ValueErrorKind;
 
@@ -17,16 +18,19 @@ const TERNARY: u128 = 0x03030300_0000005F_00000201_0000000C;
 
 // Returns the bits of both floats of `text`, whose exponent character is `^`.
 fn bits(word: u128, text: &str) -> Option<(u64, u32)> {
-    let Ok(syntax) = Syntax::new(word, b'^', b'.') else {
+    let Ok(format) = Format::new(word) else {
+        return None;
+    };
+    let Ok(syntax) = Syntax::new(format, b'^', b'.') else {
         return None;
     };
     let Ok(parts) = Reader::new(syntax).read(text.as_bytes()) else {
         return None;
     };
-    let Ok(double) = to_float::<f64>(syntax.format(), &parts) else {
+    let Ok(double) = to_float::<f64>(format.view(), &parts) else {
         return None;
     };
-    let Ok(single) = to_float::<f32>(syntax.format(), &parts) else {
+    let Ok(single) = to_float::<f32>(format.view(), &parts) else {
         return None;
     };
     Some((double.to_bits(), single.to_bits()))
@@ -64,9 +68,11 @@ fn floats_are_rounded_once(rt: HostRuntime) {
 
 // Returns why an integer has no float.
 fn reason(word: u128, text: &str) -> Option<ValueErrorKind> {
-    let syntax = Syntax::integers(word).ok()?;
-    let parts = Reader::new(syntax).read(text.as_bytes()).ok()?;
-    to_float::<f64>(syntax.format(), &parts).err()
+    let format = Format::new(word).ok()?;
+    let parts = Reader::new(Syntax::integers(format))
+        .read(text.as_bytes())
+        .ok()?;
+    to_float::<f64>(format.view(), &parts).err()
 }
 
 #[test]
