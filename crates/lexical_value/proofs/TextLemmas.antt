@@ -92,7 +92,7 @@ scales f s false n k e =
 module _ (f : Format) (r : Record) (l : Literal) (s p x y : Bool) (sign : l.sign ≡ one_if 45 s) (prefix : l.prefix ≡ []) (point : l.point ≡ one_if 46 p)
     (character : l.exponent_character ≡ one_if 101 x) (exponent_sign : l.exponent_sign ≡ one_if 45 y) (suffix : l.suffix ≡ []) (some : 0 < length l.integer)
     (no_point : p ≡ false → l.fraction ≡ []) (no_exponent : x ≡ false → l.exponent ≡ []) (no_sign : x ≡ false → y ≡ false) (digits : x ≡ true
-        → 0 < length l.exponent)
+    → 0 < length l.exponent)
     (a : AllDigits 10 l.integer) (b : AllDigits 10 l.fraction) (c : AllDigits 10 l.exponent)
     (radix : r.byte layout.mantissa_radix ≡ 10) (base : effective_exponent_base r ≡ 10) (exponent_radix : effective_exponent_radix r ≡ 10) where
   abbrev parts : Parts

@@ -12,9 +12,9 @@ returns-in-Ok g c =
     let f = format_of g.F.Float.DOUBLE in
     c.from_text.ensures _ (ap (parse_float f) (c.in-Ok.ensures.cases.0 ∙ c.requires)
     ∙ as_written f (raw c.args.format)
-        (literal_of c.args.parts.now) c.in_ok-_negative._negative c.in_ok-point.point c.in_ok-exponent.exponent c.in_ok-_down._down
+    (literal_of c.args.parts.now) c.in_ok-_negative._negative c.in_ok-point.point c.in_ok-exponent.exponent c.in_ok-_down._down
     c.in_ok-_negative.ensures (c.if-not-fits.ensures refl refl) c.in_ok-point.ensures c.in_ok-exponent.ensures c.in_ok-_down.ensures
-        (c.if-not-fits-2.ensures refl refl)
+    (c.if-not-fits-2.ensures refl refl)
     (c.if-not-is_there.ensures refl refl) (c.if-not-fits-3.ensures refl) (c.if-not-fits-4.ensures refl)
     (λ absent. no_minus c.in_ok-_down._down (sym c.in_ok-_down.ensures ∙ c.if-not-fits-5.ensures refl absent)) (c.if-not-is_there-2.ensures refl)
     (c.if-not-are_digits.ensures refl) (c.if-not-are_digits-2.ensures refl) (c.if-not-are_digits-3.ensures refl)
