@@ -179,7 +179,7 @@ impl Reader {
     }
 
     // Returns why `text` is not a literal.
-    #[inline(always)]
+    #[cold]
     const fn refuse(&self, text: &[u8], scanned: Scanned) -> ReadError
         requires scanned { (seeks : Bool) × IsScanned (notation_of self.now) seeks text.now scanned }
         requires refused { allows (notation_of self.now) (summary_at scanned.row)

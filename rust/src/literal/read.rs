@@ -122,7 +122,7 @@ impl Reader {
     }
 
     // Returns why `text` is not a literal.
-    #[inline(always)]
+    #[cold]
     const fn refuse(&self, text: &[u8], scanned: Scanned) -> ReadError {
         let grammar = self.syntax.grammar();
         let size = scanned.valid_up_to;
