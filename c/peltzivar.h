@@ -349,7 +349,7 @@ typedef struct {
 /* Writes the reader of a syntax to *reader and returns PELTZIVAR_SUCCESS if the word is lawful, and if the options fit
  * its normal form or are both 0. Otherwise, leaves *reader unchanged and returns the error of the first rule that the
  * word breaks, or the error that peltzivar_check_options returns for the normal form. It takes as long as reading some
- * 300 texts. */
+ * 400 texts. */
 PELTZIVAR_MUST_USE peltzivar_error peltzivar_reader_init(peltzivar_reader *reader, const peltzivar_syntax *syntax);
 
 /* Writes why peltzivar_reader_init refuses a syntax as a sentence, such as "the exponent character 'e' is a digit in radix

@@ -37,7 +37,7 @@ pub(crate) struct Found {
     pub(crate) counts: [usize; 9],
 }
 
-/// A syntax with tables of all its steps, which reads literals. To make one takes as long as to read some hundred texts
+/// A syntax with tables of all its steps, which reads literals. To make one takes as long as to read some 400 texts
 /// with it. For a `static`, as in the first example of this module, the compiler makes it.
 #[derive(Clone)]
 pub struct Reader {
