@@ -1,5 +1,6 @@
 -- The flags that are found are to blame.
-use Rattle.std.proofs.Common.{ℕ, ◌≡◌, ◌<◌, ◌≤◌, ◌/◌, ◌%◌, ◌^◌, ◌↔◌, Bool, true, false, not, ◌==◌, ◌&&◌, ◌||◌, inl, inr, IsTrue, bit_and, if◌then◌else◌, List, length, take}
+use Rattle.std.proofs.Common.{ℕ, ◌≡◌, ◌<◌, ◌≤◌, ◌/◌, ◌%◌, ◌^◌, ◌↔◌, Bool, true, false}
+use Rattle.std.proofs.Common.{not, ◌==◌, ◌&&◌, ◌||◌, inl, inr, IsTrue, bit_and, if◌then◌else◌, List, length, take}
 use Rattle.std.proofs.Common.{Option, None, Some, refl, sym, ap, subst, ◌∙◌, arith}
 use Rattle.std.proofs.lemmas.Bool.{false≢true, and_parts, and_from, or_parts, cases_Bool, cases_lt, eqb-true, false_from_ne_true}
 use Rattle.std.proofs.lemmas.Bool.{agree_below, agree_below_at}
@@ -12,7 +13,8 @@ use Rattle.lexical_util.specs.Record.{raw}
 use Rattle.lexical_util.specs.declared.feature_format.roles.Role.TheVariants as roles
 use Rattle.lexical_literal.specs.Notation.{Notation, notation_of}
 use Rattle.lexical_literal.specs.Cause.{Allows, IsCaseFlag, IsCause, IsRefusal, IsRequirement, Permits, RefusesAlone, adding, bare, binds, case_set, is_one_of}
-use Rattle.lexical_literal.specs.Cause.{error_of, flag_at, is_at, leading_zero_flags, lowest, marks_of, requirement_flags, span_of, number_separator_flags, with_flags}
+use Rattle.lexical_literal.specs.Cause.{error_of, flag_at, is_at, leading_zero_flags, lowest}
+use Rattle.lexical_literal.specs.Cause.{marks_of, requirement_flags, span_of, number_separator_flags, with_flags}
 use Rattle.lexical_util.specs.Layout.{flags}
 use Rattle.lexical_util.specs.Roles.{other_case}
 use Rattle.std.proofs.lemmas.List.{length-take-le}
@@ -183,7 +185,8 @@ module _ (m : Notation) (s : Summary) (front : List ℕ) (read : IsReadOf m s fr
     is_case : (f : Flag) → IsTrue (cases m s byte f) ↔ IsCaseFlag m front byte f
     is_case f =
         let other = read.decides (Some (other_case byte)) (bare m).flag (bare_weaker m) in (
-          λ is. let both = and_parts (allows (bare m) s (Some (byte_class m (other_case byte)))) (case_set f m (other_case byte)) is in (both.1, other.0 both.0),
+          λ is. let both = and_parts (allows (bare m) s (Some (byte_class m (other_case byte)))) (case_set f m (other_case byte)) is in
+              (both.1, other.0 both.0),
           λ is. and_from _ _ (other.1 is.1) is.0,
         )
 

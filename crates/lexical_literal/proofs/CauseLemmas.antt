@@ -96,8 +96,10 @@ all_bind layout.required_integer_digits = refl
 all_bind _ = refl
 
 -- The flags of a word without requirements.
-pub bare_flags : (word : ℕ) (f : Flag) → (raw (bit_and word (bit_not w128 REQUIREMENTS))).flag f ≡ ((raw word).flag f && not (is_one_of requirement_flags f))
-bare_flags word f = flag_and f word (bit_not w128 REQUIREMENTS) ∙ ap (λ t. (raw word).flag f && t) (flag_not f REQUIREMENTS (omega arith) ∙ ap not (requirement_mask f))
+pub bare_flags : (word : ℕ) (f : Flag)
+    → (raw (bit_and word (bit_not w128 REQUIREMENTS))).flag f ≡ ((raw word).flag f && not (is_one_of requirement_flags f))
+bare_flags word f = flag_and f word (bit_not w128 REQUIREMENTS)
+    ∙ ap (λ t. (raw word).flag f && t) (flag_not f REQUIREMENTS (omega arith) ∙ ap not (requirement_mask f))
 
 -- The flags of the mask of some flags are these flags.
 pub mask_flags : (P : Flag → Bool) (f : Flag) → (raw (mask_of P)).flag f ≡ P f

@@ -129,5 +129,6 @@ module _ (m : Notation) where
       → allows (adding f (bare m)) s (Some class) ≡ true → separates m s (in_part s.part class) f ≡ true
   at_next f s class is refused allowed =
       subst (λ (P : Notation → Bool). P (bare m) ≡ false → P (adding f (bare m)) ≡ true → separates m s (in_part s.part class) f ≡ true)
-      (same s (Some class) (let is = sym (moved (adding f (bare m)) s s.ended (is_plus_class class) (is_zero class) (in_part s.part class)) ∙ allowed in grind arith))
+      (same s (Some class) (let is = sym (moved (adding f (bare m)) s s.ended (is_plus_class class) (is_zero class) (in_part s.part class))
+      ∙ allowed in grind arith))
       (at_role f s.part s.stage s.gap (is_plus_class class) (in_part s.part class) is) refused allowed

@@ -31,7 +31,8 @@ point_byte None = 0
 point_byte (Some options) = options.point
 
 -- A byte that plays a role of a syntax plays it in the format with the options.
-own : (word : ℕ) → Lawful word → (o : Option Options) (role : Role) (byte : ℕ) → IsTrue (set_of_role (notation_of (record { word = word; options = o })) role byte)
+own : (word : ℕ) → Lawful word → (o : Option Options) (role : Role) (byte : ℕ)
+    → IsTrue (set_of_role (notation_of (record { word = word; options = o })) role byte)
     → IsTrue (bytes.role_set (raw word) (exponent_byte o) (point_byte o) role byte)
 unfolding Lawful
 own word lawful o roles.Digit byte is = grind (arith, nat_tests)

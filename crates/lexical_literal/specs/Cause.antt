@@ -40,7 +40,8 @@ leading_zero_flags = layout.no_integer_leading_zeros ∷ layout.no_float_leading
 
 -- `number_separator_flags` lists the flags that allow a digit separator in a number.
 abbrev pub number_separator_flags : List Flag
-number_separator_flags = layout.internal_digit_separator ++ layout.leading_digit_separator ++ layout.trailing_digit_separator ++ layout.consecutive_digit_separator
+number_separator_flags =
+    layout.internal_digit_separator ++ layout.leading_digit_separator ++ layout.trailing_digit_separator ++ layout.consecutive_digit_separator
 
 -- `is_one_of fs f` is true if `f` is one of `fs`.
 abbrev pub is_one_of : List Flag → Flag → Bool

@@ -27,26 +27,32 @@ pub wrong-requires-clause-refused : goal.wrong-requires-clause-refused
 wrong-requires-clause-refused c = rw (← as_bare (notation_of c.args.self.grammar) c.bare.result c.bare.ensures) (sym c.allows.ensures ∙ c.if-allows.false)
 
 pub returns-then-allows-clause-kind : goal.returns-then-allows-clause-kind
-returns-then-allows-clause-kind c = sym (ap (λ (b : Blamed). b.kind) (by_test c.args.self c.args.next c.requires.next c.bare.result c.bare.ensures true (sym c.if-allows.true ∙ c.allows.ensures) c.args.next refl))
+returns-then-allows-clause-kind c = sym (ap (λ (b : Blamed). b.kind) (by_test c.args.self c.args.next c.requires.next c.bare.result
+    c.bare.ensures true (sym c.if-allows.true ∙ c.allows.ensures) c.args.next refl))
 
 pub returns-then-allows-clause-flags : goal.returns-then-allows-clause-flags
 returns-then-allows-clause-flags c f =
     c.requirements.ensures f ∙ ap (λ next. requirements (notation_of c.args.self.grammar) c.args.self.read next f) c.requires.next
-    ∙ sym (ap (λ (b : Blamed). b.flags f) (by_test c.args.self c.args.next c.requires.next c.bare.result c.bare.ensures true (sym c.if-allows.true ∙ c.allows.ensures) c.args.next refl))
+    ∙ sym (ap (λ (b : Blamed). b.flags f) (by_test c.args.self c.args.next c.requires.next c.bare.result
+    c.bare.ensures true (sym c.if-allows.true ∙ c.allows.ensures) c.args.next refl))
 
 pub returns-in-None-clause-kind : goal.returns-in-None-clause-kind
 returns-in-None-clause-kind c =
-    sym (ap (λ (b : Blamed). b.kind) (by_test c.args.self c.args.next c.requires.next c.bare.result c.bare.ensures false (sym c.if-allows.false ∙ c.allows.ensures) None c.in-None.is))
+    sym (ap (λ (b : Blamed). b.kind) (by_test c.args.self c.args.next c.requires.next c.bare.result
+    c.bare.ensures false (sym c.if-allows.false ∙ c.allows.ensures) None c.in-None.is))
 
 pub returns-in-None-clause-flags : goal.returns-in-None-clause-flags
 returns-in-None-clause-flags c f =
-    flag_zero f ∙ sym (ap (λ (b : Blamed). b.flags f) (by_test c.args.self c.args.next c.requires.next c.bare.result c.bare.ensures false (sym c.if-allows.false ∙ c.allows.ensures) None c.in-None.is))
+    flag_zero f ∙ sym (ap (λ (b : Blamed). b.flags f) (by_test c.args.self c.args.next c.requires.next c.bare.result
+    c.bare.ensures false (sym c.if-allows.false ∙ c.allows.ensures) None c.in-None.is))
 
 pub returns-in-Some-clause-kind : goal.returns-in-Some-clause-kind
 returns-in-Some-clause-kind c =
-    c.wrong.ensures.kind ∙ sym (ap (λ (b : Blamed). b.kind) (by_test c.args.self c.args.next c.requires.next c.bare.result c.bare.ensures false (sym c.if-allows.false ∙ c.allows.ensures) _ c.in-Some.is))
+    c.wrong.ensures.kind ∙ sym (ap (λ (b : Blamed). b.kind) (by_test c.args.self c.args.next c.requires.next c.bare.result
+    c.bare.ensures false (sym c.if-allows.false ∙ c.allows.ensures) _ c.in-Some.is))
 
 pub returns-in-Some-clause-flags : goal.returns-in-Some-clause-flags
 returns-in-Some-clause-flags c f =
     c.wrong.ensures.flags f
-    ∙ sym (ap (λ (b : Blamed). b.flags f) (by_test c.args.self c.args.next c.requires.next c.bare.result c.bare.ensures false (sym c.if-allows.false ∙ c.allows.ensures) _ c.in-Some.is))
+    ∙ sym (ap (λ (b : Blamed). b.flags f) (by_test c.args.self c.args.next c.requires.next c.bare.result
+    c.bare.ensures false (sym c.if-allows.false ∙ c.allows.ensures) _ c.in-Some.is))

@@ -16,8 +16,10 @@ module _ (P : Flag → Bool) where
   abbrev row : ℕ → Flag → Bool
   row k f = (k == bit f) && P f
 
-  decides : (f : Flag) → (is_one_of requirement_flags f && not ((((((row 0 f || row 1 f) || row 2 f) || row 3 f) || (((row 4 f || row 5 f) || row 7 f) || row 8 f))
-      || ((row 6 f || row 9 f) || row 14 f)) || (row 12 f || row 13 f))) ≡ (is_one_of requirement_flags f && not (P f))
+  decides : (f : Flag) → (is_one_of requirement_flags f && not ((((((row 0 f || row 1 f) || row 2 f) || row 3 f)
+      || (((row 4 f || row 5 f) || row 7 f) || row 8 f))
+      || ((row 6 f || row 9 f) || row 14 f)) || (row 12 f || row 13 f)))
+      ≡ (is_one_of requirement_flags f && not (P f))
   decides layout.required_integer_digits = grind arith
   decides _ = grind arith
 

@@ -20,7 +20,8 @@ is_sought-requires c = (c.in-Some.ensures (notation_of c.self.inside.syntax) c.s
 pub loop-index-init : goal.loop-index-init
 loop-index-init c =
     let m = notation_of c.args.self.now in
-    let is_ready : IsReady m = rw (← c.self.view_is) (ready c.role_facts.ensures.disjoint c.role_facts.ensures.five c.role_facts.ensures.lawful c.self.inside.syntax c.self.invariant.0) in
+    let is_ready : IsReady m = rw (← c.self.view_is) (ready c.role_facts.ensures.disjoint c.role_facts.ensures.five c.role_facts.ensures.lawful
+    c.self.inside.syntax c.self.invariant.0) in
     record { is_row = omega arith; size = refl; small = search rules; has = rw (← no_counts) (read_nothing m is_ready c.args.text.now c.args.seeks) }
 
 pub loop-index-preserved : goal.loop-index-preserved
