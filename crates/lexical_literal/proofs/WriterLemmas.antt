@@ -1,5 +1,6 @@
 -- Which texts of mantissa digits are literals.
 use Rattle.std.proofs.Common.{ℕ, ◌≡◌, ◌≢◌, ◌↔◌, Bool, true, false, not, ◌==◌, ◌&&◌, ◌||◌, IsFalse, List, [], ◌∷◌, Some, None, refl, sym, ap, ◌∙◌, arith}
+use Rattle.std.proofs.lemmas.Bool.Decides.{nat_tests}
 use Rattle.lexical_util.specs.Layout as layout
 use Rattle.lexical_util.specs.declared.feature_format.roles.Role.TheVariants as roles
 use Rattle.lexical_util.specs.declared.format_flags.Part.TheVariants as parts
@@ -28,13 +29,18 @@ module _ (m : Notation) (h : HasRoles m) where
       → is_accepted m (scan m (Some (reading parts.Integer stages.Digits false)) digits) ≡ not (m.condition conditions.BaseSuffix || needs_exponent m)
   more_digits [] all = grind arith
   more_digits (b ∷ digits) all =
+      let is : move_by m.condition m (reading parts.Integer stages.Digits false) (b == 43) (b == 48) (Some roles.Digit)
+      ≡ Some (reading parts.Integer stages.Digits false) = grind arith in
       ap (λ o. is_accepted m (scan m o digits)) (moved m.condition m h (reading parts.Integer stages.Digits false) b (Some roles.Digit)
-      (digit_role m h parts.Integer b all.0)) ∙ more_digits digits all.1
+      (digit_role m h parts.Integer b all.0) ∙ is) ∙ more_digits digits all.1
 
   module _ (first : ℕ) (digits : List ℕ) (not_zero : first ≢ 48) (all : AllIn (m.digit parts.Integer) (first ∷ digits)) where
     -- The first digit, which is not 0.
     first_digit : (stage : Stage) → let s = reading parts.Integer stage false in step m s (byte_class m first) ≡ move_by m.condition m s (first == 43) false (Some roles.Digit)
-    first_digit stage = grind arith
+    first_digit stage =
+        let other : (first == 48) ≡ false = grind (arith, nat_tests) in
+        moved m.condition m h (reading parts.Integer stage false) first (Some roles.Digit) (digit_role m h parts.Integer first all.0)
+        ∙ ap (λ zero. move_by m.condition m (reading parts.Integer stage false) (first == 43) zero (Some roles.Digit)) other
 
     pub digits_read : ((l : Literal) × Reads m l (first ∷ digits))
         ↔ IsFalse ((m.condition conditions.BasePrefix || m.condition conditions.BaseSuffix)

@@ -373,10 +373,13 @@ impl Stop {
     {
         let binding = self.binding();
         let alone = self.refusing() & binding;
-        if alone != 0 || !self.unmet().is_none() {
-            alone
-        } else {
+        if alone != 0 {
+            return alone;
+        }
+        if self.unmet().is_none() {
             binding & ZEROS
+        } else {
+            0
         }
     }
 
@@ -385,7 +388,10 @@ impl Stop {
         ensures { result ≡ conditions_of (unmet (notation_of self.grammar) self.read self.next) }
     {
         let set = self.grammar.conditions;
-        if set.is_none() || !self.allows(self.bare()) {
+        if set.is_none() {
+            return Conditions::NONE;
+        }
+        if !self.allows(self.bare()) {
             return Conditions::NONE;
         }
         Conditions {

@@ -1,4 +1,4 @@
-use Rattle.std.proofs.Common.{◌≡◌, ◌^◌, ◌*◌, ◌%◌, ◌&&◌, ◌==◌, ◌||◌, if◌then◌else◌, Bool, bit_or, inl, inr, sym, ap, subst, ◌∙◌, arith}
+use Rattle.std.proofs.Common.{◌≡◌, ◌^◌, ◌*◌, ◌%◌, ◌&&◌, ◌==◌, ◌||◌, if◌then◌else◌, Bool, false, bit_or, inl, inr, sym, ap, subst, ◌∙◌, arith}
 use Rattle.std.proofs.lemmas.Bool.{cases_Bool, eqb-true}
 use Rattle.std.proofs.lemmas.Bool.Decides.{nat_tests}
 use Rattle.lexical_util.specs.Layout.{Flag, bit}
