@@ -55,8 +55,9 @@ impl Conditions {
         }
     }
 
-    // Returns whether there are none.
-    pub(crate) const fn is_none(self) -> bool
+    /// Returns whether there are no conditions.
+    #[must_use]
+    pub const fn is_none(self) -> bool
         ensures { result ≡ not (has self Condition.BasePrefix || (has self Condition.BaseSuffix || has self Condition.NegativeSign)) }
     {
         !(self.required_base_prefix || self.required_base_suffix || self.no_negative_mantissa_sign)
@@ -65,7 +66,7 @@ impl Conditions {
 
 // One of `Conditions`.
 #[derive(Debug, Clone, Copy, PartialEq, Eq, Hash)]
-pub(crate) enum Condition {
+pub enum Condition {
     BasePrefix,
     BaseSuffix,
     NegativeSign,
