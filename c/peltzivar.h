@@ -109,7 +109,7 @@ typedef struct {
 } peltzivar_syntax;
 
 /* Settings build a syntax. A text, such as a file, has one setting a line, of a field, a group or an option: NAME=VALUE.
- * FORMAT.md has a table of them. Lines end with \n. A byte order mark at the start of the text is skipped, and so are
+ * SETTINGS.md has a table of them. Lines end with \n. A byte order mark at the start of the text is skipped, and so are
  * lines that are blank or begin with `#`. No comment can follow a setting. A setting overrides those before it. Fields
  * without a setting have the values of PELTZIVAR_NEW_FIELDS, the exponent character is `e`, and the decimal point is `.`.
  * In a mantissa or exponent radix above 14, `e` is a digit, so `exponent` must be set. If both options are `none`,
@@ -238,8 +238,8 @@ const char *peltzivar_value_description(peltzivar_value_status status);
 
 /* ERRORS */
 
-/* Writes why a text was refused as a sentence, such as "unexpected character 'x'". If no call has written *error,
- * writes an empty string. */
+/* Writes why a text was refused as a sentence, such as "unexpected character 'x'". EXPLANATIONS.md describes them. If no
+ * call has written *error, writes an empty string. */
 size_t peltzivar_read_error_text(const peltzivar_read_error *error, char *text, size_t len);
 
 /* The parts of a number, and the number of no part. */
@@ -407,7 +407,7 @@ peltzivar_word peltzivar_pack(const peltzivar_fields *fields);
 /* ONE SETTING */
 
 /* Parses a setting: a string NAME=VALUE of len bytes, which need not be null-terminated. If it is valid, writes its edit
- * to *out and returns true. Otherwise, returns false and leaves *out unchanged. FORMAT.md has a table of the settings.
+ * to *out and returns true. Otherwise, returns false and leaves *out unchanged. SETTINGS.md has a table of them.
  * The name radix is read as mantissa_radix. Only peltzivar_read_settings takes `exponent` and `point`, which are not
  * fields. */
 PELTZIVAR_MUST_USE bool peltzivar_parse_edit(const char *text, size_t len, peltzivar_edit *out);
