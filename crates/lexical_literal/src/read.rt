@@ -213,8 +213,7 @@ impl Reader {
     #[cold]
     const fn refuse(&self, text: &[u8], scanned: Scanned) -> ReadError
         requires { HasStopped (notation_of self.now) text.now scanned }
-        ensures refusal { IsRefusal (notation_of self.now) text.now result.refusal }
-        ensures none { NoLiteral (notation_of self.now) text.now }
+        ensures { IsRefusal (notation_of self.now) text.now result.refusal }
     {
         role_facts();
         let grammar = self.syntax.grammar();

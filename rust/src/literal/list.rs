@@ -80,12 +80,13 @@ impl<'a> ReaderList<'a> {
 
     // Returns why `text` is not a literal of a form.
     const fn refuse(&self, text: &[u8], form: usize) -> FormError {
-        let error = self.readers[form].explain(text);
+        let error = self.readers()[form].explain(text);
         FormError { form, error }
     }
 }
 
 // Returns the longer of two fronts, the first of equals.
+#[inline(always)]
 const fn longer(longest: Option<(usize, Found)>, form: usize, found: Found) -> Option<(usize, Found)> {
     match longest {
         Some((_, best)) if best.size >= found.size => longest,
@@ -93,7 +94,7 @@ const fn longer(longest: Option<(usize, Found)>, form: usize, found: Found) -> O
     }
 }
 
-// Returns the form that goes further, the first of equals.
+// Returns which of two forms goes further, the first of equals.
 #[inline(always)]
 const fn further(furthest: Reach, form: usize, size: usize) -> Reach {
     if size > furthest.size {

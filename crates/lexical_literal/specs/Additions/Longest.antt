@@ -37,7 +37,7 @@ pub record IsScanned (m : Notation) (seeks : Bool) (text : List ℕ) (scanned : 
 -- there, or no byte follows and what has been read is not a literal.
 pub record HasStopped (m : Notation) (text : List ℕ) (scanned : Scanned) : Type 0 where
   pub seeks : Bool
-  pub scanned : IsScanned m seeks text scanned
+  pub is : IsScanned m seeks text scanned
   pub refused : allows m (summary_at scanned.row) (class_of_next m (slice_get text scanned.valid_up_to)) ≡ false
 
 -- `IsMeasured m text result` holds if `result` has the lengths of the parts of the literal `text`, or is where reading a
