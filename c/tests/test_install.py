@@ -49,7 +49,7 @@ class Install(InFolder):
         self.assertTrue(lines)
         for line in lines:
             self.run_in("bash", "-c", line)
-            self.assertEqual(self.run_in("./example", "radix=8", "17"), "17 is 15\n")
+            self.assertEqual(self.run_in("./example", "radix=8", input="17\n"), "15\n")
 
     def test_python_finds_the_library_below_the_prefix(self):
         self.make("install", f"PREFIX={self.prefix}")
@@ -64,7 +64,7 @@ class Install(InFolder):
         self.environment.pop("CARGO_TARGET_DIR", None)
         for command in (build, f"{compile_it} -o '{self.folder}/example'"):
             self.run_in("bash", "-c", command, cwd=C.parent)
-        self.assertEqual(self.run_in("./example", "radix=8", "17"), "17 is 15\n")
+        self.assertEqual(self.run_in("./example", "radix=8", input="17\n"), "15\n")
 
     def test_uninstall_removes_what_install_wrote_without_cargo_and_for_all_users(self):
         paths = ["PREFIX=/usr/my own", "LIBDIR=/usr/my own/lib here", f"DESTDIR={self.folder}/a root"]

@@ -3,6 +3,7 @@ docs/EXPLANATIONS.md, and known words and sentences."""
 import copy
 import doctest
 import inspect
+import math
 import os
 import pathlib
 import pickle
@@ -14,6 +15,8 @@ import subprocess
 import sys
 import tempfile
 import unittest
+from decimal import Decimal
+from fractions import Fraction
 from random import Random
 
 TESTS = pathlib.Path(__file__).resolve().parent
@@ -186,11 +189,65 @@ class Literals(unittest.TestCase):
         text = "-0x1_F.8_0p+1_2h"
         parts = ["-", "0x", "1_F", ".", "8_0", "p", "+", "1_2", "h"]
         for literal, in_type in ((syntax.read(text), str), (syntax.read(text.encode()), str.encode)):
-            self.assertEqual((str(literal), [*vars(literal).values()][2:]), (text, [*map(in_type, parts)]))
+            self.assertEqual((str(literal), [*vars(literal.parts).values()]), (text, [*map(in_type, parts)]))
             self.assertEqual([*map(literal.digits, Part)], [*map(in_type, ["1F", "80", "12"])])
         self.assertEqual([syntax.read(it).is_float for it in ("-F_F", "1.", "1p0")], [False, True, True])
         literal, rest = syntax.read_prefix("1.8p+\u00e9")
-        self.assertEqual((literal.text, literal.fraction, rest), ("1.8", "8", "p+\u00e9"))
+        self.assertEqual((literal.text, literal.parts.fraction, rest), ("1.8", "8", "p+\u00e9"))
+
+    def test_values(self):
+        rows = [
+            (Language.TOML, "-9_223_372_036_854_775_809", -(2**63) - 1, "-9223372036854775809", -(2**63) - 1),
+            (Language.JSON, "-0", 0, "-0", 0),
+            (Language.JSON, "1.50e-1", 0.15, "0.150", Fraction(3, 20)),
+            (Language.JSON, "1e400", math.inf, "1E+400", 10**400),
+            (Language.SPREADSHEET_CSV, "1,234.50", 1234.5, "1234.50", Fraction(2469, 2)),
+            (Language.RUST_HEX_INTEGER, "0x1_F", 31, "31", 31),
+            (Language.C_HEX_FLOAT, "-0x1.8p-1", -0.75, "-0.75", Fraction(-3, 4)),
+        ]
+        for language, text, value, decimal, fraction in rows:
+            for given in (text, text.encode()):
+                it = language.syntax.read(given)
+                self.assertEqual((repr(it.value), str(it.decimal()), it.fraction()), (repr(value), decimal, fraction))
+                self.assertEqual((repr(float(it)), it.decimal()), (repr(float(decimal)), Decimal(decimal)))
+                for same in (eval(repr(it)), pickle.loads(pickle.dumps(it)), copy.deepcopy(it)):
+                    self.assertEqual((same, hash(same), same.value), (it, hash(it), it.value))
+        self.assertRaisesRegex(ValueError, "^'1.0' is a float$", int, Language.JSON.read("1.0"))
+        self.assertEqual(repr(Language.TOML.read("-inf").value), "-inf")
+        # Literals are equal if their formats and parts are equal.
+        self.assertEqual(Syntax(Format()).read("1"), Syntax.integers(Format()).read("1"))
+        self.assertNotEqual(Syntax(Format()).read("1"), Syntax(Format.of(no_special=True)).read("1"))
+        self.assertNotEqual(Syntax(Format()).read("1.5"), Syntax(Format(), "e", ",").read("1,5"))
+
+    def test_values_that_are_refused(self):
+        ternary, decimal, binary = Syntax(Format.of(radix=3)), Language.JSON.syntax, Language.C_HEX_FLOAT.syntax
+        self.assertEqual((ternary.read("-12").value, str(ternary.read("12").decimal()), ternary.read("0.1").fraction()), (-5, "5", Fraction(1, 3)))
+        self.assertRaisesRegex(ValueError, "mantissa radix and the exponent base", float, ternary.read("12"))
+        self.assertRaisesRegex(ValueError, "products of 2 and 5", ternary.read("0.1").decimal)
+        self.assertRaisesRegex(ValueError, "4300 digits", int, decimal.read("9" * 4301))
+        self.assertEqual(int(Language.RUST_HEX_INTEGER.read("F" * 5000)), 16**5000 - 1)
+        self.assertEqual(len(decimal.read("9" * 10**6).decimal().as_tuple().digits), 10**6)
+        self.assertEqual(decimal.read("1e999999").fraction(), 10**999999)
+        self.assertEqual(binary.read("1p-1430676").decimal().adjusted(), -430677)
+        large = [decimal.read("9" * (10**6 + 1)).decimal, decimal.read("1e1000000").fraction, decimal.read("1e-1000000").fraction]
+        large += [decimal.read("1e" + "9" * 5000).decimal, binary.read("1p-1430677").decimal, binary.read("1p3321929").decimal]
+        for call in [*large, binary.read("1p99999999999999999999").fraction]:
+            self.assertRaisesRegex(OverflowError, "more than 10\\^6 digits", call)
+
+    def test_a_locale_plays_no_role(self):
+        """Tests C, too, since it has the same locale."""
+        folder = pathlib.Path(tempfile.mkdtemp())
+        self.addCleanup(shutil.rmtree, folder)
+        if shutil.which("localedef"):
+            subprocess.run(["localedef", "-i", "de_DE", "-f", "UTF-8", folder / "de_DE.UTF-8"], capture_output=True)
+        program = "import locale; locale.setlocale(locale.LC_ALL, 'de_DE.UTF-8'); print(locale.localeconv()['decimal_point'])\n"
+        program += "import peltzivar; print(peltzivar.Language.JSON.read('12345678901234567890.5').value)"
+        environment = {**os.environ, "PYTHONPATH": str(TESTS.parent)}
+        for more in ({}, {"LOCPATH": str(folder)}):
+            ran = subprocess.run([sys.executable, "-c", program], env={**environment, **more}, capture_output=True, text=True)
+            if "unsupported locale" not in ran.stderr:
+                return self.assertEqual(ran.stdout, ",\n1.2345678901234567e+19\n")
+        self.skipTest("no locale de_DE.UTF-8")
 
     def test_causes_of_format(self):
         self.assertGreater(len(CAUSES), 10)
@@ -221,7 +278,7 @@ class Literals(unittest.TestCase):
         for syntax in syntaxes:
             copies = eval(repr(syntax)), pickle.loads(pickle.dumps(syntax)), copy.deepcopy(syntax)
             self.assertEqual({syntax, *copies}, {syntaxes[3] if syntax is syntaxes[3] else syntaxes[0]})
-            self.assertEqual([it.read("-1").integer for it in copies], ["1"] * 3)
+            self.assertEqual([it.read("-1").parts.integer for it in copies], ["1"] * 3)
             self.assertLess(len(pickle.dumps(syntax)), 200)  # Another build must make its own reader.
 
     def test_languages_read_the_texts_of_their_grammars(self):
