@@ -23,7 +23,7 @@ const TEXTS: [&str; 8] =
     ["1\0", "-17\0", "1000\0", "3.25\0", "-12345.678e-9\0", "0.5\0", "1000.5e-3\0", "9007199254740993\0"];
 
 fn main() {
-    let reader = Language::JSON.reader();
+    let reader = &Language::JSON.readers().as_slice()[0];
     // SAFETY: the name has four bytes, and the spellings may be null.
     let reader_of_c = unsafe { peltzivar_language(b"JSON".as_ptr(), 4, null_mut()) };
     let bytes = |text: &'static str| &text.as_bytes()[..text.len() - 1];
