@@ -1,16 +1,27 @@
-"""Builds, reads, checks and edits number formats, which are 128-bit words, and reads the numbers of a format.
+"""Reads numbers as a language, a file or you write them, with their values, and says why a text is not one.
 
-    >>> from peltzivar import Format, Syntax
-    >>> format = Format.of(mantissa_radix=16, base_prefix="x")
-    >>> print(format)
-    0x0000100078000000000000000000000C
-    >>> Syntax.integers(format).read("-0x1F").value
-    -31
+    >>> from peltzivar import Syntax, languages
+    >>> languages.TOML.read("1_000.5").value, languages.RUST_HEX_INTEGER.read("0x1F").value
+    (1000.5, 31)
+    >>> prices = Syntax.of(digit_separator=".", internal_digit_separator=True, point=",")
+    >>> price = prices.read("1.234,50")
+    >>> price.value, price.decimal()
+    (1234.5, Decimal('1234.50'))
 
-A word is lawful if it satisfies all rules. A `FormatView` holds any word, and a `Format` a lawful one. A `Syntax` reads
-literals, which are the numbers of a format, and the class `languages` has those of languages. In the repository,
-docs/FORMAT.md describes fields, rules and literals, and docs/C-AND-PYTHON.md this module. A value of a wrong type
-raises a TypeError, and another wrong value a ValueError.
+`read` returns a `Literal`, or raises a LiteralError. A `Language` has the numbers of a language, and `Syntax.of` takes
+settings: a keyword argument for each field of a format, the exponent character and the decimal point. Each field is an
+attribute of `FormatView`. Settings can also be texts, such as the lines of a file. Wrong ones raise a SettingsError:
+
+    >>> Syntax.of("radix = 16", "base_prefix = 'b'")
+    Traceback (most recent call last):
+    peltzivar.SettingsError: the base prefix 'b' is a digit in radix 16
+    >>> prices.read("1.234,,50")
+    Traceback (most recent call last):
+    peltzivar.LiteralError: unexpected character ','
+
+A format is a 128-bit word. It is lawful if it satisfies all rules. A `FormatView` holds any word, and a `Format` a lawful
+one. In the repository, docs/FORMAT.md describes fields, rules and literals, and docs/C-AND-PYTHON.md this module. A
+value of a wrong type raises a TypeError, and another wrong value a ValueError.
 
 This module needs the shared library of peltzivar.h, but no other package. `make install` and pip install both. To use
 another library, set PELTZIVAR_LIBRARY to its path. If none is found, importing this module raises an ImportError.
@@ -473,6 +484,8 @@ _RADIXES = (Setter.MANTISSA_RADIX, Setter.EXPONENT_BASE, Setter.EXPONENT_RADIX)
 _BYTES = (Setter.DIGIT_SEPARATOR, Setter.BASE_PREFIX, Setter.BASE_SUFFIX)
 _SETTERS = {**{it.name.lower(): it for it in Setter}, "radix": Setter.MANTISSA_RADIX}
 _SETTING = "a str or an Edit (pass a list as `*settings`)"
+# The default of an argument whose field keeps its value.
+_KEPT: Any = ...
 
 
 def _text(call: Any, *arguments: Any, size: int = _TEXT_SIZE) -> str:
@@ -536,16 +549,31 @@ def _refusal(setting: str) -> str:
 
 
 def _takes_fields(call: Call) -> Call:
-    """Makes a call pass its keyword arguments as edits, in order and behind its settings."""
+    """Makes a call pass its keyword arguments as settings, in order and behind its other settings."""
+    signature = inspect.signature(call)
+    others = [it for it in signature.parameters.values() if it.default is not _KEPT]
+    names = set(signature.parameters) - {it.name for it in others}
 
     @functools.wraps(call)
     def calling(*settings: Any, **fields: Any) -> Any:
         for name in fields:
-            if name not in _SETTERS:
-                raise TypeError(f"{call.__name__}() got an unexpected keyword argument {name!r}: {_refusal(name + '=')}")
-        return call(*settings, *(Edit.of(name, value) for name, value in fields.items()))
+            if name not in names:
+                setting = name.encode() + b"="
+                text = _settings_text(setting, 0) if "point" in names else _refusal(name + "=")
+                raise TypeError(f"{call.__name__}() got an unexpected keyword argument {name!r}: {text}")
+        return call(*settings, *(_setting(name, value) for name, value in fields.items()))
 
+    # That which `help` shows. Type checkers see each field.
+    fields = inspect.Parameter("fields", inspect.Parameter.VAR_KEYWORD)
+    calling.__dict__["__signature__"] = signature.replace(parameters=[*others, fields])
     return cast(Call, calling)
+
+
+def _setting(name: str, value: Value) -> Union[Edit, str]:
+    """Returns an argument as a setting."""
+    if name in _SETTERS:
+        return Edit.of(name, value)
+    return f"{name}={'none' if value is None else _byte(name, value)}"
 
 
 @dataclass(frozen=True, init=False, repr=False)
@@ -732,9 +760,6 @@ class _Field:
 
 
 _field: Any = _Field
-# The default of an argument whose field keeps its value.
-_KEPT: Any = ...
-
 
 class FormatView:
     """A view of a format word, lawful or not. `int(view)` is the word, and `str(view)` is its text.
@@ -1104,10 +1129,11 @@ class Literal(Generic[AnyStr]):
     __slots__ = ("_syntax", "_text", "_found", "_data")
     __match_args__ = ("syntax", "text")
 
-    def __init__(self, syntax: Syntax, text: AnyStr, found: _Literal, data: bytes) -> None:
+    def _set(self, syntax: Syntax, text: AnyStr, found: _Literal, data: bytes) -> Literal[AnyStr]:
         self._syntax, self._found = syntax, found
         self._text: AnyStr = text
         self._data = data  # `found` points to it.
+        return self
 
     @property
     def syntax(self) -> Syntax:
@@ -1257,8 +1283,8 @@ class Syntax:
     format: Format
     exponent: Optional[Byte] = "e"
     point: Optional[Byte] = "."
-    _reader: _Reader = field(init=False, repr=False, compare=False)
-    _fields: _Fields = field(init=False, repr=False, compare=False)
+    _reader: Any = field(init=False, repr=False, compare=False)
+    _fields: Any = field(init=False, repr=False, compare=False)
 
     def __post_init__(self) -> None:
         format, options = _typed("format", self.format, Format).normal_form(), (0, 0)
@@ -1266,7 +1292,7 @@ class Syntax:
             options = _byte("exponent", self.exponent), _byte("point", self.point)
             format.check_options(*options)
         elif self.exponent is not self.point:
-            sentence = _text(_library.settings_text, b"exponent=none", 13, 0)
+            sentence = _settings_text(b"exponent=none", 0)
             raise OptionsError((Reason(sentence, options=(Role.EXPONENT, Role.POINT)),))
         exponent, point = (chr(it) if it else None for it in options)
         vars(self).update(format=format, exponent=exponent, point=point, _reader=_Reader(), _fields=format._unpacked())
@@ -1282,15 +1308,72 @@ class Syntax:
         return cls(format, None, None)
 
     @classmethod
-    def of(cls, *settings: Union[Edit, str]) -> Syntax:
-        """Returns the syntax that settings make, such as the lines of a file. Raises SettingsError if there is none.
+    @_takes_fields
+    def of(
+        cls,
+        *settings: Union[Edit, str],
+        # Made by make_python.py: parameters
+        required_integer_digits: bool = _KEPT,
+        required_fraction_digits: bool = _KEPT,
+        required_exponent_digits: bool = _KEPT,
+        required_mantissa_digits: bool = _KEPT,
+        no_positive_mantissa_sign: bool = _KEPT,
+        required_mantissa_sign: bool = _KEPT,
+        no_exponent_notation: bool = _KEPT,
+        no_positive_exponent_sign: bool = _KEPT,
+        required_exponent_sign: bool = _KEPT,
+        no_exponent_without_fraction: bool = _KEPT,
+        no_special: bool = _KEPT,
+        case_sensitive_special: bool = _KEPT,
+        no_integer_leading_zeros: bool = _KEPT,
+        no_float_leading_zeros: bool = _KEPT,
+        required_exponent_notation: bool = _KEPT,
+        case_sensitive_exponent: bool = _KEPT,
+        case_sensitive_base_prefix: bool = _KEPT,
+        case_sensitive_base_suffix: bool = _KEPT,
+        integer_internal_digit_separator: bool = _KEPT,
+        fraction_internal_digit_separator: bool = _KEPT,
+        exponent_internal_digit_separator: bool = _KEPT,
+        integer_leading_digit_separator: bool = _KEPT,
+        fraction_leading_digit_separator: bool = _KEPT,
+        exponent_leading_digit_separator: bool = _KEPT,
+        integer_trailing_digit_separator: bool = _KEPT,
+        fraction_trailing_digit_separator: bool = _KEPT,
+        exponent_trailing_digit_separator: bool = _KEPT,
+        integer_consecutive_digit_separator: bool = _KEPT,
+        fraction_consecutive_digit_separator: bool = _KEPT,
+        exponent_consecutive_digit_separator: bool = _KEPT,
+        special_digit_separator: bool = _KEPT,
+        digit_separator: Optional[Byte] = _KEPT,
+        base_prefix: Optional[Byte] = _KEPT,
+        base_suffix: Optional[Byte] = _KEPT,
+        mantissa_radix: int = _KEPT,
+        exponent_base: Optional[int] = _KEPT,
+        exponent_radix: Optional[int] = _KEPT,
+        required_digits: bool = _KEPT,
+        internal_digit_separator: bool = _KEPT,
+        leading_digit_separator: bool = _KEPT,
+        trailing_digit_separator: bool = _KEPT,
+        consecutive_digit_separator: bool = _KEPT,
+        digit_separator_flags: bool = _KEPT,
+        integer_digit_separator_flags: bool = _KEPT,
+        fraction_digit_separator_flags: bool = _KEPT,
+        exponent_digit_separator_flags: bool = _KEPT,
+        radix: int = _KEPT,
+        # End
+        exponent: Optional[Byte] = _KEPT,
+        point: Optional[Byte] = _KEPT,
+    ) -> Syntax:
+        """Returns the syntax that settings make, such as the lines of a file, and then keyword arguments. Raises
+        SettingsError if there is none.
 
             Syntax.of("mantissa_radix = 16", "base_prefix = 'x'", "exponent = 'p'")
+            Syntax.of(mantissa_radix=16, base_prefix="x", exponent="p")
 
         A setting has the form that `Edit` takes, and a setting of `exponent` or `point` that of `base_prefix`. If both
-        are `none`, literals are integers, and one alone is refused: for floats without an exponent, keep its character
-        and set `no_exponent_notation`. A setting that is blank or begins with `#` is skipped. A setting overrides those
-        before it.
+        are `none`, or None, literals are integers, and one alone is refused: for floats without an exponent, keep its
+        character and set `no_exponent_notation`. A setting that is blank or begins with `#` is skipped. A setting
+        overrides those before it.
         """
         text, made = _lines(settings), _Syntax()
         if problems := _library.read_settings(text, len(text), made):
@@ -1298,7 +1381,62 @@ class Syntax:
         return cls._of_numbers(made)
 
     @classmethod
-    def notes_of(cls, *settings: Union[Edit, str]) -> Tuple[Note, ...]:
+    @_takes_fields
+    def notes_of(
+        cls,
+        *settings: Union[Edit, str],
+        # Made by make_python.py: parameters
+        required_integer_digits: bool = _KEPT,
+        required_fraction_digits: bool = _KEPT,
+        required_exponent_digits: bool = _KEPT,
+        required_mantissa_digits: bool = _KEPT,
+        no_positive_mantissa_sign: bool = _KEPT,
+        required_mantissa_sign: bool = _KEPT,
+        no_exponent_notation: bool = _KEPT,
+        no_positive_exponent_sign: bool = _KEPT,
+        required_exponent_sign: bool = _KEPT,
+        no_exponent_without_fraction: bool = _KEPT,
+        no_special: bool = _KEPT,
+        case_sensitive_special: bool = _KEPT,
+        no_integer_leading_zeros: bool = _KEPT,
+        no_float_leading_zeros: bool = _KEPT,
+        required_exponent_notation: bool = _KEPT,
+        case_sensitive_exponent: bool = _KEPT,
+        case_sensitive_base_prefix: bool = _KEPT,
+        case_sensitive_base_suffix: bool = _KEPT,
+        integer_internal_digit_separator: bool = _KEPT,
+        fraction_internal_digit_separator: bool = _KEPT,
+        exponent_internal_digit_separator: bool = _KEPT,
+        integer_leading_digit_separator: bool = _KEPT,
+        fraction_leading_digit_separator: bool = _KEPT,
+        exponent_leading_digit_separator: bool = _KEPT,
+        integer_trailing_digit_separator: bool = _KEPT,
+        fraction_trailing_digit_separator: bool = _KEPT,
+        exponent_trailing_digit_separator: bool = _KEPT,
+        integer_consecutive_digit_separator: bool = _KEPT,
+        fraction_consecutive_digit_separator: bool = _KEPT,
+        exponent_consecutive_digit_separator: bool = _KEPT,
+        special_digit_separator: bool = _KEPT,
+        digit_separator: Optional[Byte] = _KEPT,
+        base_prefix: Optional[Byte] = _KEPT,
+        base_suffix: Optional[Byte] = _KEPT,
+        mantissa_radix: int = _KEPT,
+        exponent_base: Optional[int] = _KEPT,
+        exponent_radix: Optional[int] = _KEPT,
+        required_digits: bool = _KEPT,
+        internal_digit_separator: bool = _KEPT,
+        leading_digit_separator: bool = _KEPT,
+        trailing_digit_separator: bool = _KEPT,
+        consecutive_digit_separator: bool = _KEPT,
+        digit_separator_flags: bool = _KEPT,
+        integer_digit_separator_flags: bool = _KEPT,
+        fraction_digit_separator_flags: bool = _KEPT,
+        exponent_digit_separator_flags: bool = _KEPT,
+        radix: int = _KEPT,
+        # End
+        exponent: Optional[Byte] = _KEPT,
+        point: Optional[Byte] = _KEPT,
+    ) -> Tuple[Note, ...]:
         """Returns the notes on settings that later ones override, the first 32 alone, and on those that have no effect,
         such as a digit separator that no flag allows, which the syntax lacks."""
         text = _lines(settings)
@@ -1333,7 +1471,8 @@ class Syntax:
         """Returns the literal of peltzivar_read or peltzivar_read_prefix, or where it stopped."""
         found, data = _Literal(), _readable(text)
         if call(self._reader, data, len(data), found, None):
-            return Literal(self, text[: found.size], found, data)
+            literal: Literal[AnyStr] = Literal.__new__(Literal)
+            return literal._set(self, text[: found.size], found, data)
         stopped = _ReadError()
         call(self._reader, data, len(data), found, stopped)
         return stopped
@@ -1369,10 +1508,15 @@ def _lines(settings: Iterable[Union[Edit, str]]) -> bytes:
     return b"\n".join(lines)
 
 
+def _settings_text(text: bytes, index: int) -> str:
+    """Returns a problem of settings, or a note on them, or an empty text."""
+    return _text(_library.settings_text, text, len(text), index)
+
+
 def _findings(text: bytes, wanted: Iterable[int]) -> Iterable[Tuple[str, int, Tuple[int, ...]]]:
     """Returns the text, no mask and the indexes of problems of settings, behind which are the notes on them."""
     for index in wanted:
-        if not (sentence := _text(_library.settings_text, text, len(text), index)):
+        if not (sentence := _settings_text(text, index)):
             break
         lines = (c_size_t * _FIELD_COUNT)()
         blamed = _library.settings_lines(text, len(text), index, lines, len(lines))

@@ -180,6 +180,13 @@ class Header(unittest.TestCase):
             return f"&{'' if const else 'mut '}{in_rust(kind)}"
         return f"Out<{in_rust(kind)}>"
 
+    def test_sizes_in_comments(self):
+        words = " ".join(re.sub(r"^ \* ", "", HEADER, flags=re.M).split())
+        most, more = (int(re.search(rf"{it} (\d+) hexadecimal digits", words)[1]) for it in ("0x` followed by 1 to", "and at least"))
+        for number, error in ((most, "SUCCESS"), (more - 1, "SUCCESS"), (most + 1, "OVERFLOW"), (more, "OVERFLOW")):
+            parsed = LIBRARY.peltzivar_parse_word(b"0x" + b"1" * number, number + 2, None, None)
+            self.assertEqual(parsed, self.numbers("(SUCCESS|OVERFLOW)")[error], number)
+
     def test_all_versions_are_the_same(self):
         number = LIBRARY.peltzivar_version()  # That of cargo.
         version = ".".join(map(str, number.to_bytes(3, "big")))

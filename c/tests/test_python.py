@@ -2,7 +2,6 @@
 docs/EXPLANATIONS.md, and known words and sentences."""
 import copy
 import doctest
-import inspect
 import math
 import os
 import pathlib
@@ -302,7 +301,9 @@ class Literals(unittest.TestCase):
     def test_settings_make_a_syntax(self):
         lines = ["# hexadecimal\r\n", "radix = 16\n", "base_prefix='x'", "", "exponent = 'p'"]
         self.assertEqual(Syntax.of(*lines), Syntax(Format.of(radix=16, base_prefix="x"), "p"))
-        self.assertEqual(Syntax.of(Edit("radix=16"), "exponent=none", "point=none"), Syntax.integers(Format.of(radix=16)))
+        self.assertEqual(Syntax.of("radix=2", radix=16, base_prefix="x", exponent=b"p"), Syntax.of(*lines))
+        for integers in (Syntax.of(Edit("radix=16"), "exponent=none", "point=none"), Syntax.of(radix=16, exponent=None, point=None)):
+            self.assertEqual(integers, Syntax.integers(Format.of(radix=16)))
         notes = [(str(it), it.indexes) for it in Syntax.notes_of(*lines, "digit_separator = '_'", "radix = 16")]
         self.assertEqual(notes, [("a later setting overrides radix", (1, 6)), ("no flag allows the digit separator '_'", (5,))])
         with self.assertRaises(SettingsError) as caught:
@@ -327,6 +328,10 @@ WRONG = [
     ("Format.of(base_prefix='\u00e9')", ValueError, f"base_prefix is {BYTE}: '\u00e9'"),
     ("Format().edit(colour=7)", TypeError, "edit() got an unexpected keyword argument 'colour': unknown setting name"),
     ("Format.of(thousands=',')", TypeError, "of() got an unexpected keyword argument 'thousands': " + SUGGESTION),
+    ("Syntax.of(digit_seperator='_')", TypeError, "of() got an unexpected keyword argument 'digit_seperator': unknown setting `digit_seperator`; did you mean `digit_separator`?"),
+    ("Syntax.of(exponnt='_')", TypeError, "of() got an unexpected keyword argument 'exponnt': unknown setting `exponnt`; did you mean `exponent`?"),
+    ("Format.of(exponent='p')", TypeError, "of() got an unexpected keyword argument 'exponent': unknown setting name"),
+    ("Syntax.of(point='')", ValueError, f"point is {BYTE}: ''"),
     ("Edit.of('digit_seperator', '_')", ValueError, f"setter 'digit_seperator': {SUGGESTION}"),
     ("Format.of(\"digit_seperator='_'\")", ValueError, f"digit_seperator='_': {SUGGESTION}"),
     ("Edit(\"radix='x'\")", ValueError, "radix='x': radix takes a number, 2 to 36 in a lawful format"),
@@ -346,7 +351,7 @@ class Wrong(unittest.TestCase):
     def test_random_objects_are_refused_by_name(self):
         objects = [None, True, 1.5, float("nan"), -1, 0, 65, 256, 1 << 128, 10**5000, "", "x", "0x1", "\u00e9", "\ud800", "a\0b", b"", b"\xff"]
         objects += [[], {}, object(), print, Edit, Format(), Edit("radix=8"), Part.INTEGER, Setter.NO_SPECIAL, Error.EMPTY, "radix=8"]
-        fields = [name for name in inspect.signature(Format.of).parameters if name != "settings"]
+        fields = [it.name.lower() for it in Setter]
         one, view, syntax, random = Format(), FormatView((1 << 128) - 1), Syntax(Format()), Random(1)
         calls = {
             "a byte": [view.is_separator, view.mantissa_digit, view.exponent_digit, view.role_of, syntax.role_of],
@@ -375,21 +380,23 @@ class Wrong(unittest.TestCase):
 
     @unittest.skipUnless(shutil.which("mypy"), "mypy")
     def test_a_type_checker_refuses_wrong_arguments(self):
-        program = """from peltzivar import Edit, Format, Setter, notes_of
+        program = """from peltzivar import Edit, Format, Setter, Syntax, notes_of
 Format.of("radix=16", Edit.of(Setter.NO_SPECIAL, True), mantissa_radix=16, base_prefix=b"x").edit(exponent_base=None)
 Format.of(mantissa_radix="x", base_prefx=3)
 Format().edit(no_special=1)
+Syntax.of(radix=16, point=1.5).read("1").value.real
 notes_of(mantissa_radix=None)
 print(Format().no_special + "", Format().edit().check().error().description)
 """
         command = ["mypy", "--strict", "--cache-dir=/dev/null", peltzivar.__file__, "/dev/stdin"]
         ran = subprocess.run(command, env={**os.environ, "MYPYPATH": str(TESTS.parent)}, input=program, capture_output=True, text=True)
-        self.assertEqual(re.findall(r"^(.*):(\d+): error", ran.stdout, re.M), [("/dev/stdin", line) for line in "33456"], ran)
+        self.assertEqual(re.findall(r"^(.*):(\d+): error", ran.stdout, re.M), [("/dev/stdin", line) for line in "334567"], ran)
 
     def test_help_has_no_private_names(self):
         text = pydoc.plain(pydoc.render_doc(peltzivar))
         self.assertEqual(re.findall(r"^ +\|  (_[a-z]\w*)", text, re.M), [])
-        self.assertNotIn("builtins.int", text)
+        self.assertNotRegex(text, r"builtins\.int|ctypes|Ellipsis|libpeltzivar|'_[A-Z][a-z]")
+        self.assertRegex(text, r"(?s)DESCRIPTION\n.*?\.read\(.*?\.value.*?Syntax\.of\(.*?Error.*?128-bit")
 
 
 class Loading(unittest.TestCase):
