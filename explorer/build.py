@@ -3,6 +3,7 @@
 The page has a hash of its WebAssembly and of the sources of that. If it is the same, the WebAssembly is taken again.
 """
 import base64
+import gzip
 import hashlib
 import json
 import os
@@ -70,21 +71,33 @@ def html(text):
     return made
 
 
+def sentences():
+    """Returns what each flag or group does, by the first sentence of its setter's documentation."""
+    text = (TOP / "rust/src/format_builder/setters.rs").read_text()
+    found = {}
+    for comment, name in re.findall(r"((?: +///.*\n)+) +pub const fn (\w+)", text):
+        first = re.match(r"Sets (?:or clears |whether (?:the format )?)?(.*?)\.(?: |$)", " ".join(comment.replace("///", "").split()))
+        if first:
+            found[name] = first[1][0].upper() + first[1][1:]
+    return found
+
+
 def fields():
     """Returns the flags, the groups of flags and the bytes: each with its name, its bit or bits, and its meaning."""
+    sentence = sentences()
     groups = [
-        {"name": name, "bits": [*map(int, bits.split())], "meaning": f"flags that {meaning}"}
-        for name, bits, meaning in rows(r"^\| `(\w+)` \| ([\d ]+) \| (.*) \|$")
+        {"name": name, "bits": [*map(int, bits.split())], "meaning": sentence[name]}
+        for name, bits, _ in rows(r"^\| `(\w+)` \| ([\d ]+) \| (.*) \|$")
     ]
     separators = next(group["bits"] for group in groups if group["name"] == "digit_separator_flags")
     flags, numbers = [], []
     for bit, name, accepted, rejected in rows(r"^\| (\d+) \| `(\w+)` \| \w+ \|[^|]*\| (`[^|]*`) \| (`[^|]*`) \|$"):
         found = next((row[:2] for row in SECTIONS if re.fullmatch(row[2], name)), None)
-        meaning = f"rejects {rejected} but accepts {accepted}".replace("` `", "`, `")
         if int(bit) in separators:
-            found, meaning = ("", "separator"), f"accepts {accepted}".replace("` `", "`, `")
+            found = ("", "separator")
         title, part = found or sys.exit(f"explorer/build.py: no section of {name}")
-        flags.append({"bit": int(bit), "name": name, "meaning": meaning, "section": title, "part": part})
+        texts = {"accepts": accepted.strip("`").split("` `"), "refuses": rejected.strip("`").split("` `")}
+        flags.append({"bit": int(bit), "name": name, "meaning": sentence[name], **texts, "section": title, "part": part})
     for low, name, meaning in rows(r"^\| (\d+) to \d+ \| `(\w+)` \| \d+ \| (.*) \|$"):
         meaning += "; 0 means the mantissa radix" if name.startswith("exponent_") else ""
         part, is_number = BYTE_PARTS.get(name, "exponent"), name.endswith(("_base", "_radix"))
@@ -198,7 +211,7 @@ def digest(text):
 
 
 def page(wasm):
-    """Returns the page with this WebAssembly, as base64."""
+    """Returns the page with this WebAssembly, which is compressed, and written in base64."""
     style = "\n" + (HERE / "page.css").read_text()
     script = "\n" + "\n".join((HERE / f"{name}.js").read_text() for name in SCRIPTS)
     embedded = json.dumps(data(), ensure_ascii=False, separators=(",", ":")).replace("<", "\\u003c")
@@ -228,7 +241,7 @@ def main(arguments):
     is_current = bool(found) and found[1] == hash_of(found[2])
     if arguments:
         sys.exit(0 if is_current and old == page(found[2]) else "explorer/index.html: not up to date: run explorer/build")
-    text = page(found[2] if is_current else base64.b64encode(compiled()).decode())
+    text = page(found[2] if is_current else base64.b64encode(gzip.compress(compiled(), mtime=0)).decode())
     if len(text.encode()) >= MOST_BYTES:
         sys.exit(f"explorer/index.html: {len(text.encode())} bytes, more than {MOST_BYTES}")
     PAGE.write_text(text)

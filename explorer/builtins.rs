@@ -43,3 +43,14 @@ pub extern "C" fn __ashlti3(value: u128, count: u32) -> u128 {
     let power = (1u64 << (count % 64)) as u128;
     __multi3(value, if count < 64 { power } else { power << 64 })
 }
+
+/// Returns a number of 128 bits, shifted right by fewer than 128 bits.
+#[unsafe(no_mangle)]
+pub extern "C" fn __lshrti3(value: u128, count: u32) -> u128 {
+    let (low, high) = (value as u64, (value >> 64) as u64);
+    match count {
+        0 => value,
+        1..=63 => (low >> count | high << (64 - count)) as u128 | ((high >> count) as u128) << 64,
+        _ => (high >> (count - 64)) as u128,
+    }
+}

@@ -15,8 +15,8 @@ const PARTS = {
     suffix: ["base", "base_suffix"],
     digit_separator: ["separator", "digit_separator"],
 };
-/* How many lines the field shows, how many of them are read, and how long a number is that has a value. */
-const [MOST_ROWS, MOST_LINES, MOST_VALUE] = [8, 100, 500];
+/* How many lines the field shows, and how many of them are read. */
+const [MOST_ROWS, MOST_LINES] = [8, 100];
 
 class Trial {
     constructor(library, { change }) {
@@ -67,7 +67,7 @@ class Trial {
                 const changes = differences.sort((a, b) => Number(!a.isByte) - Number(!b.isByte));
                 const count = answers.length > 1 ? `; ${offer.expected} of ${answers.length} as expected` : "";
                 const label = `set ${changes.map((it) => it.text).join(", ")}`;
-                const told = this.told({ ...offer, text, isRefused }, offer);
+                const told = this.told({ ...offer, text, isRefused });
                 return { ...offer, changes, label, then: `then ${text} is ${told}${count}` };
             });
             const isExpected = isRefused === Boolean(answer.error);
@@ -117,9 +117,9 @@ class Trial {
     }
 
     /* Returns what is told of a number in a state. */
-    told({ text, error, start, parts, isRefused }, state = this.state) {
+    told({ text, error, start, isRefused, ...answer }) {
         const where = start < text.length ? `at index ${start}` : "at the end";
-        const what = error ? `${where}: ${error}` : this.reading(state, text, parts);
+        const what = error ? `${where}: ${error}` : this.reading(answer);
         if (isRefused) return error ? `refused: ${what}` : `accepted as ${what}, but it must be refused`;
         return error ? what : `accepted: ${what}`;
     }
@@ -161,25 +161,13 @@ class Trial {
         return element("li", {}, button("use", label, use, { "data-field": fields }), then);
     }
 
-    /* Returns what a number is in a state, by its parts: its kind, and its value if that is not too large. */
-    reading({ word }, text, parts) {
-        let at = 0;
-        const piece = Object.fromEntries(parts.map(({ kind, size }) => [kind, text.slice(at, (at += size))]));
-        if (piece.special) return "special value";
-        const kind = piece.point || piece.exponent_character ? "float" : "integer";
-        if (text.length > MOST_VALUE) return kind;
-        const byte = (name) => this.library.effective(word, name);
-        const separator = String.fromCharCode(byte("digit_separator"));
-        const digits = (run = "") => [...run].filter((it) => it !== separator).map((it) => BigInt(parseInt(it, 36)));
-        const number = (all, radix) => all.reduce((sum, digit) => sum * BigInt(radix) + digit, 0n);
-        const [radix, base, fraction] = [byte("mantissa_radix"), byte("exponent_base"), digits(piece.fraction)];
-        const mantissa = number([...digits(piece.integer), ...fraction], radix);
-        const sign = piece.sign === "-" ? "-" : "";
-        if (kind === "integer") return `integer = ${sign}${mantissa}`;
-        const exponent = Number(`${piece.exponent_sign ?? ""}${number(digits(piece.exponent), byte("exponent_radix"))}`);
-        const scaled = () => Number(mantissa) * base ** exponent / radix ** fraction.length;
-        const value = radix === 10 && base === 10 ? Number(`${mantissa}e${exponent - fraction.length}`) : scaled();
-        return Number.isFinite(value) ? `float = ${sign}${value}` : "float";
+    /* Returns what a number is: its kind and its value. */
+    reading(answer) {
+        const { parts, unknown } = answer;
+        if (parts.some(({ kind }) => kind === "special")) return `special value = ${valueText(answer)}`;
+        const isFloat = parts.some(({ kind }) => kind === "point" || kind === "exponent_character");
+        const kind = isFloat ? "float" : "integer";
+        return unknown ? `${kind}: ${unknown}` : `${kind} = ${valueText(answer)}`;
     }
 
     /* Makes an accepted number of a line one that must be refused, or the other way round. */
