@@ -44,7 +44,8 @@ class Code {
             `/// ${wordText(word)}`,
             `pub const FORMAT: Format = ${format};`,
             "",
-            `pub static READER: Reader = Reader::new(${syntax});`,
+            `pub const SYNTAX: Syntax = ${syntax};`,
+            "pub static READER: Reader = Reader::new(SYNTAX);",
             "",
             `pub fn read(text: &str) -> Result<${isFloat ? "f64" : "i64"}, ParseError> {`,
             "    READER.parse(text)",
@@ -80,18 +81,15 @@ class Code {
         const byte = (value) => (value > 32 && value < 127 ? JSON.stringify(String.fromCharCode(value)) : String(value || "None"));
         const rows = this.edits(word).map(({ name, isByte, isNumber, value }) => {
             const text = isNumber ? (name === "mantissa_radix" ? value : value || "None") : byte(value);
-            return `        ${name}=${!isByte ? (value ? "True" : "False") : text},\n`;
+            return `    ${name}=${!isByte ? (value ? "True" : "False") : text},\n`;
         });
-        const format = shown.isBuilt ? `Format.of(${rows.length ? `\n${rows.join("")}    ` : ""})` : `Format(${wordText(word)})`;
+        const format = shown.isBuilt ? `Format.of(${rows.length ? `\n${rows.join("")}` : ""})` : `Format(${wordText(word)})`;
         return [
             "from peltzivar import Format, Syntax",
             "",
             `# ${wordText(word)}`,
-            "syntax = Syntax(",
-            `    ${format},`,
-            `    exponent=${byte(exponent)},`,
-            `    point=${byte(point)},`,
-            ")",
+            `format = ${format}`,
+            `syntax = Syntax(format, exponent=${byte(exponent)}, point=${byte(point)})`,
             "",
         ].join("\n");
     }

@@ -74,7 +74,8 @@ class Controls {
 
     /* Returns the name of a field, and where it is in the word. */
     nameOf(field) {
-        return element("span", { class: "name" }, `${field.name} \u00b7 ${placeOf(field)}`);
+        const place = element("span", { class: "place" }, placeOf(field));
+        return element("span", { class: "name" }, `${field.name} \u00b7 `, place);
     }
 
     /* Makes the table of separator flags: a row for each part of a number, a column for each position. */

@@ -8,7 +8,7 @@ use peltzivar::Role;
 use crate::suggest::{read, State, SPECIALS};
 
 /// How many texts are shown of those that one format refuses, and how many of its causes are found.
-pub const MOST: usize = 4;
+pub const MOST: usize = 6;
 const MOST_CAUSES: usize = 16;
 
 /// The value of a number: an integer by its sign and size, and a float by its bits.

@@ -48,7 +48,7 @@ class Trial {
         ];
         this.fill([
             ...this.answers.map((answer) => ({ key: this.keyOf(answer), make: () => this.row(answer) })),
-            ...texts.map((text) => ({ key: text, make: () => element("li", { class: "bad" }, text) })),
+            ...texts.map((text) => ({ key: text, make: () => this.message(text) })),
         ]);
         const expected = this.answers.filter(({ isExpected }) => isExpected).length;
         const count = this.answers.length ? `${expected} of ${this.answers.length} as expected` : "";
@@ -92,6 +92,10 @@ class Trial {
         });
         while (list.children.length > rows.length) list.lastElementChild.remove();
         this.keys = rows.map(({ key }) => key);
+    }
+
+    message(text) {
+        return element("li", { class: "unexpected" }, element("p", { class: "bad" }, text));
     }
 
     row(answer) {
