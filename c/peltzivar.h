@@ -191,7 +191,7 @@ peltzivar_word peltzivar_pack(const peltzivar_fields *fields);
 /* SETTINGS */
 
 /* Parses a setting: a string NAME=VALUE of len bytes, which need not be null-terminated. If it is valid, writes its edit
- * to *out and returns true. Otherwise, returns false and leaves *out unchanged. FORMAT.md has a table of the settings.
+ * to *out and returns true. Otherwise, returns false and leaves *out unchanged. SETTINGS.md has a table of them.
  * The name radix is read as mantissa_radix. Only peltzivar_read_settings takes `exponent` and `point`, which are not
  * fields. */
 PELTZIVAR_MUST_USE bool peltzivar_parse_edit(const char *text, size_t len, peltzivar_edit *out);
@@ -324,7 +324,8 @@ const char *peltzivar_role_name(peltzivar_role role);
 /* LITERALS
  *
  * A literal is a text that is a number of a syntax. A syntax is a lawful word with an exponent character and a decimal
- * point, or with 0 for both. Then literals are integers. FORMAT.md defines literals, and why a text is not one. */
+ * point, or with 0 for both. Then literals are integers. FORMAT.md defines literals, and EXPLANATIONS.md why
+ * a text is not one. */
 typedef struct {
     peltzivar_word format;
     uint8_t exponent, decimal_point;

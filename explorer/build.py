@@ -49,7 +49,7 @@ def section(title):
 
 def named(text):
     """Returns a text in which flags have names, in place of the numbers of their bits."""
-    names = dict(rows(r"^\| (\d+) \| (`\w+`) \| \w+ \|[^|]*\| `[^|]*` \| `[^|]*` \|$"))
+    names = dict(rows(r"^\| (\d+) \| (`\w+`) \| \w+ \|[^|]*\|[^|]*\| `[^|]*` \| `[^|]*` \|$"))
     text = re.sub(r"Flags \d+ to [^.]* are", "These flags are", text)
     numbers = r"\b[Ff]lags? (\d+(?:,?\s+(?:and\s+|or\s+)?\d+)*)|(\d+)(?=: )"
     return re.sub(numbers, lambda match: re.sub(r"\d+", lambda number: names[number[0]], match[1] or match[2]), text)
@@ -91,7 +91,7 @@ def fields():
     ]
     separators = next(group["bits"] for group in groups if group["name"] == "digit_separator_flags")
     flags, numbers = [], []
-    for bit, name, accepted, rejected in rows(r"^\| (\d+) \| `(\w+)` \| \w+ \|[^|]*\| (`[^|]*`) \| (`[^|]*`) \|$"):
+    for bit, name, accepted, rejected in rows(r"^\| (\d+) \| `(\w+)` \| \w+ \|[^|]*\|[^|]*\| (`[^|]*`) \| (`[^|]*`) \|$"):
         found = next((row[:2] for row in SECTIONS if re.fullmatch(row[2], name)), None)
         if int(bit) in separators:
             found = ("", "separator")

@@ -74,7 +74,8 @@ class Install(InFolder):
         modes = {str(it.relative_to(root)): it.stat().st_mode & 0o777 for it in root.rglob("*") if not it.is_dir()}
         self.assertEqual({mode for path, mode in modes.items() if ".so" not in path}, {0o644}, modes)
         self.assertEqual({mode for path, mode in modes.items() if ".so" in path}, {0o755}, modes)
-        names = {"include/peltzivar.h", "lib here/libpeltzivar_c.a", "share/doc/peltzivar/LICENSE", "share/doc/peltzivar/FORMAT.md"}
+        names = {"include/peltzivar.h", "lib here/libpeltzivar_c.a", "share/doc/peltzivar/LICENSE"}
+        names |= {f"share/doc/peltzivar/{it}.md" for it in ("FORMAT", "EXPLANATIONS", "SETTINGS")}
         self.assertEqual(names - set(modes), set())
         self.assertNotIn("a root", (root / "lib here/pkgconfig/peltzivar.pc").read_text())
         self.make("uninstall", *paths)

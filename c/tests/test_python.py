@@ -1,5 +1,5 @@
-"""Tests the Python module: `make -C c check`. The expected values are the tables of docs/FORMAT.md, and known words and
-sentences."""
+"""Tests the Python module: `make -C c check`. The expected values are the tables of docs/FORMAT.md and
+docs/EXPLANATIONS.md, and known words and sentences."""
 import copy
 import doctest
 import inspect
@@ -24,11 +24,12 @@ from peltzivar import Edit, Error, Format, FormatError, FormatView, Language, Li
 from peltzivar import Role, Rule, Setter, SettingsError, Special, Specials, Spelling, Syntax, notes_of
 
 PAGE = (TOP / "docs/FORMAT.md").read_text()
+EXPLANATIONS = (TOP / "docs/EXPLANATIONS.md").read_text()
 FLAGS = re.findall(r"^\| (\d+) \| `(\w+)` \| (?:true|false) \|", PAGE, re.M)
 GROUPS = re.findall(r"^\| `(\w+)` \| (\d[\d ]*) \|", PAGE, re.M)
 BYTES = re.findall(r"^\| (\d+) to \d+ \| `(\w+)` \|", PAGE, re.M)
 RULES = re.findall(r"^\| (\d+) \| (.*) \| `(Invalid\w+)` \| `+('.*')`+ \| `(\w+)` \| (.*) \|$", PAGE, re.M)
-CAUSES = re.findall(r"^\| (?:`(.*)` )?\| `(.*)` \| (\w+) ?(.*?) \| (\d+) \| (\d+)\.\.(\d+) \|$", PAGE, re.M)
+CAUSES = re.findall(r"^\| (?:`(.*)` )?\| `(.*)` \| (\w+) ?(.*?) \| (\d+) \| (\d+)\.\.(\d+) \|$", EXPLANATIONS, re.M)
 CALLS = peltzivar._library
 
 
