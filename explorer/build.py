@@ -13,6 +13,7 @@ import shutil
 import subprocess
 import sys
 import tempfile
+import textwrap
 
 HERE = pathlib.Path(__file__).resolve().parent
 TOP = HERE.parent
@@ -50,20 +51,29 @@ def section(title):
 def named(text):
     """Returns a text in which flags have names, in place of the numbers of their bits."""
     names = dict(rows(r"^\| (\d+) \| (`\w+`) \| \w+ \|[^|]*\|[^|]*\| `[^|]*` \| `[^|]*` \|$"))
-    text = re.sub(r"Flags \d+ to [^.]* are", "These flags are", text)
-    numbers = r"\b[Ff]lags? (\d+(?:,?\s+(?:and\s+|or\s+)?\d+)*)|(\d+)(?=: )"
-    return re.sub(numbers, lambda match: re.sub(r"\d+", lambda number: names[number[0]], match[1] or match[2]), text)
+    numbers = r"\b[Ff]lags? (\d+(?:,?\s+(?:and\s+|or\s+)?\d+)*)"
+    return re.sub(numbers, lambda match: re.sub(r"\d+", lambda number: names[number[0]], match[1]), text)
+
+
+def term(name):
+    """Returns what a term of FORMAT means."""
+    return "{}: {}".format(*rows(rf"^\| ({re.escape(name)}) \| (.*) \| [^|]* \|$")[0])
 
 
 def html(text):
-    """Returns paragraphs, lists and blocks of code in Markdown as HTML. Links become their texts."""
-    text = re.sub(r"\[([^\]]*)\]\([^)]*\)", r"\1", text).replace("&", "&amp;").replace("<", "&lt;")
-    text = re.sub(r"`([^`]*)`", r"<code>\1</code>", text)
-    text = re.sub(r"\*([^*]+)\*", r"<em>\1</em>", text)
+    """Returns paragraphs, lists, tables and blocks of code in Markdown as HTML. Links become their texts."""
     made = ""
-    for block in text.strip("\n").split("\n\n"):
+    for block in text.strip("\n").replace("&", "&amp;").replace("<", "&lt;").split("\n\n"):
         if block.startswith("    "):
-            made += f"<pre>{block.strip()}</pre>\n"
+            made += f"<pre>{textwrap.dedent(block)}</pre>\n"
+            continue
+        block = re.sub(r"\[([^\]]*)\]\([^)]*\)", r"\1", block)
+        block = re.sub(r"`([^`]*)`", r"<code>\1</code>", block)
+        block = re.sub(r"\*([^*]+)\*", r"<em>\1</em>", block)
+        if block.startswith("| "):
+            head, _, *body = (re.findall(r"(?<=\| ).*?(?= \|)", line) for line in block.splitlines())
+            lines = [f"<th>{'<th>'.join(head)}", *(f"<td>{'<td>'.join(line)}" for line in body)]
+            made += "<table>" + "".join(f"<tr>{line}" for line in lines) + "</table>\n"
         elif block.startswith("- "):
             made += "<ul>" + "".join(f"<li>{item}</li>" for item in re.split(r"(?:^|\n)- ", block)[1:]) + "</ul>\n"
         else:
@@ -147,13 +157,11 @@ def rules():
 
 def data():
     """Returns the data that the page shows."""
-    limits = section("What a format cannot express")
     header = (TOP / "c/peltzivar.h").read_text()
     return {
         **fields(),
         "rules": rules(),
         "languages": [*languages()],
-        "limits": re.findall(r"^\| (.*) \| (.*) \|$", limits, re.M)[1:],
         "version": re.search(r'^#define PELTZIVAR_VERSION "(.*)"$', header, re.M)[1],
     }
 
@@ -216,12 +224,12 @@ def page(wasm):
     script = "\n" + "\n".join((HERE / f"{name}.js").read_text() for name in SCRIPTS)
     embedded = json.dumps(data(), ensure_ascii=False, separators=(",", ":")).replace("<", "\\u003c")
     policy = f"default-src 'none'; script-src {digest(script)} 'wasm-unsafe-eval'; style-src {digest(style)}"
-    _, literals = section("How a reader applies the flags").split("A *literal* is", 1)
     parts = {
-        "literals": html(named("A *literal* is" + literals.partition("This answers the questions")[0])),
+        "literals": html(section("Literals")) + html(section("Where separators may be")),
         "rules": html("\n".join(f"- Rule {index}: {rule}." for index, rule in enumerate(rules(), 1))),
-        "punctuation": html(section("The rules").partition("\n\n")[0].rpartition("\n[`Outcomes`")[0]),
-        "equivalent": html(section("Equivalent words")),
+        "punctuation": html("\n\n".join([term("*punctuation*"), term("*allowed ASCII*")])),
+        "limits": html(section("What a format cannot express")),
+        "equivalent": html("\n\n".join([term("*equivalent* words"), term("*normal form* of a word")])),
         "policy": f"{policy}; img-src data:; base-uri 'none'; form-action 'none'",
         "style": style,
         "data": embedded,

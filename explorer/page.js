@@ -37,7 +37,7 @@ class Page {
         this.listen();
         this.listenToWord();
         this.listenToTabs();
-        this.makeTexts();
+        find("language").append(...choices(data.languages));
         this.read();
     }
 
@@ -136,14 +136,6 @@ class Page {
         if (!this.shown) return;
         this.showCode();
         this.saveLater();
-    }
-
-    makeTexts() {
-        const rows = this.data.limits.map(([limit, instead]) => {
-            return element("tr", {}, element("td", {}, withCode(limit)), element("td", {}, withCode(instead)));
-        });
-        find("limits").append(...rows);
-        find("language").append(...choices(this.data.languages));
     }
 
     /* Starts from a language, with its numbers in place of those of another. */

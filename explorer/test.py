@@ -59,6 +59,27 @@ WRONG_RESULTS = """const { library } = page;
         return !results[kind](); })"""
 
 
+# Returns the texts whose contrast with the ground behind them is below 4.5, with this contrast.
+FAINT = """const canvas = document.createElement("canvas").getContext("2d", { willReadFrequently: true });
+    canvas.canvas.width = canvas.canvas.height = 1;
+    const grounds = (node) => (node ? [...grounds(node.parentElement), getComputedStyle(node).backgroundColor] : []);
+    const luminance = (colours) => {
+        canvas.fillStyle = "white";
+        for (const colour of ["white", ...colours]) { canvas.fillStyle = colour; canvas.fillRect(0, 0, 1, 1); }
+        const [red, green, blue] = [...canvas.getImageData(0, 0, 1, 1).data].map((it) => it / 255)
+            .map((it) => (it <= 0.04045 ? it / 12.92 : ((it + 0.055) / 1.055) ** 2.4));
+        return 0.2126 * red + 0.7152 * green + 0.0722 * blue;
+    };
+    const contrast = (node) => {
+        const [ground, text] = [grounds(node), [...grounds(node), getComputedStyle(node).color]].map(luminance);
+        return (Math.max(ground, text) + 0.05) / (Math.min(ground, text) + 0.05);
+    };
+    const hasText = (node) => node.value || [...node.childNodes].some((it) => it.nodeType === 3 && it.data.trim());
+    return [...document.querySelectorAll("body *")]
+        .filter((it) => it.checkVisibility({ visibilityProperty: true }) && !it.disabled && hasText(it))
+        .filter((it) => contrast(it) < 4.5).map((it) => `${it.textContent.slice(0, 40)} ${contrast(it)}`);"""
+
+
 def has(*programs):
     """Returns whether the machine has all of these programs."""
     return all(map(shutil.which, programs))
@@ -460,6 +481,48 @@ class Walk(unittest.TestCase):
         self.load("#word=nonsense&exponent=300&point=")
         self.assertEqual((self.value(), self.value("#exponent"), self.value("#point")), (STANDARD, "e", "."))
         self.assertIn("This link has no format word", self.text("#word-problem"))
+
+    def test_a_link_is_followed_while_the_page_is_open(self):
+        self.run_script("location.hash = `#word=${arguments[0]}&exponent=112&compare=JSON&tab=python`", MIXED)
+        self.wait(lambda: self.value() == MIXED)
+        self.assertEqual((self.value("#exponent"), self.value("#compare")), ("p", "JSON"))
+        self.assertIn("from peltzivar import", self.text("#code"))
+        self.click("#tab-c")
+        Select(self.find("#compare")).select_by_value("another")
+        self.type("#other", "radix=8")
+        self.wait(lambda: self.run_script("return location.hash").endswith("&compare=radix%3D8&tab=c"))
+        self.driver.refresh()
+        self.wait(lambda: self.run_script("return document.documentElement.dataset.ready"))
+        self.assertEqual((self.value("#other"), self.text("#code")[:8]), ("radix=8", "#include"))
+
+    def test_copy_copies_what_is_beside_it(self):
+        self.run_script("navigator.clipboard.writeText = async (text) => { window.copied = text; }")
+        for tab in ("rust", "c", "python", "settings"):
+            self.click(f"#tab-{tab}")
+            self.click("#copy-code")
+            self.wait(lambda: self.run_script("return copied === document.getElementById('code').textContent"))
+        self.click("#copy-word")
+        self.wait(lambda: self.run_script("return copied") == STANDARD)
+
+    def test_texts_can_be_read_in_light_and_dark(self):
+        self.addCleanup(self.driver.execute_cdp_cmd, "Emulation.setEmulatedMedia", {"features": []})
+        for mode in ("light", "dark"):
+            features = [{"name": "prefers-color-scheme", "value": mode}]
+            self.driver.execute_cdp_cmd("Emulation.setEmulatedMedia", {"features": features})
+            for word, compare in ((MIXED, "JSON"), ("0x000010006200005F00000000000000CC", "another")):
+                self.load(f"#word={word}&exponent=112&compare={compare}&numbers=%2B0x1_0.8p%2B1%0A!1%0A1k")
+                self.run_script("document.querySelectorAll('details').forEach((it) => { it.open = true; })")
+                self.assertEqual(self.run_script(FAINT), [], mode)
+
+    def test_what_has_the_focus_has_an_outline(self):
+        self.find("body").send_keys(Keys.TAB)
+        self.assertEqual(self.run_script(
+            """return [...document.querySelectorAll("button, input, select, textarea, summary, pre[tabindex]")].filter((it) => {
+                it.focus();
+                const { outlineStyle, outlineWidth } = getComputedStyle(it);
+                return it === document.activeElement && (outlineStyle === "none" || parseFloat(outlineWidth) < 2);
+            }).map((it) => it.id || it.textContent)"""
+        ), [])
 
     def test_bits_are_those_of_the_word(self):
         self.load(f"#word={MIXED}")
