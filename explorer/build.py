@@ -187,18 +187,20 @@ def output(*command):
 
 
 def compiler(folder):
-    """Returns a compiler that has the target, with its options: rustup's, or Debian's with its source of `core`."""
+    """Returns a compiler that has the target, with its options: rustup's, or Debian's with its source of the library."""
     rustc = shutil.which("rustc")
     if rustc and any(pathlib.Path(output(rustc, "--print=target-libdir", f"--target={TARGET}").strip()).glob("libcore-*")):
         return [rustc, *OPTIONS, f"-L{folder}"]
     debian = [pathlib.Path("/usr/bin/rustc"), *OPTIONS, f"-L{folder}"]
     version = output(debian[0], "--version").split()[1] if debian[0].exists() else ""
-    core = pathlib.Path(f"/usr/src/rustc-{version}/library/core/src/lib.rs")
-    if not core.exists() or not shutil.which("wasm-ld"):
+    sources = pathlib.Path(f"/usr/src/rustc-{version}/library")
+    if not (sources / "compiler-builtins").exists() or not shutil.which("wasm-ld"):
         sys.exit(NO_COMPILER)
-    library = [*debian, "--crate-type=rlib", f"--out-dir={folder}"]
-    output(*library, "--edition=2024", "--crate-name=core", core)
-    output(*library, "--edition=2021", "--crate-name=compiler_builtins", HERE / "builtins.rs")
+    library = [*debian, "--crate-type=rlib", f"--out-dir={folder}", "--edition=2024"]
+    output(*library, "--crate-name=core", sources / "core/src/lib.rs")
+    builtins = sources / "compiler-builtins/compiler-builtins/src/lib.rs"
+    features = ['--cfg=feature="compiler-builtins"', '--cfg=feature="mem"']
+    output(*library, "--crate-name=compiler_builtins", *features, builtins)
     return [*debian, "-Clinker=wasm-ld", "-Clinker-flavor=wasm-ld"]
 
 

@@ -22,7 +22,6 @@ class Trial {
     constructor(library, { change }) {
         this.library = library;
         this.change = change;
-        this.keys = [];
         find("literal").addEventListener("input", ({ target }) => change({ numbers: target.value }, "literal"));
     }
 
@@ -46,10 +45,10 @@ class Trial {
             ...(lines.length && !this.answers.length ? ["not read, since the word is not lawful"] : []),
             ...(left ? [`${unread}: the page reads up to ${MOST_LINES} lines with ${MOST_TEXT / 1000} kB`] : []),
         ];
-        this.fill([
-            ...this.answers.map((answer) => ({ key: this.keyOf(answer), make: () => this.row(answer) })),
-            ...texts.map((text) => ({ key: text, make: () => this.message(text) })),
-        ]);
+        const focused = document.activeElement.id;
+        const messages = texts.map((text) => element("li", { class: "unexpected" }, element("p", { class: "bad" }, text)));
+        find("read").replaceChildren(...this.answers.map((answer) => this.row(answer)), ...messages);
+        if (focused.startsWith("refuse-")) find(focused)?.focus();
         const expected = this.answers.filter(({ isExpected }) => isExpected).length;
         const count = this.answers.length ? `${expected} of ${this.answers.length} as expected` : "";
         const counts = [count, left ? unread : ""].filter(Boolean).join("; ");
@@ -73,29 +72,6 @@ class Trial {
             const isExpected = isRefused === Boolean(answer.error);
             return { ...answer, text, place: lines[index].place, isRefused, isExpected, offers: worded };
         });
-    }
-
-    /* Returns a text of all that a row shows. */
-    keyOf({ text, place, parts, start, end, offers, ...answer }) {
-        const told = this.told({ text, parts, start, ...answer });
-        const texts = offers.flatMap(({ label, then }) => [label, then]);
-        return [text, place, start, end, told, ...parts.flatMap(Object.values), ...texts].join("\n");
-    }
-
-    /* Shows the rows. Those that show the same as before stay. */
-    fill(rows) {
-        const list = find("read");
-        rows.forEach(({ key, make }, index) => {
-            if (key === this.keys[index]) return;
-            if (list.children[index]) list.children[index].replaceWith(make());
-            else list.append(make());
-        });
-        while (list.children.length > rows.length) list.lastElementChild.remove();
-        this.keys = rows.map(({ key }) => key);
-    }
-
-    message(text) {
-        return element("li", { class: "unexpected" }, element("p", { class: "bad" }, text));
     }
 
     row(answer) {

@@ -335,24 +335,14 @@ class Page {
     }
 }
 
-/* Copies a text, and shows that on the button. Without a clipboard, which not every page has, a selection is copied. */
+/* Copies a text, and shows that on the button. Only pages from a file or by HTTPS have a clipboard. */
 async function copy(button, text) {
     const label = button.dataset.label ?? button.textContent;
     button.dataset.label = label;
-    const isCopied = await navigator.clipboard?.writeText(text).then(() => true, () => false) || copySelection(text);
+    const isCopied = await navigator.clipboard?.writeText(text).then(() => true, () => false);
     button.focus();
     setText(button, isCopied ? "copied" : "not copied: no clipboard");
     setTimeout(() => setText(button, label), isCopied ? 1200 : 5000);
-}
-
-function copySelection(text) {
-    const area = element("textarea", { readonly: true });
-    area.value = text;
-    document.body.append(area);
-    area.select();
-    const isCopied = document.execCommand("copy");
-    area.remove();
-    return isCopied;
 }
 
 async function main() {

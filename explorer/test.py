@@ -408,7 +408,7 @@ class Walk(unittest.TestCase):
         self.assertEqual(self.texts("#read li")[-1], "30 lines are not read: the page reads up to 100 lines with 60 kB")
         self.run_script("page.change({ numbers: '1'.repeat(60000) })")
         self.assertEqual((self.text("#count"), self.find("#count").get_attribute("class")), ("1 line is not read", "bad"))
-        self.run_script("navigator.clipboard.writeText = () => Promise.reject(); document.execCommand = () => false")
+        self.run_script("navigator.clipboard.writeText = () => Promise.reject()")
         self.click("#copy-code")
         self.wait(lambda: self.text("#copy-code") == "not copied: no clipboard")
 
