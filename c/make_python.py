@@ -107,7 +107,7 @@ def parameters():
 
 def languages():
     """Returns the lines."""
-    documented = re.findall(r"((?:^ +///.*\n)+) +(\w+) = \w+\(", LANGUAGES, re.M)
+    documented = re.findall(r"((?:^ +///.*\n)+) +(\w+) = \{", LANGUAGES, re.M)
     yield '"""How a language, or a file, writes numbers. `languages` is another name of this class.'
     yield from ("", "`read(text)` returns a `Literal` of `syntax`, or a `Special` with a spelling of `specials`.")
     yield from ("", "No format rejects `-`, or requires a prefix, a suffix or a decimal point. So `C_FLOAT` reads `1`.")

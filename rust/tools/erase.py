@@ -93,13 +93,14 @@ EVERYWHERE = [
     ("fn fmt<W: fmt::Write>(&self, f: &mut fmt::Formatter<W>)", "fn fmt(&self, f: &mut fmt::Formatter<'_>)"),
     ("rattlefmt::skip", "rustfmt::skip"),
     ("pub(crate) fn find_front(&self", "pub(crate) const fn find_front(&self"),
+    ("pub(crate) fn front(&self", "pub(crate) const fn front(&self"),
 ]
 
 # Types that may grow. In plain Rust, a match outside the crate has to have an arm for what they lack today.
 GROWS = {
     "enum": "ArgumentKind Byte Cause Class Edit EditErrorKind Error FlagSetter Note Part Place Radixes ReadErrorKind Role Rule "
     "Setter ValueErrorKind",
-    "struct": "NamedByte Separators",
+    "struct": "FormError NamedByte Separators",
 }
 for kind, types in GROWS.items():
     items = [f"pub {kind} {name} {{" for name in types.split()]
@@ -121,6 +122,7 @@ ATTRIBUTES = [
     ("feature_format.rt", "#[derive(Clone, Copy)]", f"#[derive({COMPARED})]"),
     # Only in plain Rust do public calls return this type. The documentation hides the traits of a hidden type.
     ("short_text.rt", "#[derive(Drop)]\n#[doc(hidden)]", "#[derive(Clone,\nCopy)]"),
+    ("list.rt", "#[derive(Drop)]", "#[derive(Debug, Clone, Copy, PartialEq, Eq)]"),
     ("read.rt", "#[derive(Drop)]", "#[derive(Clone)]"),
     ("tables.rt", "#[derive(Drop)]", "#[derive(Clone)]"),
     # `Debug` prints the answers.
@@ -185,7 +187,7 @@ class Source:
             return end + 1
         if self.stands(index, "#", "[", "tactic", "(") or self.stands(index, "#", "!", "[", "tactic", "("):
             return self.behind(self.words.index("[", index))
-        if self.stands(index, "impl", "Model", "for"):
+        if self.stands(index, "impl", "Model", "for") or self.stands(index, "impl", "<", "'a", ">", "Model", "for"):
             return self.behind(self.words.index("{", index))
         return self.law(index)
 

@@ -22,7 +22,7 @@ const TEXTS: [&str; 8] =
     ["1\0", "-17\0", "1_000\0", "3.25\0", "-12345.678e-9\0", "+0.5\0", "1_000.5e-3\0", "9007199254740993\0"];
 
 fn main() {
-    let reader = Language::TOML.reader();
+    let reader = Language::TOML.readers();
     // SAFETY: the name has four bytes, and the spellings may be null.
     let reader_of_c = unsafe { peltzivar_language(b"TOML".as_ptr(), 4, null_mut()) };
     let read = |text: &str| black_box(&mut reader.read(&text.as_bytes()[..text.len() - 1])).is_ok();
