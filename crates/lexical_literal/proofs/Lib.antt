@@ -20,3 +20,4 @@ mod JointLemmas
 mod BlameLemmas
 mod PartOfLemmas
 mod OneCauseLemmas
+mod FormLemmas
