@@ -20,3 +20,4 @@ mod BlameLemmas
 mod PartOfLemmas
 mod OneCauseLemmas
 mod FormLemmas
+mod GroupLemmas
