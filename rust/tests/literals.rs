@@ -1,4 +1,4 @@
-//! The reader of literals, over the tables of docs/FORMAT.md and the grammars of languages.
+//! The reader of literals, over the tables of docs/FORMAT.md and docs/EXPLANATIONS.md, and the grammars of languages.
 
 use peltzivar::format::{CASE_SENSITIVE_SPECIAL, DIGIT_SEPARATOR_FLAG_MASK, NO_SPECIAL};
 use peltzivar::literal::{
@@ -6,11 +6,12 @@ use peltzivar::literal::{
 };
 use peltzivar::{Edit, FlagSetter, Format, NumberFormatBuilder, Part};
 
-const PAGE: &str = include_str!("../../docs/FORMAT.md");
+const FORMAT: &str = include_str!("../../docs/FORMAT.md");
+const EXPLANATIONS: &str = include_str!("../../docs/EXPLANATIONS.md");
 
-/// Returns the cells of each row of the table in a section of the page.
-fn table(title: &str) -> impl Iterator<Item = Vec<&'static str>> {
-    let (_, section) = PAGE.split_once(&format!("## {title}\n")).expect(title);
+/// Returns the cells of each row of the table in a section of a page.
+fn table(page: &'static str, title: &str) -> impl Iterator<Item = Vec<&'static str>> {
+    let (_, section) = page.split_once(&format!("## {title}\n")).expect(title);
     let lines = section.lines().take_while(|line| !line.starts_with("## "));
     let rows = lines.filter_map(|line| line.strip_prefix('|')?.strip_suffix('|')).skip(2);
     rows.map(|row| row.split('|').map(|cell| cell.trim_matches([' ', '`'])).collect())
@@ -102,8 +103,8 @@ fn settings_end_the_cause(error: ReadError, syntax: Syntax, text: &[u8]) {
 #[test]
 fn flags_accept_and_reject_the_texts_of_the_page() {
     let (mut flags, mut requirements) = (FlagSetter::FLAGS.iter(), vec![]);
-    for row in table("The flags") {
-        let [bit, name, _, with, accepted, rejected] = row[..] else { panic!("{row:?}") };
+    for row in table(FORMAT, "The flags") {
+        let [bit, name, _, _, with, accepted, rejected] = row[..] else { panic!("{row:?}") };
         let flag = name.parse::<FlagSetter>().unwrap();
         let mask = Edit::Flag(flag, true).mask();
         assert_eq!((Some(&flag), bit), (flags.next(), mask.ilog2().to_string().as_str()));
@@ -137,12 +138,12 @@ fn flags_accept_and_reject_the_texts_of_the_page() {
         _ => format!("{} to {}", run[0], run[run.len() - 1]),
     });
     let sentence = format!("Flags {} are *requirements*", Vec::from_iter(runs).join(" and "));
-    assert!(PAGE.contains(&sentence), "{sentence}");
+    assert!(FORMAT.contains(&sentence), "{sentence}");
 }
 
 #[test]
 fn questions_have_the_answers_of_the_page() {
-    for row in table("How a reader applies the flags") {
+    for row in table(FORMAT, "Questions and answers") {
         let [.., settings, accepted, rejected] = row[..] else { panic!("{row:?}") };
         let reader = Reader::new(match settings.strip_suffix("`, no options") {
             Some(settings) => Syntax::integers(Format::new(word(settings)).unwrap()),
@@ -160,7 +161,7 @@ fn questions_have_the_answers_of_the_page() {
 
 #[test]
 fn causes_are_those_of_the_page() {
-    for row in table("Texts and their causes") {
+    for row in table(EXPLANATIONS, "Texts and their causes") {
         let [text, settings, cause, valid_up_to, span] = row[..] else { panic!("{row:?}") };
         let error = read(&Reader::new(syntax(word(settings))), text.as_bytes()).expect_err(text);
         let mut found = match error.kind() {

@@ -23,6 +23,7 @@ CRATES = RUST.parent / "crates"
 
 # The beginning of each generated file.
 MADE = "// Made by rust/tools/erase.py"
+PAGES = ("FORMAT", "EXPLANATIONS", "SETTINGS")
 
 # For each crate, the folder of its files in plain Rust, the path of the libraries below it, its own, and the standard
 # library that it uses.
@@ -314,10 +315,11 @@ def made_files():
                 text = text.replace(old, new)
             text = re.sub(r"format!\(in rt\.alloc\(\); ([^)]*)\)\?", r"format!(\1)", text)
             files[RUST.joinpath(folder, path.stem).with_suffix(".rs")] = laid_out(renamed(text, "peltzivar", "crate", "std"))
-    # The page that the package has. Cargo packs only files below rust/, and rt takes no links.
+    # The pages that the package has. Cargo packs only files below rust/, and rt takes no links.
     # Links to other files lead nowhere outside the repository.
-    page = (RUST.parent / "docs/FORMAT.md").read_text()
-    files[RUST / "FORMAT.txt"] = re.sub(r"\[([^][]*)\]\([^)#][^)]*\)", r"\1", page)
+    for name in PAGES:
+        page = (RUST.parent / f"docs/{name}.md").read_text()
+        files[RUST / f"{name}.txt"] = re.sub(r"\[([^][]*)\]\([^)#][^)]*\)", r"\1", page)
     unused = [old for file, old, _ in REPLACED + ATTRIBUTES if not any(path.match(file) for path in read)]
     unused += [old for old, _ in EVERYWHERE if old not in sources]
     if unused:
