@@ -57,7 +57,7 @@ class Trial {
 
     /* Returns what the library returns for lines, with what each line expects and what is offered in words. */
     read(lines) {
-        const answers = this.library.numbers(this.state, lines.map(({ text }) => text).join("\n"));
+        const answers = this.library.numbers([this.state], lines.map(({ text }) => text).join("\n"));
         return answers.map(({ offers, ...answer }, index) => {
             const isRefused = lines[index].text.startsWith("!");
             const text = lines[index].text.slice(Number(isRefused));

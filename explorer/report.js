@@ -87,7 +87,7 @@ class Report {
         const same = changes.length ? "Same format, stored differently." : "Same format.";
         const told = error ? `The other word is not lawful: ${error}.` : isSame ? same : "Not the same format.";
         setText(find("same"), isState ? told : error);
-        find("texts").replaceChildren(...(isState && !isSame ? this.texts(library.differ(state, other)) : []));
+        find("texts").replaceChildren(...(isState && !isSame ? this.texts(library.differ([state], [other])) : []));
         const chips = changes.map(({ name, text, before, value }) => {
             const set = button("set", `set ${before.slice(name.length + 1)}`, () => this.edit(name, value), { "aria-label": `set ${before}` });
             return element("li", { class: "chip", "data-field": name }, element("code", {}, text), set);
