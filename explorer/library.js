@@ -37,7 +37,7 @@ class Library {
     /* Returns the answer of a call that reads this text. */
     call(name, text) {
         const { memory, input, output } = this.calls;
-        const bytes = new TextEncoder().encode(text.slice(0, MOST_TEXT)).subarray(0, MOST_TEXT);
+        const bytes = new TextEncoder().encode(text.slice(0, 2 * MOST_TEXT)).subarray(0, 2 * MOST_TEXT);
         new Uint8Array(memory.buffer).set(bytes, input());
         const length = this.calls[name](bytes.length);
         return JSON.parse(new TextDecoder().decode(new Uint8Array(memory.buffer, output(), length)));
@@ -155,6 +155,11 @@ class Library {
         const { error, index, ...built } = this.build(settings);
         return error ? { error: `${settings[index]}: ${error}${error.endsWith("?") ? "" : "."}` } : { ...built, options };
     }
+}
+
+/* Returns what a reader of a form is made of, without its name. */
+function stateOf({ word, exponent, point }) {
+    return { word, exponent, point };
 }
 
 /* Returns the line by which states are passed to the library. */
