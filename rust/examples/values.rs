@@ -2,12 +2,12 @@
 //!
 //!     cargo run --example values -- 1_000 -2.5e-3 1__0
 
-use peltzivar::literal::{Language, Number, ParseError};
+use peltzivar::literal::{Language, ParseError};
 
 fn value(text: &str) -> Result<String, ParseError> {
     let number = Language::TOML.read(text.as_bytes())?;
-    Ok(match number {
-        Number::Literal(literal) if !literal.is_float() => format!("the integer {}", i64::try_from(literal)?),
+    Ok(match number.literal() {
+        Some(literal) if !literal.is_float() => format!("the integer {}", i64::try_from(literal)?),
         _ => format!("the float {}", f64::try_from(number)?),
     })
 }

@@ -1,5 +1,5 @@
-//! A recogniser of literals, written from docs/FORMAT.md alone, and the comparison of the reader with it. The recogniser
-//! tries all splits of a text into parts, all fronts of a text, and all flags.
+//! A recogniser of literals, written from docs/FORMAT.md and docs/EXPLANATIONS.md alone, and the comparison of the
+//! reader with it. The recogniser tries all splits of a text into parts, all fronts of a text, and all flags.
 //!
 //! `cargo test` compares a sample. To compare all texts, which takes ten minutes:
 //!
