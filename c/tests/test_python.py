@@ -223,7 +223,7 @@ class Literals(unittest.TestCase):
         self.assertEqual((ternary.read("-12").value, str(ternary.read("12").decimal()), ternary.read("0.1").fraction()), (-5, "5", Fraction(1, 3)))
         self.assertRaisesRegex(ValueError, "mantissa radix and the exponent base", float, ternary.read("12"))
         self.assertRaisesRegex(ValueError, "products of 2 and 5", ternary.read("0.1").decimal)
-        self.assertRaisesRegex(ValueError, "4300 digits", int, decimal.read("9" * 4301))
+        self.assertRaisesRegex(ValueError, r"\(4300", int, decimal.read("9" * 4301))
         self.assertEqual(int(Language.RUST_HEX_INTEGER.read("F" * 5000)), 16**5000 - 1)
         self.assertEqual(len(decimal.read("9" * 10**6).decimal().as_tuple().digits), 10**6)
         self.assertEqual(decimal.read("1e999999").fraction(), 10**999999)
