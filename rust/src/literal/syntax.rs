@@ -17,6 +17,7 @@ pub struct Options {
 
 /// What a syntax requires of its literals beside what the flags of its format require.
 #[derive(Debug, Clone, Copy, PartialEq, Eq, PartialOrd, Ord, Hash, Default)]
+#[non_exhaustive]
 pub struct Conditions {
     /// A literal has the base prefix.
     pub required_base_prefix: bool,
@@ -40,15 +41,16 @@ impl Conditions {
         }
     }
 
-    // Returns whether there are none.
-    pub(crate) const fn is_none(self) -> bool {
+    /// Returns whether there are no conditions.
+    #[must_use]
+    pub const fn is_none(self) -> bool {
         !(self.required_base_prefix || self.required_base_suffix || self.no_negative_mantissa_sign)
     }
 }
 
 // One of `Conditions`.
 #[derive(Debug, Clone, Copy, PartialEq, Eq, Hash)]
-pub(crate) enum Condition {
+pub enum Condition {
     BasePrefix,
     BaseSuffix,
     NegativeSign,
@@ -56,6 +58,7 @@ pub(crate) enum Condition {
 
 /// Why a syntax cannot have [`Conditions`]: no text could satisfy them and the format.
 #[derive(Debug, Clone, Copy, PartialEq, Eq, Hash)]
+#[non_exhaustive]
 pub enum ConditionsError {
     /// The base prefix is required, and the format has none.
     NoBasePrefix,
