@@ -204,11 +204,7 @@ impl From<literal::ReadError> for Explanation {
 /// # Safety
 ///
 /// As that of [`input`].
-pub unsafe fn given<'a>(
-    reader: Option<&Reader>,
-    text: *const u8,
-    len: usize,
-) -> Result<(&Forms, &'a [u8]), Refusal> {
+pub unsafe fn given<'a>(reader: Option<&Reader>, text: *const u8, len: usize) -> Result<(&Forms, &'a [u8]), Refusal> {
     let reader = reader.and_then(Reader::value).ok_or(Refusal::Argument("no call has made this reader"))?;
     Ok((reader, input(text, len).ok_or(Refusal::Argument("the text has more than PTRDIFF_MAX bytes"))?))
 }
