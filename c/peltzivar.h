@@ -102,14 +102,16 @@ typedef struct {
 /* SETTINGS
  *
  * A syntax is a lawful word with an exponent character and a decimal point, or with 0 for both. Then numbers are
- * integers. */
+ * integers. The other members are conditions: that a number has the base prefix or the base suffix, and that its sign is
+ * not `-`. Without initialisers, they are false. */
 typedef struct {
     peltzivar_word format;
     uint8_t exponent, decimal_point;
+    bool required_base_prefix, required_base_suffix, no_negative_mantissa_sign;
 } peltzivar_syntax;
 
-/* Settings build a syntax. A text, such as a file, has one setting a line, of a field, a group or an option: NAME=VALUE.
- * SETTINGS.md has a table of them. Lines end with \n. A byte order mark at the start of the text is skipped, and so are
+/* Settings build a syntax. A text, such as a file, has one setting a line, NAME=VALUE, of a field, a group, an option or a
+ * condition. SETTINGS.md has a table of them. Lines end with \n. A byte order mark at the start of the text is skipped, and so are
  * lines that are blank or begin with `#`. No comment can follow a setting. A setting overrides those before it. Fields
  * without a setting have the values of PELTZIVAR_NEW_FIELDS, the exponent character is `e`, and the decimal point is `.`.
  * In a mantissa or exponent radix above 14, `e` is a digit, so `exponent` must be set. If both options are `none`,
@@ -150,10 +152,11 @@ typedef struct {
     uint64_t tables[508];
 } peltzivar_reader;
 
-/* Writes the reader of a syntax to *reader and returns PELTZIVAR_SUCCESS if the word is lawful, and if the options fit
- * its normal form or are both 0. Otherwise, leaves *reader unchanged and returns the error of the first rule that the
- * word breaks, or the error that peltzivar_check_options returns for the normal form. It takes as long as reading some
- * 400 texts. */
+/* Writes the reader of a syntax to *reader and returns PELTZIVAR_SUCCESS if the word is lawful, if the options fit its
+ * normal form or are both 0, and if the format does not contradict the conditions. Otherwise, leaves *reader unchanged and
+ * returns the error of the first rule that the word breaks, the error that peltzivar_check_options returns for the normal
+ * form, or PELTZIVAR_INVALID_BASE_PREFIX, PELTZIVAR_INVALID_BASE_SUFFIX or PELTZIVAR_INVALID_MANTISSA_SIGN. It takes as
+ * long as reading some 400 texts. */
 PELTZIVAR_MUST_USE peltzivar_error peltzivar_reader_init(peltzivar_reader *reader, const peltzivar_syntax *syntax);
 
 /* Writes why peltzivar_reader_init refuses a syntax as a sentence, such as "the exponent character 'e' is a digit in radix
@@ -263,10 +266,11 @@ enum {
 };
 
 /* Why a text is not a literal. `span` has the bytes to show. If it is empty, it marks the place before `start`. `mask` has
- * the flags to blame, and `number` is the lowest as a setter. For a wrong byte and for missing digits, they are 0 and
- * PELTZIVAR_NO_SETTER. `part` is the part of a separator or of missing digits, and otherwise PELTZIVAR_NO_PART. To end
- * the cause, set one of the flags to blame if `kind` is PELTZIVAR_KIND_SEPARATOR, and otherwise clear all of them. Then
- * there may be another cause. `code` is a parse error, and `index` its index for peltzivar_error_text. */
+ * the flags to blame, and `number` is the lowest as a setter. For a wrong byte, for missing digits, and if conditions
+ * alone are to blame, they are 0 and PELTZIVAR_NO_SETTER. `conditions` has those to blame, as bits. `part` is the part of
+ * a separator or of missing digits, and otherwise PELTZIVAR_NO_PART. To end the cause, set one of the flags to blame if
+ * `kind` is PELTZIVAR_KIND_SEPARATOR, and otherwise clear all of them, or the conditions. Then there may be another cause.
+ * `code` is a parse error, and `index` its index for peltzivar_error_text. */
 typedef struct {
     peltzivar_span span;
     size_t index;
@@ -275,7 +279,13 @@ typedef struct {
     peltzivar_read_error_kind kind;
     peltzivar_setter number;
     peltzivar_part part;
+    uint8_t conditions;
 } peltzivar_explanation;
+enum {
+    PELTZIVAR_CONDITION_REQUIRED_BASE_PREFIX = 1,
+    PELTZIVAR_CONDITION_REQUIRED_BASE_SUFFIX = 2,
+    PELTZIVAR_CONDITION_NO_NEGATIVE_MANTISSA_SIGN = 4
+};
 
 /* Writes why a text is not a literal to *out and returns true. If no call has written *error, or if the reader or the
  * length was refused, leaves *out unchanged and returns false. */
