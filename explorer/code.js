@@ -57,7 +57,7 @@ class Code {
     c(state, shown) {
         const { word, exponent, point } = state;
         const problem = this.problem(shown);
-        const halves = [word & HALF, word >> 64n].map((half) => `UINT64_C(0x${half.toString(16).toUpperCase()})`);
+        const halves = [BigInt.asUintN(64, word), word >> 64n].map((half) => `UINT64_C(0x${half.toString(16).toUpperCase()})`);
         const value = `{${halves.join(", ")}}`;
         const start = '#include "peltzivar.h"\n\n';
         if (problem) return `${start}/* ${problem} */\nstatic const peltzivar_word WORD = ${value};\n`;

@@ -2,7 +2,6 @@
  * are read and written by bit arithmetic. A state is a word with the options. */
 "use strict";
 
-const HALF = (1n << 64n) - 1n;
 const MOST_WORD = (1n << 128n) - 1n;
 /* How many bytes a text may have. */
 const MOST_TEXT = 60000;
@@ -36,24 +35,24 @@ class Library {
     }
 
     /* Returns the answer of a call that reads this text. */
-    call(name, text, ...numbers) {
+    call(name, text) {
         const { memory, input, output } = this.calls;
-        const bytes = new TextEncoder().encode(text.slice(0, MOST_TEXT)).subarray(0, MOST_TEXT);
+        const bytes = new TextEncoder().encode(text.slice(0, 2 * MOST_TEXT)).subarray(0, 2 * MOST_TEXT);
         new Uint8Array(memory.buffer).set(bytes, input());
-        const length = this.calls[name](...numbers, bytes.length);
+        const length = this.calls[name](bytes.length);
         return JSON.parse(new TextDecoder().decode(new Uint8Array(memory.buffer, output(), length)));
     }
 
     /* Returns {word, notes} of a new builder with settings, or {error, index} for the first setting that is none. */
     build(settings) {
-        const answer = this.call("build", settings.join("\n"));
+        const answer = this.call("build", ["", ...settings].join("\n"));
         return answer.error ? answer : { ...answer, word: BigInt(answer.word) };
     }
 
     /* Returns all about a state: whether the word is built, its error, normal form, reasons and notes, and why the options
      * do not fit. Reasons and notes have their text, the fields that they blame, the broken rules, and repaired states. */
     explain(state) {
-        const answer = this.call("explain", "", ...passed(state));
+        const answer = this.call("explain", passed([state]));
         const named = ({ mask, options: own = [], repairs = [], ...it }) => {
             const fields = [...own, ...this.namesOf(BigInt(mask))];
             return { ...it, mask: BigInt(mask), fields, repairs: repairs.map(withWord) };
@@ -62,15 +61,15 @@ class Library {
         return { ...answer, normal: BigInt(answer.normal), reasons, options, notes };
     }
 
-    /* Returns an object for each line of a text, as `numbers` of library.rs describes: none if the word is not lawful. */
-    numbers(state, text) {
-        const answers = this.call("numbers", text, ...passed(state));
+    /* Returns an object for each line of a text, as `numbers` of library.rs describes: none if a word is not lawful. */
+    numbers(states, text) {
+        const answers = this.call("numbers", `${passed(states)}\n${text}`);
         return answers.map((answer) => ({ ...answer, offers: answer.offers.map(withWord) }));
     }
 
-    /* Returns texts that tell two states apart, as `differ` of library.rs describes. */
-    differ(state, other) {
-        return this.call("differ", "", ...passed(state), ...passed(other));
+    /* Returns texts that tell the states of some forms from those of others, as `differ` of library.rs describes. */
+    differ(states, others) {
+        return this.call("differ", `${passed(states)}\n${passed(others)}`);
     }
 
     /* Returns {value}, or {error} if the setter does not take the text. A separator needs a flag that allows it. */
@@ -158,9 +157,14 @@ class Library {
     }
 }
 
-/* Returns the numbers by which a state is passed to the library. */
-function passed({ word, exponent, point }) {
-    return [word & HALF, word >> 64n, BigInt(exponent) | (BigInt(point) << 8n)];
+/* Returns what a reader of a form is made of, without its name. */
+function stateOf({ word, exponent, point }) {
+    return { word, exponent, point };
+}
+
+/* Returns the line by which states are passed to the library. */
+function passed(states) {
+    return states.map(({ word, exponent, point }) => `${word}:${exponent + 256 * point}`).join(" ");
 }
 
 /* Returns the value of a number, which the library computed, as text, or why it has none. */

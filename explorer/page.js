@@ -20,7 +20,8 @@ class Page {
     constructor(library, data) {
         this.library = library;
         this.data = data;
-        for (const language of data.languages) language.word = library.build(language.settings).word;
+        const forms = data.languages.flatMap((language) => language.forms);
+        for (const form of forms) form.word = library.build(form.settings).word;
         [this.past, this.future] = [[], []];
         const edit = (name, value, key) => this.edit(name, value, key);
         const use = (state) => {
@@ -141,17 +142,27 @@ class Page {
     /* Starts from a language, with its numbers in place of those of another. */
     start(name) {
         const { languages } = this.data;
-        const { word, exponent, point, numbers } = languages.find((it) => it.name === name) ?? this.state;
+        const { forms, numbers } = languages.find((it) => it.name === name) ?? { forms: [this.state], ...this.state };
         const isOwn = this.state.numbers && !languages.some((it) => it.numbers === this.state.numbers);
-        this.jump({ word, exponent, point, numbers: isOwn ? this.state.numbers : numbers });
+        this.jump({ ...stateOf(forms[0]), numbers: isOwn ? this.state.numbers : numbers });
     }
 
-    /* Shows the language as chosen while the state is its state. */
+    /* Shows the language as chosen while the state is that of one of its forms, and returns the forms that are read. */
     showLanguage() {
-        const isSame = (it) => ["word", "exponent", "point"].every((name) => it[name] === this.state[name]);
-        const language = this.data.languages.find((it) => it.name === find("language").value && isSame(it));
+        const isShown = (form) => Object.entries(stateOf(form)).every(([name, value]) => this.state[name] === value);
+        const chosen = this.data.languages.find(({ name }) => name === find("language").value);
+        const language = chosen?.forms.some(isShown) ? chosen : undefined;
         find("language").value = language?.name ?? "";
         find("about").replaceChildren(...withCode(language?.about ?? ""));
+        const forms = language?.forms ?? [this.state];
+        const buttons = forms.map((form) => {
+            return button("form", form.name, () => this.jump(stateOf(form)), { "aria-pressed": String(isShown(form)) });
+        });
+        find("forms").hidden = forms.length === 1;
+        const hadFocus = [...find("forms").children].indexOf(document.activeElement);
+        find("forms").replaceChildren(...buttons);
+        buttons[hadFocus]?.focus();
+        return forms;
     }
 
     /* Takes a text as the word, or a link as the state, if it is whole, or shows why it is not one. */
@@ -281,11 +292,11 @@ class Page {
         if (document.activeElement !== find("word") && !isKept) this.showWord();
         find("undo").disabled = !this.past.length;
         find("redo").disabled = !this.future.length;
-        this.showLanguage();
-        const reasons = this.report.show(this.state, this.shown);
+        const forms = this.showLanguage();
+        const reasons = this.report.show(this.state, this.shown, forms);
         this.controls.show(this.state);
         showBits(this.cells, word);
-        const { count, isGood, first } = this.trial.show(this.state);
+        const { count, isGood, first } = this.trial.show(this.state, forms);
         setText(find("count"), count);
         find("count").className = isGood ? "good" : "bad";
         const nothing = count ? "" : "The word satisfies all rules. Type numbers to try it.";

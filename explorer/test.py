@@ -304,7 +304,7 @@ class Walk(unittest.TestCase):
         Select(self.find("#compare")).select_by_value("another")
         self.assertEqual(shown(), ("Same format.", []))
         self.type("#exponent", "p")
-        self.assertEqual(shown(), ("Not the same format.", ["exponent='p'"]))
+        self.assertEqual(shown(), ("Not the same.", ["exponent='p'"]))
         self.click("#changes button")
         self.assertEqual((shown(), self.value("#exponent")), (("Same format.", []), "e"))
         self.type("#other", "0x0A0A0A0000000000000000000000000C")

@@ -21,3 +21,4 @@ mod BlameLemmas
 mod PartOfLemmas
 mod OneCauseLemmas
 mod FormLemmas
+mod GroupLemmas
