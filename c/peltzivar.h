@@ -50,8 +50,10 @@
  * be initialised. This includes *fields in peltzivar_edit_fields, since *fields is both input and output. Memory that
  * is only output need not be initialised. Memory that a function writes to must not overlap memory to which another
  * argument points.
- * No function allocates memory, retains a pointer or sets errno. A literal points to its text, though. Several threads
- * may call these functions at the same time, provided that no call writes memory that another call reads or writes.
+ *
+ * No function allocates memory or sets errno. None keeps a pointer, except that a literal points to its text. Several
+ * threads may call these functions at the same time, provided that no call writes memory that another call reads or
+ * writes.
  *
  * From 1.0 on, functions, structures, numbers and documented results do not change until 2.0, but others may be added.
  * The section `Until 2.0` of CHANGELOG.md in the repository lists what this promise leaves out, such as the wording of
@@ -110,18 +112,18 @@ typedef struct {
     bool required_base_prefix, required_base_suffix, no_negative_mantissa_sign;
 } peltzivar_syntax;
 
-/* Settings build a syntax. A text, such as a file, has one setting a line, NAME=VALUE, of a field, a group, an option or a
- * condition. SETTINGS.md has a table of them. Lines end with \n. A byte order mark at the start of the text is skipped, and so are
- * lines that are blank or begin with `#`. No comment can follow a setting. A setting overrides those before it. Fields
- * without a setting have the values of PELTZIVAR_NEW_FIELDS, the exponent character is `e`, and the decimal point is `.`.
- * In a mantissa or exponent radix above 14, `e` is a digit, so `exponent` must be set. If both options are `none`,
- * numbers are integers. One alone cannot be `none`: for numbers with a point but no exponent, set no_exponent_notation,
- * and an `exponent` that is not a digit, such as '~'. */
+/* Settings build a syntax. A text, such as a file, has one setting a line, NAME=VALUE, of a field, a group, an option
+ * or a condition. SETTINGS.md has a table of them. Lines end with \n. A byte order mark at the start of the text is
+ * skipped, and so are lines that are blank or begin with `#`. No comment can follow a setting. A setting overrides
+ * those before it. Fields without a setting have the values of PELTZIVAR_NEW_FIELDS, the exponent character is `e`,
+ * and the decimal point is `.`. In a mantissa or exponent radix above 14, `e` is a digit, so `exponent` must be set.
+ * If both options are `none`, numbers are integers. One alone cannot be `none`: for numbers with a point but no
+ * exponent, set no_exponent_notation, and an `exponent` that is not a digit, such as '~'. */
 
 /* Reads the settings of a text of len bytes, and writes the syntax that they build to *out. Returns the number of
  * problems: first the lines that are refused, and then the reasons why the others do not build a lawful word or, if
- * they do, why the options do not fit it. Reasons and notes on a field or option are left out if its last line is
- * refused. If there is a problem, leaves *out unchanged. */
+ * they do, why the options or conditions do not fit it. Reasons and notes on a field or option are left out if its
+ * last line is refused. If there is a problem, leaves *out unchanged. */
 PELTZIVAR_MUST_USE size_t peltzivar_read_settings(const char *text, size_t len, peltzivar_syntax *out);
 
 /* Writes a problem as a sentence, such as "unknown setting `base_suffx`; did you mean `base_suffix`?". The problems
