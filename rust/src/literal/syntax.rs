@@ -40,15 +40,16 @@ impl Conditions {
         }
     }
 
-    // Returns whether there are none.
-    pub(crate) const fn is_none(self) -> bool {
+    /// Returns whether there are no conditions.
+    #[must_use]
+    pub const fn is_none(self) -> bool {
         !(self.required_base_prefix || self.required_base_suffix || self.no_negative_mantissa_sign)
     }
 }
 
 // One of `Conditions`.
 #[derive(Debug, Clone, Copy, PartialEq, Eq, Hash)]
-pub(crate) enum Condition {
+pub enum Condition {
     BasePrefix,
     BaseSuffix,
     NegativeSign,
