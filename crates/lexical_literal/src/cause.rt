@@ -232,7 +232,7 @@ impl Spot {
 }
 
 // Returns the first of the conditions `unmet` if no flag of `mask` is to blame.
-const fn first_unmet(mask: u128, unmet: Conditions) -> Option<Condition>
+pub(crate) const fn first_unmet(mask: u128, unmet: Conditions) -> Option<Condition>
     ensures { result ≡ first_unmet mask unmet }
 {
     if mask != 0 {

@@ -170,7 +170,7 @@ impl Spot {
 }
 
 // Returns the first of the conditions `unmet` if no flag of `mask` is to blame.
-const fn first_unmet(mask: u128, unmet: Conditions) -> Option<Condition> {
+pub(crate) const fn first_unmet(mask: u128, unmet: Conditions) -> Option<Condition> {
     if mask != 0 {
         None
     } else if unmet.required_base_prefix {
