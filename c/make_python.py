@@ -107,15 +107,17 @@ def parameters():
 
 def conditions():
     """Returns the lines."""
-    syntax = re.search(r"uint8_t exponent, decimal_point; (.*?) } peltzivar_syntax;", CODE)[1]
-    yield from (f"{name}: bool = False" for name in re.findall(r"(\w+)[,;]", syntax))
+    syntax = re.search(r"uint8_t exponent, decimal_point; ([^{}]*) } peltzivar_syntax;", CODE)[1]
+    for kind, names in re.findall(r"(\w+) ([\w, ]+);", syntax):
+        value = "bool = False" if kind == "bool" else "Optional[int] = None"
+        yield from (f"{name}: {value}" for name in names.split(", "))
 
 
 def settings():
     """Returns the lines. Options and conditions are no fields."""
     yield from parameters()
     yield from (f"{name}: Optional[Byte] = _KEPT," for name in ("exponent", "point"))
-    yield from (it.replace("= False", "= _KEPT,") for it in conditions())
+    yield from (re.sub("= .*", "= _KEPT,", it) for it in conditions())
 
 
 def languages():

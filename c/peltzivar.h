@@ -158,8 +158,8 @@ typedef struct {
 /* Writes the reader of a syntax to *reader and returns PELTZIVAR_SUCCESS if the word is lawful, if the options fit its
  * normal form or are both 0, and if the format does not contradict the conditions. Otherwise, leaves *reader unchanged
  * and returns the error of the first rule that the word breaks, the error that peltzivar_check_options returns for the
- * normal form, or PELTZIVAR_INVALID_BASE_PREFIX, PELTZIVAR_INVALID_BASE_SUFFIX or PELTZIVAR_INVALID_MANTISSA_SIGN. It
- * takes as long as reading some 400 texts. */
+ * normal form, or the format error of the field that contradicts a condition. It takes as long as reading some 400
+ * texts. */
 PELTZIVAR_MUST_USE peltzivar_error peltzivar_reader_init(peltzivar_reader *reader, const peltzivar_syntax *syntax);
 
 /* Writes why peltzivar_reader_init refuses a syntax as a sentence, such as "the exponent character 'e' is a digit in

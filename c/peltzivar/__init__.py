@@ -491,7 +491,8 @@ Call = TypeVar("Call", bound=Callable[..., Any])
 _RADIXES = (Setter.MANTISSA_RADIX, Setter.EXPONENT_BASE, Setter.EXPONENT_RADIX)
 _BYTES = (Setter.DIGIT_SEPARATOR, Setter.BASE_PREFIX, Setter.BASE_SUFFIX)
 _SETTERS = {**{it.name.lower(): it for it in Setter}, "radix": Setter.MANTISSA_RADIX}
-_CONDITIONS = tuple(name for name, _ in _Syntax._fields_[3:])
+# The conditions of a syntax, with their types.
+_CONDITIONS: Dict[str, Any] = dict(_Syntax._fields_[3:])
 _SETTING = "a str or an Edit (pass a list as `*settings`)"
 # The default of an argument whose field keeps its value.
 _KEPT: Any = ...
@@ -583,13 +584,15 @@ def _setting(name: str, value: Value) -> Union[Edit, str]:
     if name in _SETTERS:
         return Edit.of(name, value)
     if name in _CONDITIONS:
-        return f"{name}={str(_condition(name, value)).lower()}"
+        return f"{name}={'none' if value is None else str(_condition(name, value)).lower()}"
     return f"{name}={'none' if value is None else _byte(name, value)}"
 
 
-def _condition(name: str, value: Value) -> bool:
+def _condition(name: str, value: Value) -> int:
     """Returns the value of a condition. Raises an error that names it if it does not take the value."""
-    return _typed(name, value, bool)
+    if _CONDITIONS[name] is c_bool:
+        return _typed(name, value, bool)
+    return 0 if value is None else _number(name, value)
 
 
 @dataclass(frozen=True, init=False, repr=False)
@@ -1484,8 +1487,8 @@ class Syntax:
 
     @classmethod
     def _of_numbers(cls, numbers: _Syntax) -> Syntax:
-        conditions = (getattr(numbers, it) for it in _CONDITIONS)
-        return cls(Format(_joined(numbers.format)), numbers.exponent or None, numbers.decimal_point or None, *conditions)
+        conditions: Any = {name: getattr(numbers, name) for name in _CONDITIONS if getattr(numbers, name)}
+        return cls(Format(_joined(numbers.format)), numbers.exponent or None, numbers.decimal_point or None, **conditions)
 
     def role_of(self, byte: Byte) -> Optional[Role]:
         """Returns the only role that a byte has in literals, or None."""
