@@ -205,7 +205,8 @@ impl From<literal::ReadError> for Explanation {
             _ => (0, None),
         };
         let (Range { start, end }, code, mask) = (error.span(), error.code(), error.mask());
-        let Conditions { required_base_prefix, required_base_suffix, no_negative_mantissa_sign, .. } = error.conditions();
+        let Conditions { required_base_prefix, required_base_suffix, no_negative_mantissa_sign, .. } =
+            error.conditions();
         let conditions = [required_base_prefix, required_base_suffix, no_negative_mantissa_sign];
         Explanation {
             span: Span { start, end },
