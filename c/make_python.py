@@ -109,7 +109,7 @@ def languages():
     """Returns the lines."""
     documented = re.findall(r"((?:^ +///.*\n)+) +(\w+) = \{", LANGUAGES, re.M)
     yield '"""How a language, or a file, writes numbers. `languages` is another name of this class.'
-    yield from ("", "`read(text)` returns a `Literal` of `syntax`, or a `Special` with a spelling of `specials`.")
+    yield from ("", "`read(text)` returns a `Literal` of a syntax of `forms`, or a `Special` with a spelling of `specials`.")
     yield from ("", "No format rejects `-`, or requires a prefix, a suffix or a decimal point. So `C_FLOAT` reads `1`.")
     for text, name in documented:
         about = " ".join(text.replace("///", " ").replace("×", "*").split())

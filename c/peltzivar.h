@@ -170,22 +170,24 @@ typedef struct {
 /* A literal: its text, which must last as long as the literal is used, and its parts, in the order of the text. An absent
  * part is empty. The prefix includes the zero before it. The three parts with digits include digit separators, for which
  * peltzivar_mantissa_digit and peltzivar_exponent_digit return PELTZIVAR_NO_DIGIT. `size` is the length of the text. A
- * float has a point or an exponent character, or both. */
+ * float has a point or an exponent character, or both. `form` is the form of a language, and otherwise 0. */
 typedef struct {
     PELTZIVAR_ALIGNED uint64_t magic;
     const char *text;
     peltzivar_span sign, prefix, integer, point, fraction, exponent_character, exponent_sign, exponent, suffix;
     size_t size;
     bool is_float;
+    uint8_t form;
     uint64_t counts[14];
 } peltzivar_literal;
 
 /* Where reading stopped. The first `valid_up_to` bytes are the longest beginning of the text that some literal begins
- * with. If these are all of its bytes, bytes are missing, and a longer text may be a literal. */
+ * with. If these are all of its bytes, bytes are missing, and a longer text may be a literal. `form` is the form of a
+ * language for which this beginning is the longest, the first of equals, and otherwise 0. */
 typedef struct {
     PELTZIVAR_ALIGNED uint64_t magic;
-    size_t valid_up_to;
-    uint64_t stop[12];
+    size_t valid_up_to, form;
+    uint64_t stop[13];
 } peltzivar_read_error;
 
 /* Reads a text of len bytes. If it is a literal, writes its parts to *literal and returns true. Otherwise, writes where
@@ -301,12 +303,23 @@ PELTZIVAR_MUST_USE bool peltzivar_read_special(const peltzivar_reader *reader, c
 
 /* If a language or file format has a name of len bytes, such as "JSON" or "C_HEX_FLOAT", writes its spellings to
  * *specials and returns its reader. Both last as long as the program. A spelling that it lacks is "". Otherwise, writes
- * nothing and returns a null pointer. Names are case-sensitive. In Python, `help(peltzivar.Language)` describes each. */
+ * nothing and returns a null pointer. Names are case-sensitive. In Python, `help(peltzivar.Language)` describes each.
+ *
+ * A language has one form of literals or more, such as `10`, `0x1F` and `0b1`. The first form that a text has decides its
+ * parts and its value. peltzivar_read_prefix finds the longest literal of any form. `syntax` is that of the first form. */
 PELTZIVAR_MUST_USE const peltzivar_reader *peltzivar_language(
     const char *name, size_t len, peltzivar_specials *specials);
 
 /* Returns the name of a language. The languages have the indices from 0 on, in alphabetical order. */
 const char *peltzivar_language_name(size_t index);
+
+/* Returns the name of a form of a language, such as "hexadecimal". Its forms have the indices from 0 on. If
+ * peltzivar_language did not return this reader, or a copy of it, returns an empty string. */
+const char *peltzivar_form_name(const peltzivar_reader *reader, size_t form);
+
+/* Writes the syntax of a form of a language to *out and returns true. If peltzivar_form_name returns an empty string,
+ * leaves *out unchanged and returns false. */
+PELTZIVAR_MUST_USE bool peltzivar_form_syntax(const peltzivar_reader *reader, size_t form, peltzivar_syntax *out);
 
 /* WORDS */
 

@@ -291,6 +291,7 @@ class _Literal(Structure):
         ("suffix", _Span),
         ("size", c_size_t),
         ("is_float", c_bool),
+        ("form", c_uint8),
         ("counts", c_uint64 * 14),
     ]
 
@@ -299,7 +300,8 @@ class _ReadError(Structure):
     _fields_ = [
         ("magic", c_uint64),
         ("valid_up_to", c_size_t),
-        ("stop", c_uint64 * 12),
+        ("form", c_size_t),
+        ("stop", c_uint64 * 13),
     ]
 
 
@@ -386,6 +388,8 @@ _CALLS: Dict[str, Tuple[Any, List[Any]]] = {
     "read_special": (c_bool, [POINTER(_Reader), POINTER(_Specials), c_char_p, c_size_t, POINTER(_Special)]),
     "language": (POINTER(_Reader), [c_char_p, c_size_t, POINTER(_Specials)]),
     "language_name": (c_char_p, [c_size_t]),
+    "form_name": (c_char_p, [POINTER(_Reader), c_size_t]),
+    "form_syntax": (c_bool, [POINTER(_Reader), c_size_t, POINTER(_Syntax)]),
     "build": (c_bool, [POINTER(_Edit), c_size_t, POINTER(_Word)]),
     "edit_word": (c_bool, [_Word, POINTER(_Edit), c_size_t, POINTER(_Word)]),
     "check": (c_uint32, [_Word]),
@@ -714,7 +718,7 @@ class LiteralError(ValueError):
     of the text, characters are missing. `span` is the first index and the end of the characters to show, maybe none, as
     in `text[slice(*span)]`. `kind` is the kind of the cause, and `part` the part of a separator or of missing digits.
     `mask` has the flags to blame as bits of a word. A wrong byte and missing digits blame none. `error` is the error of
-    `lexical-util`.
+    `lexical-util`. `form` is the name of the form of a language for which most of the text is right, or empty.
     """
 
     sentence: str
@@ -725,6 +729,7 @@ class LiteralError(ValueError):
     part: Optional[Part]
     mask: int
     error: Error
+    form: str = ""
 
     @property
     def edits(self) -> Tuple[Edit, ...]:
@@ -1110,9 +1115,9 @@ _ENDS = Struct(f"{_Literal.sign.offset}x" + f"{sizeof(c_size_t)}xN" * 9).unpack_
 
 
 class Literal(Generic[AnyStr]):
-    """A text that is a literal of a syntax. `str(literal)` is the text, and `syntax.read` makes a literal.
+    """A text that is a literal of a syntax. `str(literal)` is the text, and `read` makes a literal.
 
-        >>> literal = languages.TOML.syntax.read("-1_000.50e-3")
+        >>> literal = languages.TOML.read("-1_000.50e-3")
         >>> literal.value, literal.decimal(), literal.fraction()
         (-1.0005, Decimal('-1.00050'), Fraction(-2001, 2000))
         >>> literal.parts.sign, literal.parts.integer, literal.digits(Part.INTEGER)
@@ -1126,19 +1131,24 @@ class Literal(Generic[AnyStr]):
     Literals are equal if their formats and their parts are equal, as in Rust.
     """
 
-    __slots__ = ("_syntax", "_text", "_found", "_data")
+    __slots__ = ("_owner", "_text", "_found", "_data")
     __match_args__ = ("syntax", "text")
 
-    def _set(self, syntax: Syntax, text: AnyStr, found: _Literal, data: bytes) -> Literal[AnyStr]:
-        self._syntax, self._found = syntax, found
+    def _set(self, owner: Union[Syntax, Language], text: AnyStr, found: _Literal, data: bytes) -> Literal[AnyStr]:
+        self._owner, self._found = owner, found
         self._text: AnyStr = text
         self._data = data  # `found` points to it.
         return self
 
     @property
     def syntax(self) -> Syntax:
-        """The syntax."""
-        return self._syntax
+        """The syntax, which is that of a form of a language if `Language.read` has read the text."""
+        return cast(Syntax, self._owner._syntaxes[self._found.form])
+
+    @property
+    def form(self) -> str:
+        """The name of the form of a language, such as `hexadecimal`. It is empty if `Syntax.read` has read the text."""
+        return str(self._owner._names[self._found.form])
 
     @property
     def text(self) -> AnyStr:
@@ -1168,7 +1178,7 @@ class Literal(Generic[AnyStr]):
         if self._found.is_float:
             raise ValueError(f"{reprlib.repr(self._text)} is a float")
         sign, integer, *_ = self._written()
-        return int(sign + integer, self._syntax._fields.mantissa_radix)
+        return int(sign + integer, self.syntax._fields.mantissa_radix)
 
     def __float__(self) -> float:
         value = c_double()
@@ -1180,7 +1190,7 @@ class Literal(Generic[AnyStr]):
         """Returns the exact value, which has the digits of the text if all radixes are 10. Raises OverflowError if it has
         more than 10^6 digits, and ValueError if a float has a radix with other prime factors than 2 and 5."""
         digits, places, exponent = self._scaled()
-        radix, base = self._syntax._fields.mantissa_radix, self._syntax._fields.exponent_base
+        radix, base = self.syntax._fields.mantissa_radix, self.syntax._fields.exponent_base
         if self.is_float and not (radix in _FACTORS and base in _FACTORS):
             raise ValueError("a float has an exact decimal value only if its radixes are products of 2 and 5")
         of_radix, of_base = _FACTORS.get(radix, (0, 0)), _FACTORS.get(base, (0, 0))
@@ -1206,7 +1216,7 @@ class Literal(Generic[AnyStr]):
         """Returns the exact value. Raises OverflowError if its numerator or denominator has more than 10^6 digits before
         the fraction is reduced."""
         digits, places, exponent = self._scaled()
-        radix, base = self._syntax._fields.mantissa_radix, self._syntax._fields.exponent_base
+        radix, base = self.syntax._fields.mantissa_radix, self.syntax._fields.exponent_base
         number, up, down = int(digits, radix), max(exponent, 0), max(-exponent, 0)
         above = math.log10(abs(number) or 1) + up * math.log10(base)
         if max(above, places * math.log10(radix) + down * math.log10(base)) >= _MOST_DIGITS:
@@ -1216,7 +1226,7 @@ class Literal(Generic[AnyStr]):
     def _scaled(self) -> Tuple[str, int, int]:
         """Returns the sign with the digits of the integer and the fraction, the number of the latter, and the exponent."""
         sign, integer, fraction, exponent_sign, exponent = self._written()
-        digits, fields = (integer + fraction).lstrip("0"), self._syntax._fields
+        digits, fields = (integer + fraction).lstrip("0"), self.syntax._fields
         if (len(digits) - 1) * math.log10(fields.mantissa_radix) >= _MOST_DIGITS:
             raise OverflowError(_TOO_LONG)
         # Of a longer exponent, 64 digits are too many.
@@ -1226,7 +1236,7 @@ class Literal(Generic[AnyStr]):
     def _written(self) -> List[str]:
         """Returns the sign, the digits of the integer and of the fraction, the sign of the exponent, and its digits."""
         ends: Tuple[int, ...] = _ENDS(self._found)
-        separator = bytes([self._syntax._fields.digit_separator])
+        separator = bytes([self.syntax._fields.digit_separator])
         parts = [self._data[: ends[0]], *(self._data[ends[it - 1] : ends[it]] for it in (2, 4, 6, 7))]
         return [part.replace(separator, b"").decode() for part in parts]
 
@@ -1241,7 +1251,7 @@ class Literal(Generic[AnyStr]):
         return text.decode() if isinstance(text, bytes) else text
 
     def __repr__(self) -> str:
-        return f"{self._syntax!r}.read({self._text!r})"
+        return f"{self.syntax!r}.read({self._text!r})"
 
     def __eq__(self, other: object) -> bool:
         if not isinstance(other, Literal):
@@ -1252,11 +1262,11 @@ class Literal(Generic[AnyStr]):
         return hash(self._key())
 
     def _key(self) -> Tuple[Any, ...]:
-        return self._syntax.format, self._text, _ENDS(self._found)
+        return self.syntax.format, self._text, _ENDS(self._found)
 
     def __reduce__(self) -> Tuple[Any, ...]:
         """Returns what reads the text again."""
-        return Syntax.read, (self._syntax, self._text)
+        return type(self._owner).read, (self._owner, self._text)
 
 
 # How often 2 and 5 divide each number that no other prime divides.
@@ -1455,7 +1465,7 @@ class Syntax:
 
         Each index is one of the text: of characters in a `str`, and of bytes in `bytes`.
         """
-        return _accepted(text, self._read(_library.read, text))
+        return _accepted(self, text, _read(self, _library.read, text))
 
     def read_prefix(self, text: AnyStr) -> Tuple[Literal[AnyStr], AnyStr]:
         """Returns the longest literal that a text begins with, and the rest. Raises LiteralError if there is none.
@@ -1464,21 +1474,30 @@ class Syntax:
             >>> literal.text, rest
             ('1.25', '.3')
         """
-        literal = _accepted(text, self._read(_library.read_prefix, text))
+        literal = _accepted(self, text, _read(self, _library.read_prefix, text))
         return literal, text[len(literal.text) :]
 
-    def _read(self, call: Any, text: AnyStr) -> Union[Literal[AnyStr], _ReadError]:
-        """Returns the literal of peltzivar_read or peltzivar_read_prefix, or where it stopped."""
-        found, data = _Literal(), _readable(text)
-        if call(self._reader, data, len(data), found, None):
-            literal: Literal[AnyStr] = Literal.__new__(Literal)
-            return literal._set(self, text[: found.size], found, data)
-        stopped = _ReadError()
-        call(self._reader, data, len(data), found, stopped)
-        return stopped
+    @property
+    def _syntaxes(self) -> Tuple[Syntax, ...]:
+        return (self,)
+
+    _names = ("",)
 
 
-def _accepted(text: AnyStr, found: Union[Literal[AnyStr], _ReadError]) -> Literal[AnyStr]:
+def _read(owner: Union[Syntax, Language], call: Any, text: AnyStr) -> Union[Literal[AnyStr], _ReadError]:
+    """Returns the literal of peltzivar_read or peltzivar_read_prefix, or where it stopped."""
+    found, data = _Literal(), _readable(text)
+    if call(owner._reader, data, len(data), found, None):
+        literal: Literal[AnyStr] = Literal.__new__(Literal)
+        return literal._set(owner, text[: found.size], found, data)
+    stopped = _ReadError()
+    call(owner._reader, data, len(data), found, stopped)
+    return stopped
+
+
+def _accepted(
+    owner: Union[Syntax, Language], text: AnyStr, found: Union[Literal[AnyStr], _ReadError]
+) -> Literal[AnyStr]:
     """Returns the literal that was found. Raises LiteralError if there is none."""
     if isinstance(found, Literal):
         return found
@@ -1488,7 +1507,7 @@ def _accepted(text: AnyStr, found: Union[Literal[AnyStr], _ReadError]) -> Litera
     sentence = _text(_library.read_error_text, found) if is_byte else f"unexpected character {text[index]!r}"
     part = Part(why.part) if why.part != _NO_PART else None
     span, kind, mask = (why.span.start, why.span.end), ReadErrorKind(why.kind), _joined(why.mask)
-    raise LiteralError(sentence, text, index, span, kind, part, mask, Error(why.code))
+    raise LiteralError(sentence, text, index, span, kind, part, mask, Error(why.code), owner._names[found.form])
 
 
 def _readable(text: object) -> bytes:
@@ -1535,6 +1554,10 @@ class Special:
         """The value, as a float."""
         return float(self)
 
+    def decimal(self) -> Decimal:
+        """Returns the value as a Decimal."""
+        return Decimal(str(self))
+
     def __float__(self) -> float:
         return float(str(self))
 
@@ -1566,7 +1589,7 @@ class Language(_Named):
     # Made by make_python.py: languages
     """How a language, or a file, writes numbers. `languages` is another name of this class.
 
-    `read(text)` returns a `Literal` of `syntax`, or a `Special` with a spelling of `specials`.
+    `read(text)` returns a `Literal` of a syntax of `forms`, or a `Special` with a spelling of `specials`.
 
     No format rejects `-`, or requires a prefix, a suffix or a decimal point. So `C_FLOAT` reads `1`.
 
@@ -1661,29 +1684,42 @@ class Language(_Named):
     # End
 
     @functools.cached_property
-    def _definition(self) -> Tuple[Syntax, Specials]:
-        specials = _Specials()
-        reader = _library.language(self.name.encode(), len(self.name), specials).contents
-        spellings = (getattr(specials, it) for it, _ in _Specials._fields_)
-        return Syntax._of_numbers(reader.syntax), Specials(*(it.decode() if it else None for it in spellings))
+    def _reader(self) -> Any:
+        return _library.language(self.name.encode(), len(self.name), None)
+
+    @functools.cached_property
+    def _names(self) -> Tuple[str, ...]:
+        return tuple(takewhile(bool, (_library.form_name(self._reader, it).decode() for it in count())))
+
+    @functools.cached_property
+    def _syntaxes(self) -> Tuple[Syntax, ...]:
+        made = [_Syntax() for _ in self._names]
+        return tuple(Syntax._of_numbers(it) for form, it in enumerate(made) if _library.form_syntax(self._reader, form, it))
 
     @property
-    def syntax(self) -> Syntax:
-        """The syntax of literals."""
-        return self._definition[0]
+    def forms(self) -> Dict[str, Syntax]:
+        """The syntax of each form of literals, by its name. The first one that a text has decides its value."""
+        return dict(zip(self._names, self._syntaxes))
 
-    @property
+    @functools.cached_property
     def specials(self) -> Specials:
         """The spellings of NaN and infinity. A language in which they are names, or do not exist, has none."""
-        return self._definition[1]
+        specials = _Specials()
+        _library.language(self.name.encode(), len(self.name), specials)
+        return Specials(*(getattr(specials, it).decode() or None for it, _ in _Specials._fields_))
 
     def read(self, text: AnyStr) -> Union[Literal[AnyStr], Special]:
         """Returns the number that a text is: a literal or a special value. Raises LiteralError if it is neither."""
-        syntax, specials = self._definition
-        found = syntax._read(_library.read, text)
+        found = _read(self, _library.read, text)
         if isinstance(found, Literal):
             return found
-        return specials.read(syntax, text) or _accepted(text, found)
+        return self.specials.read(self._syntaxes[0], text) or _accepted(self, text, found)
+
+    def read_prefix(self, text: AnyStr) -> Tuple[Literal[AnyStr], AnyStr]:
+        """Returns the longest literal of any form that a text begins with, and the rest. Raises LiteralError if there is
+        none."""
+        literal = _accepted(self, text, _read(self, _library.read_prefix, text))
+        return literal, text[len(literal.text) :]
 
 
 languages = Language

@@ -36,7 +36,7 @@ static void test_constants(void) {
     CHECK(is_word(peltzivar_pack(&PELTZIVAR_NEW_FIELDS), PELTZIVAR_STANDARD.high, PELTZIVAR_STANDARD.low));
     CHECK(is_word(words[0], PELTZIVAR_STANDARD.high, PELTZIVAR_STANDARD.low));
     CHECK(sizeof(peltzivar_word) == 16 && sizeof(peltzivar_fields) == 16 && sizeof(peltzivar_edit) == 2);
-    CHECK(sizeof(peltzivar_reader) == 4096 && sizeof(peltzivar_read_error) == 112 && sizeof(peltzivar_literal) == 288);
+    CHECK(sizeof(peltzivar_reader) == 4096 && sizeof(peltzivar_read_error) == 128 && sizeof(peltzivar_literal) == 288);
 }
 
 /* Returns all flags. */
@@ -267,6 +267,7 @@ static void test_special_values(void) {
 /* Each language has a reader of a syntax that passes the check, and a name by which it is found. */
 static void test_languages(void) {
     peltzivar_specials specials = {text, text, text};
+    peltzivar_syntax syntax;
     const char *name;
     CHECK(!peltzivar_language("json", 4, &specials) && specials.inf == text);
     CHECK(!peltzivar_language("JSON", SIZE_MAX, &specials) && !*peltzivar_language_name(SIZE_MAX));
@@ -275,6 +276,13 @@ static void test_languages(void) {
         const peltzivar_reader *const reader = peltzivar_language(name, strlen(name), &specials);
         peltzivar_reader same;
         CHECK(reader && !peltzivar_reader_init(&same, &reader->syntax) && i < 99);
+        size_t form = 0;
+        for (; *peltzivar_form_name(reader, form); form++) {
+            CHECK(peltzivar_form_syntax(reader, form, &syntax) && !peltzivar_reader_init(NULL, &syntax));
+            if (!form) CHECK(!memcmp(&syntax, &reader->syntax, 18));
+            CHECK(!*peltzivar_form_name(&same, form) && !peltzivar_form_syntax(&same, form, &syntax));
+        }
+        CHECK(form && !peltzivar_form_syntax(reader, form, &syntax) && !*peltzivar_form_name(reader, SIZE_MAX));
         CHECK(!memcmp(&same.syntax, &reader->syntax, 18) && peltzivar_read_prefix(reader, "0x1p1h", 6, NULL, NULL));
     }
     const peltzivar_reader *const json = peltzivar_language("JSON", 4, &specials);

@@ -206,24 +206,24 @@ class Literals(unittest.TestCase):
         ]
         for language, text, value, decimal, fraction in rows:
             for given in (text, text.encode()):
-                it = language.syntax.read(given)
+                it = language.read(given)
                 self.assertEqual((repr(it.value), str(it.decimal()), it.fraction()), (repr(value), decimal, fraction))
                 self.assertEqual((repr(float(it)), it.decimal()), (repr(float(decimal)), Decimal(decimal)))
                 for same in (eval(repr(it)), pickle.loads(pickle.dumps(it)), copy.deepcopy(it)):
                     self.assertEqual((same, hash(same), same.value), (it, hash(it), it.value))
         self.assertRaisesRegex(ValueError, "^'1.0' is a float$", int, Language.JSON.read("1.0"))
-        self.assertEqual(repr(Language.TOML.read("-inf").value), "-inf")
+        self.assertEqual([repr(Language.TOML.read("-inf").value), str(Language.TOML.read("-inf").decimal())], ["-inf", "-Infinity"])
         # Literals are equal if their formats and parts are equal.
         self.assertEqual(Syntax(Format()).read("1"), Syntax.integers(Format()).read("1"))
         self.assertNotEqual(Syntax(Format()).read("1"), Syntax(Format.of(no_special=True)).read("1"))
         self.assertNotEqual(Syntax(Format()).read("1.5"), Syntax(Format(), "e", ",").read("1,5"))
 
     def test_values_that_are_refused(self):
-        ternary, decimal, binary = Syntax(Format.of(radix=3)), Language.JSON.syntax, Language.C_HEX_FLOAT.syntax
+        ternary, decimal, binary = Syntax(Format.of(radix=3)), Language.JSON, Language.C_HEX_FLOAT
         self.assertEqual((ternary.read("-12").value, str(ternary.read("12").decimal()), ternary.read("0.1").fraction()), (-5, "5", Fraction(1, 3)))
         self.assertRaisesRegex(ValueError, "mantissa radix and the exponent base", float, ternary.read("12"))
         self.assertRaisesRegex(ValueError, "products of 2 and 5", ternary.read("0.1").decimal)
-        self.assertRaisesRegex(ValueError, "4300 digits", int, decimal.read("9" * 4301))
+        self.assertRaisesRegex(ValueError, r"\(4300", int, decimal.read("9" * 4301))
         self.assertEqual(int(Language.RUST_HEX_INTEGER.read("F" * 5000)), 16**5000 - 1)
         self.assertEqual(len(decimal.read("9" * 10**6).decimal().as_tuple().digits), 10**6)
         self.assertEqual(decimal.read("1e999999").fraction(), 10**999999)

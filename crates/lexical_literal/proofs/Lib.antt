@@ -4,6 +4,7 @@ mod ScanLemmas
 mod StepLemmas
 mod CutLemmas
 mod LiteralLemmas
+mod ConditionLemmas
 mod FrontLemmas
 mod LongestLemmas
 mod RoleLemmas
@@ -20,3 +21,4 @@ mod BlameLemmas
 mod PartOfLemmas
 mod OneCauseLemmas
 mod FormLemmas
+mod GroupLemmas
