@@ -6,25 +6,34 @@ use core::fmt::Display;
 use core::mem::ManuallyDrop;
 use core::ops::Range;
 use core::slice;
-use peltzivar::literal::{self, FormError, Language, Number, ReadErrorKind, Readers};
+use peltzivar::literal::{self, Conditions, FormError, Language, Number, ReadErrorKind, Readers};
 use peltzivar::{Error, Format, FormatError};
 
-/// A word with an exponent character and a decimal point, which may be refused. If both are 0, literals are integers.
+/// A word with an exponent character, a decimal point and conditions, which may be refused. If both are 0, literals are
+/// integers. A condition is 0 if there is none.
 #[repr(C)]
 pub struct Syntax {
     format: Word,
     exponent: u8,
     decimal_point: u8,
+    required_base_prefix: u8,
+    required_base_suffix: u8,
+    no_negative_mantissa_sign: u8,
 }
 
 impl Syntax {
     /// Returns the checked syntax.
     fn checked(&self) -> Result<literal::Syntax, FormatError> {
         let format = Format::new(self.format.number())?;
-        match (self.exponent, self.decimal_point) {
-            (0, 0) => Ok(literal::Syntax::integers(format)),
-            (exponent, point) => literal::Syntax::new(format, exponent, point),
-        }
+        let syntax = match (self.exponent, self.decimal_point) {
+            (0, 0) => literal::Syntax::integers(format),
+            (exponent, point) => literal::Syntax::new(format, exponent, point)?,
+        };
+        let conditions = Conditions::NONE
+            .required_base_prefix(self.required_base_prefix != 0)
+            .required_base_suffix(self.required_base_suffix != 0)
+            .no_negative_mantissa_sign(self.no_negative_mantissa_sign != 0);
+        Ok(syntax.with(conditions)?)
     }
 
     /// Returns the numbers of a syntax.
@@ -33,7 +42,15 @@ impl Syntax {
             (Some(exponent), Some(point)) => (exponent, point),
             _ => (0, 0),
         };
-        Syntax { format: Word::of(syntax.format().word()), exponent, decimal_point }
+        let conditions = syntax.conditions();
+        Syntax {
+            format: Word::of(syntax.format().word()),
+            exponent,
+            decimal_point,
+            required_base_prefix: conditions.required_base_prefix as u8,
+            required_base_suffix: conditions.required_base_suffix as u8,
+            no_negative_mantissa_sign: conditions.no_negative_mantissa_sign as u8,
+        }
     }
 }
 
@@ -174,6 +191,7 @@ pub struct Explanation {
     kind: u8,
     number: Setter,
     part: u8,
+    conditions: u8,
 }
 
 impl From<literal::ReadError> for Explanation {
@@ -187,6 +205,8 @@ impl From<literal::ReadError> for Explanation {
             _ => (0, None),
         };
         let (Range { start, end }, code, mask) = (error.span(), error.code(), error.mask());
+        let Conditions { required_base_prefix, required_base_suffix, no_negative_mantissa_sign, .. } = error.conditions();
+        let conditions = [required_base_prefix, required_base_suffix, no_negative_mantissa_sign];
         Explanation {
             span: Span { start, end },
             index: code.index().copied().unwrap_or(0),
@@ -195,6 +215,7 @@ impl From<literal::ReadError> for Explanation {
             kind,
             number: if mask == 0 { NO_SETTER } else { mask.trailing_zeros() as Setter },
             part: part.map_or(NO_PART, |part| part as u8),
+            conditions: conditions.iter().rev().fold(0, |bits, condition| bits << 1 | *condition as u8),
         }
     }
 }
