@@ -1,5 +1,5 @@
 /* The library, which runs as WebAssembly. All calls of library.rs are here. A word is a BigInt, and its flags and bytes
- * are read and written by bit arithmetic. */
+ * are read and written by bit arithmetic. A state is a word with the options. */
 "use strict";
 
 const HALF = (1n << 64n) - 1n;
@@ -28,9 +28,10 @@ class Library {
         this.standard = this.build([]).word;
     }
 
-    /* Returns a library from the bytes of its WebAssembly. */
+    /* Returns a library from its compressed WebAssembly. */
     static async load(bytes, data) {
-        const { instance } = await WebAssembly.instantiate(bytes, {});
+        const stream = new Blob([bytes]).stream().pipeThrough(new DecompressionStream("gzip"));
+        const { instance } = await WebAssembly.instantiate(await new Response(stream).arrayBuffer(), {});
         return new Library(instance.exports, data);
     }
 
@@ -51,8 +52,8 @@ class Library {
 
     /* Returns all about a state: whether the word is built, its error, normal form, reasons and notes, and why the options
      * do not fit. Reasons and notes have their text, the fields that they blame, the broken rules, and repaired states. */
-    explain({ word, exponent, point }) {
-        const answer = this.call("explain", "", word & HALF, word >> 64n, exponent, point);
+    explain(state) {
+        const answer = this.call("explain", "", ...passed(state));
         const named = ({ mask, options: own = [], repairs = [], ...it }) => {
             const fields = [...own, ...this.namesOf(BigInt(mask))];
             return { ...it, mask: BigInt(mask), fields, repairs: repairs.map(withWord) };
@@ -62,9 +63,14 @@ class Library {
     }
 
     /* Returns an object for each line of a text, as `numbers` of library.rs describes: none if the word is not lawful. */
-    numbers({ word, exponent, point }, text) {
-        const answers = this.call("numbers", text, word & HALF, word >> 64n, exponent, point);
+    numbers(state, text) {
+        const answers = this.call("numbers", text, ...passed(state));
         return answers.map((answer) => ({ ...answer, offers: answer.offers.map(withWord) }));
+    }
+
+    /* Returns texts that tell two states apart, as `differ` of library.rs describes. */
+    differ(state, other) {
+        return this.call("differ", "", ...passed(state), ...passed(other));
     }
 
     /* Returns {value}, or {error} if the setter does not take the text. A separator needs a flag that allows it. */
@@ -150,6 +156,18 @@ class Library {
         const { error, index, ...built } = this.build(settings);
         return error ? { error: `${settings[index]}: ${error}${error.endsWith("?") ? "" : "."}` } : { ...built, options };
     }
+}
+
+/* Returns the numbers by which a state is passed to the library. */
+function passed({ word, exponent, point }) {
+    return [word & HALF, word >> 64n, BigInt(exponent) | (BigInt(point) << 8n)];
+}
+
+/* Returns the value of a number, which the library computed, as text, or why it has none. */
+function valueText({ integer, float, unknown }) {
+    if (float === undefined) return integer ?? unknown;
+    const [value] = new Float64Array(BigUint64Array.of(BigInt(float)).buffer);
+    return Object.is(value, -0) ? "-0" : String(value);
 }
 
 /* Returns an answer with its word as a number. */

@@ -1,5 +1,6 @@
 //! The library for the page, as WebAssembly: calls of the crate `peltzivar`. A call reads a text from `INPUT`, writes
-//! its answer to `OUTPUT` as JSON, and returns how many bytes the answer has. A word has two halves of 64 bits.
+//! its answer to `OUTPUT` as JSON, and returns how many bytes the answer has. A state is passed as the low and the high half
+//! of its word, and as its options: the exponent character, and above it the decimal point.
 #![no_std]
 
 use core::fmt::{self, Display, Write};
@@ -8,8 +9,10 @@ use core::ops::Range;
 use peltzivar::edits::{apply, is_built, normal_form};
 use peltzivar::literal::Reader;
 use peltzivar::{Edit, Error, FormatView, NumberFormatBuilder, Reason, Rule};
+use examples::{Refused, Value, other_values, refused, value_of};
 use suggest::{Found, Line, SPECIALS, State, blamed_options, lines_of, offers, read, repairs};
 
+mod examples;
 mod suggest;
 
 const SIZE: usize = 1 << 18;
@@ -55,15 +58,21 @@ pub extern "C" fn build(length: usize) -> usize {
     })
 }
 
-/// Returns all that the page shows of a word and of an exponent character and a decimal point beside it.
+/// Returns a state that is passed.
+fn state_of(low: u64, high: u64, options: u64) -> State {
+    let [exponent, point, ..] = options.to_le_bytes();
+    State { word: u128::from(high) << 64 | u128::from(low), exponent, point }
+}
+
+/// Returns all that the page shows of a state.
 #[unsafe(no_mangle)]
-pub extern "C" fn explain(low: u64, high: u64, exponent: u8, point: u8) -> usize {
-    let word = u128::from(high) << 64 | u128::from(low);
+pub extern "C" fn explain(low: u64, high: u64, options: u64) -> usize {
+    let state = state_of(low, high, options);
+    let State { word, exponent, point } = state;
     let view = FormatView::new(word);
     answer(|out| {
         write!(out, r#"{{"normal":{},"isBuilt":{}"#, Word(normal_form(word)), is_built(word))?;
         write!(out, r#","error":{},"reasons":"#, Quoted(Failure(view.error())))?;
-        let state = State { word, exponent, point };
         list(out, view.reasons(), |out, reason| put_reason(out, state, reason))?;
         out.write_str(r#","options":"#)?;
         list(out, view.options_reasons(exponent, point), |out, reason| put_reason(out, state, reason))?;
@@ -97,13 +106,13 @@ fn put_state(out: &mut Answer, State { word, exponent, point }: State) -> fmt::R
     write!(out, r#"{{"word":{},"exponent":{exponent},"point":{point}"#, Word(word))
 }
 
-/// Returns an object for each of the lines: the parts of its number, or of the longest front of a refused text that is a
-/// number; why and where it is refused, with the flags to blame and the bytes to mark; and, if it is not as expected, the
+/// Returns an object for each of the lines: the value and the parts of its number, or the parts of the longest front of a
+/// refused text that is a number; why and where it is refused, with the flags to blame and the bytes to mark; and, if it is not as expected, the
 /// states that are offered, each with the same for the number in it and how many lines are as expected then. If the word
 /// is not lawful, returns an empty array.
 #[unsafe(no_mangle)]
-pub extern "C" fn numbers(low: u64, high: u64, exponent: u8, point: u8, length: usize) -> usize {
-    let (state, lines) = (State { word: u128::from(high) << 64 | u128::from(low), exponent, point }, text_of(length));
+pub extern "C" fn numbers(low: u64, high: u64, options: u64, length: usize) -> usize {
+    let (state, lines) = (state_of(low, high, options), text_of(length));
     answer(|out| match state.syntax().map(Reader::new) {
         Some(reader) => list(out, lines_of(lines), |out, line| put_line(out, state, &reader, lines, line)),
         None => out.write_str("[]"),
@@ -125,8 +134,13 @@ fn put_line(out: &mut Answer, state: State, reader: &Reader, lines: &[u8], line:
     out.write_str("}")
 }
 
-/// Writes the parts of a text, or of its longest front that is a number, and then why and where it is refused.
+/// Writes the value and the parts of a text, or the parts of its longest front that is a number, and why and where it is
+/// refused.
 fn put_reading(out: &mut Answer, reader: &Reader, text: &[u8]) -> fmt::Result {
+    if let Some(value) = value_of(reader, text) {
+        put_value(out, value)?;
+        out.write_str(",")?;
+    }
     out.write_str(r#""parts":"#)?;
     let put = |out: &mut Answer, (kind, bytes): (&str, &[u8])| {
         let size = bytes.len();
@@ -143,6 +157,45 @@ fn put_reading(out: &mut Answer, reader: &Reader, text: &[u8]) -> fmt::Result {
     let Err(error) = reader.read(text) else { return Ok(()) };
     let (mask, Range { start, end }) = (Word(error.mask()), error.span());
     write!(out, r#","error":{},"mask":{mask},"start":{start},"end":{end}"#, Quoted(error))
+}
+
+/// Writes an integer as digits, a float as the number of its bits, and why a number has no value.
+fn put_value(out: &mut Answer, value: Value) -> fmt::Result {
+    match value {
+        Value::Integer(is_negative, size) => write!(out, r#""integer":"{}{size}""#, if is_negative { "-" } else { "" }),
+        Value::Float(bits) => write!(out, r#""float":"{bits}""#),
+        Value::Unknown(error) => write!(out, r#""unknown":{}"#, Quoted(error)),
+    }
+}
+
+/// Returns texts that tell two states apart: `refused` has those that the other one refuses, for each of both, and `values`
+/// those of `text`, one to which they give other values. If a word is not lawful, returns an empty object.
+#[unsafe(no_mangle)]
+pub extern "C" fn differ(low: u64, high: u64, options: u64, other: u64, other_high: u64, other_options: u64) -> usize {
+    let states = [state_of(low, high, options), state_of(other, other_high, other_options)];
+    let [Some(first), Some(second)] = states.map(|it| it.syntax().map(Reader::new)) else {
+        return answer(|out| out.write_str("{}"));
+    };
+    answer(|out| {
+        out.write_str(r#"{"refused":["#)?;
+        list(out, refused(states[0], [&first, &second]), put_refused)?;
+        out.write_str(",")?;
+        list(out, refused(states[1], [&second, &first]), put_refused)?;
+        out.write_str("]")?;
+        if let Some((text, values)) = other_values(states[0], [&first, &second]) {
+            write!(out, r#","text":{},"values":"#, Quoted(text))?;
+            list(out, values.into_iter(), |out, value| {
+                out.write_str("{")?;
+                put_value(out, value)?;
+                out.write_str("}")
+            })?;
+        }
+        out.write_str("}")
+    })
+}
+
+fn put_refused(out: &mut Answer, (text, error): Refused) -> fmt::Result {
+    write!(out, r#"{{"text":{},"error":{}}}"#, Quoted(text), Quoted(error))
 }
 
 /// Writes an array, each item by a function.

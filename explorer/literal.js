@@ -15,14 +15,13 @@ const PARTS = {
     suffix: ["base", "base_suffix"],
     digit_separator: ["separator", "digit_separator"],
 };
-/* How many lines the field shows, how many of them are read, and how long a number is that has a value. */
-const [MOST_ROWS, MOST_LINES, MOST_VALUE] = [8, 100, 500];
+/* How many lines the field shows, and how many of them are read. */
+const [MOST_ROWS, MOST_LINES] = [8, 100];
 
 class Trial {
     constructor(library, { change }) {
         this.library = library;
         this.change = change;
-        this.keys = [];
         find("literal").addEventListener("input", ({ target }) => change({ numbers: target.value }, "literal"));
     }
 
@@ -46,10 +45,10 @@ class Trial {
             ...(lines.length && !this.answers.length ? ["not read, since the word is not lawful"] : []),
             ...(left ? [`${unread}: the page reads up to ${MOST_LINES} lines with ${MOST_TEXT / 1000} kB`] : []),
         ];
-        this.fill([
-            ...this.answers.map((answer) => ({ key: this.keyOf(answer), make: () => this.row(answer) })),
-            ...texts.map((text) => ({ key: text, make: () => element("li", { class: "bad" }, text) })),
-        ]);
+        const focused = document.activeElement.id;
+        const messages = texts.map((text) => element("li", { class: "unexpected" }, element("p", { class: "bad" }, text)));
+        find("read").replaceChildren(...this.answers.map((answer) => this.row(answer)), ...messages);
+        if (focused.startsWith("refuse-")) find(focused)?.focus();
         const expected = this.answers.filter(({ isExpected }) => isExpected).length;
         const count = this.answers.length ? `${expected} of ${this.answers.length} as expected` : "";
         const counts = [count, left ? unread : ""].filter(Boolean).join("; ");
@@ -67,31 +66,12 @@ class Trial {
                 const changes = differences.sort((a, b) => Number(!a.isByte) - Number(!b.isByte));
                 const count = answers.length > 1 ? `; ${offer.expected} of ${answers.length} as expected` : "";
                 const label = `set ${changes.map((it) => it.text).join(", ")}`;
-                const told = this.told({ ...offer, text, isRefused }, offer);
+                const told = this.told({ ...offer, text, isRefused });
                 return { ...offer, changes, label, then: `then ${text} is ${told}${count}` };
             });
             const isExpected = isRefused === Boolean(answer.error);
             return { ...answer, text, place: lines[index].place, isRefused, isExpected, offers: worded };
         });
-    }
-
-    /* Returns a text of all that a row shows. */
-    keyOf({ text, place, parts, start, end, offers, ...answer }) {
-        const told = this.told({ text, parts, start, ...answer });
-        const texts = offers.flatMap(({ label, then }) => [label, then]);
-        return [text, place, start, end, told, ...parts.flatMap(Object.values), ...texts].join("\n");
-    }
-
-    /* Shows the rows. Those that show the same as before stay. */
-    fill(rows) {
-        const list = find("read");
-        rows.forEach(({ key, make }, index) => {
-            if (key === this.keys[index]) return;
-            if (list.children[index]) list.children[index].replaceWith(make());
-            else list.append(make());
-        });
-        while (list.children.length > rows.length) list.lastElementChild.remove();
-        this.keys = rows.map(({ key }) => key);
     }
 
     row(answer) {
@@ -117,9 +97,9 @@ class Trial {
     }
 
     /* Returns what is told of a number in a state. */
-    told({ text, error, start, parts, isRefused }, state = this.state) {
+    told({ text, error, start, isRefused, ...answer }) {
         const where = start < text.length ? `at index ${start}` : "at the end";
-        const what = error ? `${where}: ${error}` : this.reading(state, text, parts);
+        const what = error ? `${where}: ${error}` : this.reading(answer);
         if (isRefused) return error ? `refused: ${what}` : `accepted as ${what}, but it must be refused`;
         return error ? what : `accepted: ${what}`;
     }
@@ -161,25 +141,13 @@ class Trial {
         return element("li", {}, button("use", label, use, { "data-field": fields }), then);
     }
 
-    /* Returns what a number is in a state, by its parts: its kind, and its value if that is not too large. */
-    reading({ word }, text, parts) {
-        let at = 0;
-        const piece = Object.fromEntries(parts.map(({ kind, size }) => [kind, text.slice(at, (at += size))]));
-        if (piece.special) return "special value";
-        const kind = piece.point || piece.exponent_character ? "float" : "integer";
-        if (text.length > MOST_VALUE) return kind;
-        const byte = (name) => this.library.effective(word, name);
-        const separator = String.fromCharCode(byte("digit_separator"));
-        const digits = (run = "") => [...run].filter((it) => it !== separator).map((it) => BigInt(parseInt(it, 36)));
-        const number = (all, radix) => all.reduce((sum, digit) => sum * BigInt(radix) + digit, 0n);
-        const [radix, base, fraction] = [byte("mantissa_radix"), byte("exponent_base"), digits(piece.fraction)];
-        const mantissa = number([...digits(piece.integer), ...fraction], radix);
-        const sign = piece.sign === "-" ? "-" : "";
-        if (kind === "integer") return `integer = ${sign}${mantissa}`;
-        const exponent = Number(`${piece.exponent_sign ?? ""}${number(digits(piece.exponent), byte("exponent_radix"))}`);
-        const scaled = () => Number(mantissa) * base ** exponent / radix ** fraction.length;
-        const value = radix === 10 && base === 10 ? Number(`${mantissa}e${exponent - fraction.length}`) : scaled();
-        return Number.isFinite(value) ? `float = ${sign}${value}` : "float";
+    /* Returns what a number is: its kind and its value. */
+    reading(answer) {
+        const { parts, unknown } = answer;
+        if (parts.some(({ kind }) => kind === "special")) return `special value = ${valueText(answer)}`;
+        const isFloat = parts.some(({ kind }) => kind === "point" || kind === "exponent_character");
+        const kind = isFloat ? "float" : "integer";
+        return unknown ? `${kind}: ${unknown}` : `${kind} = ${valueText(answer)}`;
     }
 
     /* Makes an accepted number of a line one that must be refused, or the other way round. */

@@ -1,5 +1,5 @@
-//! A recogniser of literals, written from docs/FORMAT.md alone, and the comparison of the reader with it. The recogniser
-//! tries all splits of a text into parts, all fronts of a text, and all flags.
+//! A recogniser of literals, written from docs/FORMAT.md and docs/EXPLANATIONS.md alone, and the comparison of the
+//! reader with it. The recogniser tries all splits of a text into parts, all fronts of a text, and all flags.
 //!
 //! `cargo test` compares a sample. To compare all texts, which takes ten minutes:
 //!
@@ -297,7 +297,7 @@ fn compare(word: u128, options: Option<(u8, u8)>, bytes: &[u8], longest: usize, 
 
 /// Compares the syntaxes of the languages, and random words with random options and without.
 fn compare_all(language_eighths: u64, words: usize, eighths: u64) {
-    for syntax in Language::ALL.iter().map(Language::syntax) {
+    for syntax in Language::ALL.iter().flat_map(Language::forms).map(|form| form.syntax) {
         let (word, options) = (syntax.format().word(), syntax.exponent().zip(syntax.point()));
         compare(word, options, &hostile_bytes(word, options)[..10], 6, true, language_eighths);
     }

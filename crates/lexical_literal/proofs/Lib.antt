@@ -19,3 +19,4 @@ mod JointLemmas
 mod BlameLemmas
 mod PartOfLemmas
 mod OneCauseLemmas
+mod FormLemmas

@@ -7,4 +7,5 @@ pub mod Readings
 pub mod Syntax
 pub mod Specials
 pub mod Cause
+pub mod Forms
 pub mod Additions

@@ -7,6 +7,7 @@
 
 pub mod cause;
 pub mod laws;
+pub mod list;
 pub mod number;
 pub mod read;
 mod span;

@@ -49,9 +49,9 @@ const COUNT: usize = Language::ALL.len();
 
 /// The readers of the languages.
 static READERS: [Reader; COUNT] = {
-    let (mut readers, mut index) = ([const { reader(Language::JSON.syntax()) }; COUNT], 0);
+    let (mut readers, mut index) = ([const { reader(Language::JSON.forms()[0].syntax) }; COUNT], 0);
     while index < COUNT {
-        readers[index] = reader(Language::ALL[index].syntax());
+        readers[index] = reader(Language::ALL[index].forms()[0].syntax);
         index += 1;
     }
     readers

@@ -65,7 +65,7 @@ impl<Shown, T, const WORDS: usize> Made<Shown, T, WORDS> {
     }
 
     /// Returns the value, or `None` if no call has made it.
-    fn value(&self) -> Option<&T> {
+    pub fn value(&self) -> Option<&T> {
         // SAFETY: with this number, `new` made the value, as the header requires.
         (self.magic == Self::MAGIC).then(|| unsafe { &*self.words.value })
     }
@@ -77,9 +77,13 @@ pub type Reader = Made<Syntax, literal::Reader, 508>;
 /// Where reading stopped, with the length of what is valid.
 pub type ReadError = Made<usize, Refusal, 12>;
 
+/// A literal, with its parts. It borrows its text.
+pub type Literal<'a> = Made<Parts, literal::Literal<'a>, 14>;
+
 // The sizes and the alignment in the header.
 const _: () = assert!(size_of::<Reader>() == 4096 && align_of::<Reader>() <= 16);
 const _: () = assert!(size_of::<ReadError>() == 112 && align_of::<ReadError>() <= 16);
+const _: () = assert!(size_of::<Literal>() == 288 && align_of::<Literal>() <= 16);
 
 /// Why a call refuses a text: a sentence on its other arguments, or where reading stopped.
 pub enum Refusal {
@@ -99,17 +103,18 @@ pub struct Span {
     end: usize,
 }
 
-/// The ranges of the parts of a literal, in the order of the text, and its length.
+/// The text of a literal, the ranges of its parts, in the order of the text, and its length.
 #[repr(C)]
-pub struct Literal {
+pub struct Parts {
+    text: *const u8,
     parts: [Span; 9],
     size: usize,
     is_float: bool,
 }
 
-impl From<literal::Literal<'_>> for Literal {
+impl<'a> From<literal::Literal<'a>> for Literal<'a> {
     #[inline(always)]
-    fn from(literal: literal::Literal<'_>) -> Literal {
+    fn from(literal: literal::Literal<'a>) -> Literal<'a> {
         let mut size = 0;
         let parts = [
             literal.sign(),
@@ -129,7 +134,7 @@ impl From<literal::Literal<'_>> for Literal {
         });
         // `is_float` is not inlined.
         let is_float = !literal.point().is_empty() || !literal.exponent_character().is_empty();
-        Literal { parts, size, is_float }
+        Made::new(Parts { text: literal.as_bytes().as_ptr(), parts, size, is_float }, literal)
     }
 }
 
@@ -173,20 +178,20 @@ impl From<literal::ReadError> for Explanation {
 /// # Safety
 ///
 /// As that of [`input`].
-pub unsafe fn given(
+pub unsafe fn given<'a>(
     reader: Option<&Reader>,
     text: *const u8,
     len: usize,
-) -> Result<(&literal::Reader, &[u8]), Refusal> {
+) -> Result<(&literal::Reader, &'a [u8]), Refusal> {
     let reader = reader.and_then(Reader::value).ok_or(Refusal::Argument("no call has made this reader"))?;
     Ok((reader, input(text, len).ok_or(Refusal::Argument("the text has more than PTRDIFF_MAX bytes"))?))
 }
 
 /// Writes what `read` returns for a text, and returns whether it is a literal.
-unsafe fn read_by<'a>(
-    (reader, text, len): (Option<&'a Reader>, *const u8, usize),
-    (literal, error): (Out<Literal>, Out<ReadError>),
-    read: impl Fn(&'a literal::Reader, &'a [u8]) -> Result<literal::Literal<'a>, literal::ReadError>,
+unsafe fn read_by<'r, 'a>(
+    (reader, text, len): (Option<&'r Reader>, *const u8, usize),
+    (literal, error): (Out<Literal<'a>>, Out<ReadError>),
+    read: impl Fn(&'r literal::Reader, &'a [u8]) -> Result<literal::Literal<'a>, literal::ReadError>,
 ) -> bool {
     let (valid_up_to, refusal) = match given(reader, text, len) {
         Err(refusal) => (0, refusal),
