@@ -1,6 +1,7 @@
 //! Literals: the texts that are numbers of a format, their parts, the calls that read them, and why a text is not one.
 //!
-//! A [`Syntax`] is a lawful format with an exponent character and a decimal point or, for integers alone, without both.
+//! A [`Syntax`] is a lawful format with an exponent character and a decimal point or, for integers alone, without both,
+//! and [`Conditions`].
 //! A [`Reader`] has tables of a syntax, and reads its literals. A [`Literal`] has the parts of a text and, if it is an
 //! integer, its value in any integer type of Rust. A [`ReadError`] finds the cause of a refusal, and the flags to blame.
 //! NaN and infinity are not literals: [`Specials`] reads them. [`Readers`] read numbers that have several forms, such as
@@ -55,6 +56,7 @@
 
 #[allow(clippy::redundant_pattern_matching, reason = "as it is proved")]
 mod cause;
+mod conditions;
 mod language;
 #[allow(clippy::len_zero, reason = "as it is proved")]
 mod list;
@@ -85,5 +87,5 @@ pub use number::{Digits, Literal};
 pub use read::Reader;
 pub use readers::{Number, Readers};
 pub use specials::{Sign, Special, Specials, Spelling};
-pub use syntax::Syntax;
+pub use syntax::{Conditions, ConditionsError, Syntax};
 pub use value::{FromLiteral, ParseError, ValueError, ValueErrorKind};

@@ -4,6 +4,7 @@ mod ScanLemmas
 mod StepLemmas
 mod CutLemmas
 mod LiteralLemmas
+mod ConditionLemmas
 mod FrontLemmas
 mod LongestLemmas
 mod RoleLemmas

@@ -195,7 +195,12 @@ macro_rules! integers {
             impl Sealed for $type {
                 #[inline]
                 fn from_plain(reader: &Reader, text: &[u8]) -> Option<$type> {
-                    plain_integer(reader.syntax.format().view(), text)
+                    let syntax = reader.syntax;
+                    if syntax.conditions().is_none() {
+                        plain_integer(syntax.format().view(), text)
+                    } else {
+                        None
+                    }
                 }
             }
 

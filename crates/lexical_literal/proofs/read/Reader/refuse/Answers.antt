@@ -23,7 +23,7 @@ returns c =
     let refused : allows m s (class_of_next m (slice_get c.args.text.now size)) ≡ false = rw c.self.view_is c.requires.refused in
     let is_ready = ready c.role_facts.ensures.disjoint c.role_facts.ensures.five c.role_facts.ensures.lawful g c.self.invariant.0 in
     let is_read : IsReadOf m s front = record {
-      decides = λ next A weaker. decided m A is_ready weaker front s scanned.read next;
+      decides = λ next A D weaker. decided m A D is_ready weaker front s scanned.read next;
       part = ends_in m is_ready.roles start front s scanned.read;
     } in
     let same = c.grammar-grammar.ensures.value in
