@@ -19,8 +19,8 @@ TOOLS = {
     "javac": Tool(["javac"], "javac --version", f"javac {JAVAC} -d {{work}} Scanner.java", f"java {JAVAC} -cp {{work}} Scanner"),
     "json": Tool(["node"], "echo JSON.parse of node $(node --version)", "", "node node.js json"),
     "kotlinc": Tool(["kotlinc"], "kotlinc -version 2>&1", "", f"{PYTHON} compilers.py kotlinc"),
-    "mcs": Tool(["mcs", MCS], "mcs --version", f"mcs -r:{MCS} -out:{{work}}/mcs.exe mcs.cs",
-                "env MONO_PATH=/usr/lib/mono/4.5 mono {work}/mcs.exe"),
+    "mcs": Tool(["mcs", MCS], "mcs --version", f"mcs -r:{MCS} -out:{{work}}/cs.exe mcs.cs",
+                "env MONO_PATH=/usr/lib/mono/4.5 mono {work}/cs.exe"),
     "nasm": Tool(["nasm"], "nasm --version", "", f"{PYTHON} compilers.py nasm"),
     "ocaml": Tool(["ocamlc"], "echo OCaml $(ocamlc -version)", f"cp ocaml.ml {{work}} && cd {{work}} && {OCAMLC} -o judge ocaml.ml",
                   "{work}/judge"),
@@ -40,7 +40,7 @@ Cause = collections.namedtuple("Cause", "mark pattern reason")
 
 
 def suffix(pattern):
-    return Cause("+", f"(?P<number>.+)({pattern})", "a suffix of a type")
+    return Cause("+", f"(?P<number>.+?)({pattern})", "a suffix of a type")
 
 
 RANGE = Cause("-", r".*[eEpP]\+?\d{3,}|.{10,}", "a number that the tool has no type for")
@@ -59,7 +59,7 @@ LANGUAGES = [
     Language("CSV_EN", "calc 1033", "0125.,-e", ",", "1,234.50 1,234,567.25 12,34 0.50", []),
     Language("C_PLUS_PLUS", "g++", "018.'exp-b", "'", "1u 1UL 1.0f 0x1p3L", [suffix("([uU]|ll?|LL?)+|[fFlL]"), RANGE]),
     Language("C_SHARP", "mcs", "018._exf-+b", "_", "1m 1f 1UL", [
-        suffix("[uU][lL]?|[lL][uU]?|[fFdDmM]"), *(Cause(mark, ".*_.*", "a fault of mcs with separators") for mark in "+-="), RANGE]),
+        suffix("[uUlL]+|[fFdDmM]"), *(Cause(mark, ".*_.*", "a fault of mcs with separators") for mark in "+-="), RANGE]),
     Language("FORTRAN", "gfortran", "019.edD-+_", "_", "1.0_8 1d3", [RANGE]),
     Language("GO", "go", "018._exp-+b", "_", "1i 0x1p3i", [
         suffix("i"), Cause("+", "0[oO]?[0-9_]+i", "digits of an imaginary number")]),
@@ -69,7 +69,8 @@ LANGUAGES = [
     Language("JAVASCRIPT", "v8", "018._exn-+b", "_", "1n 0b1n", [suffix("n")]),
     Language("JSON", "json", "012.eE+-x_", "_", "", []),
     Language("KOTLIN", "kotlinc", "01._exL-", "_", "1L 1f 1u 1uL", [suffix("[uU]?L|[uU]|[fF]"), RANGE]),
-    Language("NASM", "nasm", "01a._hxebd", "_", "0c8h 0c8x 17q 17o 10d 10t 101b 101y 0h1F 0y1 0q7 0t9 $0c8 0x1.8p3", []),
+    Language("NASM", "nasm", "01a._hxebd", "_", "0c8h 0c8x 17q 17o 10d 10t 101b 101y 0h1F 0y1 0q7 0t9 $0c8 0x1.8p3", [
+        Cause("+", r"\$.*", "the prefix $, or an address"), Cause("-", "[a-fA-F].*", "a name, which a letter begins")]),
     Language("OCAML", "ocaml", "018._exp-+b", "_", "1l 1n 1L 1z", [
         suffix("[g-zG-Z]"), Cause("+", r"[0-9][0-9_]*\._[_0-9eE+-]*[g-zG-Z]?", "a fraction of separators alone")]),
     Language("PYTHON", "ast", "018._exj-+b", "_", "1j 0j", [

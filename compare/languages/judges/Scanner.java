@@ -19,6 +19,10 @@ class Scanner {
     static String judge(String text) {
         var log = Log.instance(CONTEXT);
         log.nerrors = 0;
+        // Two errors at one place of a source are one.
+        log.useSource(new SimpleJavaFileObject(URI.create("text"), JavaFileObject.Kind.SOURCE) {
+            public CharSequence getCharContent(boolean ignores) { return ""; }
+        });
         var scanner = ScannerFactory.instance(CONTEXT).newScanner(text, false);
         scanner.nextToken();
         var token = scanner.token();
@@ -41,10 +45,6 @@ class Scanner {
     public static void main(String[] arguments) throws Exception {
         CONTEXT.put(Log.errKey, new PrintWriter(Writer.nullWriter()));
         JavacFileManager.preRegister(CONTEXT);
-        var file = new SimpleJavaFileObject(URI.create("text"), JavaFileObject.Kind.SOURCE) {
-            public CharSequence getCharContent(boolean ignores) { return ""; }
-        };
-        Log.instance(CONTEXT).useSource(file);
         var out = new PrintWriter(System.out);
         new BufferedReader(new InputStreamReader(System.in)).lines().forEach(text -> out.println(judge(text)));
         out.flush();

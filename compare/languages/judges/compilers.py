@@ -11,7 +11,8 @@ import tempfile
 
 # A compiler: its command and source; the text before all units, the unit of a number, in three lines, and the text after
 # all; the same of a program that prints each number in a line, or the type of numbers of an output without a program.
-Compiler = collections.namedtuple("Compiler", "command source head unit tail printing", defaults=[None])
+# A sign belongs to the number if `signed` is true.
+Compiler = collections.namedtuple("Compiler", "command source head unit tail printing signed", defaults=[None, False])
 GCC = "-pedantic-errors -fmax-errors=0 -fno-diagnostics-show-caret -fdiagnostics-column-unit=byte -o out"
 C = "", '_Static_assert(sizeof(\n{text}\n), "");\n', "int main(void) {}\n"
 PRINT_C = "#include <stdio.h>\nint main(void) {\n", 'printf("%a\\n", (double)({text}\n));\n', "}\n"
@@ -27,7 +28,8 @@ COMPILERS = {
     "gcc": [Compiler(f"gcc -std=c2x {GCC}", "a.c", *C, PRINT_C)],
     "g++": [Compiler(f"g++ -std=c++17 -D_Static_assert=static_assert {GCC}", "a.cc", *C, PRINT_C)],
     "gnat": [Compiler("gnatmake -f -q -o out -gnatf -gnatm999999 -gnatws", "a.adb", *ADA, PRINT_ADA)],
-    "gfortran": [Compiler(f"gfortran -std=f2018 -fdefault-real-8 -fdefault-double-8 {GCC}", "a.f90", *FORTRAN, PRINT_FORTRAN)],
+    "gfortran": [Compiler(f"gfortran -std=f2018 -fdefault-real-8 -fdefault-double-8 {GCC}", "a.f90", *FORTRAN, PRINT_FORTRAN,
+                          signed=True)],
     "nasm": [Compiler("nasm -f bin -o out", "a.asm", "bits 64\n", "mov rax, {text}\n\n\n", "", "q"),
              Compiler("nasm -f bin -o out", "a.asm", "bits 64\n", "mov rax, __float64__({text})\n\n\n", "", "d")],
     "rustc": [Compiler("rustc --error-format=short -o out", "a.rs", *RUST, PRINT_RUST)],
@@ -71,7 +73,8 @@ def values(it, folder, texts):
 def tokens(it, folder, texts):
     """Returns the indexes of the texts that are one token: with a blank, they are something else."""
     left = accepted(it, folder, texts)
-    split = [(i, f"{texts[i][:at]} {texts[i][at:]}") for i in left for at in range(1, len(texts[i]))]
+    first = {i: 2 if it.signed and texts[i][0] in "+-" else 1 for i in left}
+    split = [(i, f"{texts[i][:at]} {texts[i][at:]}") for i in left for at in range(first[i], len(texts[i]))]
     phrases = {split[i][0] for i in accepted(it, folder, [text for _, text in split])}
     return [i for i in left if i not in phrases]
 
