@@ -70,7 +70,10 @@ LANGUAGES = [
     Language("JSON", "json", "012.eE+-x_", "_", "", []),
     Language("KOTLIN", "kotlinc", "01._exL-", "_", "1L 1f 1u 1uL", [suffix("[uU]?L|[uU]|[fF]"), RANGE]),
     Language("NASM", "nasm", "01a._hxebd", "_", "0c8h 0c8x 17q 17o 10d 10t 101b 101y 0h1F 0y1 0q7 0t9 $0c8 0x1.8p3", [
-        Cause("+", r"\$.*", "the prefix $, or an address"), Cause("-", "[a-fA-F].*", "a name, which a letter begins")]),
+        Cause("+", r"\$.*", "the prefix $, or an address"), Cause("-", "[a-fA-F].*", "a name, which a letter begins"),
+        Cause("+", r"0[a-zA-Z][_.]*([eEpP][+-]?[0-9_]*)?", "no digits behind a prefix"),
+        Cause("+", ".*[pP][+-]_*", "a sign without an exponent"),
+        Cause("+", r".*(\._+([eEpP].*)?|[eEpP][+-]?_+)|0[a-zA-Z]_+\..*", "a part of separators alone")]),
     Language("OCAML", "ocaml", "018._exp-+b", "_", "1l 1n 1L 1z", [
         suffix("[g-zG-Z]"), Cause("+", r"[0-9][0-9_]*\._[_0-9eE+-]*[g-zG-Z]?", "a fraction of separators alone")]),
     Language("PYTHON", "ast", "018._exj-+b", "_", "1j 0j", [

@@ -19,7 +19,7 @@ PRINT_C = "#include <stdio.h>\nint main(void) {\n", 'printf("%a\\n", (double)({t
 ADA = "procedure A is\n", "Number{i} : constant :=\n{text}\n;\n", "begin\nnull;\nend A;\n"
 PRINT_ADA = ("with Ada.Text_IO;\nprocedure A is\nbegin\n",
              "Ada.Text_IO.Put_Line (Long_Long_Float'Image (Long_Long_Float ({text}\n)));\n", "end A;\n")
-FORTRAN = "", "data number{i} / &\n{text} &\n/\n", "end\n"
+FORTRAN = "", "data value{i} / &\n{text} &\n/\n", "end\n"
 PRINT_FORTRAN = "", "print '(ES25.17E3)', real({text})\n", "end\n"
 RUST = ("#![allow(overflowing_literals)]\nmacro_rules! number { ($x:literal) => { const _: f64 = $x as f64; } }\n",
         "number! {{\n{text}\n}}\n", "fn main() {}\n")

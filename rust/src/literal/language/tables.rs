@@ -43,10 +43,14 @@ const fn integers(radix: u8, builder: NumberFormatBuilder) -> Syntax {
     unsigned(Syntax::integers(builder.mantissa_radix(radix).build_format_or_panic()))
 }
 
-/// Returns the syntax of integers of a radix with a prefix, which is required: `0x1F` is accepted, and `1F` rejected.
-const fn prefixed(prefix: u8, radix: u8, builder: NumberFormatBuilder) -> Syntax {
-    let syntax = integers(radix, builder.base_prefix(NonZeroU8::new(prefix)));
+/// Returns the same syntax with its prefix required: `0x1F` is accepted, and `1F` rejected.
+const fn required_prefix(syntax: Syntax) -> Syntax {
     syntax.with_or_panic(syntax.conditions().required_base_prefix(true))
+}
+
+/// Returns the syntax of integers of a radix with a prefix, which is required.
+const fn prefixed(prefix: u8, radix: u8, builder: NumberFormatBuilder) -> Syntax {
+    required_prefix(integers(radix, builder.base_prefix(NonZeroU8::new(prefix))))
 }
 
 /// Returns the syntax of integers of a radix with a suffix, which is required: `1Fh` is accepted, and `1F` rejected.
@@ -60,8 +64,7 @@ const fn suffixed(suffix: u8, radix: u8, builder: NumberFormatBuilder) -> Syntax
 const fn binary_floats(prefix: u8, radix: u8, builder: NumberFormatBuilder) -> Syntax {
     let builder = builder.mantissa_radix(radix).base_prefix(NonZeroU8::new(prefix));
     let builder = builder.exponent_base(NonZeroU8::new(2)).exponent_radix(NonZeroU8::new(10));
-    let syntax = unsigned(numbers(b'p', b'.', builder));
-    syntax.with_or_panic(syntax.conditions().required_base_prefix(true))
+    required_prefix(unsigned(numbers(b'p', b'.', builder)))
 }
 
 /// Returns the same syntax with the sign `-`, which `unsigned` forbids: accepts `-1`.
@@ -98,20 +101,15 @@ const SPREADSHEET: NumberFormatBuilder = without_zeros(TOKENS)
     .no_exponent_notation(true) // rejects `1.5e3`
     .integer_internal_digit_separator(true); // accepts `1,234.50`, not `0.123,4`
 
-/// Numbers of NASM, in which `_` may be anywhere behind the first digit.
+/// Digits of NASM, in which `_` may be anywhere behind the first one.
 const NASM: NumberFormatBuilder = separated(b'_')
     .trailing_digit_separator(true) // accepts `1_h`
-    .consecutive_digit_separator(true); // accepts `1__0h`
+    .consecutive_digit_separator(true) // accepts `1__0h`
+    .fraction_leading_digit_separator(true) // accepts `1._5`
+    .exponent_leading_digit_separator(true); // accepts `1.e_5`
 
 /// Digits of NASM behind a prefix.
 const NASM_PREFIXED: NumberFormatBuilder = NASM.integer_leading_digit_separator(true); // accepts `0x_1`
-
-/// Floats of NASM behind a prefix.
-const NASM_FLOATS: NumberFormatBuilder = NASM_PREFIXED
-    .required_integer_digits(true) // rejects `0x.8`
-    .required_exponent_digits(false) // accepts `0x1p`
-    .fraction_leading_digit_separator(true) // accepts `0x1._8`
-    .exponent_leading_digit_separator(true); // accepts `0x1p_3`
 
 languages! {
     /// Ada's decimal literals (Reference Manual 2012, 2.4.1). A format cannot accept based literals, such as `16#FF#`, or
@@ -228,8 +226,6 @@ languages! {
         "decimal": decimal(NASM
             .required_integer_digits(true) // rejects `.5`, not `1.`
             .required_exponent_digits(false) // accepts `1e`
-            .fraction_leading_digit_separator(true) // accepts `1._5`
-            .exponent_leading_digit_separator(true) // accepts `1e_5`
         ),
         "decimal, d": suffixed(b'd', 10, NASM),
         "decimal, t": suffixed(b't', 10, NASM),
@@ -239,14 +235,20 @@ languages! {
         "octal, q": suffixed(b'q', 8, NASM),
         "binary, b": suffixed(b'b', 2, NASM),
         "binary, y": suffixed(b'y', 2, NASM),
-        "decimal, 0d": prefixed(b'd', 10, NASM_PREFIXED),
-        "decimal, 0t": prefixed(b't', 10, NASM_PREFIXED),
-        "hexadecimal, 0h": binary_floats(b'h', 16, NASM_FLOATS),
-        "hexadecimal, 0x": binary_floats(b'x', 16, NASM_FLOATS),
-        "octal, 0o": binary_floats(b'o', 8, NASM_FLOATS),
-        "octal, 0q": binary_floats(b'q', 8, NASM_FLOATS),
-        "binary, 0b": binary_floats(b'b', 2, NASM_FLOATS),
-        "binary, 0y": binary_floats(b'y', 2, NASM_FLOATS),
+        "decimal, 0d": required_prefix(decimal(NASM_PREFIXED
+            .base_prefix(NonZeroU8::new(b'd')) // accepts `0d1.5`
+            .required_exponent_digits(false) // accepts `0d1e`
+        )),
+        "decimal, 0t": required_prefix(decimal(NASM_PREFIXED
+            .base_prefix(NonZeroU8::new(b't')) // accepts `0t1.5`
+            .required_exponent_digits(false) // accepts `0t1e`
+        )),
+        "hexadecimal, 0h": binary_floats(b'h', 16, NASM_PREFIXED),
+        "hexadecimal, 0x": binary_floats(b'x', 16, NASM_PREFIXED),
+        "octal, 0o": binary_floats(b'o', 8, NASM_PREFIXED),
+        "octal, 0q": binary_floats(b'q', 8, NASM_PREFIXED),
+        "binary, 0b": binary_floats(b'b', 2, NASM_PREFIXED),
+        "binary, 0y": binary_floats(b'y', 2, NASM_PREFIXED),
     };
 
     /// OCaml's integers and floats (Manual 5.2, 11.1 Lexical conventions). A format cannot accept `1._`, whose fraction has a
