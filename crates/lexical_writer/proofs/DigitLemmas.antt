@@ -12,7 +12,9 @@ use Rattle.lexical_base.specs.Digits.{byte_value, digit_characters, digit_of}
 use Rattle.lexical_base.proofs.ValueLemmas.{byte_value-digit_character, digit_of-digit_character}
 use Rattle.lexical_literal.specs.Literal.{is_absent, is_present}
 use Rattle.lexical_number.specs.Number.{digits_in, number}
-use Rattle.lexical_writer.specs.Digits.{character, ends_group, grouped, or_zero, separated, without_zeros}
+use Rattle.lexical_writer.specs.Digits.{character, ends_group, grouped, or_zero, separated, values_of, without_zeros}
+use Rattle.lexical_writer.specs.declared.run.Source.{Source}
+use Rattle.lexical_writer.specs.declared.run.Source.TheVariants as sources
 
 -- What is left of the bytes at the index `i` begins with the digit, if there is one, of the byte there.
 pub step : (radix i : ℕ) (bytes : List ℕ) → i < length bytes
@@ -135,3 +137,8 @@ written_digits radix n start buffer two small within long is =
     let same : digits_in radix (take (128 - start) (drop start buffer)) ≡ digits =
     ap (digits_in radix) (whole ∙ is) ∙ characters_digits radix digits small (all_below_base_digits_of radix n two) in
     (omega (arith, length-drop start buffer, ap length is, length-map digits character, ap length same), same)
+
+-- The digits of a source are below the radix.
+pub source_below : (radix : ℕ) (source : Source) → 2 ≤ radix → AllBelowBase radix (values_of radix source)
+source_below radix (sources.Bytes bytes) two = digits_below radix bytes.now
+source_below radix (sources.Number n) two = all_below_base_digits_of radix n two

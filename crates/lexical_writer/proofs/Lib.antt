@@ -1,1 +1,3 @@
 mod DigitLemmas
+mod GroupLemmas
+mod LiteralLemmas

@@ -1,5 +1,6 @@
 -- How a number is laid out as a literal.
 use Rattle.std.specs.Prelude.{ℕ, ◌==◌, ◌&&◌, ◌||◌, not, Bool, true, false, if◌then◌else◌, List, [], ◌∷◌, Option, Some, None, is_some, option_to_list}
+use Rattle.std.specs.Borrow.{Bor}
 use Rattle.lexical_util.specs.Layout as layout
 use Rattle.lexical_util.specs.Record.{Record, raw, effective_exponent_radix}
 use Rattle.lexical_literal.specs.Literal.{Literal, is_absent, is_present}
@@ -52,16 +53,19 @@ exponent_byte None = 0
 exponent_byte (Some options) = options.exponent
 
 -- `fraction_digits radix fraction` lists the digits of `fraction`, if there is one.
-abbrev pub fraction_digits : ℕ → Amount → List ℕ
-fraction_digits radix amount = elim amount.fraction [ None ↦ [] | Some bytes ↦ digits_in radix bytes.now ]
+abbrev pub fraction_digits : ℕ → Option (Bor (List ℕ)) → List ℕ
+fraction_digits radix None = []
+fraction_digits radix (Some bytes) = digits_in radix bytes.now
 
--- `power_digits radix amount` lists the digits of the exponent of `amount`, if there is one.
-abbrev pub power_digits : ℕ → Amount → List ℕ
-power_digits radix amount = elim amount.exponent [ None ↦ [] | Some power ↦ values_of radix power.source ]
+-- `power_digits radix exponent` lists the digits of `exponent`, if there is one.
+abbrev pub power_digits : ℕ → Option Power → List ℕ
+power_digits radix None = []
+power_digits radix (Some power) = values_of radix power.source
 
--- `is_power_negative amount` is true if the exponent of `amount` is below 0.
-abbrev pub is_power_negative : Amount → Bool
-is_power_negative amount = elim amount.exponent [ None ↦ false | Some power ↦ power.negative ]
+-- `is_negative exponent` is true if `exponent` has a minus sign.
+abbrev pub is_negative : Option Power → Bool
+is_negative None = false
+is_negative (Some power) = power.negative
 
 -- `group_of r style` is the number of digits of a group, or 0 if there are no groups: where the format `r` does not allow
 -- a separator between digits, or has none.
@@ -81,7 +85,7 @@ has_point g amount = is_some amount.fraction || (has_exponent g amount && (raw g
 abbrev pub has_zero : Record → Amount → Bool
 has_zero r amount =
     let radix = r.byte layout.mantissa_radix in
-    r.flag layout.required_integer_digits || (is_present (values_of radix amount.integer) || is_absent (fraction_digits radix amount))
+    r.flag layout.required_integer_digits || (is_present (values_of radix amount.integer) || is_absent (fraction_digits radix amount.fraction))
 
 -- `laid_out g style amount` is the literal of `g` that is written for `amount`.
 abbrev pub laid_out : Grammar → Style → Amount → Literal
@@ -93,11 +97,11 @@ laid_out g style amount =
       prefix = after_zero (only_if (style.prefix && not (r.byte layout.base_prefix == 0)) (r.byte layout.base_prefix));
       integer = grouped (r.byte layout.digit_separator) (group_of r style) (or_zero (has_zero r amount) (without_zeros (values_of radix amount.integer)));
       point = option_to_list (only_if (has_point g amount) (point_byte g.options));
-      fraction = grouped 0 0 (or_zero (has_point g amount && r.flag layout.required_fraction_digits) (fraction_digits radix amount));
+      fraction = grouped 0 0 (or_zero (has_point g amount && r.flag layout.required_fraction_digits) (fraction_digits radix amount.fraction));
       exponent_character = option_to_list (only_if (has_exponent g amount) (exponent_byte g.options));
       exponent_sign =
-          if has_exponent g amount then option_to_list (sign_of (is_power_negative amount) (r.flag layout.required_exponent_sign)) else [];
-      exponent = grouped 0 0 (or_zero (has_exponent g amount) (without_zeros (power_digits (effective_exponent_radix r) amount)));
+          if has_exponent g amount then option_to_list (sign_of (is_negative amount.exponent) (r.flag layout.required_exponent_sign)) else [];
+      exponent = grouped 0 0 (or_zero (has_exponent g amount) (without_zeros (power_digits (effective_exponent_radix r) amount.exponent)));
       suffix = option_to_list (only_if (style.suffix && not (r.byte layout.base_suffix == 0)) (r.byte layout.base_suffix));
     }
 

@@ -8,7 +8,7 @@ ghost use Rattle.lexical_literal.specs.Literal.{is_present, text_of};
 ghost use Rattle.lexical_literal.specs.Notation.{lacks_options};
 ghost use Rattle.lexical_writer.specs.Digits.{grouped, or_zero, run_text, values_of, without_zeros};
 ghost use Rattle.lexical_writer.specs.Layout.{after_zero, exponent_byte, fraction_digits, group_of, has_exponent, has_point, has_zero};
-ghost use Rattle.lexical_writer.specs.Layout.{is_power_negative, laid_out, literal_of};
+ghost use Rattle.lexical_writer.specs.Layout.{is_negative, laid_out, literal_of};
 ghost use Rattle.lexical_writer.specs.Layout.{only_if, point_byte, power_digits, refusal, sign_of};
 ghost use Rattle.lexical_writer.specs.declared.layout.WriteErrorKind.TheVariants as errors;
 ghost use Rattle.lexical_writer.specs.Private.{IsTaken};
@@ -295,7 +295,7 @@ impl<'a> Amount<'a> {
     // Returns the fraction digits.
     fn fraction_run(&self, syntax: &Syntax, has_point: bool) -> Run<'a>
         ensures { run_text result ≡ grouped 0 0 (or_zero (has_point && (raw syntax.now.word).flag layout.required_fraction_digits)
-            (fraction_digits ((raw syntax.now.word).byte layout.mantissa_radix) self.now)) }
+            (fraction_digits ((raw syntax.now.word).byte layout.mantissa_radix) self.now.fraction)) }
     {
         let format = syntax.format().view();
         let zero = has_point && format.required_fraction_digits();
@@ -305,7 +305,7 @@ impl<'a> Amount<'a> {
     // Returns the exponent digits.
     fn exponent_run(&self, syntax: &Syntax, has_exponent: bool) -> Run<'a>
         ensures { run_text result ≡ grouped 0 0 (or_zero has_exponent
-            (without_zeros (power_digits (effective_exponent_radix (raw syntax.now.word)) self.now))) }
+            (without_zeros (power_digits (effective_exponent_radix (raw syntax.now.word)) self.now.exponent))) }
     {
         let radix = syntax.format().view().exponent_radix();
         let source = match self.exponent {
@@ -318,7 +318,7 @@ impl<'a> Amount<'a> {
     // Returns the sign of the exponent.
     fn exponent_sign(&self, syntax: &Syntax, has_exponent: bool) -> Option<u8>
         ensures { option_to_list result ≡ (if has_exponent
-            then option_to_list (sign_of (is_power_negative self.now) ((raw syntax.now.word).flag layout.required_exponent_sign)) else []) }
+            then option_to_list (sign_of (is_negative self.now.exponent) ((raw syntax.now.word).flag layout.required_exponent_sign)) else []) }
     {
         if !has_exponent {
             return None;
@@ -332,7 +332,7 @@ impl<'a> Amount<'a> {
 
     // Returns the fraction digits, if there are any.
     fn fraction_source(&self) -> Source<'a>
-        ensures { (radix : ℕ) → values_of radix result ≡ fraction_digits radix self.now }
+        ensures { (radix : ℕ) → values_of radix result ≡ fraction_digits radix self.now.fraction }
     {
         match self.fraction {
             Some(bytes) => Source::Bytes(bytes),
