@@ -1,3 +1,4 @@
 mod DigitLemmas
 mod GroupLemmas
 mod LiteralLemmas
+mod ValueLemmas

@@ -185,7 +185,7 @@ module _ (g : Grammar) (style : Style) (amount : Amount) (is : IsSyntax g)
       lt-ltb (byte_value (character d)) (radix_of (raw g.word) part) (omega (arith, byte_value-digit_character d (omega arith)))
 
   -- Where there are groups, the separator is allowed between digits, and is not a digit.
-  between : 0 < group_of (raw g.word) style → ((notation_of g).separator ((raw g.word).byte layout.digit_separator) ≡ true)
+  pub between : 0 < group_of (raw g.word) style → ((notation_of g).separator ((raw g.word).byte layout.digit_separator) ≡ true)
       × ((raw g.word).flag layout.integer_internal_digit_separator ≡ true) × ((notation_of g).digit parts.Integer ((raw g.word).byte layout.digit_separator) ≡ false)
   between some =
       let separator = (raw g.word).byte layout.digit_separator in
@@ -203,17 +203,17 @@ module _ (g : Grammar) (style : Style) (amount : Amount) (is : IsSyntax g)
       no_digit true below used = absurd (apart _ (grind (arith, nat_tests)) used)
       no_digit false below used = refl
 
-  some_radix : (part : Part) → 0 < radix_of (raw g.word) part
+  pub some_radix : (part : Part) → 0 < radix_of (raw g.word) part
   some_radix part = omega (arith, (radixes g.word is.lawful part).0)
 
   -- The digits of each part.
-  integer_below : AllBelowBase radix (values_of radix amount.integer)
+  pub integer_below : AllBelowBase radix (values_of radix amount.integer)
   integer_below = source_below radix amount.integer (radixes g.word is.lawful parts.Integer).0
 
-  fraction_below : AllBelowBase radix (fraction_digits radix amount.fraction)
+  pub fraction_below : AllBelowBase radix (fraction_digits radix amount.fraction)
   fraction_below = option_below radix amount.fraction
 
-  power_below : AllBelowBase (effective_exponent_radix (raw g.word)) (power_digits (effective_exponent_radix (raw g.word)) amount.exponent)
+  pub power_below : AllBelowBase (effective_exponent_radix (raw g.word)) (power_digits (effective_exponent_radix (raw g.word)) amount.exponent)
   power_below = power_is_below (effective_exponent_radix (raw g.word)) amount.exponent (radixes g.word is.lawful parts.Exponent).0
 
   -- Some digits are there.

@@ -1,5 +1,5 @@
 -- How a number is laid out as a literal.
-use Rattle.std.specs.Prelude.{ℕ, ◌==◌, ◌&&◌, ◌||◌, not, Bool, true, false, if◌then◌else◌, List, [], ◌∷◌, Option, Some, None, is_some, option_to_list}
+use Rattle.std.specs.Prelude.{ℕ, ◌≡◌, ◌<◌, ℤ, ◌==◌, ◌&&◌, ◌||◌, not, Bool, true, false, if◌then◌else◌, List, [], ◌∷◌, Option, Some, None, Result, Ok, Err, is_some, option_to_list}
 use Rattle.std.specs.Borrow.{Bor}
 use Rattle.lexical_util.specs.Layout as layout
 use Rattle.lexical_util.specs.Record.{Record, raw, effective_exponent_radix}
@@ -8,11 +8,13 @@ use Rattle.lexical_literal.specs.Notation.{lacks_options}
 use Rattle.lexical_literal.specs.declared.syntax.Grammar.{Grammar}
 use Rattle.lexical_literal.specs.declared.syntax.Options.{Options}
 use Rattle.lexical_number.specs.Number.{digits_in}
+use Rattle.lexical_number.specs.Numeral.{with_sign}
 use Rattle.lexical_writer.specs.Digits.{grouped, or_zero, run_text, values_of, without_zeros}
 use Rattle.lexical_writer.specs.declared.layout.Amount.{Amount}
 use Rattle.lexical_writer.specs.declared.layout.Layout.{Layout}
 use Rattle.lexical_writer.specs.declared.layout.Power.{Power}
 use Rattle.lexical_writer.specs.declared.layout.Style.{Style}
+use Rattle.lexical_writer.specs.declared.run.Source.TheVariants as sources
 use Rattle.lexical_writer.specs.declared.layout.WriteErrorKind.{WriteErrorKind}
 use Rattle.lexical_writer.specs.declared.layout.WriteErrorKind.TheVariants as errors
 
@@ -110,3 +112,20 @@ abbrev pub refusal : Grammar → Amount → Option WriteErrorKind
 refusal g amount =
     if lacks_options g.options && is_some amount.fraction then Some errors.Fraction
     else (if (lacks_options g.options || (raw g.word).flag layout.no_exponent_notation) && is_some amount.exponent then Some errors.Exponent else None)
+
+-- `IsLaidOut g style amount result` holds if `result` is what is written for `amount`, or why it cannot be written.
+abbrev pub IsLaidOut : Grammar → Style → Amount → Result Layout WriteErrorKind → Type 0
+IsLaidOut g style amount (Ok layout) = (refusal g amount ≡ None) × (literal_of layout ≡ laid_out g style amount)
+IsLaidOut g style amount (Err error) = refusal g amount ≡ Some error
+
+-- `whole negative size` is the integer `size`, or `-size` if `negative` is true.
+abbrev pub whole : Bool → ℕ → Amount
+whole negative size = record { negative = negative; integer = sources.Number size; fraction = None; exponent = None }
+
+-- `IsWhole g style z l` holds if `l` is what is written for the integer `z`, with a minus sign only below 0.
+pub record IsWhole (g : Grammar) (style : Style) (z : ℤ) (l : Literal) : Type 0 where
+  pub negative : Bool
+  pub size : ℕ
+  pub value : with_sign negative size ≡ z
+  pub minus : negative ≡ true → 0 < size
+  pub parts : l ≡ laid_out g style (whole negative size)

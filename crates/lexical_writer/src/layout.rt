@@ -1,14 +1,15 @@
 //! Numbers are laid out as literals.
 
-ghost use Rattle.std.specs.Prelude.{◌≡◌, ◌++◌, ◌≤◌, ◌==◌, ◌&&◌, not, if◌then◌else◌, [], ℕ, List, MatchResult, None, Some, option_to_list};
+ghost use Rattle.std.specs.Prelude.{◌≡◌, ◌++◌, ◌≤◌, ◌==◌, ◌&&◌, not, if◌then◌else◌, [], ℕ, IfOk, List, None, Some, option_to_list};
 ghost use Rattle.lexical_util.specs.Layout as layout;
 ghost use Rattle.lexical_util.specs.Record.{raw, effective_exponent_radix};
 ghost use Rattle.lexical_util.specs.Rules.{IsRadix, Lawful};
-ghost use Rattle.lexical_literal.specs.Literal.{is_present, text_of};
-ghost use Rattle.lexical_literal.specs.Notation.{lacks_options};
+ghost use Rattle.lexical_literal.specs.Literal.{IsLiteral, is_present, text_of};
+ghost use Rattle.lexical_literal.specs.Notation.{lacks_options, notation_of};
+ghost use Rattle.lexical_literal.specs.Syntax.{IsSyntax};
 ghost use Rattle.lexical_writer.specs.Digits.{grouped, or_zero, run_text, values_of, without_zeros};
 ghost use Rattle.lexical_writer.specs.Layout.{after_zero, exponent_byte, fraction_digits, group_of, has_exponent, has_point, has_zero};
-ghost use Rattle.lexical_writer.specs.Layout.{is_negative, laid_out, literal_of};
+ghost use Rattle.lexical_writer.specs.Layout.{IsLaidOut, is_negative, laid_out, literal_of};
 ghost use Rattle.lexical_writer.specs.Layout.{only_if, point_byte, power_digits, refusal, sign_of};
 ghost use Rattle.lexical_writer.specs.declared.layout.WriteErrorKind.TheVariants as errors;
 ghost use Rattle.lexical_writer.specs.Private.{IsTaken};
@@ -18,6 +19,8 @@ use crate::run::{Run, Source};
 use crate::sink::{Sink, Window};
 use lexical_literal::syntax::{Options, Syntax};
 use lexical_util::format::{NumberFormat, base_prefix, base_suffix, digit_separator};
+use lexical_util::laws::byte_facts;
+use lexical_util::laws::flags::role_facts;
 
 /// How numbers are written where a syntax leaves a choice.
 #[derive(Debug, Clone, Copy, PartialEq, Eq, Hash)]
@@ -215,14 +218,24 @@ impl<'a> Amount<'a> {
     ///
     /// If no literal has this form, returns why.
     pub fn lay_out(&self, syntax: &Syntax, style: Style) -> Result<Layout<'a>, WriteErrorKind>
-        ensures { MatchResult result
-            (λ layout. (refusal syntax.now self.now ≡ None) × (literal_of layout ≡ laid_out syntax.now style self.now))
-            (λ error. refusal syntax.now self.now ≡ Some error) }
+        ensures parts { IsLaidOut syntax.now style self.now result }
+        ensures literal { IfOk result (λ layout. IsLiteral (notation_of syntax.now) (literal_of layout)) }
+        ensures lawful { IsSyntax syntax.now }
     {
+        role_facts();
+        byte_facts();
+        self.plan(syntax, style)
+    }
+
+    // Returns the parts of the literal.
+    fn plan(&self, syntax: &Syntax, style: Style) -> Result<Layout<'a>, WriteErrorKind>
+        ensures lawful { IsSyntax syntax.now }
+        ensures parts { IsLaidOut syntax.now style self.now result }
+    {
+        let format = syntax.format().view();
         if let Some(refusal) = self.refusal(syntax) {
             return Err(refusal);
         }
-        let format = syntax.format().view();
         let options = syntax.options();
         let has_exponent = self.has_exponent(syntax);
         let has_point = self.has_point(syntax);

@@ -5,6 +5,7 @@
 #![tactic(auto)]
 
 pub mod digits;
+pub mod integer;
 pub mod layout;
 pub mod run;
 pub mod sink;
