@@ -1,7 +1,7 @@
 -- Digits and their characters, without leading zeros and in groups.
-use Rattle.std.proofs.Common.{ℕ, ◌≡◌, ◌+◌, ◌*◌, ◌<◌, ◌≤◌, ◌==◌, ◌&&◌, Bool, true, false, cond, nat_lt, List, [], ◌∷◌, ◌++◌, length, drop, get_or}
-use Rattle.std.proofs.Common.{◌-◌, ◌/◌, ◌%◌, ◌^◌, map, set, take, slice_get, Option, Some, None, refl, sym, ap, ◌∙◌, subst, arith, drop-cons, zero, suc, append-nil}
-use Rattle.std.proofs.lemmas.Int.Digits.{all_below_base_digits_of, digits_of_step, first_digits_of, length-digits_of-le, length-digits_of_step}
+use Rattle.std.proofs.Common.{ℕ, ◌≡◌, ◌+◌, ◌*◌, ◌<◌, ◌≤◌, ◌==◌, Bool, true, false, cond, nat_lt, List, [], ◌∷◌, ◌++◌, length, drop, get_or}
+use Rattle.std.proofs.Common.{◌-◌, ◌/◌, ◌%◌, ◌^◌, map, set, take, slice_get, Some, None, refl, sym, ap, ◌∙◌, arith, drop-cons, zero, suc}
+use Rattle.std.proofs.lemmas.Int.Digits.{all_below_base_digits_of, digits_of_step, first_digits_of, length-digits_of_step}
 use Rattle.std.proofs.lemmas.List.{append_assoc, drop-set, length-drop, length-map, map_push, take_all}
 use Rattle.std.proofs.lemmas.Bool.Decides.{nat_tests}
 use Rattle.std.proofs.Math.Nat.{pow-le-pow_left}
@@ -9,9 +9,9 @@ use Rattle.std.proofs.lemmas.Option.{get_or_from_slice_get}
 use Rattle.std.specs.Int.Digits.{AllBelowBase, digits_of, number_from_digits, number_from_digits_after}
 use Rattle.std.specs.List.{cons_option}
 use Rattle.lexical_base.specs.Digits.{byte_value, digit_characters, digit_of}
-use Rattle.lexical_base.proofs.ValueLemmas.{byte_value-digit_character, digit_of-digit_character}
-use Rattle.lexical_literal.specs.Literal.{is_absent, is_present}
-use Rattle.lexical_number.specs.Number.{digits_in, number}
+use Rattle.lexical_base.proofs.ValueLemmas.{digit_of-digit_character}
+use Rattle.lexical_literal.specs.Literal.{is_present}
+use Rattle.lexical_number.specs.Number.{digits_in}
 use Rattle.lexical_writer.specs.Digits.{character, ends_group, grouped, or_zero, separated, values_of, without_zeros}
 use Rattle.lexical_writer.specs.declared.run.Source.{Source}
 use Rattle.lexical_writer.specs.declared.run.Source.TheVariants as sources

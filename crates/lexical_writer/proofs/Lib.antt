@@ -2,3 +2,4 @@ mod DigitLemmas
 mod GroupLemmas
 mod LiteralLemmas
 mod ValueLemmas
+mod ConversionLemmas

@@ -1,7 +1,7 @@
 -- What is laid out is a literal.
-use Rattle.std.proofs.Common.{ℕ, ◌≡◌, ◌<◌, ◌≤◌, ◌==◌, ◌&&◌, ◌||◌, not, if◌then◌else◌, Bool, true, false, nat_lt, IsTrue, IsFalse, List, [], ◌∷◌}
+use Rattle.std.proofs.Common.{ℕ, ◌≡◌, ◌<◌, ◌≤◌, ◌==◌, ◌&&◌, ◌||◌, not, if◌then◌else◌, Bool, true, false, nat_lt, IsTrue, List, []}
 use Rattle.std.proofs.Common.{Option, Some, None, is_some, option_to_list, refl, sym, ap, ◌∙◌, arith}
-use Rattle.std.proofs.lemmas.Bool.{and_right, false≢true, lt-ltb, or_left, or_parts, or_right}
+use Rattle.std.proofs.lemmas.Bool.{and_right, false≢true, lt-ltb, or_left, or_right}
 use Rattle.std.proofs.lemmas.Bool.Decides.{nat_tests}
 use Rattle.std.specs.Borrow.{Bor}
 use Rattle.std.specs.Int.Digits.{AllBelowBase}
@@ -10,16 +10,14 @@ use Rattle.lexical_util.specs.Digits.{byte_value}
 use Rattle.lexical_util.specs.Layout as layout
 use Rattle.lexical_util.specs.Layout.{Flag}
 use Rattle.lexical_util.specs.Options.{OptionsFit, OptionsHaveOneRole}
-use Rattle.lexical_util.specs.Record.{raw, effective_exponent_radix, separator_allowed}
+use Rattle.lexical_util.specs.Record.{raw, effective_exponent_radix}
 use Rattle.lexical_util.specs.Roles as sets
-use Rattle.lexical_util.specs.Rules.{LawfulParts}
 use Rattle.lexical_util.specs.Unfoldable.{cased, Lawful, Holds}
 use Rattle.lexical_util.specs.declared.format_flags.Part.{Part}
 use Rattle.lexical_util.specs.declared.format_flags.Part.TheVariants as parts
 use Rattle.lexical_base.proofs.ValueLemmas.{byte_value-digit_character}
 use Rattle.lexical_literal.specs.Literal.{IsLiteral, has_leading_zero, is_absent, is_none_or_one, is_none_or_prefix, is_plus, is_present, requirement}
 use Rattle.lexical_literal.specs.Notation.{lacks_options, notation_of, point_of, exponent_character_of, radix_of}
-use Rattle.lexical_literal.specs.Run.{is_run}
 use Rattle.lexical_literal.specs.Syntax.{IsSyntax, FitIfAny}
 use Rattle.lexical_literal.specs.declared.syntax.Grammar.{Grammar}
 use Rattle.lexical_literal.specs.declared.syntax.Options.{Options}

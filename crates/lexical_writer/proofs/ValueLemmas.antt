@@ -1,7 +1,7 @@
 -- The value of what is laid out.
-use Rattle.std.proofs.Common.{ℕ, ℤ, ◌≡◌, ◌<◌, ◌≤◌, Bool, true, false, cond, if◌then◌else◌, not, ◌&&◌, ◌||◌, nat_lt, IsTrue, IsFalse, List, [], ◌∷◌, Some, None, Result, Ok, Err, IsOk, IfOk, IfErr, option_to_list, refl, subst, sym, ap, ◌∙◌, arith}
+use Rattle.std.proofs.Common.{ℕ, ℤ, ◌≡◌, ◌<◌, Bool, true, false, cond, if◌then◌else◌, not, ◌&&◌, ◌||◌, nat_lt, IsTrue, IsFalse, Some, None, Result, Ok, Err, IsOk, IfOk, IfErr, option_to_list, refl, subst, sym, ap, ◌∙◌, arith}
 use Rattle.std.proofs.lemmas.Int.Digits.{number_digits_of}
-use Rattle.std.specs.Int.Digits.{digits_of, number_from_digits}
+use Rattle.std.specs.Int.Digits.{number_from_digits}
 use Rattle.lexical_util.specs.Digits.{byte_value, digit_of}
 use Rattle.lexical_util.specs.Layout as layout
 use Rattle.lexical_util.specs.Options.{OptionsFit, OptionsHaveOneRole}
@@ -10,15 +10,15 @@ use Rattle.lexical_util.specs.Roles as sets
 use Rattle.lexical_util.specs.Unfoldable.{Lawful}
 use Rattle.lexical_util.specs.declared.format_flags.Part.TheVariants as parts
 use Rattle.lexical_literal.specs.Additions.Summary.{needs_exponent}
-use Rattle.lexical_literal.specs.Literal.{is_float, is_present}
-use Rattle.lexical_literal.specs.Notation.{lacks_options, notation_of, radix_of}
+use Rattle.lexical_literal.specs.Literal.{is_present}
+use Rattle.lexical_literal.specs.Notation.{lacks_options, notation_of}
 use Rattle.lexical_literal.specs.Syntax.{IsSyntax}
 use Rattle.lexical_literal.specs.declared.syntax.Grammar.{Grammar}
-use Rattle.lexical_number.specs.Number.{digits_in, number}
+use Rattle.lexical_number.specs.Number.{number}
 use Rattle.lexical_number.specs.Numeral.{with_sign}
 use Rattle.lexical_value.specs.Integer.{IsInteger}
 use Rattle.lexical_value.specs.Value.{is_minus}
-use Rattle.lexical_writer.specs.Digits.{grouped, or_zero, values_of, without_zeros}
+use Rattle.lexical_writer.specs.Digits.{or_zero, values_of, without_zeros}
 use Rattle.lexical_writer.specs.Layout.{IsLaidOut, IsWhole, exponent_byte, group_of, has_zero, laid_out, literal_of, only_if, point_byte, refusal, sign_of, whole}
 use Rattle.lexical_writer.specs.declared.layout.Amount.{Amount}
 use Rattle.lexical_writer.specs.declared.layout.Style.{Style}

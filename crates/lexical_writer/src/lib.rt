@@ -7,6 +7,7 @@
 pub mod digits;
 pub mod integer;
 pub mod layout;
+pub mod literal;
 pub mod run;
 pub mod sink;
 

@@ -1,5 +1,5 @@
 -- A separator follows where a group ends.
-use Rattle.std.proofs.Common.{◌++◌, ◌∷◌, ◌∙◌, [], sym, ap, subst, cond}
+use Rattle.std.proofs.Common.{◌++◌, ◌∷◌, ◌∙◌, [], sym, subst, cond}
 use Rattle.std.proofs.lemmas.List.{append_assoc}
 use Rattle.std.proofs.lemmas.Option.{get_or_from_slice_get}
 use Rattle.lexical_base.specs.Digits.{digit_characters}

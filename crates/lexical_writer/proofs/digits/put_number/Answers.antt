@@ -1,5 +1,5 @@
 -- One more digit is written before those that have been written.
-use Rattle.std.proofs.Common.{◌∙◌, ◌^◌, ◌<◌, ◌≤◌, length, map, ap, ◌++◌, append-nil, arith}
+use Rattle.std.proofs.Common.{◌∙◌, ◌<◌, ◌≤◌, length, map, ap, ◌++◌, append-nil, arith}
 use Rattle.std.proofs.lemmas.Int.Digits.{length-digits_of-le}
 use Rattle.std.proofs.lemmas.List.{drop_all}
 use Rattle.std.specs.Int.Digits.{digits_of}

@@ -1,8 +1,5 @@
 -- The text is all that the buffer has taken.
-use Rattle.std.proofs.Common.{length, [], refl, sym, arith}
-use Rattle.lexical_literal.specs.Literal.{text_of}
-use Rattle.lexical_writer.specs.Layout.{literal_of}
-use Rattle.lexical_writer.specs.Private.{Takes}
+use Rattle.std.proofs.Common.{[], refl}
 use Rattle.lexical_writer.proofs.layout.Layout.fill.Goals as goal
 
 pub returns-clause-same : goal.returns-clause-same

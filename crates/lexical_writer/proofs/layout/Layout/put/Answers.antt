@@ -1,8 +1,5 @@
 -- The parts are written one after the other.
-use Rattle.std.proofs.Common.{◌++◌, List, ℕ, subst}
 use Rattle.std.proofs.lemmas.List.{append_assoc}
-use Rattle.lexical_literal.specs.Literal.{text_of}
-use Rattle.lexical_writer.specs.Layout.{literal_of}
 use Rattle.lexical_writer.proofs.layout.Layout.put.Goals as goal
 
 pub returns : goal.returns

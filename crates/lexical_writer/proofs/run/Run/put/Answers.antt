@@ -1,11 +1,7 @@
 -- The digits of a number are written to a buffer first.
-use Rattle.std.proofs.Common.{◌≡◌, ◌-◌, ◌++◌, ◌∙◌, ap, sym, subst, length, take, drop, List, ℕ, arith}
-use Rattle.std.proofs.lemmas.Int.Digits.{all_below_base_digits_of}
-use Rattle.std.proofs.lemmas.List.{length-drop, take_all}
-use Rattle.std.specs.Int.Digits.{digits_of}
-use Rattle.lexical_number.specs.Number.{digits_in}
+use Rattle.std.proofs.Common.{◌++◌, ◌∙◌, ap, sym, subst, arith}
 use Rattle.lexical_writer.specs.Digits.{grouped, or_zero, values_of}
-use Rattle.lexical_writer.proofs.DigitLemmas.{characters_digits, written_digits}
+use Rattle.lexical_writer.proofs.DigitLemmas.{written_digits}
 use Rattle.lexical_writer.proofs.run.Run.put.Goals as goal
 
 pub put_or_zero-requires-in-Number : goal.put_or_zero-requires-in-Number
