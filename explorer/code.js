@@ -1,4 +1,9 @@
-/* The code that builds a word, to be copied. The options of a parser follow as a comment. */
+/* The code that makes a reader of a state, to be copied. If there is no reader, it has the word alone, and says why. */
+
+/* Returns a byte as a character of Rust or C. */
+function character(byte, prefix) {
+    return quoted(byte, prefix).replace(/'(['\\])'/, "'\\$1'");
+}
 
 class Code {
     constructor(library) {
@@ -12,46 +17,81 @@ class Code {
         });
     }
 
-    /* Returns the lines of the comment on a state. */
-    comment({ word, exponent, point }) {
-        const options = `A parser's exponent character is ${quoted(exponent, "")}, and its decimal point ${quoted(point, "")}.`;
-        return [wordText(word), exponent || point ? options : "A parser reads integers alone."];
+    /* Returns why a state has no reader: the first reason, or an empty text. */
+    problem({ reasons, options }) {
+        const [first] = [...reasons, ...options];
+        return first ? `There is no reader: ${first.text}.` : "";
     }
 
-    rust(state, { isBuilt, error }) {
-        const calls = this.edits(state.word).map(({ name, isByte, isNumber, value }) => {
-            const byte = isNumber || "'\\".includes(String.fromCharCode(value)) ? String(value) : quoted(value, "b");
+    rust({ word, exponent, point }, shown) {
+        const problem = this.problem(shown);
+        if (problem) return `// ${problem}\npub const WORD: u128 = ${wordText(word)};\n`;
+        const calls = this.edits(word).map(({ name, isByte, isNumber, value }) => {
+            const byte = isNumber ? String(value) : character(value, "b");
             const optional = value ? `NonZeroU8::new(${byte})` : "None";
             return `    .${name}(${!isByte ? Boolean(value) : name === "mantissa_radix" ? byte : optional})\n`;
         });
-        const uses = calls.some((call) => call.includes("NonZeroU8")) ? "use core::num::NonZeroU8;\n" : "";
-        const lines = this.comment(state);
-        if (error) lines.push("The word is not lawful, so `build_or_panic` would not compile.");
-        const comment = lines.map((line) => `/// ${line}\n`).join("");
-        if (!isBuilt) return `/// No builder makes this word.\n${comment}const FORMAT: u128 = ${wordText(state.word)};\n`;
-        const build = error ? "build_unchecked" : "build_or_panic";
-        const value = `NumberFormatBuilder::new()\n${calls.join("")}    .${build}();\n`;
-        return `${uses}use peltzivar::format::NumberFormatBuilder;\n\n${comment}const FORMAT: u128 = ${value}`;
+        const isFloat = exponent || point;
+        const build = `NumberFormatBuilder::new()\n${calls.join("")}    .build_format_or_panic()`;
+        const format = shown.isBuilt ? build : `Format::of::<${wordText(word)}>()`;
+        const options = [exponent, point].map((it) => character(it, "b")).join(", ");
+        const syntax = isFloat ? `Syntax::new_or_panic(FORMAT, ${options})` : "Syntax::integers(FORMAT)";
+        return [
+            ...(calls.some((call) => shown.isBuilt && call.includes("NonZeroU8")) ? ["use core::num::NonZeroU8;"] : []),
+            "use peltzivar::literal::{ParseError, Reader, Syntax};",
+            `use peltzivar::${shown.isBuilt ? "{Format, NumberFormatBuilder}" : "Format"};`,
+            "",
+            `/// ${wordText(word)}`,
+            `pub const FORMAT: Format = ${format};`,
+            "",
+            `pub const SYNTAX: Syntax = ${syntax};`,
+            "pub static READER: Reader = Reader::new(SYNTAX);",
+            "",
+            `pub fn read(text: &str) -> Result<${isFloat ? "f64" : "i64"}, ParseError> {`,
+            "    READER.parse(text)",
+            "}",
+            "",
+        ].join("\n");
     }
 
-    c(state) {
-        const settings = this.edits(state.word).map((edit) => this.library.setting(edit, edit.value));
-        const comment = [...this.comment(state), ...settings].join("\n * ");
-        const halves = [state.word & HALF, state.word >> 64n].map((half) => `UINT64_C(0x${half.toString(16).toUpperCase()})`);
-        const value = `static const peltzivar_word FORMAT = {${halves.join(", ")}};\n`;
-        return `#include "peltzivar.h"\n\n/* ${comment} */\n${value}`;
+    c(state, shown) {
+        const { word, exponent, point } = state;
+        const problem = this.problem(shown);
+        const halves = [BigInt.asUintN(64, word), word >> 64n].map((half) => `UINT64_C(0x${half.toString(16).toUpperCase()})`);
+        const value = `{${halves.join(", ")}}`;
+        const start = '#include "peltzivar.h"\n\n';
+        if (problem) return `${start}/* ${problem} */\nstatic const peltzivar_word WORD = ${value};\n`;
+        const settings = this.edits(word).map((edit) => this.library.setting(edit, edit.value));
+        const options = [exponent, point].map((it) => character(it, "")).join(", ");
+        return [
+            `${start}/* ${[wordText(word), ...settings].join("\n * ")} */`,
+            `static const peltzivar_syntax SYNTAX = {${value}, ${options}};`,
+            "",
+            "/* Makes the reader, for peltzivar_read. Call this once, before the first text is read. */",
+            "bool make_reader(peltzivar_reader *reader) {",
+            "    return peltzivar_reader_init(reader, &SYNTAX) == PELTZIVAR_SUCCESS;",
+            "}",
+            "",
+        ].join("\n");
     }
 
-    python(state, { isBuilt, error }) {
-        const rows = this.edits(state.word).map(({ name, isByte, isNumber, value }) => {
-            const isVisible = !isNumber && value > 32 && value < 127;
-            const byte = isVisible ? JSON.stringify(String.fromCharCode(value)) : String(value || "None");
-            return `    ${name}=${!isByte ? (value ? "True" : "False") : name === "mantissa_radix" ? value : byte},\n`;
+    python({ word, exponent, point }, shown) {
+        const problem = this.problem(shown);
+        if (problem) return `from peltzivar import FormatView\n\n# ${problem}\nview = FormatView(${wordText(word)})\n`;
+        const byte = (value) => (value > 32 && value < 127 ? JSON.stringify(String.fromCharCode(value)) : String(value || "None"));
+        const rows = this.edits(word).map(({ name, isByte, isNumber, value }) => {
+            const text = isNumber ? (name === "mantissa_radix" ? value : value || "None") : byte(value);
+            return `    ${name}=${!isByte ? (value ? "True" : "False") : text},\n`;
         });
-        const view = error ? "FormatView" : "Format";
-        const call = isBuilt ? `${view}.of(${rows.length ? `\n${rows.join("")}` : ""})` : `${view}(${wordText(state.word)})`;
-        const comment = this.comment(state).map((line) => `# ${line}\n`).join("");
-        return `from peltzivar import ${view}\n\n${comment}format = ${call}\n`;
+        const format = shown.isBuilt ? `Format.of(${rows.length ? `\n${rows.join("")}` : ""})` : `Format(${wordText(word)})`;
+        return [
+            "from peltzivar import Format, Syntax",
+            "",
+            `# ${wordText(word)}`,
+            `format = ${format}`,
+            `syntax = Syntax(format, exponent=${byte(exponent)}, point=${byte(point)})`,
+            "",
+        ].join("\n");
     }
 
     /* The settings of the word, and then those of the options that are not the usual ones. */

@@ -1,8 +1,7 @@
 /* The library, which runs as WebAssembly. All calls of library.rs are here. A word is a BigInt, and its flags and bytes
- * are read and written by bit arithmetic. */
+ * are read and written by bit arithmetic. A state is a word with the options. */
 "use strict";
 
-const HALF = (1n << 64n) - 1n;
 const MOST_WORD = (1n << 128n) - 1n;
 /* How many bytes a text may have. */
 const MOST_TEXT = 60000;
@@ -28,31 +27,32 @@ class Library {
         this.standard = this.build([]).word;
     }
 
-    /* Returns a library from the bytes of its WebAssembly. */
+    /* Returns a library from its compressed WebAssembly. */
     static async load(bytes, data) {
-        const { instance } = await WebAssembly.instantiate(bytes, {});
+        const stream = new Blob([bytes]).stream().pipeThrough(new DecompressionStream("gzip"));
+        const { instance } = await WebAssembly.instantiate(await new Response(stream).arrayBuffer(), {});
         return new Library(instance.exports, data);
     }
 
     /* Returns the answer of a call that reads this text. */
-    call(name, text, ...numbers) {
+    call(name, text) {
         const { memory, input, output } = this.calls;
-        const bytes = new TextEncoder().encode(text.slice(0, MOST_TEXT)).subarray(0, MOST_TEXT);
+        const bytes = new TextEncoder().encode(text.slice(0, 2 * MOST_TEXT)).subarray(0, 2 * MOST_TEXT);
         new Uint8Array(memory.buffer).set(bytes, input());
-        const length = this.calls[name](...numbers, bytes.length);
+        const length = this.calls[name](bytes.length);
         return JSON.parse(new TextDecoder().decode(new Uint8Array(memory.buffer, output(), length)));
     }
 
     /* Returns {word, notes} of a new builder with settings, or {error, index} for the first setting that is none. */
     build(settings) {
-        const answer = this.call("build", settings.join("\n"));
+        const answer = this.call("build", ["", ...settings].join("\n"));
         return answer.error ? answer : { ...answer, word: BigInt(answer.word) };
     }
 
     /* Returns all about a state: whether the word is built, its error, normal form, reasons and notes, and why the options
      * do not fit. Reasons and notes have their text, the fields that they blame, the broken rules, and repaired states. */
-    explain({ word, exponent, point }) {
-        const answer = this.call("explain", "", word & HALF, word >> 64n, exponent, point);
+    explain(state) {
+        const answer = this.call("explain", passed([state]));
         const named = ({ mask, options: own = [], repairs = [], ...it }) => {
             const fields = [...own, ...this.namesOf(BigInt(mask))];
             return { ...it, mask: BigInt(mask), fields, repairs: repairs.map(withWord) };
@@ -61,10 +61,15 @@ class Library {
         return { ...answer, normal: BigInt(answer.normal), reasons, options, notes };
     }
 
-    /* Returns an object for each line of a text, as `numbers` of library.rs describes: none if the word is not lawful. */
-    numbers({ word, exponent, point }, text) {
-        const answers = this.call("numbers", text, word & HALF, word >> 64n, exponent, point);
+    /* Returns an object for each line of a text, as `numbers` of library.rs describes: none if a word is not lawful. */
+    numbers(states, text) {
+        const answers = this.call("numbers", `${passed(states)}\n${text}`);
         return answers.map((answer) => ({ ...answer, offers: answer.offers.map(withWord) }));
+    }
+
+    /* Returns texts that tell the states of some forms from those of others, as `differ` of library.rs describes. */
+    differ(states, others) {
+        return this.call("differ", `${passed(states)}\n${passed(others)}`);
     }
 
     /* Returns {value}, or {error} if the setter does not take the text. A separator needs a flag that allows it. */
@@ -150,6 +155,23 @@ class Library {
         const { error, index, ...built } = this.build(settings);
         return error ? { error: `${settings[index]}: ${error}${error.endsWith("?") ? "" : "."}` } : { ...built, options };
     }
+}
+
+/* Returns what a reader of a form is made of, without its name. */
+function stateOf({ word, exponent, point }) {
+    return { word, exponent, point };
+}
+
+/* Returns the line by which states are passed to the library. */
+function passed(states) {
+    return states.map(({ word, exponent, point }) => `${word}:${exponent + 256 * point}`).join(" ");
+}
+
+/* Returns the value of a number, which the library computed, as text, or why it has none. */
+function valueText({ integer, float, unknown }) {
+    if (float === undefined) return integer ?? unknown;
+    const [value] = new Float64Array(BigUint64Array.of(BigInt(float)).buffer);
+    return Object.is(value, -0) ? "-0" : String(value);
 }
 
 /* Returns an answer with its word as a number. */

@@ -90,6 +90,21 @@ impl State {
         FormatView::new(self.word).mantissa_radix() as u8
     }
 
+    /// Returns the byte of this state that a byte of an example stands for. It is 0 if the state lacks it.
+    pub fn byte_for(self, byte: u8) -> u8 {
+        let field = |field: u128| (self.word >> field.trailing_zeros()) as u8;
+        match byte {
+            b'_' => field(DIGIT_SEPARATOR),
+            b'x' => field(BASE_PREFIX),
+            b'h' => field(BASE_SUFFIX),
+            b'e' => self.exponent,
+            b'.' => self.point,
+            b'F' => char::from_digit(u32::from(self.radix()) - 1, 36).map_or(0, |it| it.to_ascii_uppercase() as u8),
+            b'X' | b'H' | b'E' => self.byte_for(byte.to_ascii_lowercase()).to_ascii_uppercase(),
+            _ => byte,
+        }
+    }
+
     /// Returns how many of the lines are as expected.
     pub fn as_expected(self, lines: &[u8]) -> usize {
         let reader = self.syntax().map(Reader::new);

@@ -3,6 +3,7 @@
 #include "peltzivar.h"
 #include "peltzivar.h"
 
+#include <math.h>
 #include <stdio.h>
 #include <string.h>
 
@@ -35,7 +36,7 @@ static void test_constants(void) {
     CHECK(is_word(peltzivar_pack(&PELTZIVAR_NEW_FIELDS), PELTZIVAR_STANDARD.high, PELTZIVAR_STANDARD.low));
     CHECK(is_word(words[0], PELTZIVAR_STANDARD.high, PELTZIVAR_STANDARD.low));
     CHECK(sizeof(peltzivar_word) == 16 && sizeof(peltzivar_fields) == 16 && sizeof(peltzivar_edit) == 2);
-    CHECK(sizeof(peltzivar_reader) == 4096 && sizeof(peltzivar_read_error) == 112);
+    CHECK(sizeof(peltzivar_reader) == 4096 && sizeof(peltzivar_read_error) == 128 && sizeof(peltzivar_literal) == 288);
 }
 
 /* Returns all flags. */
@@ -206,6 +207,47 @@ static void test_literals(void) {
     CHECK(WRITES("unexpected character '.'", peltzivar_read_error_text(&error, text, sizeof text)));
 }
 
+/* The values of literals of a language, and why there is none. */
+static void test_values(void) {
+    static const struct {
+        const char *language, *text;
+        int64_t integer;
+        uint64_t natural;
+        double number;
+        peltzivar_value_status statuses[2];
+    } rows[] = {{"TOML", "-9_223_372_036_854_775_808", INT64_MIN, 7, -9223372036854775808.0, {0, PELTZIVAR_VALUE_TOO_SMALL}},
+        {"TOML", "18446744073709551615", 7, UINT64_MAX, 18446744073709551616.0, {PELTZIVAR_VALUE_TOO_LARGE, 0}},
+        {"RUST_HEX_INTEGER", "-0x0", 0, 0, -0.0, {0, 0}}, {"C_HEX_FLOAT", "0x1.8p-1", 7, 7, 0.75, {1, PELTZIVAR_VALUE_FLOAT}},
+        {"JSON", "1e999", 7, 7, HUGE_VAL, {1, 1}}, {"SPREADSHEET_CSV", "1,234.50", 7, 7, 1234.5, {1, 1}}};
+    peltzivar_literal it;
+    for (size_t i = 0; i < sizeof rows / sizeof *rows; i++) {
+        int64_t integer = 7;
+        uint64_t natural = 7;
+        double number = 7;
+        const peltzivar_reader *const reader = peltzivar_language(rows[i].language, strlen(rows[i].language), NULL);
+        CHECK(peltzivar_read(reader, rows[i].text, strlen(rows[i].text), &it, NULL) && it.text == rows[i].text);
+        CHECK(peltzivar_to_i64(&it, &integer) == rows[i].statuses[0] && integer == rows[i].integer);
+        CHECK(peltzivar_to_u64(&it, &natural) == rows[i].statuses[1] && natural == rows[i].natural);
+        CHECK(peltzivar_to_f64(&it, &number) == PELTZIVAR_VALUE_OK && !memcmp(&number, &rows[i].number, 8));
+    }
+    peltzivar_i128 wide = {1, 2};
+    float small = 7;
+    const peltzivar_reader *const json = peltzivar_language("JSON", 4, NULL);
+    CHECK(peltzivar_read(json, "-170141183460469231731687303715884105728", 40, &it, NULL));
+    CHECK(!peltzivar_to_i128(&it, &wide) && wide.low == 0 && wide.high == INT64_MIN && !peltzivar_to_i128(&it, NULL));
+    CHECK(peltzivar_read(json, "16777217.0000001", 16, &it, NULL) && !peltzivar_to_f32(&it, &small) && (int)small == 16777218);
+    CHECK(peltzivar_read(json, "-18446744073709551617", 21, &it, NULL) && peltzivar_to_i64(&it, NULL) == PELTZIVAR_VALUE_TOO_SMALL);
+    CHECK(!peltzivar_to_i128(&it, &wide) && wide.low == UINT64_MAX && wide.high == -2);
+    memset(&it, 0, sizeof it);
+    CHECK(peltzivar_to_f32(&it, &small) == PELTZIVAR_VALUE_NO_LITERAL && (int)small == 16777218);
+    peltzivar_syntax ternary;
+    peltzivar_reader reader;
+    CHECK(!peltzivar_read_settings("radix=3", 7, &ternary) && !peltzivar_reader_init(&reader, &ternary));
+    CHECK(peltzivar_read(&reader, "0.1", 3, &it, NULL) && peltzivar_to_f32(&it, &small) == PELTZIVAR_VALUE_RADIX);
+    CHECK((int)small == 16777218 && !*peltzivar_value_description(PELTZIVAR_VALUE_OK) && !*peltzivar_value_description(255));
+    CHECK(!strcmp(peltzivar_value_description(PELTZIVAR_VALUE_TOO_LARGE), "above the largest value of the type"));
+}
+
 static void test_special_values(void) {
     const peltzivar_reader *const reader = peltzivar_language("YAML", 4, NULL);
     static const peltzivar_specials all = {"NaN", "inf", "infinity"}, few = {NULL, "", "infinity"};
@@ -225,6 +267,7 @@ static void test_special_values(void) {
 /* Each language has a reader of a syntax that passes the check, and a name by which it is found. */
 static void test_languages(void) {
     peltzivar_specials specials = {text, text, text};
+    peltzivar_syntax syntax;
     const char *name;
     CHECK(!peltzivar_language("json", 4, &specials) && specials.inf == text);
     CHECK(!peltzivar_language("JSON", SIZE_MAX, &specials) && !*peltzivar_language_name(SIZE_MAX));
@@ -233,6 +276,13 @@ static void test_languages(void) {
         const peltzivar_reader *const reader = peltzivar_language(name, strlen(name), &specials);
         peltzivar_reader same;
         CHECK(reader && !peltzivar_reader_init(&same, &reader->syntax) && i < 99);
+        size_t form = 0;
+        for (; *peltzivar_form_name(reader, form); form++) {
+            CHECK(peltzivar_form_syntax(reader, form, &syntax) && !peltzivar_reader_init(NULL, &syntax));
+            if (!form) CHECK(!memcmp(&syntax, &reader->syntax, 18));
+            CHECK(!*peltzivar_form_name(&same, form) && !peltzivar_form_syntax(&same, form, &syntax));
+        }
+        CHECK(form && !peltzivar_form_syntax(reader, form, &syntax) && !*peltzivar_form_name(reader, SIZE_MAX));
         CHECK(!memcmp(&same.syntax, &reader->syntax, 18) && peltzivar_read_prefix(reader, "0x1p1h", 6, NULL, NULL));
     }
     const peltzivar_reader *const json = peltzivar_language("JSON", 4, &specials);
@@ -295,6 +345,6 @@ static void test_null(void) {
 
 int main(void) {
     test_constants(), test_setters(), test_fields(), test_words(), test_options(), test_texts(), test_readers();
-    test_literals(), test_special_values(), test_languages(), test_settings(), test_null();
+    test_literals(), test_values(), test_special_values(), test_languages(), test_settings(), test_null();
     return failed;
 }

@@ -136,6 +136,23 @@ static bool draw_reader(peltzivar_word word, peltzivar_reader *reader) {
     return !refused;
 }
 
+/* Integer types agree on the value of a literal, or on why there is none, and the float types on whether there is one. */
+static void test_values(const peltzivar_literal *literal) {
+    int64_t integer = 7;
+    uint64_t natural = 7;
+    peltzivar_i128 wide = {7, 7};
+    double real = 7;
+    const peltzivar_value_status status = peltzivar_to_i64(literal, &integer), other = peltzivar_to_u64(literal, &natural);
+    const peltzivar_value_status of_wide = peltzivar_to_i128(literal, &wide);
+    CHECK((status == PELTZIVAR_VALUE_FLOAT) == literal->is_float && (other == PELTZIVAR_VALUE_FLOAT) == literal->is_float);
+    CHECK(status || (!of_wide && wide.low == (uint64_t)integer && wide.high == (integer < 0 ? -1 : 0)));
+    CHECK(other || (!of_wide && wide.low == natural && wide.high == 0));
+    CHECK(!status || integer == 7);
+    CHECK(!of_wide || (wide.low == 7 && wide.high == 7));
+    const peltzivar_value_status of_float = peltzivar_to_f64(literal, &real);
+    CHECK(of_float ? of_float == PELTZIVAR_VALUE_RADIX && real == 7 : status || real == (double)integer);
+}
+
 /* What is read is written, and nothing else. The parts of a literal are its bytes. */
 static void test_literals(peltzivar_word word) {
     peltzivar_reader reader;
@@ -175,6 +192,7 @@ static void test_literals(peltzivar_word word) {
         CHECK(peltzivar_read(&reader, from, literal.size, &literal_before, NULL));
         CHECK(!memcmp(&literal, &literal_before, offsetof(peltzivar_literal, size)));
         CHECK(literal.is_float == (literal.integer.end < literal.exponent_character.end));
+        test_values(&literal);
     } else CHECK(!is_read);
     free(from);
 }

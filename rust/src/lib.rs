@@ -31,7 +31,8 @@
 //! | store words as text | `Display` and `FromStr` of [`Format`], [`FormatView`] and [`Syntax`][literal::Syntax] |
 //! | convert words that `lexical-util` stored | [`edits::migrate`] |
 //!
-//! `FORMAT.txt` in the package defines each flag and rule, which texts are numbers, and why a text is not one.
+//! In the package, `FORMAT.txt` defines each flag and rule, and which texts are numbers, `EXPLANATIONS.txt` why a text is
+//! not one, and `SETTINGS.txt` how settings are written.
 //!
 //! # From `lexical-util`
 //!

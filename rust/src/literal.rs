@@ -1,10 +1,11 @@
 //! Literals: the texts that are numbers of a format, their parts, the calls that read them, and why a text is not one.
 //!
-//! A [`Syntax`] is a lawful format with an exponent character and a decimal point or, for integers alone, without both.
+//! A [`Syntax`] is a lawful format with an exponent character and a decimal point or, for integers alone, without both,
+//! and [`Conditions`].
 //! A [`Reader`] has tables of a syntax, and reads its literals. A [`Literal`] has the parts of a text and, if it is an
 //! integer, its value in any integer type of Rust. A [`ReadError`] finds the cause of a refusal, and the flags to blame.
-//! NaN and infinity are not literals: [`Specials`] reads them. A [`Language`] has a reader and the special values of a
-//! language.
+//! NaN and infinity are not literals: [`Specials`] reads them. [`Readers`] read numbers that have several forms, such as
+//! `10` and `0x1F`, and a [`Language`] has those of a language.
 //!
 //! ```
 //! use peltzivar::format::{Format, STANDARD};
@@ -49,17 +50,20 @@
 //!     text.reverse();
 //!     text
 //! }
-//! let reader = Language::RUST_HEX_INTEGER.reader();
-//! let text = write(0xC0FFEE, reader.syntax().format());
-//! assert_eq!((text.as_slice(), reader.read(&text).is_ok()), (&b"0xC0F_FEE"[..], true));
+//! let text = write(0xC0FFEE, Language::RUST_HEX_INTEGER.forms()[0].syntax.format());
+//! assert_eq!((text.as_slice(), Language::RUST_HEX_INTEGER.parse(&text)), (&b"0xC0F_FEE"[..], Ok(0xC0FFEE)));
 //! ```
 
 #[allow(clippy::redundant_pattern_matching, reason = "as it is proved")]
 mod cause;
+mod conditions;
 mod language;
+#[allow(clippy::len_zero, reason = "as it is proved")]
+mod list;
 mod number;
 #[allow(clippy::needless_lifetimes, reason = "as it is proved")]
 mod read;
+mod readers;
 mod sentence;
 #[allow(clippy::redundant_pattern_matching, reason = "as it is proved")]
 mod span;
@@ -77,9 +81,11 @@ mod text;
 mod value;
 
 pub use cause::{Place, ReadError, ReadErrorKind};
-pub use language::{Language, Number};
+pub use language::{Form, Language};
+pub use list::FormError;
 pub use number::{Digits, Literal};
 pub use read::Reader;
+pub use readers::{Number, Readers};
 pub use specials::{Sign, Special, Specials, Spelling};
-pub use syntax::Syntax;
+pub use syntax::{Conditions, ConditionsError, Syntax};
 pub use value::{FromLiteral, ParseError, ValueError, ValueErrorKind};

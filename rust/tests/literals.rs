@@ -1,16 +1,17 @@
-//! The reader of literals, over the tables of docs/FORMAT.md and the grammars of languages.
+//! The reader of literals, over the tables of docs/FORMAT.md and docs/EXPLANATIONS.md, and the grammars of languages.
 
 use peltzivar::format::{CASE_SENSITIVE_SPECIAL, DIGIT_SEPARATOR_FLAG_MASK, NO_SPECIAL};
 use peltzivar::literal::{
-    Language, Literal, Number, ReadError, ReadErrorKind, Reader, Sign, Special, Specials, Spelling, Syntax,
+    Language, Literal, Number, ReadError, ReadErrorKind, Reader, Readers, Sign, Special, Specials, Spelling, Syntax,
 };
 use peltzivar::{Edit, FlagSetter, Format, NumberFormatBuilder, Part};
 
-const PAGE: &str = include_str!("../../docs/FORMAT.md");
+const FORMAT: &str = include_str!("../../docs/FORMAT.md");
+const EXPLANATIONS: &str = include_str!("../../docs/EXPLANATIONS.md");
 
-/// Returns the cells of each row of the table in a section of the page.
-fn table(title: &str) -> impl Iterator<Item = Vec<&'static str>> {
-    let (_, section) = PAGE.split_once(&format!("## {title}\n")).expect(title);
+/// Returns the cells of each row of the table in a section of a page.
+fn table(page: &'static str, title: &str) -> impl Iterator<Item = Vec<&'static str>> {
+    let (_, section) = page.split_once(&format!("## {title}\n")).expect(title);
     let lines = section.lines().take_while(|line| !line.starts_with("## "));
     let rows = lines.filter_map(|line| line.strip_prefix('|')?.strip_suffix('|')).skip(2);
     rows.map(|row| row.split('|').map(|cell| cell.trim_matches([' ', '`'])).collect())
@@ -102,8 +103,8 @@ fn settings_end_the_cause(error: ReadError, syntax: Syntax, text: &[u8]) {
 #[test]
 fn flags_accept_and_reject_the_texts_of_the_page() {
     let (mut flags, mut requirements) = (FlagSetter::FLAGS.iter(), vec![]);
-    for row in table("The flags") {
-        let [bit, name, _, with, accepted, rejected] = row[..] else { panic!("{row:?}") };
+    for row in table(FORMAT, "The flags") {
+        let [bit, name, _, _, with, accepted, rejected] = row[..] else { panic!("{row:?}") };
         let flag = name.parse::<FlagSetter>().unwrap();
         let mask = Edit::Flag(flag, true).mask();
         assert_eq!((Some(&flag), bit), (flags.next(), mask.ilog2().to_string().as_str()));
@@ -137,12 +138,12 @@ fn flags_accept_and_reject_the_texts_of_the_page() {
         _ => format!("{} to {}", run[0], run[run.len() - 1]),
     });
     let sentence = format!("Flags {} are *requirements*", Vec::from_iter(runs).join(" and "));
-    assert!(PAGE.contains(&sentence), "{sentence}");
+    assert!(FORMAT.contains(&sentence), "{sentence}");
 }
 
 #[test]
 fn questions_have_the_answers_of_the_page() {
-    for row in table("How a reader applies the flags") {
+    for row in table(FORMAT, "Questions and answers") {
         let [.., settings, accepted, rejected] = row[..] else { panic!("{row:?}") };
         let reader = Reader::new(match settings.strip_suffix("`, no options") {
             Some(settings) => Syntax::integers(Format::new(word(settings)).unwrap()),
@@ -160,7 +161,7 @@ fn questions_have_the_answers_of_the_page() {
 
 #[test]
 fn causes_are_those_of_the_page() {
-    for row in table("Texts and their causes") {
+    for row in table(EXPLANATIONS, "Texts and their causes") {
         let [text, settings, cause, valid_up_to, span] = row[..] else { panic!("{row:?}") };
         let error = read(&Reader::new(syntax(word(settings))), text.as_bytes()).expect_err(text);
         let mut found = match error.kind() {
@@ -242,9 +243,9 @@ fn rows() -> impl Iterator<Item = (Language, &'static str, bool)> {
 fn languages_accept_and_reject_what_their_grammars_do() {
     for (language, text, is_accepted) in rows() {
         let result = language.read(text.as_bytes());
-        let literal = read(language.reader(), text.as_bytes());
         assert_eq!(result.is_ok(), is_accepted, "{language}: {text}: {result:?}");
-        assert_eq!(matches!(result, Ok(Number::Literal(_))), literal.is_ok(), "{language}: {text}");
+        let first = language.readers().as_slice().iter().position(|reader| read(reader, text.as_bytes()).is_ok());
+        assert_eq!(result.ok().and_then(|number| number.form()), first, "{language}: {text}");
     }
 }
 
@@ -252,19 +253,20 @@ fn languages_accept_and_reject_what_their_grammars_do() {
 /// values alone. Where a format is not lawful without a setting, consecutive separators have a row.
 #[test]
 fn each_setting_of_a_language_has_a_row() {
-    for language in Language::ALL {
-        let (syntax, format, own) = (language.syntax(), language.syntax().format(), language.specials());
+    for (language, index) in Language::ALL.iter().flat_map(|it| (0..it.forms().len()).map(move |index| (it, index))) {
+        let (syntax, own) = (language.forms()[index].syntax, language.specials());
         let specials = if own == Specials::default() { SPECIALS } else { own };
-        for edit in format.edits().filter(|edit| !matches!(edit, Edit::ExponentBase(_))) {
-            let others: NumberFormatBuilder = format.edits().filter(|it| *it != edit).collect();
+        for edit in syntax.format().edits().filter(|edit| !matches!(edit, Edit::ExponentBase(_))) {
+            let others: NumberFormatBuilder = syntax.format().edits().filter(|it| *it != edit).collect();
             let Ok(format) = others.build_format() else { continue };
             let options = syntax.exponent().zip(syntax.point());
             let with_options = options.map(|(exponent, point)| Syntax::new_or_panic(format, exponent, point));
             let without = with_options.unwrap_or(Syntax::integers(format));
-            let reader = Reader::new(without);
-            let is_number = |text| reader.read(text).is_ok() || specials.read(&without, text).is_some();
+            let mut forms = language.readers().as_slice().to_vec();
+            forms[index] = Reader::new(without);
+            let readers = Readers::new(&forms).unwrap().with_specials(specials);
             let mut rows = rows().filter(|row| row.0 == *language);
-            let has_row = rows.any(|(_, text, is_accepted)| is_number(text.as_bytes()) != is_accepted);
+            let has_row = rows.any(|(_, text, is_accepted)| readers.read(text.as_bytes()).is_ok() != is_accepted);
             assert!(has_row || without == syntax, "rust/tests/literals.txt: no row of {language} needs {edit}");
         }
     }
@@ -273,9 +275,9 @@ fn each_setting_of_a_language_has_a_row() {
 /// The digits of a hexadecimal float are multiplied by a power of 2, and the digits of other floats by a power of 10.
 #[test]
 fn exponents_of_languages_have_the_bases_of_their_grammars() {
-    for language in Language::ALL {
-        let base = if language.name().ends_with("HEX_FLOAT") { 2 } else { 10 };
-        let syntax = language.syntax();
+    for (language, form) in Language::ALL.iter().flat_map(|it| it.forms().iter().map(move |form| (it, form))) {
+        let base = if form.name == "hexadecimal" { 2 } else { 10 };
+        let syntax = form.syntax;
         assert_eq!(syntax.point().is_none(), language.name().ends_with("_INTEGER"), "{language}");
         assert!(syntax.point().is_none() || syntax.format().exponent_base() == base, "{language}");
     }
@@ -286,9 +288,11 @@ fn exponents_of_languages_have_the_bases_of_their_grammars() {
 #[test]
 fn any_bytes_are_read() {
     let agree = |language: Language, text: &[u8]| {
-        let prefix = language.reader().read_prefix(text);
+        let prefix = language.read_prefix(text);
         match (language.read(text), prefix) {
-            (Ok(Number::Literal(literal)), _) => assert_eq!(prefix, Ok((literal, &[][..])), "{language}: {text:?}"),
+            (Ok(number @ Number::Literal { .. }), _) => {
+                assert_eq!(prefix, Ok((number, &[][..])), "{language}: {text:?}")
+            }
             (Ok(Number::Special(_)), Err(_)) => (),
             (Err(error), Err(other)) => assert_eq!(error, other, "{language}: {text:?}"),
             (_, Ok((_, rest))) => assert!(!rest.is_empty(), "{language}: {text:?}"),

@@ -1,5 +1,5 @@
 //! The commands in the pages of the repository print what the pages show. `c/tests/test_python.py` tests the tables of
-//! FORMAT.
+//! FORMAT and EXPLANATIONS.
 
 use std::path::Path;
 use std::process::{Command, Output};
@@ -21,7 +21,7 @@ fn words(command: &str) -> Vec<&str> {
 /// The commands `$ cargo run ..` and `$ numfmt ..` of a page, with the lines below them.
 #[test]
 fn commands_print_what_pages_show() {
-    for name in ["README.md", "docs/FORMAT.md", "docs/RUST.md"] {
+    for name in ["README.md", "docs/FORMAT.md", "docs/EXPLANATIONS.md", "docs/SETTINGS.md", "docs/RUST.md"] {
         let page = std::fs::read_to_string(format!("{}/../{name}", env!("CARGO_MANIFEST_DIR"))).unwrap();
         let mut lines = page.lines().peekable();
         let mut count = 0;

@@ -67,6 +67,16 @@ const _: fn(literal::ParseError) = |it| match it {
 const _: fn(literal::Number<'static>) = |it| match it {
     literal::Number::Literal { .. } | literal::Number::Special { .. } => (),
 };
+const _: fn(literal::Number<'static>) -> (literal::Literal<'static>, usize) = |it| match it {
+    literal::Number::Literal { literal, form } => (literal, form),
+    _ => unreachable!(),
+};
+const _: fn(literal::FormError) -> (usize, literal::ReadError) = |it| match it {
+    literal::FormError { form, error, .. } => (form, error),
+};
+const _: fn(literal::Form) -> (&'static str, literal::Syntax) = |it| match it {
+    literal::Form { name, syntax, .. } => (name, syntax),
+};
 const _: fn(Separators) -> (bool, bool, bool, bool) = |it| match it {
     Separators { internal, leading, trailing, consecutive, .. } => (internal, leading, trailing, consecutive),
 };
@@ -391,11 +401,14 @@ names! { error::Class:
 }
 names! { literal::Language:
     [&'static [literal::Language]] ALL;
+    [const fn(a: &literal::Language) -> &'static [literal::Form]] forms;
     [const fn(a: &literal::Language) -> &'static str] name;
     [const fn(a: &literal::Language) -> literal::Specials<'static>] specials;
-    [const fn(a: &literal::Language) -> literal::Syntax] syntax;
-    [fn(a: &literal::Language) -> &'static literal::Reader] reader;
-    [fn(a: &literal::Language, b: &'static [u8]) -> Result<literal::Number<'static>, literal::ReadError>] read;
+    [fn(a: &literal::Language) -> &'static literal::Readers<'static>] readers;
+    [fn(a: &literal::Language, b: &'static [u8]) -> Result<(literal::Number<'static>, &'static [u8]),
+        literal::FormError>] read_prefix;
+    [fn(a: &literal::Language, b: &'static [u8]) -> Result<literal::Number<'static>, literal::FormError>] read;
+    [fn<T: literal::FromLiteral>(a: &literal::Language, b: impl AsRef<[u8]>) -> Result<T, literal::ParseError>] parse;
     [literal::Language] ADA C_FLOAT C_HEX_FLOAT C_SHARP FORTRAN GO_HEX_FLOAT HASKELL JAVA JAVASCRIPT JSON JULIA KOTLIN
         NASM_HEX_INTEGER OCAML PYTHON PYTHON_HEX_INTEGER RUBY RUST_HEX_INTEGER SPREADSHEET_CSV SQL SWIFT_HEX_FLOAT TOML
         YAML;
@@ -419,8 +432,9 @@ names! { literal::Literal<'static>:
     [fn(a: literal::Literal<'static>) -> Result<f64, literal::ValueError>] to_f64;
 }
 names! { literal::Number<'static>:
+    [const fn(a: &literal::Number<'static>) -> Option<literal::Literal<'static>>] literal;
+    [const fn(a: &literal::Number<'static>) -> Option<usize>] form;
     [fn(a: &literal::Number<'static>) -> f64] to_f64;
-    [fn(literal::Literal<'static>) -> literal::Number<'static>] Literal;
     [fn(literal::Special) -> literal::Number<'static>] Special;
 }
 names! { literal::ParseError:
@@ -453,6 +467,19 @@ names! { literal::Reader:
     [const fn(a: &literal::Reader, b: &'static [u8]) -> Result<literal::Literal<'static>, literal::ReadError>] read;
     [const fn(a: literal::Syntax) -> literal::Reader] new;
     [fn<T: literal::FromLiteral>(a: &literal::Reader, b: impl AsRef<[u8]>) -> Result<T, literal::ParseError>] parse;
+}
+names! { literal::Readers<'static>:
+    [const fn(a: &'static [literal::Reader]) -> Option<literal::Readers<'static>>] new;
+    [const fn(a: &'static [literal::Reader]) -> literal::Readers<'static>] new_or_panic;
+    [const fn(a: &literal::Readers<'static>) -> &'static [literal::Reader]] as_slice;
+    [const fn(a: &literal::Readers<'static>) -> literal::Specials<'static>] specials;
+    [const fn(a: &literal::Readers<'static>, b: &'static [u8]) -> Result<(literal::Number<'static>, &'static [u8]),
+        literal::FormError>] read_prefix;
+    [const fn(a: &literal::Readers<'static>, b: &'static [u8]) -> Result<literal::Number<'static>, literal::FormError>]
+        read;
+    [const fn(a: literal::Readers<'static>, b: literal::Specials<'static>) -> literal::Readers<'static>] with_specials;
+    [fn<T: literal::FromLiteral>(a: &literal::Readers<'static>, b: impl AsRef<[u8]>) -> Result<T, literal::ParseError>]
+        parse;
 }
 names! { literal::Sign:
     [literal::Sign] Minus Plus;
@@ -587,16 +614,20 @@ has! { isize: TryFrom<literal::Literal<'static>, Error = literal::ValueError> + 
 has! { isize: literal::FromLiteral }
 has! { literal::Digits<'_>: DoubleEndedIterator + FusedIterator + Iterator<Item = u8> }
 has! { literal::Digits<'static>: Clone + Debug }
+has! { literal::Form: Clone + Copy + Debug + Eq + Hash + PartialEq }
+has! { literal::FormError: Clone + Copy + Debug + Display + Eq + Hash + PartialEq + std::error::Error }
 has! { literal::Language: Clone + Copy + Debug + Display + Eq + Hash + PartialEq }
 has! { literal::Literal<'_>: AsRef<[u8]> + Debug + Display }
 has! { literal::Literal<'static>: Clone + Copy + Eq + Hash + PartialEq }
 has! { literal::Number<'static>: Clone + Copy + Debug + Eq + Hash + PartialEq }
-has! { literal::ParseError: Clone + Copy + Debug + Display + Eq + From<literal::ReadError> + From<literal::ValueError> +
-Hash + PartialEq + std::error::Error }
+has! { literal::ParseError: Clone + Copy + Debug + Display + Eq + From<literal::FormError> + From<literal::ReadError> +
+From<literal::ValueError> + Hash + PartialEq + std::error::Error }
 has! { literal::Place: Clone + Copy + Debug + Eq + Hash + PartialEq }
-has! { literal::ReadError: Clone + Copy + Debug + Display + Eq + Hash + PartialEq + std::error::Error }
+has! { literal::ReadError: Clone + Copy + Debug + Display + Eq + From<literal::FormError> + Hash + PartialEq +
+std::error::Error }
 has! { literal::ReadErrorKind: Clone + Copy + Debug + Eq + Hash + PartialEq }
 has! { literal::Reader: Clone + Debug + Eq + From<literal::Syntax> + PartialEq }
+has! { literal::Readers<'static>: Clone + Copy + Debug + Eq + PartialEq }
 has! { literal::Sign: Clone + Copy + Debug + Eq + Hash + PartialEq }
 has! { literal::Special: Clone + Copy + Debug + Eq + Hash + PartialEq }
 has! { literal::Specials<'static>: Clone + Copy + Debug + Default + Eq + Hash + PartialEq }

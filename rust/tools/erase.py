@@ -23,6 +23,7 @@ CRATES = RUST.parent / "crates"
 
 # The beginning of each generated file.
 MADE = "// Made by rust/tools/erase.py"
+PAGES = ("FORMAT", "EXPLANATIONS", "SETTINGS")
 
 # For each crate, the folder of its files in plain Rust, the path of the libraries below it, its own, and the standard
 # library that it uses.
@@ -92,13 +93,14 @@ EVERYWHERE = [
     ("fn fmt<W: fmt::Write>(&self, f: &mut fmt::Formatter<W>)", "fn fmt(&self, f: &mut fmt::Formatter<'_>)"),
     ("rattlefmt::skip", "rustfmt::skip"),
     ("pub(crate) fn find_front(&self", "pub(crate) const fn find_front(&self"),
+    ("pub(crate) fn front(&self", "pub(crate) const fn front(&self"),
 ]
 
 # Types that may grow. In plain Rust, a match outside the crate has to have an arm for what they lack today.
 GROWS = {
     "enum": "ArgumentKind Byte Cause Class Edit EditErrorKind Error FlagSetter Note Part Place Radixes ReadErrorKind Role Rule "
     "Setter ValueErrorKind",
-    "struct": "NamedByte Separators",
+    "struct": "FormError NamedByte Separators",
 }
 for kind, types in GROWS.items():
     items = [f"pub {kind} {name} {{" for name in types.split()]
@@ -108,6 +110,9 @@ for kind, types in GROWS.items():
 COMPARED = "Clone, Copy, PartialEq, Eq, PartialOrd, Ord, Hash"
 DEPRECATED = '#[deprecated = "Use `build_strict` or `build_unchecked` instead."]'
 ATTRIBUTES = [
+    ("syntax.rt", "Default)]\npub struct Conditions", "Default)]\n#[non_exhaustive]\npub struct Conditions"),
+    ("syntax.rt", "Hash)]\npub enum ConditionsError", "Hash)]\n#[non_exhaustive]\npub enum ConditionsError"),
+    ("lawful.rt", "    Word(u128),", "    Word(u128),\n    Conditions(crate::literal::ConditionsError),"),
     ("error.rt", "#[derive(Clone, Copy, Debug)]", f"#[derive({COMPARED}, Debug)]"),
     ("format_builder.rt", "#[derive(Drop)]", "#[derive(Clone, Copy, PartialEq, Eq, Hash)] #[must_use]"),
     ("format_builder.rt", "pub const fn build(&self)", f"{DEPRECATED} pub const fn build(&self)"),
@@ -120,6 +125,7 @@ ATTRIBUTES = [
     ("feature_format.rt", "#[derive(Clone, Copy)]", f"#[derive({COMPARED})]"),
     # Only in plain Rust do public calls return this type. The documentation hides the traits of a hidden type.
     ("short_text.rt", "#[derive(Drop)]\n#[doc(hidden)]", "#[derive(Clone,\nCopy)]"),
+    ("list.rt", "#[derive(Drop)]", "#[derive(Debug, Clone, Copy, PartialEq, Eq)]"),
     ("read.rt", "#[derive(Drop)]", "#[derive(Clone)]"),
     ("tables.rt", "#[derive(Drop)]", "#[derive(Clone)]"),
     # `Debug` prints the answers.
@@ -184,7 +190,7 @@ class Source:
             return end + 1
         if self.stands(index, "#", "[", "tactic", "(") or self.stands(index, "#", "!", "[", "tactic", "("):
             return self.behind(self.words.index("[", index))
-        if self.stands(index, "impl", "Model", "for"):
+        if self.stands(index, "impl", "Model", "for") or self.stands(index, "impl", "<", "'a", ">", "Model", "for"):
             return self.behind(self.words.index("{", index))
         return self.law(index)
 
@@ -312,10 +318,11 @@ def made_files():
                 text = text.replace(old, new)
             text = re.sub(r"format!\(in rt\.alloc\(\); ([^)]*)\)\?", r"format!(\1)", text)
             files[RUST.joinpath(folder, path.stem).with_suffix(".rs")] = laid_out(renamed(text, "peltzivar", "crate", "std"))
-    # The page that the package has. Cargo packs only files below rust/, and rt takes no links.
+    # The pages that the package has. Cargo packs only files below rust/, and rt takes no links.
     # Links to other files lead nowhere outside the repository.
-    page = (RUST.parent / "docs/FORMAT.md").read_text()
-    files[RUST / "FORMAT.txt"] = re.sub(r"\[([^][]*)\]\([^)#][^)]*\)", r"\1", page)
+    for name in PAGES:
+        page = (RUST.parent / f"docs/{name}.md").read_text()
+        files[RUST / f"{name}.txt"] = re.sub(r"\[([^][]*)\]\([^)#][^)]*\)", r"\1", page)
     unused = [old for file, old, _ in REPLACED + ATTRIBUTES if not any(path.match(file) for path in read)]
     unused += [old for old, _ in EVERYWHERE if old not in sources]
     if unused:

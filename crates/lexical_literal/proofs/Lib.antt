@@ -4,6 +4,7 @@ mod ScanLemmas
 mod StepLemmas
 mod CutLemmas
 mod LiteralLemmas
+mod ConditionLemmas
 mod FrontLemmas
 mod LongestLemmas
 mod RoleLemmas
@@ -19,3 +20,5 @@ mod JointLemmas
 mod BlameLemmas
 mod PartOfLemmas
 mod OneCauseLemmas
+mod FormLemmas
+mod GroupLemmas

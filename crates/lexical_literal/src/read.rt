@@ -1,9 +1,8 @@
 //! How literals are found, and the lengths of their parts.
 
 ghost use Rattle.std.specs.Prelude.{◌≡◌, ◌++◌, ◌∷◌, ◌&&◌, ◌<◌, ◌≤◌, Bool, ℕ, List, [], false, length, slice_get, take};
-ghost use Rattle.lexical_literal.specs.Additions.Causes.{allows, class_of_next};
 ghost use Rattle.lexical_literal.specs.Additions.Explained.{tail_byte, tail_size};
-ghost use Rattle.lexical_literal.specs.Additions.Longest.{IsFound, IsFoundFront, IsScanned};
+ghost use Rattle.lexical_literal.specs.Additions.Longest.{HasStopped, IsFound, IsFoundFront, IsMeasured, IsMeasuredFront, IsScanned};
 ghost use Rattle.lexical_literal.specs.Additions.Summary.{HasLengths, is_complete};
 ghost use Rattle.lexical_literal.specs.Additions.Tables.{cuts_of, summary_at};
 ghost use Rattle.lexical_literal.specs.Cause.{IsRefusal};
@@ -97,11 +96,9 @@ impl Reader {
     pub(crate) const fn find(&self, text: &[u8]) -> Result<[usize; 9], ReadError>
         ensures { IsFound (notation_of self.now) text.now result }
     {
-        let scanned = self.scan(text, false);
-        if scanned.valid_up_to == text.len() && self.is_complete(scanned.row) {
-            Ok(scanned.counts)
-        } else {
-            Err(self.refuse(text, scanned))
+        match self.lengths(text) {
+            Ok(counts) => Ok(counts),
+            Err(stopped) => Err(self.refuse(text, stopped)),
         }
     }
 
@@ -110,18 +107,52 @@ impl Reader {
     pub(crate) fn find_front(&self, text: &[u8]) -> Result<Found, ReadError>
         ensures { IsFoundFront (notation_of self.now) text.now result }
     {
+        match self.front(text) {
+            Ok(found) => Ok(found),
+            Err(stopped) => Err(self.refuse(text, stopped)),
+        }
+    }
+
+    // Returns the lengths of the parts of the literal `text`, or where reading stopped if it is not one.
+    #[inline(always)]
+    pub(crate) const fn lengths(&self, text: &[u8]) -> Result<[usize; 9], Scanned>
+        ensures { IsMeasured (notation_of self.now) text.now result }
+    {
+        let scanned = self.scan(text, false);
+        if scanned.valid_up_to == text.len() && self.is_complete(scanned.row) {
+            Ok(scanned.counts)
+        } else {
+            Err(scanned)
+        }
+    }
+
+    // Returns the longest front of `text` that is a literal, or where reading stopped if there is none.
+    #[inline(always)]
+    pub(crate) fn front(&self, text: &[u8]) -> Result<Found, Scanned>
+        ensures { IsMeasuredFront (notation_of self.now) text.now result }
+    {
         let scanned = self.scan(text, true);
         let Some(size) = scanned.literal else {
-            return Err(self.refuse(text, scanned));
+            return Err(scanned);
         };
         if size == scanned.valid_up_to {
             let counts = scanned.counts;
             return Ok(Found { size, counts });
         }
-        match self.find(front_of(text, size)) {
+        match self.lengths(front_of(text, size)) {
             Ok(counts) => Ok(Found { size, counts }),
-            Err(error) => Err(error),
+            Err(_) => Err(scanned),
         }
+    }
+
+    // Returns why `text`, which is not a literal, is none.
+    #[cold]
+    pub(crate) const fn explain(&self, text: &[u8]) -> ReadError
+        requires { NoLiteral (notation_of self.now) text.now }
+        ensures { IsRefusal (notation_of self.now) text.now result.refusal }
+    {
+        let scanned = self.scan(text, false);
+        self.refuse(text, scanned)
     }
 
     // Reads `text` until no literal begins with what has been read. Seeks the longest front that is a literal if `seeks`
@@ -181,11 +212,8 @@ impl Reader {
     // Returns why `text` is not a literal.
     #[cold]
     const fn refuse(&self, text: &[u8], scanned: Scanned) -> ReadError
-        requires scanned { (seeks : Bool) × IsScanned (notation_of self.now) seeks text.now scanned }
-        requires refused { allows (notation_of self.now) (summary_at scanned.row)
-            (class_of_next (notation_of self.now) (slice_get text.now scanned.valid_up_to)) ≡ false }
-        ensures refusal { IsRefusal (notation_of self.now) text.now result.refusal }
-        ensures none { NoLiteral (notation_of self.now) text.now }
+        requires { HasStopped (notation_of self.now) text.now scanned }
+        ensures { IsRefusal (notation_of self.now) text.now result.refusal }
     {
         role_facts();
         let grammar = self.syntax.grammar();
@@ -206,8 +234,8 @@ impl Reader {
 // The length of the longest front of a text that some literal begins with, its row, the length of the longest front that is
 // a literal, if it was sought, and the lengths of the parts of what has been read.
 #[derive(Clone, Copy)]
-struct Scanned {
-    valid_up_to: usize,
+pub(crate) struct Scanned {
+    pub(crate) valid_up_to: usize,
     row: u8,
     literal: Option<usize>,
     counts: [usize; 9],

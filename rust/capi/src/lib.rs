@@ -33,6 +33,7 @@ mod numbers;
 mod reasons;
 mod settings;
 mod texts;
+mod values;
 mod words;
 
 /// Ends the program. No call panics, so this function is never called.

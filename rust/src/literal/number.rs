@@ -106,22 +106,22 @@ impl Eq for Reader {}
 /// ```
 /// use peltzivar::literal::{Language, ParseError, ValueErrorKind};
 ///
-/// let literal = Language::TOML.reader().read(b"-9_223_372_036_854_775_808")?;
+/// let literal = Language::TOML.read(b"-9_223_372_036_854_775_808")?.literal().unwrap();
 /// assert_eq!(i64::try_from(literal), Ok(i64::MIN));
 /// assert_eq!(i32::try_from(literal).unwrap_err().to_string(), "below -2147483648, the least i32");
-/// assert_eq!(Language::RUST_HEX_INTEGER.reader().parse::<u16>("0xFFFF")?, u16::MAX);
+/// assert_eq!(Language::RUST_HEX_INTEGER.parse::<u16>("0xFFFF")?, u16::MAX);
 ///
 /// // A float is no integer, even if its value is whole.
-/// let literal = Language::SPREADSHEET_CSV.reader().read(b"1,234.50")?;
+/// let literal = Language::SPREADSHEET_CSV.read(b"1,234.50")?.literal().unwrap();
 /// assert_eq!(literal.to_i64().unwrap_err().kind(), ValueErrorKind::Float);
 /// assert_eq!(f64::try_from(literal)?, 1234.5);
 /// # Ok::<(), ParseError>(())
 /// ```
 #[derive(Clone, Copy, PartialEq, Eq, Hash)]
 pub struct Literal<'a> {
-    text: &'a [u8],
+    pub(super) text: &'a [u8],
     /// The lengths of the parts, by which [`cut`] finds a part when it is asked for.
-    counts: [usize; 9],
+    pub(super) counts: [usize; 9],
     /// The format, in normal form.
     pub(super) view: FormatView,
 }

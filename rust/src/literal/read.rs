@@ -61,29 +61,54 @@ impl Reader {
     // Returns the lengths of the parts of the literal `text`, or why it is not one.
     #[inline(always)]
     pub(crate) const fn find(&self, text: &[u8]) -> Result<[usize; 9], ReadError> {
-        let scanned = self.scan(text, false);
-        if scanned.valid_up_to == text.len() && self.is_complete(scanned.row) {
-            Ok(scanned.counts)
-        } else {
-            Err(self.refuse(text, scanned))
+        match self.lengths(text) {
+            Ok(counts) => Ok(counts),
+            Err(stopped) => Err(self.refuse(text, stopped)),
         }
     }
 
     // Returns the longest front of `text` that is a literal, or why there is none.
     #[inline(always)]
     pub(crate) const fn find_front(&self, text: &[u8]) -> Result<Found, ReadError> {
+        match self.front(text) {
+            Ok(found) => Ok(found),
+            Err(stopped) => Err(self.refuse(text, stopped)),
+        }
+    }
+
+    // Returns the lengths of the parts of the literal `text`, or where reading stopped if it is not one.
+    #[inline(always)]
+    pub(crate) const fn lengths(&self, text: &[u8]) -> Result<[usize; 9], Scanned> {
+        let scanned = self.scan(text, false);
+        if scanned.valid_up_to == text.len() && self.is_complete(scanned.row) {
+            Ok(scanned.counts)
+        } else {
+            Err(scanned)
+        }
+    }
+
+    // Returns the longest front of `text` that is a literal, or where reading stopped if there is none.
+    #[inline(always)]
+    pub(crate) const fn front(&self, text: &[u8]) -> Result<Found, Scanned> {
         let scanned = self.scan(text, true);
         let Some(size) = scanned.literal else {
-            return Err(self.refuse(text, scanned));
+            return Err(scanned);
         };
         if size == scanned.valid_up_to {
             let counts = scanned.counts;
             return Ok(Found { size, counts });
         }
-        match self.find(front_of(text, size)) {
+        match self.lengths(front_of(text, size)) {
             Ok(counts) => Ok(Found { size, counts }),
-            Err(error) => Err(error),
+            Err(_) => Err(scanned),
         }
+    }
+
+    // Returns why `text`, which is not a literal, is none.
+    #[cold]
+    pub(crate) const fn explain(&self, text: &[u8]) -> ReadError {
+        let scanned = self.scan(text, false);
+        self.refuse(text, scanned)
     }
 
     // Reads `text` until no literal begins with what has been read. Seeks the longest front that is a literal if `seeks`
@@ -142,8 +167,8 @@ impl Reader {
 // The length of the longest front of a text that some literal begins with, its row, the length of the longest front that is
 // a literal, if it was sought, and the lengths of the parts of what has been read.
 #[derive(Clone, Copy)]
-struct Scanned {
-    valid_up_to: usize,
+pub(crate) struct Scanned {
+    pub(crate) valid_up_to: usize,
     row: u8,
     literal: Option<usize>,
     counts: [usize; 9],

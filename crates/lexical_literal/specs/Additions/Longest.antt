@@ -33,6 +33,27 @@ pub record IsScanned (m : Notation) (seeks : Bool) (text : List ℕ) (scanned : 
   pub longest : IsTrue seeks → IsLongest m text (length text) scanned.literal
   pub counted : (l : Literal) → Reads m l (take scanned.valid_up_to text) → HasLengths l (cuts_of scanned.counts)
 
+-- `HasStopped m text scanned` holds if `scanned` is where reading `text` stopped, and the byte that follows is not allowed
+-- there, or no byte follows and what has been read is not a literal.
+pub record HasStopped (m : Notation) (text : List ℕ) (scanned : Scanned) : Type 0 where
+  pub seeks : Bool
+  pub is : IsScanned m seeks text scanned
+  pub refused : allows m (summary_at scanned.row) (class_of_next m (slice_get text scanned.valid_up_to)) ≡ false
+
+-- `IsMeasured m text result` holds if `result` has the lengths of the parts of the literal `text`, or is where reading a
+-- text that is not a literal stopped.
+pub record IsMeasured (m : Notation) (text : List ℕ) (result : Result (List ℕ) Scanned) : Type 0 where
+  pub found : IfOk result (λ counts. (l : Literal) × Reads m l text)
+  pub counted : (l : Literal) → Reads m l text → IsOkAnd result (λ counts. HasLengths l (cuts_of counts))
+  pub stopped : IfErr result (HasStopped m text)
+
+-- `IsMeasuredFront m text result` holds if `result` has the length of the longest front of `text` that is a literal and
+-- the lengths of its parts, or is where reading a text of which no front is a literal stopped.
+pub record IsMeasuredFront (m : Notation) (text : List ℕ) (result : Result Found Scanned) : Type 0 where
+  pub found : IfOk result (λ found. (l : Literal) × ReadsFront m l text found.size × HasLengths l (cuts_of found.counts))
+  pub none : IsErr result → (size : ℕ) → size ≤ length text → NoLiteral m (take size text)
+  pub stopped : IfErr result (HasStopped m text)
+
 -- `IsFound m text result` holds if `result` has the lengths of the parts of the literal `text`, or is the error of a text
 -- that is not a literal.
 pub record IsFound (m : Notation) (text : List ℕ) (result : Result (List ℕ) Explained) : Type 0 where
