@@ -8,4 +8,5 @@ pub mod integer;
 pub mod laws;
 pub mod parse;
 mod plain;
+mod plain_float;
 mod text;

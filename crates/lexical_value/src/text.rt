@@ -49,7 +49,7 @@ pub(crate) fn text_to_float<F: Float>(format: NumberFormat, text: &[u8], parts: 
 
 // Returns whether a part is `byte`, or `None` if it is neither this nor absent.
 #[inline(always)]
-const fn mark(part: &[u8], byte: u8) -> Option<bool>
+pub(crate) const fn mark(part: &[u8], byte: u8) -> Option<bool>
     ensures { IfSome result (λ present. part.now ≡ one_if byte present) }
 {
     match part {

@@ -36,7 +36,7 @@ pub(crate) fn text_to_float<F: Float>(format: FormatView, text: &[u8], parts: &P
 
 // Returns whether a part is `byte`, or `None` if it is neither this nor absent.
 #[inline(always)]
-const fn mark(part: &[u8], byte: u8) -> Option<bool> {
+pub(crate) const fn mark(part: &[u8], byte: u8) -> Option<bool> {
     match part {
         [] => Some(false),
         [first] if *first == byte => Some(true),
