@@ -9,4 +9,3 @@ pub mod laws;
 pub mod parse;
 mod plain;
 mod plain_float;
-mod text;

@@ -10,16 +10,13 @@ mod integer;
 mod plain;
 #[allow(clippy::len_zero, reason = "as it is proved")]
 mod plain_float;
-#[allow(clippy::len_zero, reason = "as it is proved")]
-mod text;
 
 pub use integer::ValueErrorKind;
 
 use float::{binary_size, to_float};
 use integer::{integer_digits, to_integer};
 use plain::plain_integer;
-use plain_float::plain_float;
-use text::text_to_float;
+use plain_float::{plain_float, text_to_float};
 
 /// A type that can be [parsed][Reader::parse]: each integer type of Rust, `f64` and `f32`.
 ///
