@@ -4,7 +4,7 @@ ghost use Rattle.std.specs.Prelude.{◌≡◌, ◌==◌, ◌||◌, ◌++◌, ◌
 ghost use Rattle.std.specs.Float.Ieee.{round};
 ghost use Rattle.std.specs.Str.Parse.{AllDigits, digits_value, digits_value_after};
 ghost use Rattle.lexical_util.specs.Layout as layout;
-ghost use Rattle.lexical_util.specs.Record.{raw};
+ghost use Rattle.lexical_util.specs.Record.{Record, raw};
 ghost use Rattle.lexical_util.specs.Roles as sets;
 ghost use Rattle.lexical_literal.specs.Literal.{Literal, Reads, is_none_or_one, is_plus};
 ghost use Rattle.lexical_literal.specs.Notation.{Notation, notation_of};
@@ -44,17 +44,15 @@ pub(crate) fn plain_float<F: Float>(syntax: Syntax, text: &[u8]) -> Option<F>
     ensures { IfSome result (λ value. (l : Literal) × Reads (notation_of syntax) l text.now
         × (F.value value ≡ nearest (format_of F.DOUBLE) (raw syntax.word) l)) }
 {
-    let Some(options) = syntax.options() else {
-        return None;
-    };
+    let options = syntax.options()?;
     let format = syntax.format().view();
     if !takes_plain(format) {
         return None;
     }
     let plain = read_plain(format, options, text)?;
-    match short_size::<F>(format, &plain) {
+    match short_size::<F>(&plain) {
         Some(size) => Some(if is_minus(text) { size.negated() } else { size }),
-        None => written(format, text, &plain.parts),
+        None => written(text, &plain.parts),
     }
 }
 
@@ -71,7 +69,7 @@ pub(crate) fn text_to_float<F: Float>(format: NumberFormat, text: &[u8], parts: 
     if !are_digits(parts.integer) || !are_digits(parts.fraction) || !are_digits(parts.exponent) {
         return None;
     }
-    written(format, text, parts)
+    written(text, parts)
 }
 
 // Returns whether all radixes are 10, and no flag requires a sign or an exponent, or refuses an exponent.
@@ -247,12 +245,11 @@ fn take_exponent(format: NumberFormat, exponent: u8, bytes: &[u8]) -> (&[u8], &[
 
 // Returns the value of a literal without its sign, if one operation makes it.
 #[inline(always)]
-fn short_size<F: Float>(format: NumberFormat, plain: &Plain) -> Option<F>
-    requires decimal { TakesPlain (raw format) }
+fn short_size<F: Float>(plain: &Plain) -> Option<F>
     requires plain { IsPlain (literal_of plain.now.parts) }
     requires values { HasValues plain.now }
-    ensures { IfSome result (λ x. F.value x ≡ round (format_of F.DOUBLE) false (numerator (raw format) (literal_of plain.now.parts))
-        (denominator (raw format) (literal_of plain.now.parts))) }
+    ensures { (r : Record) → TakesPlain r → IfSome result (λ x. F.value x
+        ≡ round (format_of F.DOUBLE) false (numerator r (literal_of plain.now.parts)) (denominator r (literal_of plain.now.parts))) }
 {
     let parts = &plain.parts;
     if parts.integer.len() > 19
@@ -272,11 +269,11 @@ fn short_size<F: Float>(format: NumberFormat, plain: &Plain) -> Option<F>
 
 // Returns the value of a literal that std reads as it is, or `None` if std does not.
 #[inline(always)]
-fn written<F: Float>(format: NumberFormat, text: &[u8], parts: &Parts) -> Option<F>
-    requires decimal { TakesPlain (raw format) }
+fn written<F: Float>(text: &[u8], parts: &Parts) -> Option<F>
     requires reads { (m : Notation) × Reads m (literal_of parts.now) text.now }
     requires plain { IsPlain (literal_of parts.now) }
-    ensures { IfSome result (λ x. F.value x ≡ nearest (format_of F.DOUBLE) (raw format) (literal_of parts.now)) }
+    ensures { (r : Record) → TakesPlain r
+        → IfSome result (λ x. F.value x ≡ nearest (format_of F.DOUBLE) r (literal_of parts.now)) }
 {
     if !is_mark(parts.point, b'.', b'.') || !is_mark(parts.exponent_character, b'e', b'E') {
         return None;

@@ -29,17 +29,15 @@ struct Run<'a> {
 // the value. For some of these texts, and for all others, returns `None`.
 #[inline(always)]
 pub(crate) fn plain_float<F: Float>(syntax: Syntax, text: &[u8]) -> Option<F> {
-    let Some(options) = syntax.options() else {
-        return None;
-    };
+    let options = syntax.options()?;
     let format = syntax.format().view();
     if !takes_plain(format) {
         return None;
     }
     let plain = read_plain(format, options, text)?;
-    match short_size::<F>(format, &plain) {
+    match short_size::<F>(&plain) {
         Some(size) => Some(if is_minus(text) { size.negated() } else { size }),
-        None => written(format, text, &plain.parts),
+        None => written(text, &plain.parts),
     }
 }
 
@@ -53,7 +51,7 @@ pub(crate) fn text_to_float<F: Float>(format: FormatView, text: &[u8], parts: &P
     if !are_digits(parts.integer) || !are_digits(parts.fraction) || !are_digits(parts.exponent) {
         return None;
     }
-    written(format, text, parts)
+    written(text, parts)
 }
 
 // Returns whether all radixes are 10, and no flag requires a sign or an exponent, or refuses an exponent.
@@ -177,7 +175,7 @@ fn take_exponent(format: FormatView, exponent: u8, bytes: &[u8]) -> (&[u8], &[u8
 
 // Returns the value of a literal without its sign, if one operation makes it.
 #[inline(always)]
-fn short_size<F: Float>(format: FormatView, plain: &Plain) -> Option<F> {
+fn short_size<F: Float>(plain: &Plain) -> Option<F> {
     let parts = &plain.parts;
     if parts.integer.len() > 19
         || parts.fraction.len() > 19 - parts.integer.len()
@@ -191,7 +189,7 @@ fn short_size<F: Float>(format: FormatView, plain: &Plain) -> Option<F> {
 
 // Returns the value of a literal that std reads as it is, or `None` if std does not.
 #[inline(always)]
-fn written<F: Float>(format: FormatView, text: &[u8], parts: &Parts) -> Option<F> {
+fn written<F: Float>(text: &[u8], parts: &Parts) -> Option<F> {
     if !is_mark(parts.point, b'.', b'.') || !is_mark(parts.exponent_character, b'e', b'E') {
         return None;
     }

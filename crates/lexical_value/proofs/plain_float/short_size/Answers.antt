@@ -1,7 +1,6 @@
 -- Short digits are the numbers that they represent.
 use Rattle.std.proofs.Common.{◌≡◌, ap, ◌∙◌, arith, IfSome, sym, ◌++◌, false}
 use Rattle.std.specs.Float.Ieee.{round}
-use Rattle.lexical_util.specs.Record.{raw}
 use Rattle.lexical_literal.specs.Parts.{literal_of}
 use Rattle.lexical_number.specs.Binary.{format_of}
 use Rattle.lexical_number.specs.Number.{number, places}
@@ -10,11 +9,9 @@ use Rattle.lexical_value.proofs.DigitLemmas.{counted, short_number, short_number
 use Rattle.lexical_value.proofs.plain_float.short_size.Goals as goal
 
 pub returns : goal.returns
-returns g c =
-    let r = raw c.args.format in
+returns g c r decimal =
     let l = literal_of c.args.plain.now.parts in
     let plain = c.requires.plain in
-    let decimal = c.requires.decimal in
     of_value (λ num den. IfSome c.exact.result (λ x. g.F.Float.value x ≡ round (format_of g.F.Float.DOUBLE) false num den)) r l _ _ _ _ _ _
     (c.requires.values.mantissa ∙ short_numbers l.integer l.fraction plain.integer plain.fraction (omega arith)
     ∙ ap (λ radix. number radix (l.integer ++ l.fraction)) (sym decimal.radix))
