@@ -1,5 +1,5 @@
 -- Digits without separators, and the numbers that they represent.
-use Rattle.std.proofs.Common.{◌≡◌, ◌≢◌, ℕ, zero, suc, ◌+◌, ◌-◌, ◌*◌, ◌%◌, ◌^◌, ◌<◌, ◌≤◌, ◌++◌, Bool, true, false, cond, IsTrue, List, [], ◌∷◌, length, take, refl, sym, ap, ◌∙◌, arith, Some, None, slice_index_or, nat_lt, subst}
+use Rattle.std.proofs.Common.{◌≡◌, ◌≢◌, ℕ, zero, suc, ◌+◌, ◌-◌, ◌*◌, ◌%◌, ◌^◌, ◌<◌, ◌≤◌, ◌++◌, true, cond, IsTrue, List, [], ◌∷◌, length, take, refl, sym, ap, ◌∙◌, arith, Some, None, slice_index_or, nat_lt}
 use Rattle.std.proofs.lemmas.Bool.Decides.{nat_tests}
 use Rattle.std.proofs.Math.Nat.{sub-zero}
 use Rattle.core.proofs.str.DigitBytes.{digit_from_value}

@@ -1,5 +1,5 @@
 -- Digits alone, in each part that is announced, are a literal of a decimal format that requires no more.
-use Rattle.std.proofs.Common.{◌≡◌, ◌≢◌, ℕ, suc, ◌<◌, ◌++◌, Bool, true, false, not, ◌||◌, IsTrue, List, [], ◌∷◌, length, slice_index, refl, sym, ap, ◌∙◌, arith, Some, None, Option, IfSome}
+use Rattle.std.proofs.Common.{◌≡◌, ◌≢◌, ℕ, ◌<◌, ◌++◌, true, false, IsTrue, List, [], ◌∷◌, length, slice_index, refl, ap, ◌∙◌, arith, Some, None, Option, IfSome}
 use Rattle.std.specs.Float.{Float}
 use Rattle.std.specs.Str.Parse.{AllDigits}
 use Rattle.core.proofs.str.DigitBytes.{digit_from_value}

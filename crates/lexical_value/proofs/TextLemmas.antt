@@ -1,5 +1,5 @@
 -- What std reads of a decimal literal is its value.
-use Rattle.std.proofs.Common.{◌≡◌, ℕ, zero, suc, ◌+◌, ◌-◌, ◌*◌, ◌^◌, ◌<◌, ◌++◌, Bool, true, false, cond, ◌||◌, ◌&&◌, not, List, [], ◌∷◌, length, get_or, refl, sym, ap, ◌∙◌, arith}
+use Rattle.std.proofs.Common.{◌≡◌, ℕ, suc, ◌+◌, ◌-◌, ◌*◌, ◌^◌, ◌<◌, ◌++◌, Bool, true, false, cond, ◌||◌, ◌&&◌, List, [], ◌∷◌, length, get_or, refl, sym, ap, ◌∙◌, arith}
 use Rattle.std.proofs.Common.{append-nil, Some, IsTrue, slice_range}
 use Rattle.std.proofs.Math.Nat.{add-zero}
 use Rattle.core.proofs.str.DigitBytes.{digit_from_value}
@@ -17,10 +17,9 @@ use Rattle.std.specs.Float.Parse.{parse_float, read_float}
 use Rattle.std.proofs.lemmas.Nat.{pow-add}
 use Rattle.std.proofs.lemmas.Bool.Decides.{nat_tests}
 use Rattle.std.specs.Char.{is_ascii_digit}
-use Rattle.lexical_util.specs.Layout as layout
-use Rattle.lexical_util.specs.Record.{Record, raw}
+use Rattle.lexical_util.specs.Record.{Record}
 use Rattle.lexical_util.specs.Roles.{signs}
-use Rattle.lexical_literal.specs.Literal.{Literal, Reads, is_absent, is_none_or_one, is_present, text_of}
+use Rattle.lexical_literal.specs.Literal.{Literal, Reads, is_absent, is_none_or_one, is_present}
 use Rattle.lexical_literal.specs.Notation.{Notation}
 use Rattle.lexical_number.specs.Binary.{raised_down, raised_up}
 use Rattle.lexical_number.specs.Number.{number, places}

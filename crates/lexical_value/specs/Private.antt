@@ -4,7 +4,6 @@ use Rattle.std.specs.Str.Parse.{AllDigits, digits_value, digits_value_after}
 use Rattle.lexical_util.specs.Layout as layout
 use Rattle.lexical_util.specs.Record.{Record, effective_exponent_base, effective_exponent_radix}
 use Rattle.lexical_literal.specs.Literal.{Literal, is_absent, is_present}
-use Rattle.lexical_literal.specs.Parts.{literal_of}
 use Rattle.lexical_value.specs.declared.plain_float.Plain.{Plain}
 
 -- `minus_if negative` is a minus sign if `negative` is true, and no sign otherwise.

@@ -63,7 +63,11 @@ pub(crate) fn text_to_float<F: Float>(format: NumberFormat, text: &[u8], parts: 
     requires { (m : Notation) × Reads m (literal_of parts.now) text.now }
     ensures { IfSome result (λ x. F.value x ≡ nearest (format_of F.DOUBLE) (raw format) (literal_of parts.now)) }
 {
-    if !takes_plain(format) || parts.prefix.len() > 0 || parts.suffix.len() > 0 || !is_spelled(parts) {
+    if !takes_plain(format)
+        || parts.prefix.len() > 0
+        || parts.suffix.len() > 0
+        || !is_spelled(parts)
+    {
         return None;
     }
     if !are_digits(parts.integer) || !are_digits(parts.fraction) || !are_digits(parts.exponent) {
@@ -99,7 +103,11 @@ fn read_plain<'a>(format: NumberFormat, options: Options, text: &'a [u8]) -> Opt
     let (sign, unsigned) = split_sign(text, !format.no_positive_mantissa_sign());
     let integer = take_digits(unsigned, 0);
     let (point, fraction) = take_fraction(integer.rest, options.point, integer.value);
-    let (exponent_character, exponent_sign, exponent) = take_exponent(format, options.exponent, fraction.rest);
+    let (exponent_character, exponent_sign, exponent) = take_exponent(
+        format,
+        options.exponent,
+        fraction.rest,
+    );
     let parts = Parts {
         sign,
         prefix: &[],

@@ -1,5 +1,5 @@
 -- The size is that of the literal, or std reads the literal.
-use Rattle.std.proofs.Common.{◌≡◌, ℕ, ap, ◌∙◌, refl, false, sym, subst, Option, Some, IfSome}
+use Rattle.std.proofs.Common.{◌≡◌, ap, ◌∙◌, refl, sym, subst, Some, IfSome}
 use lib.Ieee.{neg, round}
 use Rattle.core.proofs.dec2flt.Patterns.{neg-round}
 use Rattle.lexical_util.specs.Record.{raw}
@@ -31,8 +31,7 @@ returns-after-is_minus g c =
           ap g.F.Float.value w.result-is ∙ w.negated.ensures ∙ ap neg (c.in-Some.ensures _ decimal) ∙ neg-round f num den
           ∙ ap (λ s. round f s num den) (sym (sign ∙ w.if-is_minus.true))
       | else-is_minus w ↦ ap g.F.Float.value w.result-is ∙ c.in-Some.ensures _ decimal ∙ ap (λ s. round f s num den) (sym (sign ∙ w.if-is_minus.false))
-    ] in
-    (
+    ] in (
       l,
       subst (λ syntax. Reads (notation_of syntax) l c.args.text.now) same c.in_ok-plain.ensures.reads,
       subst (λ syntax. g.F.Float.value c.if-is_minus.result ≡ nearest f (raw syntax.word) l) same value,

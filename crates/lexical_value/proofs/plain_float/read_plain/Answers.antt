@@ -15,13 +15,17 @@ returns-then-is_spelled-clause-reads c =
     let exponent = c.take_exponent.result.2.digits.now in
     record {
       whole =
-        c.split_sign.ensures.whole ∙ ap (λ t. sign ++ t) (c.take_digits-integer.ensures.whole ∙ ap (λ t. integer ++ t) (c.take_fraction.ensures.whole
-        ∙ ap (λ t. point ++ (fraction ++ t)) (c.take_exponent.ensures.whole
-        ∙ ap (λ t. character ++ (exponent_sign ++ (exponent ++ t))) (nil_from_length _ c.if-exponent-eq0.true))));
+          c.split_sign.ensures.whole ∙ ap (λ t. sign ++ t) (c.take_digits-integer.ensures.whole ∙ ap (λ t. integer ++ t) (c.take_fraction.ensures.whole
+          ∙ ap (λ t. point ++ (fraction ++ t)) (c.take_exponent.ensures.whole
+          ∙ ap (λ t. character ++ (exponent_sign ++ (exponent ++ t))) (nil_from_length _ c.if-exponent-eq0.true))));
       literal = plain_literal _ _ c.requires _ (record {
-          prefix = refl; suffix = refl; integer = c.take_digits-integer.ensures.digits; fraction = c.take_fraction.ensures.digits;
-          exponent = c.take_exponent.ensures.digits; spelled = c.if-is_spelled.ensures refl;
-        })
-        c.split_sign.ensures.sign (λ set. c.split_sign.ensures.plus (ap not (c.no_positive_mantissa_sign.ensures ∙ set)))
-        c.take_fraction.ensures.point c.take_exponent.ensures.character c.take_exponent.ensures.sign c.take_exponent.ensures.plus;
+        prefix = refl;
+        suffix = refl;
+        integer = c.take_digits-integer.ensures.digits;
+        fraction = c.take_fraction.ensures.digits;
+        exponent = c.take_exponent.ensures.digits;
+        spelled = c.if-is_spelled.ensures refl;
+      })
+          c.split_sign.ensures.sign (λ set. c.split_sign.ensures.plus (ap not (c.no_positive_mantissa_sign.ensures ∙ set)))
+          c.take_fraction.ensures.point c.take_exponent.ensures.character c.take_exponent.ensures.sign c.take_exponent.ensures.plus;
     }

@@ -1,5 +1,5 @@
 -- The first byte is the point.
-use Rattle.std.proofs.Common.{◌≡◌, IsTrue, subst, sym}
+use Rattle.std.proofs.Common.{IsTrue, subst, sym}
 use Rattle.lexical_util.specs.Roles as sets
 use Rattle.lexical_literal.specs.Literal.{is_none_or_one}
 use Rattle.lexical_value.proofs.DigitLemmas.{point_is}
