@@ -58,7 +58,7 @@ fn conditions_accept_and_reject_the_texts_of_the_page() {
             let settings = settings.split(' ').filter(|it| !it.is_empty()).map(String::from);
             Reader::new(Settings::read(settings.chain([condition.into()])).unwrap().build_syntax().unwrap())
         };
-        let (conditional, free) = (reader(&format!("{name}=true")), reader("#"));
+        let (conditional, free) = (reader(name), reader("#"));
         for (texts, is_accepted) in [(accepted, true), (rejected, false)] {
             for text in texts.split("` `") {
                 let found = [&conditional, &free].map(|reader| reader.read(text.as_bytes()).is_ok());
