@@ -61,7 +61,8 @@ impl State {
     pub fn syntax(self) -> Option<Syntax> {
         let others = [(NO_EXPONENT, self.point), (self.exponent, NO_POINT), (NO_EXPONENT, NO_POINT)];
         let all = [Self { conditions: Conditions::NONE, ..self }].into_iter();
-        let others = all.chain(others.map(|(exponent, point)| Self { exponent, point, conditions: Conditions::NONE, ..self }));
+        let others =
+            all.chain(others.map(|(exponent, point)| Self { exponent, point, conditions: Conditions::NONE, ..self }));
         self.exact().or_else(|| others.into_iter().find_map(Self::exact))
     }
 

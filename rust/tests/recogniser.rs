@@ -10,6 +10,7 @@ use peltzivar::literal::{
     self, Conditions, ConditionsError, Language, Literal, Place, ReadError, ReadErrorKind, Reader,
 };
 use peltzivar::{format::FLAG_MASK, Error, Format, Part, Role};
+use std::collections::BTreeSet;
 use {Error::*, Piece::*};
 
 #[rustfmt::skip]
@@ -351,11 +352,12 @@ fn possible(word: u128) -> u128 {
 
 /// Compares the syntaxes of the languages, with their conditions and with all that are possible, and random words with
 /// random conditions, and with random options and without.
-fn compare_all(language_eighths: u64, words: usize, eighths: u64) {
-    for syntax in Language::ALL.iter().flat_map(Language::forms).map(|form| form.syntax) {
+fn compare_all(longest: usize, language_eighths: u64, words: usize, eighths: u64) {
+    let syntaxes = Language::ALL.iter().flat_map(Language::forms).map(|form| form.syntax).collect::<BTreeSet<_>>();
+    for syntax in syntaxes {
         let (word, options) = (syntax.format().word(), syntax.exponent().zip(syntax.point()));
         let own = (0..8).map(|set| set << CONDITIONS).find(|&set| conditions(set) == syntax.conditions()).unwrap();
-        for (required, longest) in [(own, 6), (possible(word), 5)] {
+        for (required, longest) in [(own, longest), (possible(word), longest - 1)] {
             compare(word, options, required, &hostile_bytes(word, options)[..10], longest, true, language_eighths);
         }
     }
@@ -378,11 +380,11 @@ fn compare_all(language_eighths: u64, words: usize, eighths: u64) {
 
 #[test]
 fn some_answers_are_those_of_the_recogniser() {
-    compare_all(2, 200, 3);
+    compare_all(5, 2, 200, 3);
 }
 
 #[test]
 #[ignore = "ten minutes in release"]
 fn all_answers_are_those_of_the_recogniser() {
-    compare_all(8, 2000, 8);
+    compare_all(6, 8, 2000, 8);
 }
