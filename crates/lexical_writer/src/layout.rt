@@ -39,6 +39,8 @@ pub struct Style {
 pub enum WriteErrorKind {
     /// The mantissa radixes differ or, for a number with an exponent, the exponent bases.
     Radix,
+    /// The number is below 0, or -0, and no literal has the sign `-`.
+    Negative,
     /// The number has a fraction, and the literals of the syntax are integers.
     Fraction,
     /// The number has an exponent, and no literal has one, or its exponent digits have another radix and are too many.
@@ -152,10 +154,13 @@ const fn only_if(condition: bool, byte: u8) -> Option<u8>
 }
 
 // Returns the first error whose condition is true.
-const fn first_error(fraction: bool, exponent: bool) -> Option<WriteErrorKind>
-    ensures { result ≡ (if fraction then Some errors.Fraction else (if exponent then Some errors.Exponent else None)) }
+const fn first_error(negative: bool, fraction: bool, exponent: bool) -> Option<WriteErrorKind>
+    ensures { result ≡ (if negative then Some errors.Negative
+        else (if fraction then Some errors.Fraction else (if exponent then Some errors.Exponent else None))) }
 {
-    if fraction {
+    if negative {
+        Some(WriteErrorKind::Negative)
+    } else if fraction {
         Some(WriteErrorKind::Fraction)
     } else if exponent {
         Some(WriteErrorKind::Exponent)
@@ -239,16 +244,23 @@ impl<'a> Amount<'a> {
         let options = syntax.options();
         let has_exponent = self.has_exponent(syntax);
         let has_point = self.has_point(syntax);
+        let conditions = syntax.conditions();
         Ok(Layout {
             sign: sign_of(self.negative, format.required_mantissa_sign()),
-            prefix: byte_if(style.prefix, base_prefix(format.word())),
+            prefix: byte_if(
+                style.prefix || conditions.required_base_prefix,
+                base_prefix(format.word()),
+            ),
             integer: self.integer_run(syntax, style),
             point: only_if(has_point, point_byte(options)),
             fraction: self.fraction_run(syntax, has_point),
             exponent_character: only_if(has_exponent, exponent_byte(options)),
             exponent_sign: self.exponent_sign(syntax, has_exponent),
             exponent: self.exponent_run(syntax, has_exponent),
-            suffix: byte_if(style.suffix, base_suffix(format.word())),
+            suffix: byte_if(
+                style.suffix || conditions.required_base_suffix,
+                base_suffix(format.word()),
+            ),
         })
     }
 
@@ -258,9 +270,10 @@ impl<'a> Amount<'a> {
     {
         let integers = lacks_options(syntax.options());
         let no_exponent = integers || syntax.format().view().no_exponent_notation();
+        let negative = self.negative && syntax.conditions().no_negative_mantissa_sign;
         let fraction = integers && self.fraction.is_some();
         let exponent = no_exponent && self.exponent.is_some();
-        first_error(fraction, exponent)
+        first_error(negative, fraction, exponent)
     }
 
     // Returns whether an exponent is written.
