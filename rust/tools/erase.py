@@ -35,6 +35,7 @@ PLACES = {
     "lexical_util": LIBRARY,
     "lexical_number": ("src/number", "crate", "crate::number", "core"),
     "lexical_literal": ("src/literal", "crate", "crate::literal", "core"),
+    "lexical_writer": ("src/literal/writer", "crate", "crate::literal::writer", "core"),
     "lexical_value": ("src/literal/value", "crate", "crate::literal::value", "core"),
     "numfmt": ("numfmt/src", "peltzivar", "crate", "std"),
 }
@@ -99,8 +100,8 @@ EVERYWHERE = [
 # Types that may grow. In plain Rust, a match outside the crate has to have an arm for what they lack today.
 GROWS = {
     "enum": "ArgumentKind Byte Cause Class Edit EditErrorKind Error FlagSetter Note Part Place Radixes ReadErrorKind Role Rule "
-    "Setter ValueErrorKind",
-    "struct": "FormError NamedByte Separators",
+    "Setter ValueErrorKind WriteError",
+    "struct": "FormError NamedByte Separators Style",
 }
 for kind, types in GROWS.items():
     items = [f"pub {kind} {name} {{" for name in types.split()]
