@@ -65,7 +65,7 @@ def constants():
     for row in (
         ("Setter", r"SET_(\w+)", "The setters. A member has the name of the setter in uppercase."),
         ("Rule", r"RULE_(\w+)", f"The rules, in the order in which they are checked. {RULE}", *CONDITION),
-        ("Error", r"((?!SET_|RULE_|PART_|ROLE_|KIND_|SPELLING_|VALUE_)\w+)", f"The errors, and success. {ERROR}", *DESCRIPTION),
+        ("Error", r"((?!SET_|RULE_|PART_|ROLE_|KIND_|SPELLING_|VALUE_|CONDITION_)\w+)", f"The errors, and success. {ERROR}", *DESCRIPTION),
         ("Part", r"PART_(\w+)", "The parts of a number that can have digit separators."),
         ("Role", r"ROLE_((?!NONE)\w+)", "The roles of a byte in a number."),
         ("ReadErrorKind", r"KIND_(\w+)", "The kinds of causes why a text is not a literal."),
@@ -103,6 +103,21 @@ def parameters():
         number = "int" if bit == 104 else "Optional[int]"
         kind = "bool" if not 64 <= bit < 128 else "Optional[Byte]" if bit < 104 else number
         yield f"{name}: {kind} = _KEPT,"
+
+
+def conditions():
+    """Returns the lines."""
+    syntax = re.search(r"uint8_t exponent, decimal_point; ([^{}]*) } peltzivar_syntax;", CODE)[1]
+    for kind, names in re.findall(r"(\w+) ([\w, ]+);", syntax):
+        value = "bool = False" if kind == "bool" else "Optional[int] = None"
+        yield from (f"{name}: {value}" for name in names.split(", "))
+
+
+def settings():
+    """Returns the lines. Options and conditions are no fields."""
+    yield from parameters()
+    yield from (f"{name}: Optional[Byte] = _KEPT," for name in ("exponent", "point"))
+    yield from (re.sub("= .*", "= _KEPT,", it) for it in conditions())
 
 
 def languages():

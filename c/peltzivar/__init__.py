@@ -258,6 +258,9 @@ class _Syntax(Structure):
         ("format", _Word),
         ("exponent", c_uint8),
         ("decimal_point", c_uint8),
+        ("required_base_prefix", c_bool),
+        ("required_base_suffix", c_bool),
+        ("no_negative_mantissa_sign", c_bool),
     ]
 
 
@@ -321,6 +324,7 @@ class _Explanation(Structure):
         ("kind", c_uint8),
         ("number", c_uint8),
         ("part", c_uint8),
+        ("conditions", c_uint8),
     ]
 
 
@@ -487,6 +491,8 @@ Call = TypeVar("Call", bound=Callable[..., Any])
 _RADIXES = (Setter.MANTISSA_RADIX, Setter.EXPONENT_BASE, Setter.EXPONENT_RADIX)
 _BYTES = (Setter.DIGIT_SEPARATOR, Setter.BASE_PREFIX, Setter.BASE_SUFFIX)
 _SETTERS = {**{it.name.lower(): it for it in Setter}, "radix": Setter.MANTISSA_RADIX}
+# The conditions of a syntax, with their types.
+_CONDITIONS: Dict[str, Any] = dict(_Syntax._fields_[3:])
 _SETTING = "a str or an Edit (pass a list as `*settings`)"
 # The default of an argument whose field keeps its value.
 _KEPT: Any = ...
@@ -577,7 +583,16 @@ def _setting(name: str, value: Value) -> Union[Edit, str]:
     """Returns an argument as a setting."""
     if name in _SETTERS:
         return Edit.of(name, value)
+    if name in _CONDITIONS:
+        return f"{name}={'none' if value is None else str(_condition(name, value)).lower()}"
     return f"{name}={'none' if value is None else _byte(name, value)}"
+
+
+def _condition(name: str, value: Value) -> int:
+    """Returns the value of a condition. Raises an error that names it if it does not take the value."""
+    if _CONDITIONS[name] is c_bool:
+        return _typed(name, value, bool)
+    return 0 if value is None else _number(name, value)
 
 
 @dataclass(frozen=True, init=False, repr=False)
@@ -703,7 +718,7 @@ class FormatError(ReasonsError):
 
 
 class OptionsError(ReasonsError):
-    """Raised if an exponent character and a decimal point do not fit a format."""
+    """Raised if an exponent character and a decimal point do not fit a format, or if it contradicts a condition."""
 
 
 class SettingsError(ReasonsError):
@@ -717,7 +732,8 @@ class LiteralError(ValueError):
     `valid_up_to` is the length of the longest beginning of the text that some literal begins with. If it is the length
     of the text, characters are missing. `span` is the first index and the end of the characters to show, maybe none, as
     in `text[slice(*span)]`. `kind` is the kind of the cause, and `part` the part of a separator or of missing digits.
-    `mask` has the flags to blame as bits of a word. A wrong byte and missing digits blame none. `error` is the error of
+    `mask` has the flags to blame as bits of a word, and `conditions` the names of conditions. A wrong byte and missing
+    digits blame none. `error` is the error of
     `lexical-util`. `form` is the name of the form of a language for which most of the text is right, or empty.
     """
 
@@ -730,10 +746,12 @@ class LiteralError(ValueError):
     mask: int
     error: Error
     form: str = ""
+    conditions: Tuple[str, ...] = ()
 
     @property
     def edits(self) -> Tuple[Edit, ...]:
-        """The edits of the format that end the cause: each alone for a separator, and otherwise all together."""
+        """The edits of the format that end the cause: each alone for a separator, and otherwise all together. Conditions
+        are not part of a format."""
         return tuple(Edit.of(it, self.kind is ReadErrorKind.SEPARATOR) for it in _members(Setter, self.mask))
 
     def __str__(self) -> str:
@@ -1278,21 +1296,27 @@ _EXACT = Context(_MOST_DIGITS, Emin=MIN_EMIN, Emax=MAX_EMAX, traps=[InvalidOpera
 
 @dataclass(frozen=True)
 class Syntax:
-    """What literals are read by: a format, and an exponent character and a decimal point that fit it. If both are None,
-    literals are integers.
+    """What literals are read by: a format, an exponent character and a decimal point that fit it, and conditions. If the
+    exponent character and the decimal point are both None, literals are integers.
 
         >>> syntax = Syntax(Format.of(mantissa_radix=16, base_prefix="x", exponent_base=2, exponent_radix=10), exponent="p")
         >>> literal = syntax.read("-0x1.8p3")
         >>> literal.value, literal.parts.fraction, literal.parts.exponent
         (-12.0, '8', '3')
 
-    The format is in normal form, so equivalent formats have the same syntax. Raises OptionsError if the exponent
-    character or the decimal point does not fit the normal form, or if only one of them is None.
+    The conditions are that a literal has the base prefix or the base suffix, and that its sign is not `-`. The format is
+    in normal form, so equivalent formats have the same syntax. Raises OptionsError if the exponent character or the
+    decimal point does not fit the normal form, if only one of them is None, or if the format contradicts a condition.
     """
 
     format: Format
     exponent: Optional[Byte] = "e"
     point: Optional[Byte] = "."
+    # Made by make_python.py: conditions
+    required_base_prefix: bool = False
+    required_base_suffix: bool = False
+    no_negative_mantissa_sign: bool = False
+    # End
     _reader: Any = field(init=False, repr=False, compare=False)
     _fields: Any = field(init=False, repr=False, compare=False)
 
@@ -1305,12 +1329,15 @@ class Syntax:
             sentence = _settings_text(b"exponent=none", 0)
             raise OptionsError((Reason(sentence, options=(Role.EXPONENT, Role.POINT)),))
         exponent, point = (chr(it) if it else None for it in options)
+        conditions = [_condition(name, getattr(self, name)) for name in _CONDITIONS]
         vars(self).update(format=format, exponent=exponent, point=point, _reader=_Reader(), _fields=format._unpacked())
-        _library.reader_init(self._reader, _Syntax(format._halves, *options))
+        numbers = _Syntax(format._halves, *options, *conditions)
+        if _library.reader_init(self._reader, numbers):
+            raise OptionsError((Reason(_text(_library.syntax_error_text, numbers)),))
 
     def __reduce__(self) -> Tuple[Any, ...]:
         """Returns what makes the syntax again, since a reader is of this build of the library."""
-        return type(self), (self.format, self.exponent, self.point)
+        return type(self), (self.format, self.exponent, self.point, *(getattr(self, it) for it in _CONDITIONS))
 
     @classmethod
     def integers(cls, format: Format) -> Syntax:
@@ -1322,7 +1349,7 @@ class Syntax:
     def of(
         cls,
         *settings: Union[Edit, str],
-        # Made by make_python.py: parameters
+        # Made by make_python.py: settings
         required_integer_digits: bool = _KEPT,
         required_fraction_digits: bool = _KEPT,
         required_exponent_digits: bool = _KEPT,
@@ -1370,9 +1397,12 @@ class Syntax:
         fraction_digit_separator_flags: bool = _KEPT,
         exponent_digit_separator_flags: bool = _KEPT,
         radix: int = _KEPT,
-        # End
         exponent: Optional[Byte] = _KEPT,
         point: Optional[Byte] = _KEPT,
+        required_base_prefix: bool = _KEPT,
+        required_base_suffix: bool = _KEPT,
+        no_negative_mantissa_sign: bool = _KEPT,
+        # End
     ) -> Syntax:
         """Returns the syntax that settings make, such as the lines of a file, and then keyword arguments. Raises
         SettingsError if there is none.
@@ -1395,7 +1425,7 @@ class Syntax:
     def notes_of(
         cls,
         *settings: Union[Edit, str],
-        # Made by make_python.py: parameters
+        # Made by make_python.py: settings
         required_integer_digits: bool = _KEPT,
         required_fraction_digits: bool = _KEPT,
         required_exponent_digits: bool = _KEPT,
@@ -1443,9 +1473,12 @@ class Syntax:
         fraction_digit_separator_flags: bool = _KEPT,
         exponent_digit_separator_flags: bool = _KEPT,
         radix: int = _KEPT,
-        # End
         exponent: Optional[Byte] = _KEPT,
         point: Optional[Byte] = _KEPT,
+        required_base_prefix: bool = _KEPT,
+        required_base_suffix: bool = _KEPT,
+        no_negative_mantissa_sign: bool = _KEPT,
+        # End
     ) -> Tuple[Note, ...]:
         """Returns the notes on settings that later ones override, the first 32 alone, and on those that have no effect,
         such as a digit separator that no flag allows, which the syntax lacks."""
@@ -1454,7 +1487,8 @@ class Syntax:
 
     @classmethod
     def _of_numbers(cls, numbers: _Syntax) -> Syntax:
-        return cls(Format(_joined(numbers.format)), numbers.exponent or None, numbers.decimal_point or None)
+        conditions: Any = {name: getattr(numbers, name) for name in _CONDITIONS if getattr(numbers, name)}
+        return cls(Format(_joined(numbers.format)), numbers.exponent or None, numbers.decimal_point or None, **conditions)
 
     def role_of(self, byte: Byte) -> Optional[Role]:
         """Returns the only role that a byte has in literals, or None."""
@@ -1507,7 +1541,9 @@ def _accepted(
     sentence = _text(_library.read_error_text, found) if is_byte else f"unexpected character {text[index]!r}"
     part = Part(why.part) if why.part != _NO_PART else None
     span, kind, mask = (why.span.start, why.span.end), ReadErrorKind(why.kind), _joined(why.mask)
-    raise LiteralError(sentence, text, index, span, kind, part, mask, Error(why.code), owner._names[found.form])
+    conditions = tuple(name for bit, name in enumerate(_CONDITIONS) if why.conditions >> bit & 1)
+    form = owner._names[found.form]
+    raise LiteralError(sentence, text, index, span, kind, part, mask, Error(why.code), form, conditions)
 
 
 def _readable(text: object) -> bytes:

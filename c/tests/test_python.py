@@ -233,6 +233,21 @@ class Literals(unittest.TestCase):
         for call in [*large, binary.read("1p99999999999999999999").fraction]:
             self.assertRaisesRegex(OverflowError, "more than 10\\^6 digits", call)
 
+    def test_conditions(self):
+        rows = [("required_base_prefix", {"base_prefix": "x"}, "0x1", "1"), ("required_base_suffix", {"base_suffix": "h"}, "1h", "1")]
+        for name, fields, accepted, refused in [*rows, ("no_negative_mantissa_sign", {}, "1e-1", "-1")]:
+            syntax = Syntax.of(**fields, **{name: True})
+            copies = eval(repr(syntax)), pickle.loads(pickle.dumps(syntax)), Syntax(Format.of(**fields), **{name: True})
+            self.assertEqual({syntax, *copies} - {Syntax.of(**fields)}, {syntax})
+            for it in copies:
+                self.assertEqual(it.read(accepted).text, accepted)
+                with self.assertRaises(LiteralError) as caught:
+                    it.read(refused)
+                error = pickle.loads(pickle.dumps(caught.exception))
+                self.assertEqual((error.kind, error.conditions, error.mask, error.edits), (ReadErrorKind.REQUIREMENT, (name,), 0, ()))
+        for error, call in ((OptionsError, lambda: Syntax(Format(), required_base_prefix=True)), (SettingsError, lambda: Syntax.of("required_base_prefix=true"))):
+            self.assertRaisesRegex(error, "^required_base_prefix is set, and the format has no base prefix$", call)
+
     def test_a_locale_plays_no_role(self):
         """Tests C, too, since it has the same locale."""
         folder = pathlib.Path(tempfile.mkdtemp())
@@ -331,6 +346,7 @@ WRONG = [
     ("Syntax.of(digit_seperator='_')", TypeError, "of() got an unexpected keyword argument 'digit_seperator': unknown setting `digit_seperator`; did you mean `digit_separator`?"),
     ("Syntax.of(exponnt='_')", TypeError, "of() got an unexpected keyword argument 'exponnt': unknown setting `exponnt`; did you mean `exponent`?"),
     ("Format.of(exponent='p')", TypeError, "of() got an unexpected keyword argument 'exponent': unknown setting name"),
+    ("Syntax.of(required_base_prefix=1)", TypeError, "required_base_prefix is a bool, not int"),
     ("Syntax.of(point='')", ValueError, f"point is {BYTE}: ''"),
     ("Edit.of('digit_seperator', '_')", ValueError, f"setter 'digit_seperator': {SUGGESTION}"),
     ("Format.of(\"digit_seperator='_'\")", ValueError, f"digit_seperator='_': {SUGGESTION}"),

@@ -338,13 +338,13 @@ fn compare(
 fn possible(word: u128) -> u128 {
     let has_byte = |bit: u32| word >> bit & 0xFF != 0;
     let rows = [
-        (has_byte(88), ConditionsError::NoBasePrefix),
-        (has_byte(96), ConditionsError::NoBaseSuffix),
-        (!(is_set(word, 4) && is_set(word, 5)), ConditionsError::NoSign),
+        (has_byte(88), Some(ConditionsError::NoBasePrefix)),
+        (has_byte(96), Some(ConditionsError::NoBaseSuffix)),
+        (true, None),
     ];
     let syntax = literal::Syntax::integers(Format::new(word).unwrap());
     for (at, (is_possible, error)) in (CONDITIONS..).zip(rows) {
-        assert_eq!(syntax.with(conditions(1 << at)).err(), (!is_possible).then_some(error), "{at} in {word:#034X}");
+        assert_eq!(syntax.with(conditions(1 << at)).err(), error.filter(|_| !is_possible), "{at} in {word:#034X}");
     }
     mask(CONDITIONS..CONDITIONS + 3, |at| rows[(at - CONDITIONS) as usize].0)
 }

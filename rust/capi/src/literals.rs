@@ -6,25 +6,34 @@ use core::fmt::Display;
 use core::mem::ManuallyDrop;
 use core::ops::Range;
 use core::slice;
-use peltzivar::literal::{self, FormError, Language, Number, ReadErrorKind, Readers};
+use peltzivar::literal::{self, Conditions, FormError, Language, Number, ReadErrorKind, Readers};
 use peltzivar::{Error, Format, FormatError};
 
-/// A word with an exponent character and a decimal point, which may be refused. If both are 0, literals are integers.
+/// A word with an exponent character, a decimal point and conditions, which may be refused. If both are 0, literals are
+/// integers. A condition is 0 if there is none.
 #[repr(C)]
 pub struct Syntax {
     format: Word,
     exponent: u8,
     decimal_point: u8,
+    required_base_prefix: u8,
+    required_base_suffix: u8,
+    no_negative_mantissa_sign: u8,
 }
 
 impl Syntax {
     /// Returns the checked syntax.
     fn checked(&self) -> Result<literal::Syntax, FormatError> {
         let format = Format::new(self.format.number())?;
-        match (self.exponent, self.decimal_point) {
-            (0, 0) => Ok(literal::Syntax::integers(format)),
-            (exponent, point) => literal::Syntax::new(format, exponent, point),
-        }
+        let syntax = match (self.exponent, self.decimal_point) {
+            (0, 0) => literal::Syntax::integers(format),
+            (exponent, point) => literal::Syntax::new(format, exponent, point)?,
+        };
+        let conditions = Conditions::NONE
+            .required_base_prefix(self.required_base_prefix != 0)
+            .required_base_suffix(self.required_base_suffix != 0)
+            .no_negative_mantissa_sign(self.no_negative_mantissa_sign != 0);
+        Ok(syntax.with(conditions)?)
     }
 
     /// Returns the numbers of a syntax.
@@ -33,7 +42,15 @@ impl Syntax {
             (Some(exponent), Some(point)) => (exponent, point),
             _ => (0, 0),
         };
-        Syntax { format: Word::of(syntax.format().word()), exponent, decimal_point }
+        let conditions = syntax.conditions();
+        Syntax {
+            format: Word::of(syntax.format().word()),
+            exponent,
+            decimal_point,
+            required_base_prefix: conditions.required_base_prefix as u8,
+            required_base_suffix: conditions.required_base_suffix as u8,
+            no_negative_mantissa_sign: conditions.no_negative_mantissa_sign as u8,
+        }
     }
 }
 
@@ -174,6 +191,7 @@ pub struct Explanation {
     kind: u8,
     number: Setter,
     part: u8,
+    conditions: u8,
 }
 
 impl From<literal::ReadError> for Explanation {
@@ -187,6 +205,9 @@ impl From<literal::ReadError> for Explanation {
             _ => (0, None),
         };
         let (Range { start, end }, code, mask) = (error.span(), error.code(), error.mask());
+        let Conditions { required_base_prefix, required_base_suffix, no_negative_mantissa_sign, .. } =
+            error.conditions();
+        let conditions = [required_base_prefix, required_base_suffix, no_negative_mantissa_sign];
         Explanation {
             span: Span { start, end },
             index: code.index().copied().unwrap_or(0),
@@ -195,11 +216,12 @@ impl From<literal::ReadError> for Explanation {
             kind,
             number: if mask == 0 { NO_SETTER } else { mask.trailing_zeros() as Setter },
             part: part.map_or(NO_PART, |part| part as u8),
+            conditions: conditions.iter().rev().fold(0, |bits, condition| bits << 1 | *condition as u8),
         }
     }
 }
 
-/// Returns the reader and the text, or why there are none.
+/// Returns the readers of the forms, at least one, and the text, or why there are none.
 ///
 /// # Safety
 ///
@@ -208,9 +230,9 @@ pub unsafe fn given<'a>(
     reader: Option<&Reader>,
     text: *const u8,
     len: usize,
-) -> Result<(&Forms, &'a [u8]), Refusal> {
-    let reader = reader.and_then(Reader::value).ok_or(Refusal::Argument("no call has made this reader"))?;
-    Ok((reader, input(text, len).ok_or(Refusal::Argument("the text has more than PTRDIFF_MAX bytes"))?))
+) -> Result<(&[literal::Reader], &'a [u8]), Refusal> {
+    let forms = reader.and_then(Reader::value).ok_or(Refusal::Argument("no call has made this reader"))?;
+    Ok((forms.readers(), input(text, len).ok_or(Refusal::Argument("the text has more than PTRDIFF_MAX bytes"))?))
 }
 
 /// Writes what `read` or, of several forms, `read_forms` returns for a text, and returns whether it is a literal.
@@ -220,26 +242,27 @@ unsafe fn read_by<'a>(
     read: impl Fn(&literal::Reader, &'a [u8]) -> Result<literal::Literal<'a>, literal::ReadError>,
     read_forms: impl Fn(&Readers<'_>, &'a [u8]) -> Result<Number<'a>, FormError>,
 ) -> bool {
-    let found = given(reader, text, len).map_err(|refusal| (0, refusal));
-    let found = found.and_then(|(forms, text)| match forms.readers() {
-        [reader] => read(reader, text).map(|literal| (0, literal)).map_err(|error| (0, Refusal::Text(error))),
-        readers => match Readers::new(readers).map(|readers| read_forms(&readers, text)) {
-            Some(Ok(Number::Literal { literal, form })) => Ok((form, literal)),
-            Some(Err(FormError { form, error, .. })) => Err((form, Refusal::Text(error))),
-            _ => Err((0, Refusal::Argument("a number that is not a literal"))),
+    let (form, refusal) = match given(reader, text, len) {
+        Err(refusal) => (0, refusal),
+        Ok(([reader], text)) => match read(reader, text) {
+            Ok(found) => {
+                literal.write(Literal::of(found, 0));
+                return true;
+            }
+            Err(error) => (0, Refusal::Text(error)),
         },
-    });
-    match found {
-        Ok((form, found)) => {
-            literal.write(Literal::of(found, form));
-            true
-        }
-        Err((form, refusal)) => {
-            let valid_up_to = if let Refusal::Text(error) = &refusal { error.valid_up_to() } else { 0 };
-            error.write(Made::new(Stop { valid_up_to, form }, refusal));
-            false
-        }
-    }
+        Ok((readers, text)) => match Readers::new(readers).map(|readers| read_forms(&readers, text)) {
+            Some(Ok(Number::Literal { literal: found, form })) => {
+                literal.write(Literal::of(found, form));
+                return true;
+            }
+            Some(Err(FormError { form, error, .. })) => (form, Refusal::Text(error)),
+            _ => (0, Refusal::Argument("a number that is not a literal")),
+        },
+    };
+    let valid_up_to = if let Refusal::Text(error) = &refusal { error.valid_up_to() } else { 0 };
+    error.write(Made::new(Stop { valid_up_to, form }, refusal));
+    false
 }
 
 calls! {
