@@ -129,6 +129,7 @@ ATTRIBUTES = [
     ("list.rt", "#[derive(Drop)]", "#[derive(Debug, Clone, Copy, PartialEq, Eq)]"),
     ("read.rt", "#[derive(Drop)]", "#[derive(Clone)]"),
     ("tables.rt", "#[derive(Drop)]", "#[derive(Clone)]"),
+    ("sink.rt", "#[derive(Drop)]", "#[derive(Debug)]"),
     # `Debug` prints the answers.
     ("cause.rt", "#[derive(Debug, Clone, Copy, PartialEq, Eq, Hash)]\npub struct ReadError {", "#[derive(Clone, Copy, PartialEq, Eq, Hash)]\npub struct ReadError {"),
     ("lawful.rt", "Eq)]\npub struct FormatError", "Eq, Hash)]\npub struct FormatError"),
@@ -186,8 +187,8 @@ class Source:
             return self.words.index(";", start) + 1
         if self.words[start] == "ghost" and self.words[start + 2] in "=:" and self.words[start + 3] == "{":
             end = self.behind(start + 3)
-            if self.words[end] != ";":
-                self.refuse(end, "a ghost item does not end with `;`")
+            if self.words[end] not in (";", ","):
+                self.refuse(end, "a ghost item does not end with `;` or `,`")
             return end + 1
         if self.stands(index, "#", "[", "tactic", "(") or self.stands(index, "#", "!", "[", "tactic", "("):
             return self.behind(self.words.index("[", index))

@@ -30,7 +30,7 @@ use Rattle.lexical_writer.specs.Layout.{laid_out, only_if, point_byte, power_dig
 use Rattle.lexical_writer.specs.declared.layout.Amount.{Amount}
 use Rattle.lexical_writer.specs.declared.layout.Power.{Power}
 use Rattle.lexical_writer.specs.declared.layout.Style.{Style}
-use Rattle.lexical_writer.specs.declared.layout.WriteErrorKind.TheVariants as errors
+use Rattle.lexical_writer.specs.declared.layout.WriteError.TheVariants as errors
 use Rattle.lexical_writer.proofs.DigitLemmas.{digits_present, grouped_present, lean_below, source_below, zero_below, zero_present, digits_below}
 use Rattle.lexical_writer.proofs.GroupLemmas.{grouped_run, no_leading_zero}
 

@@ -24,8 +24,8 @@ use Rattle.lexical_writer.specs.Layout.{IsLaidOut, IsNotWritten, IsWhole, expone
 use Rattle.lexical_writer.specs.declared.layout.Amount.{Amount}
 use Rattle.lexical_writer.specs.declared.layout.Style.{Style}
 use Rattle.lexical_writer.specs.declared.layout.Layout.{Layout}
-use Rattle.lexical_writer.specs.declared.layout.WriteErrorKind.{WriteErrorKind}
-use Rattle.lexical_writer.specs.declared.layout.WriteErrorKind.TheVariants as errors
+use Rattle.lexical_writer.specs.declared.layout.WriteError.{WriteError}
+use Rattle.lexical_writer.specs.declared.layout.WriteError.TheVariants as errors
 use Rattle.lexical_writer.proofs.DigitLemmas.{grouped_digits, lean_below, lean_number, zero_below, zero_number}
 use Rattle.lexical_writer.proofs.LiteralLemmas.{between, integer_below, radixes, some_radix}
 
@@ -61,7 +61,7 @@ no_parts : (required lacks flag : Bool) (p e : ℕ) → (required && not lacks) 
 no_parts required lacks flag p e none = grind arith
 
 -- An integer is refused only for its sign.
-only_negative : (n a b : Bool) (error : WriteErrorKind)
+only_negative : (n a b : Bool) (error : WriteError)
     → (if n then Some errors.Negative else (if a && false then Some errors.Fraction else (if b && false then Some errors.Exponent else None))) ≡ Some error
     → (n ≡ true) × (errors.Negative ≡ error)
 only_negative true a b error is = (refl, cc)
@@ -71,7 +71,7 @@ only_negative false false true error is = absurd (let apart : None ≡ Some erro
 only_negative false false false error is = absurd (let apart : None ≡ Some error = is in cc)
 
 pub whole_error : (g : Grammar) (z : ℤ) (negative : Bool) (size : ℕ) → with_sign negative size ≡ z → (negative ≡ true → 0 < size)
-    → (style : Style) (result : Result Layout WriteErrorKind) → IsLaidOut g style (whole negative size) result → IfErr result (IsNotWritten g z)
+    → (style : Style) (result : Result Layout WriteError) → IsLaidOut g style (whole negative size) result → IfErr result (IsNotWritten g z)
 whole_error g z negative size value some style (Ok layout) is = tt
 whole_error g z negative size value some style (Err error) is =
     let why = only_negative (negative && g.conditions.no_negative_mantissa_sign) (lacks_options g.options) _ error is in
@@ -95,13 +95,13 @@ module _ (g : Grammar) (style : Style) (negative : Bool) (size : ℕ) (is : IsSy
     size_is = integer_number g style (whole negative size) is apart accepted can ∙ number_digits_of _ size (radixes g.word is.lawful parts.Integer).0
 
   -- What is laid out has the value of the integer.
-  pub whole_written : (result : Result Layout WriteErrorKind) → IsLaidOut g style (whole negative size) result
+  pub whole_written : (result : Result Layout WriteError) → IsLaidOut g style (whole negative size) result
       → IfOk result (λ layout. IsInteger (raw g.word) (literal_of layout) (with_sign negative size))
   whole_written (Ok layout) is = subst (λ l. IsInteger (raw g.word) l (with_sign negative size)) (sym is.1) (whole_value is.0)
   whole_written (Err error) is = tt
 
 -- An integer is written with a minus sign only below 0.
 pub whole_parts : (g : Grammar) (style : Style) (z : ℤ) (negative : Bool) (size : ℕ) → with_sign negative size ≡ z → (negative ≡ true → 0 < size)
-    → (result : Result Layout WriteErrorKind) → IsLaidOut g style (whole negative size) result → IfOk result (λ layout. IsWhole g style z (literal_of layout))
+    → (result : Result Layout WriteError) → IsLaidOut g style (whole negative size) result → IfOk result (λ layout. IsWhole g style z (literal_of layout))
 whole_parts g style z negative size value minus (Ok layout) is = record { negative = negative; size = size; value = value; minus = minus; parts = is.1 }
 whole_parts g style z negative size value minus (Err error) is = tt

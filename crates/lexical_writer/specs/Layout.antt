@@ -16,8 +16,8 @@ use Rattle.lexical_writer.specs.declared.layout.Layout.{Layout}
 use Rattle.lexical_writer.specs.declared.layout.Power.{Power}
 use Rattle.lexical_writer.specs.declared.layout.Style.{Style}
 use Rattle.lexical_writer.specs.declared.run.Source.TheVariants as sources
-use Rattle.lexical_writer.specs.declared.layout.WriteErrorKind.{WriteErrorKind}
-use Rattle.lexical_writer.specs.declared.layout.WriteErrorKind.TheVariants as errors
+use Rattle.lexical_writer.specs.declared.layout.WriteError.{WriteError}
+use Rattle.lexical_writer.specs.declared.layout.WriteError.TheVariants as errors
 
 -- `after_zero byte` is a zero and `byte`, or nothing if `byte` is absent.
 abbrev pub after_zero : Option ℕ → List ℕ
@@ -109,14 +109,14 @@ laid_out g style amount =
     }
 
 -- `refusal g amount` is why `amount` cannot be written as a literal of `g`, or `None` if it can.
-abbrev pub refusal : Grammar → Amount → Option WriteErrorKind
+abbrev pub refusal : Grammar → Amount → Option WriteError
 refusal g amount =
     if amount.negative && g.conditions.no_negative_mantissa_sign then Some errors.Negative
     else (if lacks_options g.options && is_some amount.fraction then Some errors.Fraction
     else (if (lacks_options g.options || (raw g.word).flag layout.no_exponent_notation) && is_some amount.exponent then Some errors.Exponent else None))
 
 -- `IsLaidOut g style amount result` holds if `result` is what is written for `amount`, or why it cannot be written.
-abbrev pub IsLaidOut : Grammar → Style → Amount → Result Layout WriteErrorKind → Type 0
+abbrev pub IsLaidOut : Grammar → Style → Amount → Result Layout WriteError → Type 0
 IsLaidOut g style amount (Ok layout) = (refusal g amount ≡ None) × (literal_of layout ≡ laid_out g style amount)
 IsLaidOut g style amount (Err error) = refusal g amount ≡ Some error
 
@@ -134,7 +134,7 @@ pub record IsWhole (g : Grammar) (style : Style) (z : ℤ) (l : Literal) : Type 
 
 -- `IsNotWritten g z kind` holds if `kind` is why `g` has no integer with the value `z`: each literal has an exponent, or `z` is
 -- below 0 and no literal is.
-abbrev pub IsNotWritten : Grammar → ℤ → WriteErrorKind → Type 0
+abbrev pub IsNotWritten : Grammar → ℤ → WriteError → Type 0
 IsNotWritten g z errors.Float = IsTrue (needs_exponent (notation_of g))
 IsNotWritten g z errors.Negative = IsTrue g.conditions.no_negative_mantissa_sign × (size : ℕ) × (0 < size) × (with_sign true size ≡ z)
 IsNotWritten g z _ = ⊥

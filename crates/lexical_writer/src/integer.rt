@@ -8,7 +8,7 @@ ghost use Rattle.lexical_literal.specs.Notation.{notation_of};
 ghost use Rattle.lexical_value.specs.Integer.{IsInteger};
 ghost use Rattle.lexical_writer.specs.Layout.{IsNotWritten, IsWhole, literal_of};
 
-use crate::layout::{Amount, Layout, Style, WriteErrorKind};
+use crate::layout::{Amount, Layout, Style, WriteError};
 use crate::run::Source;
 use lexical_literal::syntax::Syntax;
 use lexical_number::integer::Integer;
@@ -19,13 +19,13 @@ use lexical_util::laws::flags::role_facts;
 ///
 /// # Errors
 ///
-/// [`WriteErrorKind::Float`] if each literal of `syntax` has an exponent, and [`WriteErrorKind::Negative`] if the value is
+/// [`WriteError::Float`] if each literal of `syntax` has an exponent, and [`WriteError::Negative`] if the value is
 /// below 0 and no literal has the sign `-`.
 pub fn format_integer<T: Integer>(
     syntax: &Syntax,
     value: T,
     style: Style,
-) -> Result<Layout<'static>, WriteErrorKind>
+) -> Result<Layout<'static>, WriteError>
     // What is written is a literal with neither a decimal point nor an exponent, and its value is that of the integer.
     ensures literal { IfOk result (λ layout. IsLiteral (notation_of syntax.now) (literal_of layout)) }
     ensures value { IfOk result (λ layout. IsInteger (raw syntax.now.word) (literal_of layout) (T.range.value value)) }
@@ -36,7 +36,7 @@ pub fn format_integer<T: Integer>(
     role_facts();
     byte_facts();
     if needs_exponent(syntax) {
-        return Err(WriteErrorKind::Float);
+        return Err(WriteError::Float);
     }
     let (negative, size) = value.sign_and_size();
     let amount = Amount {

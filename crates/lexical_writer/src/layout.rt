@@ -11,7 +11,7 @@ ghost use Rattle.lexical_writer.specs.Digits.{grouped, or_zero, run_text, values
 ghost use Rattle.lexical_writer.specs.Layout.{after_zero, exponent_byte, fraction_digits, group_of, has_exponent, has_point, has_zero};
 ghost use Rattle.lexical_writer.specs.Layout.{IsLaidOut, is_negative, laid_out, literal_of};
 ghost use Rattle.lexical_writer.specs.Layout.{only_if, point_byte, power_digits, refusal, sign_of};
-ghost use Rattle.lexical_writer.specs.declared.layout.WriteErrorKind.TheVariants as errors;
+ghost use Rattle.lexical_writer.specs.declared.layout.WriteError.TheVariants as errors;
 ghost use Rattle.lexical_writer.specs.Private.{IsTaken};
 
 use crate::digits::{count, without_zeros};
@@ -36,7 +36,7 @@ pub struct Style {
 
 /// Why a number cannot be written as a literal of a syntax.
 #[derive(Debug, Clone, Copy, PartialEq, Eq, Hash)]
-pub enum WriteErrorKind {
+pub enum WriteError {
     /// The mantissa radixes differ or, for a number with an exponent, the exponent bases.
     Radix,
     /// The number is below 0, or -0, and no literal has the sign `-`.
@@ -47,6 +47,10 @@ pub enum WriteErrorKind {
     Exponent,
     /// The number is an integer of Rust, and each literal has an exponent.
     Float,
+    /// The number is NaN or infinity, which no literal is.
+    Special,
+    /// The buffer is too short for the text, which has this number of bytes.
+    Buffer(usize),
 }
 
 /// The exponent of a number.
@@ -154,16 +158,16 @@ const fn only_if(condition: bool, byte: u8) -> Option<u8>
 }
 
 // Returns the first error whose condition is true.
-const fn first_error(negative: bool, fraction: bool, exponent: bool) -> Option<WriteErrorKind>
+const fn first_error(negative: bool, fraction: bool, exponent: bool) -> Option<WriteError>
     ensures { result ≡ (if negative then Some errors.Negative
         else (if fraction then Some errors.Fraction else (if exponent then Some errors.Exponent else None))) }
 {
     if negative {
-        Some(WriteErrorKind::Negative)
+        Some(WriteError::Negative)
     } else if fraction {
-        Some(WriteErrorKind::Fraction)
+        Some(WriteError::Fraction)
     } else if exponent {
-        Some(WriteErrorKind::Exponent)
+        Some(WriteError::Exponent)
     } else {
         None
     }
@@ -222,7 +226,7 @@ impl<'a> Amount<'a> {
     /// # Errors
     ///
     /// If no literal has this form, returns why.
-    pub fn lay_out(&self, syntax: &Syntax, style: Style) -> Result<Layout<'a>, WriteErrorKind>
+    pub fn lay_out(&self, syntax: &Syntax, style: Style) -> Result<Layout<'a>, WriteError>
         ensures parts { IsLaidOut syntax.now style self.now result }
         ensures literal { IfOk result (λ layout. IsLiteral (notation_of syntax.now) (literal_of layout)) }
         ensures lawful { IsSyntax syntax.now }
@@ -233,7 +237,7 @@ impl<'a> Amount<'a> {
     }
 
     // Returns the parts of the literal.
-    fn plan(&self, syntax: &Syntax, style: Style) -> Result<Layout<'a>, WriteErrorKind>
+    fn plan(&self, syntax: &Syntax, style: Style) -> Result<Layout<'a>, WriteError>
         ensures lawful { IsSyntax syntax.now }
         ensures parts { IsLaidOut syntax.now style self.now result }
     {
@@ -265,7 +269,7 @@ impl<'a> Amount<'a> {
     }
 
     // Returns why the number cannot be written, if it cannot.
-    fn refusal(&self, syntax: &Syntax) -> Option<WriteErrorKind>
+    fn refusal(&self, syntax: &Syntax) -> Option<WriteError>
         ensures { result ≡ refusal syntax.now self.now }
     {
         let integers = lacks_options(syntax.options());

@@ -56,17 +56,18 @@ impl Default for Style {
 }
 
 impl Syntax {
-    /// Returns the value of an integer as a literal of this syntax: reading the text returns the same value, in every syntax.
+    /// Returns the value of an integer as a literal of this syntax. [Parsing][crate::literal::Reader::parse] the text returns
+    /// the same value.
     ///
     /// A `+` is written only where a sign is required. Digits are in uppercase.
     ///
     /// ```
     /// use peltzivar::literal::{Language, Style, WriteError};
     ///
-    /// let [.., hexadecimal] = Language::C_HEX_INTEGER.forms() else { unreachable!() };
-    /// let text = hexadecimal.syntax.format_integer(0xC0FFEE, Style::PLAIN.group(4))?;
+    /// let form = Language::C.forms().iter().find(|form| form.name == "hexadecimal").unwrap();
+    /// let text = form.syntax.format_integer(0xC0FFEE, Style::PLAIN.group(4))?;
     /// assert_eq!(text.to_string(), "0xC0'FFEE");
-    /// assert_eq!(Language::C_HEX_INTEGER.parse(text.to_string()), Ok(0xC0FFEE));
+    /// assert_eq!(Language::C.parse(text.to_string()), Ok(0xC0FFEE));
     /// # Ok::<(), WriteError>(())
     /// ```
     ///
