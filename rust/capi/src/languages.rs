@@ -57,13 +57,20 @@ static READERS: [Reader; COUNT] = {
     readers
 };
 
-/// The most forms of a language.
-const MOST_FORMS: usize = 8;
+/// The most forms that a language has.
+const MOST_FORMS: usize = {
+    let (mut most, mut languages) = (0, Language::ALL);
+    while let [language, rest @ ..] = languages {
+        let forms = language.forms().len();
+        most = if forms > most { forms } else { most };
+        languages = rest;
+    }
+    most
+};
 
-/// Returns the name of a form. The forms of each language have the next indices.
+/// Returns the name of a form, or an empty one. Each language has this number of forms.
 const fn form_name(index: usize) -> &'static str {
     let forms = Language::ALL[index / MOST_FORMS].forms();
-    assert!(forms.len() <= MOST_FORMS);
     if index % MOST_FORMS < forms.len() {
         forms[index % MOST_FORMS].name
     } else {
