@@ -110,6 +110,14 @@ def fields():
     return {"flags": flags, "groups": groups, "bytes": numbers}
 
 
+def conditions():
+    """Returns the conditions: the name of each, what it does, and a text that it refuses."""
+    text = (TOP / "rust/src/literal/conditions.rs").read_text()
+    row = r"/// (.*?)\. If set, [^`]*(`[^`]*`).*\n    #\[must_use\]\n    pub const fn (\w+)\(mut self, \w+: bool\)"
+    found = re.findall(row, text) or sys.exit("rust/src/literal/conditions.rs: no conditions")
+    return [{"name": name, "meaning": does, "refuses": [text.strip("`")]} for does, text, name in found]
+
+
 def setting(call):
     """Returns a setter call of a language as a setting."""
     name, argument = re.fullmatch(r"\.(\w+)\((.*)\)", call).groups()
@@ -163,6 +171,7 @@ def data():
     header = (TOP / "c/peltzivar.h").read_text()
     return {
         **fields(),
+        "conditions": conditions(),
         "rules": rules(),
         "languages": [*languages()],
         "version": re.search(r'^#define PELTZIVAR_VERSION "(.*)"$', header, re.M)[1],

@@ -1,9 +1,10 @@
 //! Texts that tell two formats apart: one accepts them and the other refuses them, or both give them other values.
 
 use core::fmt;
+use core::num::NonZeroU8;
 
 use peltzivar::literal::{ReadError, ReadErrorKind};
-use peltzivar::Role;
+use peltzivar::{FormatView, Role};
 
 use crate::forms::{value_of, Forms, Value};
 use crate::suggest::State;
@@ -42,12 +43,27 @@ impl Text {
     fn new(state: State, parts: [&str; 6]) -> Option<Self> {
         let mut text = Self { bytes: [0; 24], size: 0 };
         for byte in parts.iter().flat_map(|part| part.bytes()) {
-            let byte = state.byte_for(byte);
+            let byte = byte_for(state, byte);
             *text.bytes.get_mut(text.size)? = byte;
             text.size += 1;
             byte.is_ascii_graphic().then_some(())?;
         }
         Some(text)
+    }
+}
+
+/// Returns the byte of a state that a byte of an example stands for. It is 0 if the state lacks it.
+fn byte_for(state: State, byte: u8) -> u8 {
+    let view = FormatView::new(state.word);
+    match byte {
+        b'_' => view.digit_separator().map_or(0, NonZeroU8::get),
+        b'x' => view.base_prefix().map_or(0, NonZeroU8::get),
+        b'h' => view.base_suffix().map_or(0, NonZeroU8::get),
+        b'e' => state.exponent,
+        b'.' => state.point,
+        b'F' => char::from_digit(view.mantissa_radix() - 1, 36).map_or(0, |it| it.to_ascii_uppercase() as u8),
+        b'X' | b'H' | b'E' => byte_for(state, byte.to_ascii_lowercase()).to_ascii_uppercase(),
+        _ => byte,
     }
 }
 

@@ -2,9 +2,9 @@
 
 use core::str::FromStr;
 
-use peltzivar::literal::{Number, Reader, Readers, ValueError};
+use peltzivar::literal::{Conditions, Number, Reader, Readers, ValueError};
 
-use crate::suggest::{State, SPECIALS};
+use crate::suggest::{values_of, with_condition, State, SPECIALS};
 
 /// How many forms a language has.
 const MOST: usize = 24;
@@ -40,13 +40,19 @@ impl Forms {
     }
 }
 
-/// Reads the states of a line. Each is its word and, behind a colon, its options: the exponent character, and above it the
-/// decimal point.
+/// Returns the options of a state as bytes: the exponent character, the decimal point, and a bit for each condition.
+pub fn options_of(state: State) -> u32 {
+    let bits = values_of(state.conditions).iter().rev().fold(0, |bits, &is_set| bits << 1 | u8::from(is_set));
+    u32::from_le_bytes([state.exponent, state.point, bits, 0])
+}
+
+/// Reads the states of a line. Each is its word and, behind a colon, its options, as `options_of` returns them.
 pub fn states_of(line: &str) -> impl Iterator<Item = State> {
     line.split(' ').map(|state| {
         let (word, options) = state.split_once(':').unwrap_or((state, ""));
-        let [exponent, point, ..] = u64::from_str(options).unwrap_or(0).to_le_bytes();
-        State { word: u128::from_str(word).unwrap_or(0), exponent, point }
+        let [exponent, point, bits, _] = u32::from_str(options).unwrap_or(0).to_le_bytes();
+        let conditions = (0..3).fold(Conditions::NONE, |all, index| with_condition(all, index, bits >> index & 1 != 0));
+        State { word: u128::from_str(word).unwrap_or(0), exponent, point, conditions }
     })
 }
 

@@ -7,10 +7,10 @@ use core::fmt::{self, Display, Write};
 use core::ops::Range;
 
 use peltzivar::edits::{apply, is_built, normal_form};
-use peltzivar::literal::{FormError, Number, Reader, Readers};
+use peltzivar::literal::{Conditions, FormError, Number, Reader, Readers};
 use peltzivar::{Edit, Error, FormatView, NumberFormatBuilder, Reason, Rule};
 use examples::{Refused, other_values, refused};
-use forms::{Forms, Value, states_of, value_of};
+use forms::{Forms, Value, options_of, states_of, value_of};
 use suggest::{Found, Line, State, blamed_options, lines_of, offers, repairs};
 
 mod examples;
@@ -66,7 +66,7 @@ pub extern "C" fn build(length: usize) -> usize {
 #[unsafe(no_mangle)]
 pub extern "C" fn explain(length: usize) -> usize {
     let Some(state) = states_of(text_of(length).0).next() else { return 0 };
-    let State { word, exponent, point } = state;
+    let State { word, exponent, point, conditions } = state;
     let view = FormatView::new(word);
     answer(|out| {
         write!(out, r#"{{"normal":{},"isBuilt":{}"#, Word(normal_form(word)), is_built(word))?;
@@ -74,6 +74,9 @@ pub extern "C" fn explain(length: usize) -> usize {
         list(out, view.reasons(), |out, reason| put_reason(out, state, reason))?;
         out.write_str(r#","options":"#)?;
         list(out, view.options_reasons(exponent, point), |out, reason| put_reason(out, state, reason))?;
+        let fitting = State { conditions: Conditions::NONE, ..state }.exact();
+        let contradiction = fitting.and_then(|syntax| syntax.with(conditions).err());
+        contradiction.map_or(Ok(()), |it| write!(out, r#","contradiction":{}"#, Quoted(it)))?;
         out.write_str(r#","notes":"#)?;
         list(out, view.notes(), |out, note| {
             write!(out, r#"{{"text":{},"mask":{}}}"#, Quoted(note), Word(note.mask()))
@@ -100,8 +103,8 @@ fn put_reason(out: &mut Answer, state: State, reason: Reason) -> fmt::Result {
 }
 
 /// Writes an object with a state, without its last brace.
-fn put_state(out: &mut Answer, State { word, exponent, point }: State) -> fmt::Result {
-    write!(out, r#"{{"word":{},"exponent":{exponent},"point":{point}"#, Word(word))
+fn put_state(out: &mut Answer, state: State) -> fmt::Result {
+    write!(out, r#"{{"word":{},"options":{}"#, Word(state.word), options_of(state))
 }
 
 /// Returns an object for each line but the first, which has the forms: the value and the parts of its number, or the parts

@@ -136,8 +136,7 @@ class Trial {
     /* Returns a state that is offered, as a button with its settings, with what the number is then. */
     offer(place, { label, then, changes }, index) {
         const use = () => {
-            const { word, exponent, point } = this.answers.find((it) => it.place === place).offers[index];
-            this.change({ word, exponent, point });
+            this.change(this.library.stateOf(this.answers.find((it) => it.place === place).offers[index]));
             (find("read").querySelector(".use") ?? find("literal")).focus();
         };
         const fields = changes.map(({ name }) => name).join(" ");

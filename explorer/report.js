@@ -66,19 +66,19 @@ class Report {
     /* Returns the forms to compare with, or {error}, which is empty if there is no text. */
     other() {
         const [name, form] = find("compare").value.split(":");
-        if (name === "standard") return { forms: [{ ...STANDARD_OPTIONS, word: this.library.standard }] };
+        if (name === "standard") return { forms: [this.library.usual] };
         const { forms } = this.data.languages.find((it) => it.name === name) ?? {};
         if (forms) return { forms: forms.filter((it) => !form || it.name === form) };
         const { word, options, error } = this.library.read(find("other").value);
         if (error) return { error: find("other").value.trim() && error, forms: [] };
-        return { forms: [{ ...STANDARD_OPTIONS, word, ...options }] };
+        return { forms: [{ ...this.library.usual, word, ...options }] };
     }
 
     /* Returns what two formats have to do with each other, in words, and the fields and options in which they differ. */
     relation(other) {
         const changes = this.library.differences(this.state, other);
         const { error, normal } = this.library.explain(other);
-        const isSame = normal === this.library.explain(this.state).normal && !changes.some(({ name }) => name in STANDARD_OPTIONS);
+        const isSame = normal === this.library.explain(this.state).normal && !changes.some(({ name }) => !this.library.named.has(name));
         const same = changes.length ? "Same format, stored differently." : "Same format.";
         return { changes, told: error ? `The other word is not lawful: ${error}.` : isSame ? same : "" };
     }
