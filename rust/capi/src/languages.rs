@@ -57,25 +57,23 @@ static READERS: [Reader; COUNT] = {
     readers
 };
 
-/// The most forms that a language has.
-const MOST_FORMS: usize = {
-    let (mut most, mut languages) = (0, Language::ALL);
-    while let [language, rest @ ..] = languages {
-        let forms = language.forms().len();
-        most = if forms > most { forms } else { most };
-        languages = rest;
+/// Returns the number of forms that the languages before one have.
+const fn forms_before(language: usize) -> usize {
+    let (mut count, mut index) = (0, 0);
+    while index < language {
+        count += Language::ALL[index].forms().len();
+        index += 1;
     }
-    most
-};
+    count
+}
 
-/// Returns the name of a form, or an empty one. Each language has this number of forms.
+/// Returns the name of a form by its index among those of all languages.
 const fn form_name(index: usize) -> &'static str {
-    let forms = Language::ALL[index / MOST_FORMS].forms();
-    if index % MOST_FORMS < forms.len() {
-        forms[index % MOST_FORMS].name
-    } else {
-        ""
+    let mut language = 0;
+    while forms_before(language + 1) <= index {
+        language += 1;
     }
+    Language::ALL[language].forms()[index - forms_before(language)].name
 }
 
 /// Returns the index of the language that a reader reads, and its forms.
@@ -95,7 +93,7 @@ const fn or_empty(spelling: Option<&'static [u8]>) -> &'static [u8] {
 
 texts! {
     NAMES: [32; COUNT] = |index| Language::ALL[index].name().as_bytes();
-    FORM_NAMES: [32; COUNT * MOST_FORMS] = |index| form_name(index).as_bytes();
+    FORM_NAMES: [32; forms_before(COUNT)] = |index| form_name(index).as_bytes();
     NAN: [16; COUNT] = |index| or_empty(Language::ALL[index].specials().nan);
     INF: [16; COUNT] = |index| or_empty(Language::ALL[index].specials().inf);
     INFINITY: [16; COUNT] = |index| or_empty(Language::ALL[index].specials().infinity);
@@ -121,8 +119,8 @@ calls! {
     fn peltzivar_language_name(index: usize) -> *const u8 { at(&NAMES, index) }
 
     fn peltzivar_form_name(reader: Option<&Reader>, form: usize) -> *const u8 {
-        let index = language_of(reader).filter(|_| form < MOST_FORMS).map(|(index, _)| index * MOST_FORMS + form);
-        at(&FORM_NAMES, index.unwrap_or(usize::MAX))
+        let language = language_of(reader).filter(|(_, forms)| form < forms.len());
+        at(&FORM_NAMES, language.map_or(usize::MAX, |(language, _)| forms_before(language) + form))
     }
 
     fn peltzivar_form_syntax(reader: Option<&Reader>, form: usize, out: Out<Syntax>) -> bool {
