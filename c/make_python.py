@@ -65,7 +65,7 @@ def constants():
     for row in (
         ("Setter", r"SET_(\w+)", "The setters. A member has the name of the setter in uppercase."),
         ("Rule", r"RULE_(\w+)", f"The rules, in the order in which they are checked. {RULE}", *CONDITION),
-        ("Error", r"((?!SET_|RULE_|PART_|ROLE_|KIND_|SPELLING_|VALUE_)\w+)", f"The errors, and success. {ERROR}", *DESCRIPTION),
+        ("Error", r"((?!SET_|RULE_|PART_|ROLE_|KIND_|SPELLING_|VALUE_|CONDITION_)\w+)", f"The errors, and success. {ERROR}", *DESCRIPTION),
         ("Part", r"PART_(\w+)", "The parts of a number that can have digit separators."),
         ("Role", r"ROLE_((?!NONE)\w+)", "The roles of a byte in a number."),
         ("ReadErrorKind", r"KIND_(\w+)", "The kinds of causes why a text is not a literal."),
@@ -105,11 +105,26 @@ def parameters():
         yield f"{name}: {kind} = _KEPT,"
 
 
+def conditions():
+    """Returns the lines."""
+    syntax = re.search(r"uint8_t exponent, decimal_point; ([^{}]*) } peltzivar_syntax;", CODE)[1]
+    for kind, names in re.findall(r"(\w+) ([\w, ]+);", syntax):
+        value = "bool = False" if kind == "bool" else "Optional[int] = None"
+        yield from (f"{name}: {value}" for name in names.split(", "))
+
+
+def settings():
+    """Returns the lines. Options and conditions are no fields."""
+    yield from parameters()
+    yield from (f"{name}: Optional[Byte] = _KEPT," for name in ("exponent", "point"))
+    yield from (re.sub("= .*", "= _KEPT,", it) for it in conditions())
+
+
 def languages():
     """Returns the lines."""
     documented = re.findall(r"((?:^ +///.*\n)+) +(\w+) = \{", LANGUAGES, re.M)
     yield '"""How a language, or a file, writes numbers. `languages` is another name of this class.'
-    yield from ("", "`read(text)` returns a `Literal` of `syntax`, or a `Special` with a spelling of `specials`.")
+    yield from ("", "`read(text)` returns a `Literal` of a syntax of `forms`, or a `Special` with a spelling of `specials`.")
     yield from ("", "No format rejects `-`, or requires a prefix, a suffix or a decimal point. So `C_FLOAT` reads `1`.")
     for text, name in documented:
         about = " ".join(text.replace("///", " ").replace("×", "*").split())

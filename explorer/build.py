@@ -55,11 +55,6 @@ def named(text):
     return re.sub(numbers, lambda match: re.sub(r"\d+", lambda number: names[number[0]], match[1]), text)
 
 
-def term(name):
-    """Returns what a term of FORMAT means."""
-    return "{}: {}".format(*rows(rf"^\| ({re.escape(name)}) \| (.*) \| [^|]* \|$")[0])
-
-
 def html(text):
     """Returns paragraphs, lists, tables and blocks of code in Markdown as HTML. Links become their texts."""
     made = ""
@@ -115,6 +110,14 @@ def fields():
     return {"flags": flags, "groups": groups, "bytes": numbers}
 
 
+def conditions():
+    """Returns the conditions: the name of each, what it does, and a text that it refuses."""
+    text = (TOP / "rust/src/literal/conditions.rs").read_text()
+    row = r"/// (.*?)\. If set, [^`]*(`[^`]*`).*\n    #\[must_use\]\n    pub const fn (\w+)\(mut self, \w+: bool\)"
+    found = re.findall(row, text) or sys.exit("rust/src/literal/conditions.rs: no conditions")
+    return [{"name": name, "meaning": does, "refuses": [text.strip("`")]} for does, text, name in found]
+
+
 def setting(call):
     """Returns a setter call of a language as a setting."""
     name, argument = re.fullmatch(r"\.(\w+)\((.*)\)", call).groups()
@@ -133,20 +136,28 @@ def numbers(name, has_specials):
 
 
 def languages():
-    """Returns the languages: name, comment, settings, options and numbers. Integers alone have the options 0."""
+    """Returns the languages: name, comment, numbers and forms. Each form has a name, settings, and options: integers alone
+    have the options 0."""
     text = (TOP / "rust/src/literal/language.rs").read_text()
-    head = r"^    (\w+) = \w+\((?:b'(.)', )?NumberFormatBuilder::new\(\)"
-    found = re.findall(rf"((?:^    ///.*\n)+){head}((?:\n        \..*)*)\s*\)([,;])", text, re.M)
-    if len(found) != len(re.findall(head, text, re.M)):
-        sys.exit("rust/src/literal/language.rs: a language has another form")
-    for comment, name, exponent, body, end in found:
+    found = re.findall(r"((?:^    ///[^\n]*\n)+)^    (\w+) = \{ (.*?)\n? *\}(,| *;)", text, re.M | re.S)
+    head = r'"([^"]+)": \w+\((?:b\'(.)\', )?NumberFormatBuilder::new\(\)'
+    for comment, name, body, end in found:
+        forms = re.findall(rf"{head}((?:\n +\..*)*)", body)
+        if not forms or len(forms) != body.count("NumberFormatBuilder::new()"):
+            sys.exit(f"rust/src/literal/language.rs: {name} has another form")
         yield {
             "name": name,
             "about": " ".join(comment.replace("///", "").split()),
-            "settings": [setting(call) for call in re.findall(r"^ +(\.\w+\(.*?\))(?: //.*)?$", body, re.M)],
-            "exponent": ord(exponent or "\0"),
-            "point": ord("." if exponent else "\0"),
-            "numbers": numbers(name, end == ","),
+            "numbers": numbers(name, "," in end),
+            "forms": [
+                {
+                    "name": form,
+                    "settings": [setting(call) for call in re.findall(r"^ +(\.\w+\(.*?\))(?: //.*)?$", calls, re.M)],
+                    "exponent": ord(exponent or "\0"),
+                    "point": ord("." if exponent else "\0"),
+                }
+                for form, exponent, calls in forms
+            ],
         }
 
 
@@ -160,6 +171,7 @@ def data():
     header = (TOP / "c/peltzivar.h").read_text()
     return {
         **fields(),
+        "conditions": conditions(),
         "rules": rules(),
         "languages": [*languages()],
         "version": re.search(r'^#define PELTZIVAR_VERSION "(.*)"$', header, re.M)[1],
@@ -229,9 +241,8 @@ def page(wasm):
     parts = {
         "literals": html(section("Literals")) + html(section("Where separators may be")),
         "rules": html("\n".join(f"- Rule {index}: {rule}." for index, rule in enumerate(rules(), 1))),
-        "punctuation": html("\n\n".join([term("*punctuation*"), term("*allowed ASCII*")])),
         "limits": html(section("What a format cannot express")),
-        "equivalent": html("\n\n".join([term("*equivalent* words"), term("*normal form* of a word")])),
+        "terms": html(section("Terms")),
         "policy": f"{policy}; img-src data:; base-uri 'none'; form-action 'none'",
         "style": style,
         "data": embedded,

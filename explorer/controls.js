@@ -14,7 +14,7 @@ const WORDS = [
  * accept texts. */
 function examples({ accepts = [], refuses = [], part }) {
     const texts = (all) => all.map((text) => `\`${text}\``).join(", ");
-    if (!accepts.length) return "";
+    if (!accepts.length) return refuses.length ? `refuses ${texts(refuses)}` : "";
     return part === "separator" ? `accepts ${texts(accepts)}` : `refuses ${texts(refuses)}, accepts ${texts(accepts)}`;
 }
 
@@ -128,6 +128,7 @@ class Controls {
     makeBytes() {
         const rows = [...this.library.bytes, ...OPTIONS].map((field) => this.byteRow(field));
         find("bytes").append(...rows);
+        find("conditions").append(...this.library.conditions.map((condition) => this.flagRow(condition)));
     }
 
     byteRow(field) {
@@ -170,7 +171,9 @@ class Controls {
     show(state) {
         this.shown = state;
         for (const [name, box] of this.boxes) {
-            const { mask } = this.library.named.get(name);
+            const mask = this.library.named.get(name)?.mask;
+            if (!mask) box.checked = Boolean(state[name]);
+            if (!mask) continue;
             box.checked = (state.word & mask) === mask;
             box.indeterminate = !box.checked && (state.word & mask) !== 0n;
         }

@@ -2,7 +2,6 @@
  * are read and written by bit arithmetic. A state is a word with the options. */
 "use strict";
 
-const HALF = (1n << 64n) - 1n;
 const MOST_WORD = (1n << 128n) - 1n;
 /* How many bytes a text may have. */
 const MOST_TEXT = 60000;
@@ -12,10 +11,13 @@ const OPTIONS = [
     { name: "point", title: "decimal point", meaning: "an option of the parser, such as the `.` in `1.5`" },
 ];
 const STANDARD_OPTIONS = { exponent: 101, point: 46 };
+/* How many bits of the options, as they are passed, are below the conditions. */
+const CONDITIONS_SHIFT = 16;
 
 class Library {
-    constructor(calls, { flags, groups, bytes }) {
+    constructor(calls, { flags, groups, bytes, conditions }) {
         this.calls = calls;
+        this.conditions = conditions.map((condition) => ({ ...condition, part: "option" }));
         this.flags = flags.map((flag) => ({ ...flag, mask: 1n << BigInt(flag.bit) }));
         this.bytes = bytes.map((byte) => ({ ...byte, isByte: true, mask: 255n << BigInt(byte.bit) }));
         this.groups = groups.map((group) => {
@@ -26,6 +28,7 @@ class Library {
         this.named = new Map([...this.fields, ...this.groups].map((field) => [field.name, field]));
         this.known = this.fields.reduce((all, { mask }) => all | mask, 0n);
         this.standard = this.build([]).word;
+        this.usual = this.stateOf({ word: this.standard, ...STANDARD_OPTIONS });
     }
 
     /* Returns a library from its compressed WebAssembly. */
@@ -36,41 +39,63 @@ class Library {
     }
 
     /* Returns the answer of a call that reads this text. */
-    call(name, text, ...numbers) {
+    call(name, text) {
         const { memory, input, output } = this.calls;
-        const bytes = new TextEncoder().encode(text.slice(0, MOST_TEXT)).subarray(0, MOST_TEXT);
+        const bytes = new TextEncoder().encode(text.slice(0, 2 * MOST_TEXT)).subarray(0, 2 * MOST_TEXT);
         new Uint8Array(memory.buffer).set(bytes, input());
-        const length = this.calls[name](...numbers, bytes.length);
+        const length = this.calls[name](bytes.length);
         return JSON.parse(new TextDecoder().decode(new Uint8Array(memory.buffer, output(), length)));
     }
 
     /* Returns {word, notes} of a new builder with settings, or {error, index} for the first setting that is none. */
     build(settings) {
-        const answer = this.call("build", settings.join("\n"));
+        const answer = this.call("build", ["", ...settings].join("\n"));
         return answer.error ? answer : { ...answer, word: BigInt(answer.word) };
     }
 
     /* Returns all about a state: whether the word is built, its error, normal form, reasons and notes, and why the options
      * do not fit. Reasons and notes have their text, the fields that they blame, the broken rules, and repaired states. */
     explain(state) {
-        const answer = this.call("explain", "", ...passed(state));
+        const answer = this.call("explain", this.passed([state]));
         const named = ({ mask, options: own = [], repairs = [], ...it }) => {
             const fields = [...own, ...this.namesOf(BigInt(mask))];
-            return { ...it, mask: BigInt(mask), fields, repairs: repairs.map(withWord) };
+            return { ...it, mask: BigInt(mask), fields, repairs: repairs.map((it) => this.passedBack(it)) };
         };
         const [reasons, options, notes] = ["reasons", "options", "notes"].map((name) => answer[name].map(named));
+        if (answer.contradiction) {
+            const [name] = answer.contradiction.split(" ");
+            options.push({ text: answer.contradiction, fields: [name], rules: [], repairs: [{ ...state, [name]: 0 }] });
+        }
         return { ...answer, normal: BigInt(answer.normal), reasons, options, notes };
     }
 
-    /* Returns an object for each line of a text, as `numbers` of library.rs describes: none if the word is not lawful. */
-    numbers(state, text) {
-        const answers = this.call("numbers", text, ...passed(state));
-        return answers.map((answer) => ({ ...answer, offers: answer.offers.map(withWord) }));
+    /* Returns an object for each line of a text, as `numbers` of library.rs describes: none if a word is not lawful. */
+    numbers(states, text) {
+        const answers = this.call("numbers", `${this.passed(states)}\n${text}`);
+        return answers.map((answer) => ({ ...answer, offers: answer.offers.map((it) => this.passedBack(it)) }));
     }
 
-    /* Returns texts that tell two states apart, as `differ` of library.rs describes. */
-    differ(state, other) {
-        return this.call("differ", "", ...passed(state), ...passed(other));
+    /* Returns texts that tell the states of some forms from those of others, as `differ` of library.rs describes. */
+    differ(states, others) {
+        return this.call("differ", `${this.passed(states)}\n${this.passed(others)}`);
+    }
+
+    /* Returns the line by which states are passed to the library, and a state that it returned, with the rest of that. */
+    passed(states) {
+        const bits = (state) => this.conditions.reduce((all, { name }, index) => all | (state[name] << index), 0);
+        const options = (state) => state.exponent + 256 * state.point + (bits(state) << CONDITIONS_SHIFT);
+        return states.map((state) => `${state.word}:${options(state)}`).join(" ");
+    }
+
+    passedBack({ word, options, ...rest }) {
+        const bits = this.conditions.map(({ name }, index) => [name, (options >> (CONDITIONS_SHIFT + index)) & 1]);
+        const state = { word: BigInt(word), exponent: options & 255, point: (options >> 8) & 255 };
+        return { ...rest, ...state, ...Object.fromEntries(bits) };
+    }
+
+    /* Returns the state of a form: its word, its options and its conditions. One that is not there is not set. */
+    stateOf({ word, exponent, point, ...rest }) {
+        return { word, exponent, point, ...Object.fromEntries(this.conditions.map(({ name }) => [name, rest[name] ?? 0])) };
     }
 
     /* Returns {value}, or {error} if the setter does not take the text. A separator needs a flag that allows it. */
@@ -117,7 +142,11 @@ class Library {
             const [text, before] = [state, other].map((it) => `${name}=${it[name] ? quoted(it[name], "") : "none"}`);
             return { name, isByte: true, text, before, value: other[name] };
         });
-        return [...fields, ...options];
+        const conditions = this.conditions.filter(({ name }) => state[name] !== other[name]).map(({ name }) => {
+            const [text, before] = [state, other].map((it) => `${name}=${Boolean(it[name])}`);
+            return { name, text, before, value: other[name] };
+        });
+        return [...fields, ...options, ...conditions];
     }
 
     /* Returns the names of the fields with bits in a mask. All separator flags together have one name. */
@@ -136,11 +165,16 @@ class Library {
         return `${name}=${isNumber ? value : quoted(value, "")}`;
     }
 
-    /* Returns {word, notes} and the options of a text, or {error}. The text is hexadecimal, decimal, or settings, in which
-     * # begins a comment. */
+    /* Returns {word, notes}, and the options and conditions of a text, or {error}. The text is hexadecimal, decimal, or
+     * settings, in which # begins a comment. */
     read(text) {
         const [options, settings] = [{}, []];
-        const word = text.replace(/\b(exponent|point)\s*=\s*('.'|[^\s,;#]*)[\s,;]*/g, (_, name, value) => {
+        const names = this.conditions.map(({ name }) => name).join("|");
+        const rest = text.replace(new RegExp(`\\b(${names})=(true|false)\\b[\\s,;]*`, "g"), (_, name, value) => {
+            options[name] = Number(value === "true");
+            return "";
+        });
+        const word = rest.replace(/\b(exponent|point)\s*=\s*('.'|[^\s,;#]*)[\s,;]*/g, (_, name, value) => {
             options[name] = this.byte(/^'.'$/.test(value) ? value[1] : value);
             return "";
         });
@@ -148,19 +182,14 @@ class Library {
         const digits = word.trim().replace(/(?<=\w)_(?=\w)/g, "").replace(/,$/, "");
         const isNumber = /^0x[0-9a-f]{1,32}$|^[0-9]{1,39}$/i.test(digits);
         if (isNumber && BigInt(digits) <= MOST_WORD) return { word: BigInt(digits), options };
-        const rest = word.replace(/\b(\w+)\s*=\s*('.'|[^\s,;#]*)|#.*|[\s,;]/g, (_, name, value) => {
+        const others = word.replace(/\b(\w+)\s*=\s*('.'|[^\s,;#]*)|#.*|[\s,;]/g, (_, name, value) => {
             if (name) settings.push(`${name}=${value}`);
             return "";
         });
-        if (rest || !settings.length) return { error: "This is neither a word nor a list of settings." };
+        if (others || !(settings.length || Object.keys(options).length)) return { error: "This is neither a word nor a list of settings." };
         const { error, index, ...built } = this.build(settings);
         return error ? { error: `${settings[index]}: ${error}${error.endsWith("?") ? "" : "."}` } : { ...built, options };
     }
-}
-
-/* Returns the numbers by which a state is passed to the library. */
-function passed({ word, exponent, point }) {
-    return [word & HALF, word >> 64n, BigInt(exponent) | (BigInt(point) << 8n)];
 }
 
 /* Returns the value of a number, which the library computed, as text, or why it has none. */
@@ -168,11 +197,6 @@ function valueText({ integer, float, unknown }) {
     if (float === undefined) return integer ?? unknown;
     const [value] = new Float64Array(BigUint64Array.of(BigInt(float)).buffer);
     return Object.is(value, -0) ? "-0" : String(value);
-}
-
-/* Returns an answer with its word as a number. */
-function withWord(answer) {
-    return { ...answer, word: BigInt(answer.word) };
 }
 
 /* Returns a word as text. */

@@ -9,7 +9,11 @@ class Report {
         this.edit = edit;
         this.go = go;
         const others = [["", "nothing"], ["standard", "the standard format"], ["another", "this word, or another one"]];
-        find("compare").append(...choices([...others.map(([name, about]) => ({ name, about })), ...data.languages]));
+        const all = data.languages.flatMap((language) => {
+            const forms = language.forms.map((form) => ({ name: `${language.name}:${form.name}`, about: `\u2014 ${form.name}` }));
+            return forms.length > 1 ? [language, ...forms] : [language];
+        });
+        find("compare").append(...choices([...others.map(([name, about]) => ({ name, about })), ...all]));
         find("compare").addEventListener("change", () => this.choose(find("compare").value));
         find("other").addEventListener("input", () => this.compare());
         for (const id of ["compare", "other"]) find(id).addEventListener("input", change);
@@ -59,39 +63,46 @@ class Report {
         this.compare();
     }
 
-    /* Returns the state to compare with, or {error}, which is empty if there is no text. */
+    /* Returns the forms to compare with, or {error}, which is empty if there is no text. */
     other() {
-        const name = find("compare").value;
-        const standard = { ...STANDARD_OPTIONS, word: this.library.standard };
-        if (name !== "another") return this.data.languages.find((it) => it.name === name) ?? standard;
+        const [name, form] = find("compare").value.split(":");
+        if (name === "standard") return { forms: [this.library.usual] };
+        const { forms } = this.data.languages.find((it) => it.name === name) ?? {};
+        if (forms) return { forms: forms.filter((it) => !form || it.name === form) };
         const { word, options, error } = this.library.read(find("other").value);
-        return error ? { error: find("other").value.trim() && error } : { ...STANDARD_OPTIONS, word, ...options };
+        if (error) return { error: find("other").value.trim() && error, forms: [] };
+        return { forms: [{ ...this.library.usual, word, ...options }] };
     }
 
-    /* Shows texts that tell the two formats apart, and each field and option in which they differ, with a button that takes
-     * it from the other one. */
+    /* Returns what two formats have to do with each other, in words, and the fields and options in which they differ. */
+    relation(other) {
+        const changes = this.library.differences(this.state, other);
+        const { error, normal } = this.library.explain(other);
+        const isSame = normal === this.library.explain(this.state).normal && !changes.some(({ name }) => !this.library.named.has(name));
+        const same = changes.length ? "Same format, stored differently." : "Same format.";
+        return { changes, told: error ? `The other word is not lawful: ${error}.` : isSame ? same : "" };
+    }
+
+    /* Shows texts that tell the formats apart, and each field and option in which they differ, with a button that takes it
+     * from the other one. */
     compare() {
-        const { library, state } = this;
         const name = find("compare").value;
         find("comparison").hidden = !name;
         find("other-line").hidden = name !== "another";
         if (!name) return;
         const title = find("compare").selectedOptions[0].textContent;
         setText(find("comparison-title"), name === "another" ? "Compared with another word" : `Compared with ${title}`);
-        const other = this.other();
-        const hadFocus = [...find("changes").querySelectorAll("button")].indexOf(document.activeElement);
-        const isState = !("error" in other);
-        const changes = isState ? library.differences(state, other) : [];
-        const { error, normal } = isState ? library.explain(other) : other;
-        const isSame = normal === library.explain(state).normal && !changes.some(({ name }) => name in STANDARD_OPTIONS);
-        const same = changes.length ? "Same format, stored differently." : "Same format.";
-        const told = error ? `The other word is not lawful: ${error}.` : isSame ? same : "Not the same format.";
-        setText(find("same"), isState ? told : error);
-        find("texts").replaceChildren(...(isState && !isSame ? this.texts(library.differ(state, other)) : []));
+        const { error, forms } = this.other();
+        const { changes = [], told = "" } = forms.length === 1 ? this.relation(forms[0]) : {};
+        const isTold = error !== undefined || (told && this.forms.length === 1);
+        const texts = isTold ? [] : this.texts(this.library.differ(this.forms, forms));
+        find("texts").replaceChildren(...texts);
+        setText(find("same"), isTold ? (error ?? told) : texts.length ? "Not the same." : "No text was found that tells them apart.");
         const chips = changes.map(({ name, text, before, value }) => {
             const set = button("set", `set ${before.slice(name.length + 1)}`, () => this.edit(name, value), { "aria-label": `set ${before}` });
             return element("li", { class: "chip", "data-field": name }, element("code", {}, text), set);
         });
+        const hadFocus = [...find("changes").querySelectorAll("button")].indexOf(document.activeElement);
         find("changes").replaceChildren(...chips);
         if (hadFocus < 0) return;
         (find("changes").querySelectorAll("button")[Math.min(hadFocus, chips.length - 1)] ?? find("compare")).focus();
@@ -117,8 +128,9 @@ class Report {
     }
 
     /* Shows all of this for a state and what explains it, and returns the reasons. */
-    show(state, { error, reasons, options, notes, normal }) {
+    show(state, { error, reasons, options, notes, normal }, forms) {
         this.state = state;
+        this.forms = forms;
         const all = [...reasons, ...options];
         const lawful = options.length ? "An option does not fit" : "Lawful";
         setText(find("verdict"), error ? `Not lawful: ${all.length} reason${all.length > 1 ? "s" : ""}` : lawful);

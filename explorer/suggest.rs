@@ -6,7 +6,7 @@ use peltzivar::format::{
     BASE_PREFIX, BASE_SUFFIX, CONSECUTIVE_DIGIT_SEPARATOR, DIGIT_SEPARATOR, DIGIT_SEPARATOR_FLAG_MASK, EXPONENT_BASE,
     EXPONENT_RADIX, FLAG_MASK, MANTISSA_RADIX, SPECIAL_DIGIT_SEPARATOR,
 };
-use peltzivar::literal::{ReadError, ReadErrorKind, Reader, Specials, Syntax};
+use peltzivar::literal::{Conditions, ReadError, ReadErrorKind, Reader, Specials, Syntax};
 use peltzivar::reasons::Byte;
 use peltzivar::{Cause, Format, FormatView, Reason, Rule};
 
@@ -32,12 +32,13 @@ const NO_POINT: u8 = 12;
 /// The usual exponent characters.
 const EXPONENTS: [u8; 3] = [b'e', b'p', b'^'];
 
-/// A format word, and the options of a parser. If both options are 0, numbers are integers alone.
+/// A format word, the options of a parser, and conditions. If both options are 0, numbers are integers alone.
 #[derive(Clone, Copy, Debug, PartialEq, Eq)]
 pub struct State {
     pub word: u128,
     pub exponent: u8,
     pub point: u8,
+    pub conditions: Conditions,
 }
 
 impl State {
@@ -45,19 +46,22 @@ impl State {
         self.exponent == 0 && self.point == 0
     }
 
-    /// Returns the syntax if the word is lawful and the options fit.
-    fn exact(self) -> Option<Syntax> {
+    /// Returns the syntax if the word is lawful, and the options and the conditions fit.
+    pub fn exact(self) -> Option<Syntax> {
         let format = Format::new(self.word).ok()?;
-        match self.is_integers() {
-            true => Some(Syntax::integers(format)),
-            false => Syntax::new(format, self.exponent, self.point).ok(),
-        }
+        let syntax = match self.is_integers() {
+            true => Syntax::integers(format),
+            false => Syntax::new(format, self.exponent, self.point).ok()?,
+        };
+        syntax.with(self.conditions).ok()
     }
 
-    /// Returns the syntax if the word is lawful. No byte matches an option that does not fit.
+    /// Returns the syntax if the word is lawful. No byte matches an option that does not fit, and there are no conditions if
+    /// one does not fit.
     pub fn syntax(self) -> Option<Syntax> {
         let others = [(NO_EXPONENT, self.point), (self.exponent, NO_POINT), (NO_EXPONENT, NO_POINT)];
-        let others = others.into_iter().map(|(exponent, point)| Self { exponent, point, ..self });
+        let all = [Self { conditions: Conditions::NONE, ..self }].into_iter();
+        let others = all.chain(others.map(|(exponent, point)| Self { exponent, point, conditions: Conditions::NONE, ..self }));
         self.exact().or_else(|| others.into_iter().find_map(Self::exact))
     }
 
@@ -90,21 +94,6 @@ impl State {
         FormatView::new(self.word).mantissa_radix() as u8
     }
 
-    /// Returns the byte of this state that a byte of an example stands for. It is 0 if the state lacks it.
-    pub fn byte_for(self, byte: u8) -> u8 {
-        let field = |field: u128| (self.word >> field.trailing_zeros()) as u8;
-        match byte {
-            b'_' => field(DIGIT_SEPARATOR),
-            b'x' => field(BASE_PREFIX),
-            b'h' => field(BASE_SUFFIX),
-            b'e' => self.exponent,
-            b'.' => self.point,
-            b'F' => char::from_digit(u32::from(self.radix()) - 1, 36).map_or(0, |it| it.to_ascii_uppercase() as u8),
-            b'X' | b'H' | b'E' => self.byte_for(byte.to_ascii_lowercase()).to_ascii_uppercase(),
-            _ => byte,
-        }
-    }
-
     /// Returns how many of the lines are as expected.
     pub fn as_expected(self, lines: &[u8]) -> usize {
         let reader = self.syntax().map(Reader::new);
@@ -133,6 +122,20 @@ pub fn read(reader: &Reader, text: &[u8]) -> Result<(), ReadError> {
     match reader.read(text) {
         Err(error) if SPECIALS.read(&reader.syntax(), text).is_none() => Err(error),
         _ => Ok(()),
+    }
+}
+
+/// Returns the conditions in the order in which they are passed.
+pub fn values_of(conditions: Conditions) -> [bool; 3] {
+    [conditions.required_base_prefix, conditions.required_base_suffix, conditions.no_negative_mantissa_sign]
+}
+
+/// Returns conditions with another value of one of them.
+pub fn with_condition(conditions: Conditions, index: usize, value: bool) -> Conditions {
+    match index {
+        0 => conditions.required_base_prefix(value),
+        1 => conditions.required_base_suffix(value),
+        _ => conditions.no_negative_mantissa_sign(value),
     }
 }
 
@@ -208,6 +211,12 @@ pub fn offers<'a>(state: State, lines: &'a [u8], line: Line<'_>) -> Found<'a> {
 }
 
 fn refusing(state: State, text: &[u8], found: &mut Found<'_>) {
+    for index in 0..3 {
+        let other = State { conditions: with_condition(state.conditions, index, true), ..state };
+        if other.exact().is_some_and(|it| read(&Reader::new(it), text).is_err()) {
+            found.push(other);
+        }
+    }
     for flag in bits_of(FLAG_MASK) {
         let other = State { word: state.word ^ flag, ..state };
         // Consecutive separators need another flag of their part.
@@ -246,7 +255,10 @@ fn settled(mut state: State, text: &[u8]) -> Result<State, usize> {
     while let Err(error) = read_in(state) {
         match error {
             Some(error) if matches!(error.kind(), ReadErrorKind::Requirement | ReadErrorKind::Case) => {
-                state.word &= !error.mask()
+                state.word &= !error.mask();
+                let unmet = values_of(error.conditions());
+                let indexes = (0..3).filter(|&index| unmet[index]);
+                state.conditions = indexes.fold(state.conditions, |all, index| with_condition(all, index, false));
             }
             error => return Err(error.map_or(text.len(), |it| it.valid_up_to())),
         }

@@ -35,11 +35,12 @@ except ImportError:
 STANDARD = "0x00000A0000000000000000000000000C"
 # A word with bits in each of its bytes, and among both kinds of flags.
 MIXED = "0x0A0210687800005F00000FC70001441F"
-# Words with an exponent character and a decimal point, also with bytes that need an escape or cannot be seen, without
-# options, and a word that no builder makes. The last one has no reader.
-STATES = [(STANDARD, "e", "."), (MIXED, "p", ","), (STANDARD, "\\", "'"), (STANDARD, "", ""),
-          ("0x000002095C000027000000010000000C", "^", "."), ("0x00000A000000005F000000000000000C", "e", "."),
-          ("0x01FF257862000020800017FF8003FFFF", "e", ".")]
+# Words with an exponent character, a decimal point and the normal form, also with bytes that need an escape or cannot be
+# seen, without options, and a word that no builder makes. The last one has no reader.
+NORMAL = "0x0A0A0A0000000000000000000000000C"
+STATES = [(STANDARD, "e", ".", NORMAL), (MIXED, "p", ",", MIXED), (STANDARD, "\\", "'", NORMAL), (STANDARD, "", "", NORMAL),
+          ("0x000002095C000027000000010000000C", "^", '"', "0x020202095C000027000000010000000C"),
+          ("0x00000A000000005F000000000000000C", "e", ".", NORMAL), ("0x01FF257862000020800017FF8003FFFF", "e", ".", "")]
 # Returns those of the recorded results that the library in the page does not return.
 WRONG_RESULTS = """const { library } = page;
     const hex = (word) => word.toString(16).toUpperCase().padStart(32, "0");
@@ -167,15 +168,15 @@ class Walk(unittest.TestCase):
         folder = pathlib.Path(tempfile.mkdtemp())
         self.addCleanup(shutil.rmtree, folder)
         codes = []
-        for word, exponent, point in STATES:
+        for word, exponent, point, _ in STATES:
             self.load(f"#word={word}&exponent={ord(exponent or chr(0))}&point={ord(point or chr(0))}&tab={language}")
             codes.append(self.run_script("return document.getElementById('code').textContent"))
         return folder, codes
 
     def assert_states(self, printed):
-        """Fails unless each line has the word, the exponent character and the decimal point of one of STATES."""
-        wanted = [[word, str(ord(exponent or "\0")), str(ord(point or "\0"))] for word, exponent, point in STATES]
-        self.assertEqual([line.split() for line in printed.splitlines()], [*wanted[:-1], wanted[-1][:1]])
+        """Fails unless each line has the normal form, the exponent character and the decimal point of one of STATES."""
+        wanted = [f"{normal} {ord(exponent or chr(0))} {ord(point or chr(0))}" for _, exponent, point, normal in STATES]
+        self.assertEqual([line.strip() for line in printed.splitlines()], [*wanted[:-1], STATES[-1][0]])
 
     def cargo(self, command, manifest, folder, *options):
         return run("cargo", command, "--quiet", "--offline", "--manifest-path", manifest, "--target-dir", folder, *options)
@@ -188,7 +189,7 @@ class Walk(unittest.TestCase):
     @unittest.skipUnless(has("cargo"), "no cargo")
     def test_rust_code_makes_the_reader(self):
         folder, codes = self.code("rust")
-        show = 'println!("{FORMAT} {} {}", SYNTAX.exponent().unwrap_or(0), SYNTAX.point().unwrap_or(0)); assert!(read("").is_err());'
+        show = 'println!("{} {} {}", SYNTAX.format(), SYNTAX.exponent().unwrap_or(0), SYNTAX.point().unwrap_or(0)); assert!(read("").is_err());'
         shows = [show] * (len(codes) - 1) + ['println!("{WORD:#034X}");']
         modules = [f"mod m{index} {{\n{code}\npub fn show() {{ {shows[index]} }}\n}}\n" for index, code in enumerate(codes)]
         calls = " ".join(f"m{index}::show();" for index in range(len(codes)))
@@ -203,10 +204,11 @@ class Walk(unittest.TestCase):
         folder, codes = self.code("c")
         library = self.library(folder, ".a")
         show = r'printf("0x%016llX%016llX ", (unsigned long long){0}.high, (unsigned long long){0}.low);'
-        rest = r'printf("%d %d\n", SYNTAX.exponent, SYNTAX.decimal_point); peltzivar_reader reader; return !make_reader(&reader);'
+        rest = r'printf("%d %d\n", reader.syntax.exponent, reader.syntax.decimal_point); return read_number(&reader, "", 0);'
+        reader = f"peltzivar_reader reader; if (!make_reader(&reader)) return 1; {show.format('reader.syntax.format')} {rest}"
         printed = ""
         for index, code in enumerate(codes):
-            body = show.format("WORD") + 'puts("");' if index == len(codes) - 1 else show.format("SYNTAX.format") + rest
+            body = show.format("WORD") + 'puts("");' if index == len(codes) - 1 else reader
             (folder / "main.c").write_text(f"{code}\n#include <stdio.h>\nint main(void) {{ {body} }}\n")
             run("cc", "-Wall", "-Wextra", "-Werror", "-I", TOP / "c", "-o", folder / "main", folder / "main.c", library)
             printed += run(folder / "main")
@@ -216,7 +218,7 @@ class Walk(unittest.TestCase):
     def test_python_code_makes_the_reader(self):
         folder, codes = self.code("python")
         library = self.library(folder, ".so", ".dylib")
-        show = "print(format, *(ord(it) if it else 0 for it in (syntax.exponent, syntax.point)))\n"
+        show = "print(syntax.format, *(ord(it) if it else 0 for it in (syntax.exponent, syntax.point)))\n"
         (folder / "main.py").write_text("".join(f"{text}{show}" for text in codes[:-1]) + f"{codes[-1]}print(view)\n")
         variables = {"PELTZIVAR_LIBRARY": str(library), "PYTHONPATH": str(TOP / "c"), "PYTHONDONTWRITEBYTECODE": "1"}
         self.assert_states(run(sys.executable, folder / "main.py", env={**os.environ, **variables}))
@@ -304,7 +306,7 @@ class Walk(unittest.TestCase):
         Select(self.find("#compare")).select_by_value("another")
         self.assertEqual(shown(), ("Same format.", []))
         self.type("#exponent", "p")
-        self.assertEqual(shown(), ("Not the same format.", ["exponent='p'"]))
+        self.assertEqual(shown(), ("Not the same.", ["exponent='p'"]))
         self.click("#changes button")
         self.assertEqual((shown(), self.value("#exponent")), (("Same format.", []), "e"))
         self.type("#other", "0x0A0A0A0000000000000000000000000C")

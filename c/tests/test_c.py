@@ -136,7 +136,7 @@ class Header(unittest.TestCase):
         self.assertEqual(self.numbers(r"ROLE_(\w+)"), {name: number for number, name in enumerate(roles)})
         errors = ["SUCCESS", *(it for it in variants("error.rs", "Error") if it != "SUCCESS")]
         numbered = {name: number for number, name in enumerate(errors)}
-        self.assertEqual(self.numbers(r"((?!SET_|RULE_|PART_|ROLE_|KIND_|SPELLING_|VALUE_)\w+)"), numbered)
+        self.assertEqual(self.numbers(r"((?!SET_|RULE_|PART_|ROLE_|KIND_|SPELLING_|VALUE_|CONDITION_)\w+)"), numbered)
 
     def test_names_and_conditions_are_those_of_the_header_and_of_format(self):
         def strings(call):

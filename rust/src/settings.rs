@@ -5,7 +5,6 @@ use core::str::from_utf8;
 
 use crate::edits::{apply, likeness, Edit, EditError, EditErrorKind, Fault, FlagSetter, Setter, FIELD_COUNT};
 use crate::format::{NumberFormatBuilder, BASE_PREFIX, BASE_SUFFIX, EXPONENT_BASE, EXPONENT_RADIX, MANTISSA_RADIX};
-use crate::format::{NO_POSITIVE_MANTISSA_SIGN, REQUIRED_MANTISSA_SIGN};
 use crate::format_error::ONE_OPTION;
 use crate::lawful::Rejected;
 use crate::literal::{Conditions, ConditionsError, Syntax};
@@ -302,7 +301,6 @@ fn mask_of(error: ConditionsError) -> Mask {
     let word = match error {
         ConditionsError::NoBasePrefix => BASE_PREFIX,
         ConditionsError::NoBaseSuffix => BASE_SUFFIX,
-        ConditionsError::NoSign => REQUIRED_MANTISSA_SIGN | NO_POSITIVE_MANTISSA_SIGN,
     };
     Mask { word, options: 4 << error.condition() }
 }

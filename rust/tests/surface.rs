@@ -77,6 +77,11 @@ const _: fn(literal::FormError) -> (usize, literal::ReadError) = |it| match it {
 const _: fn(literal::Form) -> (&'static str, literal::Syntax) = |it| match it {
     literal::Form { name, syntax, .. } => (name, syntax),
 };
+const _: fn(literal::Conditions) -> (bool, bool, bool) = |it| match it {
+    literal::Conditions { required_base_prefix, required_base_suffix, no_negative_mantissa_sign, .. } => {
+        (required_base_prefix, required_base_suffix, no_negative_mantissa_sign)
+    }
+};
 const _: fn(Separators) -> (bool, bool, bool, bool) = |it| match it {
     Separators { internal, leading, trailing, consecutive, .. } => (internal, leading, trailing, consecutive),
 };
@@ -164,6 +169,7 @@ names! { FindingKind:
     [fn(&'static str) -> FindingKind] Overridden;
     [fn(Note) -> FindingKind] Note;
     [fn(Reason) -> FindingKind] Reason;
+    [fn(literal::ConditionsError) -> FindingKind] Conditions;
 }
 names! { FlagSetter:
     [&'static [FlagSetter]] ALL FLAGS;
@@ -399,6 +405,16 @@ names! { edits::ArgumentKind:
 names! { error::Class:
     [error::Class] Format Options Parse Success;
 }
+names! { literal::Conditions:
+    [const fn(a: literal::Conditions) -> bool] is_none;
+    [const fn(a: literal::Conditions, b: bool) -> literal::Conditions] no_negative_mantissa_sign required_base_prefix
+        required_base_suffix;
+    [literal::Conditions] NONE;
+}
+names! { literal::ConditionsError:
+    [const fn(a: &literal::ConditionsError) -> ShortText] text;
+    [literal::ConditionsError] NoBasePrefix NoBaseSuffix;
+}
 names! { literal::Language:
     [&'static [literal::Language]] ALL;
     [const fn(a: &literal::Language) -> &'static [literal::Form]] forms;
@@ -450,6 +466,7 @@ names! { literal::ReadError:
     [const fn(a: &literal::ReadError) -> Range<usize>] span;
     [const fn(a: &literal::ReadError) -> ShortText] text;
     [const fn(a: &literal::ReadError) -> bool] is_incomplete;
+    [const fn(a: &literal::ReadError) -> literal::Conditions] conditions;
     [const fn(a: &literal::ReadError) -> literal::ReadErrorKind] kind;
     [const fn(a: &literal::ReadError) -> u128] mask;
     [const fn(a: &literal::ReadError) -> usize] valid_up_to;
@@ -498,10 +515,13 @@ names! { literal::Syntax:
     [const fn(a: &literal::Syntax) -> Format] format;
     [const fn(a: &literal::Syntax) -> Option<u8>] exponent point;
     [const fn(a: &literal::Syntax) -> bool] supports_floats;
+    [const fn(a: &literal::Syntax) -> literal::Conditions] conditions;
     [const fn(a: &literal::Syntax, b: u8) -> Option<Role>] role_of;
     [const fn(a: Format) -> literal::Syntax] integers;
     [const fn(a: Format, b: u8, c: u8) -> Result<literal::Syntax, FormatError>] new;
     [const fn(a: Format, b: u8, c: u8) -> literal::Syntax] new_or_panic;
+    [const fn(a: literal::Syntax, b: literal::Conditions) -> Result<literal::Syntax, literal::ConditionsError>] with;
+    [const fn(a: literal::Syntax, b: literal::Conditions) -> literal::Syntax] with_or_panic;
 }
 names! { literal::ValueError:
     [const fn(a: &literal::ValueError) -> &'static str] target;
@@ -568,7 +588,8 @@ has! { FlagSetter: Clone + Copy + Debug + Display + Eq + FromStr<Err = EditError
 }
 has! { Format: Clone + Copy + Debug + Default + Display + Eq + FromStr<Err = FormatError> + Hash + LowerHex + Ord +
 PartialEq + PartialOrd + TryFrom<u128, Error = FormatError> + UpperHex }
-has! { FormatError: Clone + Copy + Debug + Display + Eq + Hash + PartialEq + std::error::Error }
+has! { FormatError: Clone + Copy + Debug + Display + Eq + From<literal::ConditionsError> + Hash + PartialEq +
+std::error::Error }
 has! { FormatView: Clone + Copy + Debug + Default + Display + Eq + From<Format> + From<NumberFormat<STANDARD>> +
 From<u128> + FromStr<Err = Error> + Hash + LowerHex + Ord + PartialEq + PartialOrd + UpperHex }
 has! { LineError: Clone + Copy + Debug + Display + Eq + Hash + PartialEq + std::error::Error }
@@ -612,6 +633,8 @@ has! { i8: literal::FromLiteral }
 has! { isize: TryFrom<literal::Literal<'static>, Error = literal::ValueError> + TryFrom<literal::Number<'static>, Error
 = literal::ValueError> }
 has! { isize: literal::FromLiteral }
+has! { literal::Conditions: Clone + Copy + Debug + Default + Eq + Hash + Ord + PartialEq + PartialOrd }
+has! { literal::ConditionsError: Clone + Copy + Debug + Display + Eq + Hash + PartialEq + std::error::Error }
 has! { literal::Digits<'_>: DoubleEndedIterator + FusedIterator + Iterator<Item = u8> }
 has! { literal::Digits<'static>: Clone + Debug }
 has! { literal::Form: Clone + Copy + Debug + Eq + Hash + PartialEq }

@@ -1,5 +1,5 @@
 -- Lemmas.
-mod RunLemmas
+pub mod RunLemmas
 mod ScanLemmas
 mod StepLemmas
 mod CutLemmas
@@ -21,3 +21,4 @@ mod BlameLemmas
 mod PartOfLemmas
 mod OneCauseLemmas
 mod FormLemmas
+mod GroupLemmas

@@ -57,7 +57,7 @@ module _ (m : Notation) (A : Flag → Bool) (D : Condition → Bool) where
       has_suffix = λ set. ready.has_suffix (weaker.conditions conditions.BaseSuffix set);
       some_sign =
           let required = weaker.no_more layout.required_mantissa_sign in let positive = weaker.no_more layout.no_positive_mantissa_sign in
-          let negative = weaker.conditions conditions.NegativeSign in let some = ready.some_sign in grind arith;
+          let some = ready.some_sign in grind arith;
       agree =
           let none = weaker.no_more layout.no_exponent_notation in let needs = weaker.no_more layout.required_exponent_notation in
           let apart = ready.agree in grind arith;

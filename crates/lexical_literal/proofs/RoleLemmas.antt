@@ -58,14 +58,16 @@ module _ (r : Record) (c : Conditions) (none : contradiction r c ≡ None) where
   has_suffix : c.required_base_suffix ≡ true → (r.byte layout.base_suffix == 0) ≡ false
   has_suffix set = grind arith
 
-  some_sign : (c.no_negative_mantissa_sign && (r.flag layout.required_mantissa_sign && r.flag layout.no_positive_mantissa_sign)) ≡ false
-  some_sign = grind arith
-
--- The two flags on the exponent agree.
+-- The two flags on the exponent agree, and the two on the sign of the mantissa.
 exponent_flags_agree : (word : ℕ) → Lawful word
     → ((raw word).flag layout.no_exponent_notation && (raw word).flag layout.required_exponent_notation) ≡ false
 unfolding Lawful Holds
 exponent_flags_agree word lawful = lawful.flags.0
+
+sign_flags_agree : (word : ℕ) → Lawful word
+    → ((raw word).flag layout.no_positive_mantissa_sign && (raw word).flag layout.required_mantissa_sign) ≡ false
+unfolding Lawful Holds
+sign_flags_agree word lawful = lawful.flags.1.0
 
 -- In a lawful format, 0 is a digit of each part.
 zero_is_digit : (word : ℕ) → Lawful word → (part : Part) → nat_lt (byte_value 48) (radix_of (raw word) part) ≡ true
@@ -111,7 +113,7 @@ module _ (law : (A B : ByteSet) → Disjoint A B ↔ ((byte : ℕ) → byte < 25
         (has_prefix (raw g.word) g.conditions is.conditions set);
     has_suffix = λ set. cased_present ((raw g.word).flag layout.case_sensitive_base_suffix) ((raw g.word).byte layout.base_suffix)
         (has_suffix (raw g.word) g.conditions is.conditions set);
-    some_sign = some_sign (raw g.word) g.conditions is.conditions;
+    some_sign = sign_flags_agree g.word is.lawful;
     agree = exponent_flags_agree g.word is.lawful;
   } where
     integers : (o : Option Options) → lacks_options o ≡ true → (byte : ℕ) → (point_of o byte ≡ false) × (exponent_character_of (raw g.word) o byte ≡ false)

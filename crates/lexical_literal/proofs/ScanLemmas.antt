@@ -34,7 +34,7 @@ pub record IsReady (m : Notation) : Type 0 where
   pub suffix : ℕ
   pub has_prefix : m.condition conditions.BasePrefix ≡ true → m.prefix prefix ≡ true
   pub has_suffix : m.condition conditions.BaseSuffix ≡ true → m.suffix suffix ≡ true
-  pub some_sign : (m.condition conditions.NegativeSign && (m.flag layout.required_mantissa_sign && m.flag layout.no_positive_mantissa_sign)) ≡ false
+  pub some_sign : (m.flag layout.no_positive_mantissa_sign && m.flag layout.required_mantissa_sign) ≡ false
   pub agree : (m.flag layout.no_exponent_notation && m.flag layout.required_exponent_notation) ≡ false
 
 -- `Accepts C m o text` holds if `text` is accepted with the conditions `C`.

@@ -8,4 +8,5 @@ pub mod Syntax
 pub mod Specials
 pub mod Cause
 pub mod Forms
+pub mod Groups
 pub mod Additions

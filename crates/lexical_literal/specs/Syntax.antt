@@ -21,11 +21,10 @@ FitIfAny word (Some options) = OptionsFit word options.exponent options.point
 abbrev pub contradicts : ConditionsError → Record → Conditions → Bool
 contradicts errors.NoBasePrefix r c = c.required_base_prefix && (r.byte layout.base_prefix == 0)
 contradicts errors.NoBaseSuffix r c = c.required_base_suffix && (r.byte layout.base_suffix == 0)
-contradicts errors.NoSign r c = c.no_negative_mantissa_sign && (r.flag layout.required_mantissa_sign && r.flag layout.no_positive_mantissa_sign)
 
 -- `contradiction r conditions` is the first error of `conditions` with the format `r`, or `None` if there is none.
 abbrev pub contradiction : Record → Conditions → Option ConditionsError
-contradiction r c = find (λ error. contradicts error r c) (errors.NoBasePrefix ∷ errors.NoBaseSuffix ∷ errors.NoSign ∷ [])
+contradiction r c = find (λ error. contradicts error r c) (errors.NoBasePrefix ∷ errors.NoBaseSuffix ∷ [])
 
 -- `IsSyntax g` holds if the format of `g` is lawful and its own normal form, if the options fit it, if there are any, and if
 -- the conditions do not contradict it.

@@ -6,6 +6,7 @@
 #![tactic(auto)]
 
 pub mod cause;
+mod groups;
 pub mod laws;
 pub mod list;
 pub mod number;

@@ -60,7 +60,7 @@ impl Conditions {
     pub const fn is_none(self) -> bool
         ensures { result ≡ not (has self Condition.BasePrefix || (has self Condition.BaseSuffix || has self Condition.NegativeSign)) }
     {
-        !(self.required_base_prefix || self.required_base_suffix || self.no_negative_mantissa_sign)
+        !(self.required_base_prefix | self.required_base_suffix | self.no_negative_mantissa_sign)
     }
 }
 
@@ -72,15 +72,14 @@ pub enum Condition {
     NegativeSign,
 }
 
-/// Why a syntax cannot have [`Conditions`]: no text could satisfy them and the format.
+/// Why a syntax cannot have [`Conditions`]: no text could satisfy both them and the format. A lawful format that requires a
+/// sign allows `+`, so it can forbid `-`.
 #[derive(Debug, Clone, Copy, PartialEq, Eq, Hash)]
 pub enum ConditionsError {
     /// The base prefix is required, and the format has none.
     NoBasePrefix,
     /// The base suffix is required, and the format has none.
     NoBaseSuffix,
-    /// The format requires a sign, and neither `+` nor `-` is allowed.
-    NoSign,
 }
 
 // Any format, with any options and conditions. Without options, literals are integers alone.
@@ -239,15 +238,10 @@ impl Syntax {
 const fn contradiction(grammar: Grammar, conditions: Conditions) -> Option<ConditionsError>
     ensures { result ≡ contradiction (raw grammar.word) conditions }
 {
-    let format = grammar.view();
     if conditions.required_base_prefix && base_prefix(grammar.word) == 0 {
         Some(ConditionsError::NoBasePrefix)
     } else if conditions.required_base_suffix && base_suffix(grammar.word) == 0 {
         Some(ConditionsError::NoBaseSuffix)
-    } else if conditions.no_negative_mantissa_sign
-        && (format.required_mantissa_sign() && format.no_positive_mantissa_sign())
-    {
-        Some(ConditionsError::NoSign)
     } else {
         None
     }

@@ -91,9 +91,6 @@ impl ConditionsError {
         ShortText::of(match self {
             ConditionsError::NoBasePrefix => "required_base_prefix is set, and the format has no base prefix",
             ConditionsError::NoBaseSuffix => "required_base_suffix is set, and the format has no base suffix",
-            ConditionsError::NoSign => {
-                "no_negative_mantissa_sign is set, and the format requires a sign, but forbids the plus sign"
-            }
         })
     }
 
@@ -102,7 +99,6 @@ impl ConditionsError {
         match self {
             ConditionsError::NoBasePrefix => 0,
             ConditionsError::NoBaseSuffix => 1,
-            ConditionsError::NoSign => 2,
         }
     }
 }
@@ -122,7 +118,6 @@ impl From<ConditionsError> for FormatError {
         let code = match error {
             ConditionsError::NoBasePrefix => Error::InvalidBasePrefix,
             ConditionsError::NoBaseSuffix => Error::InvalidBaseSuffix,
-            ConditionsError::NoSign => Error::InvalidMantissaSign,
         };
         FormatError::new(code, Rejected::Conditions(error))
     }

@@ -44,7 +44,7 @@ impl Conditions {
     /// Returns whether there are no conditions.
     #[must_use]
     pub const fn is_none(self) -> bool {
-        !(self.required_base_prefix || self.required_base_suffix || self.no_negative_mantissa_sign)
+        !(self.required_base_prefix | self.required_base_suffix | self.no_negative_mantissa_sign)
     }
 }
 
@@ -56,7 +56,8 @@ pub enum Condition {
     NegativeSign,
 }
 
-/// Why a syntax cannot have [`Conditions`]: no text could satisfy them and the format.
+/// Why a syntax cannot have [`Conditions`]: no text could satisfy both them and the format. A lawful format that requires a
+/// sign allows `+`, so it can forbid `-`.
 #[derive(Debug, Clone, Copy, PartialEq, Eq, Hash)]
 #[non_exhaustive]
 pub enum ConditionsError {
@@ -64,8 +65,6 @@ pub enum ConditionsError {
     NoBasePrefix,
     /// The base suffix is required, and the format has none.
     NoBaseSuffix,
-    /// The format requires a sign, and neither `+` nor `-` is allowed.
-    NoSign,
 }
 
 // Any format, with any options and conditions. Without options, literals are integers alone.
@@ -165,15 +164,10 @@ impl Syntax {
 
 // Returns the first error of `conditions` with the format of `grammar`.
 const fn contradiction(grammar: Grammar, conditions: Conditions) -> Option<ConditionsError> {
-    let format = grammar.view();
     if conditions.required_base_prefix && base_prefix(grammar.word) == 0 {
         Some(ConditionsError::NoBasePrefix)
     } else if conditions.required_base_suffix && base_suffix(grammar.word) == 0 {
         Some(ConditionsError::NoBaseSuffix)
-    } else if conditions.no_negative_mantissa_sign
-        && (format.required_mantissa_sign() && format.no_positive_mantissa_sign())
-    {
-        Some(ConditionsError::NoSign)
     } else {
         None
     }
