@@ -6,10 +6,9 @@ use core::{fmt, hash};
 /// How a language, or a file, writes numbers: the syntax and the reader of each form, such as decimal and hexadecimal,
 /// and the spellings of NaN and infinity. The readers are constants, so no tables are made at run time.
 ///
-/// The documentation of each language names the section of the grammar that it follows, and what a format cannot
-/// express. No format rejects `-`, and no format requires its base prefix or suffix, or a decimal point, so
-/// [`C_FLOAT`][Self::C_FLOAT] reads `1` and `08`. A language whose name ends in `_INTEGER` has integers alone. To copy
-/// a format, print its setter calls with [`source`][crate::source].
+/// The documentation of each language names the section of the grammar that it follows, and what no syntax can express.
+/// A language in which `-1` is an expression has no signs. To copy a form, print the setter calls of its format with
+/// [`source`][crate::source], and set its [conditions][Syntax::conditions].
 ///
 /// [`Readers`] are the same for forms of your own.
 ///
@@ -47,7 +46,7 @@ pub struct Form {
 }
 
 impl Language {
-    /// Returns the name of the constant, such as `C_HEX_FLOAT`.
+    /// Returns the name of the constant, such as `C_PLUS_PLUS`.
     #[must_use]
     pub const fn name(&self) -> &'static str {
         self.0.name
