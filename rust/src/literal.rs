@@ -50,8 +50,8 @@
 //!     text.reverse();
 //!     text
 //! }
-//! let text = write(0xC0FFEE, Language::RUST_HEX_INTEGER.forms()[0].syntax.format());
-//! assert_eq!((text.as_slice(), Language::RUST_HEX_INTEGER.parse(&text)), (&b"0xC0F_FEE"[..], Ok(0xC0FFEE)));
+//! let text = write(0xC0FFEE, Language::RUST.forms()[2].syntax.format());
+//! assert_eq!((text.as_slice(), Language::RUST.parse(&text)), (&b"0xC0F_FEE"[..], Ok(0xC0FFEE)));
 //! ```
 
 #[allow(clippy::redundant_pattern_matching, reason = "as it is proved")]
