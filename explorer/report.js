@@ -122,11 +122,11 @@ class Report {
     }
 
     /* Shows all of this for a state and what explains it, and returns the reasons. */
-    show(state, { error, reasons, options, notes, normal }, forms) {
+    show(state, { error, reasons, options, notes, normal, contradiction }, forms) {
         this.state = state;
         this.forms = forms;
         const all = [...reasons, ...options];
-        const lawful = options.length ? "An option does not fit" : "Lawful";
+        const lawful = options.length ? `${contradiction ? "A condition" : "An option"} does not fit` : "Lawful";
         setText(find("verdict"), error ? `Not lawful: ${all.length} reason${all.length > 1 ? "s" : ""}` : lawful);
         find("verdict").className = all.length ? "bad" : "good";
         find("report").hidden = !all.length && !notes.length;
