@@ -4,7 +4,7 @@ use peltzivar::format::{CASE_SENSITIVE_SPECIAL, DIGIT_SEPARATOR_FLAG_MASK, NO_SP
 use peltzivar::literal::{
     Language, Literal, Number, ReadError, ReadErrorKind, Reader, Readers, Sign, Special, Specials, Spelling, Syntax,
 };
-use peltzivar::{Edit, FlagSetter, Format, NumberFormatBuilder, Part};
+use peltzivar::{Edit, FlagSetter, Format, NumberFormatBuilder, Part, Settings};
 
 const FORMAT: &str = include_str!("../../docs/FORMAT.md");
 const EXPLANATIONS: &str = include_str!("../../docs/EXPLANATIONS.md");
@@ -139,6 +139,22 @@ fn flags_accept_and_reject_the_texts_of_the_page() {
     });
     let sentence = format!("Flags {} are *requirements*", Vec::from_iter(runs).join(" and "));
     assert!(FORMAT.contains(&sentence), "{sentence}");
+}
+
+/// Each condition, by the texts in its row: all are literals without it.
+#[test]
+fn conditions_accept_and_reject_the_texts_of_the_page() {
+    let reader = |settings: &[&str]| Reader::new(Settings::read(settings).unwrap().build_syntax().unwrap());
+    for row in table(FORMAT, "Conditions") {
+        let [condition, _, with, accepted, rejected, _] = row[..] else { panic!("{row:?}") };
+        let with = Vec::from_iter(with.split_whitespace());
+        let (plain, set) = (reader(&with), reader(&[with, vec![condition]].concat()));
+        let texts = texts(accepted).map(|text| (text, true)).chain(texts(rejected).map(|text| (text, false)));
+        for (text, is_accepted) in texts {
+            let results = [&plain, &set].map(|reader| read(reader, text.as_bytes()).is_ok());
+            assert_eq!(results, [true, is_accepted], "{condition}: {text}");
+        }
+    }
 }
 
 #[test]

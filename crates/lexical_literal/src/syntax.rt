@@ -60,7 +60,7 @@ impl Conditions {
     pub const fn is_none(self) -> bool
         ensures { result ≡ not (has self Condition.BasePrefix || (has self Condition.BaseSuffix || has self Condition.NegativeSign)) }
     {
-        !(self.required_base_prefix || self.required_base_suffix || self.no_negative_mantissa_sign)
+        !(self.required_base_prefix | self.required_base_suffix | self.no_negative_mantissa_sign)
     }
 }
 

@@ -101,7 +101,7 @@ calls! {
         let (nan, inf, infinity) = (spelling(specials.nan), spelling(specials.inf), spelling(specials.infinity));
         let specials = literal::Specials { nan, inf, infinity };
         let given = given(reader, text, len).ok();
-        out.write_some(given.and_then(|(forms, text)| specials.read(&forms.readers()[0].syntax(), text)))
+        out.write_some(given.and_then(|(readers, text)| specials.read(&readers[0].syntax(), text)))
     }
 
     fn peltzivar_language(name: *const u8, len: usize, specials: Out<Specials>) -> *const Reader {

@@ -205,7 +205,8 @@ impl From<literal::ReadError> for Explanation {
             _ => (0, None),
         };
         let (Range { start, end }, code, mask) = (error.span(), error.code(), error.mask());
-        let Conditions { required_base_prefix, required_base_suffix, no_negative_mantissa_sign, .. } = error.conditions();
+        let Conditions { required_base_prefix, required_base_suffix, no_negative_mantissa_sign, .. } =
+            error.conditions();
         let conditions = [required_base_prefix, required_base_suffix, no_negative_mantissa_sign];
         Explanation {
             span: Span { start, end },
@@ -220,7 +221,7 @@ impl From<literal::ReadError> for Explanation {
     }
 }
 
-/// Returns the reader and the text, or why there are none.
+/// Returns the readers of the forms, at least one, and the text, or why there are none.
 ///
 /// # Safety
 ///
@@ -229,9 +230,9 @@ pub unsafe fn given<'a>(
     reader: Option<&Reader>,
     text: *const u8,
     len: usize,
-) -> Result<(&Forms, &'a [u8]), Refusal> {
-    let reader = reader.and_then(Reader::value).ok_or(Refusal::Argument("no call has made this reader"))?;
-    Ok((reader, input(text, len).ok_or(Refusal::Argument("the text has more than PTRDIFF_MAX bytes"))?))
+) -> Result<(&[literal::Reader], &'a [u8]), Refusal> {
+    let forms = reader.and_then(Reader::value).ok_or(Refusal::Argument("no call has made this reader"))?;
+    Ok((forms.readers(), input(text, len).ok_or(Refusal::Argument("the text has more than PTRDIFF_MAX bytes"))?))
 }
 
 /// Writes what `read` or, of several forms, `read_forms` returns for a text, and returns whether it is a literal.
@@ -241,26 +242,27 @@ unsafe fn read_by<'a>(
     read: impl Fn(&literal::Reader, &'a [u8]) -> Result<literal::Literal<'a>, literal::ReadError>,
     read_forms: impl Fn(&Readers<'_>, &'a [u8]) -> Result<Number<'a>, FormError>,
 ) -> bool {
-    let found = given(reader, text, len).map_err(|refusal| (0, refusal));
-    let found = found.and_then(|(forms, text)| match forms.readers() {
-        [reader] => read(reader, text).map(|literal| (0, literal)).map_err(|error| (0, Refusal::Text(error))),
-        readers => match Readers::new(readers).map(|readers| read_forms(&readers, text)) {
-            Some(Ok(Number::Literal { literal, form })) => Ok((form, literal)),
-            Some(Err(FormError { form, error, .. })) => Err((form, Refusal::Text(error))),
-            _ => Err((0, Refusal::Argument("a number that is not a literal"))),
+    let (form, refusal) = match given(reader, text, len) {
+        Err(refusal) => (0, refusal),
+        Ok(([reader], text)) => match read(reader, text) {
+            Ok(found) => {
+                literal.write(Literal::of(found, 0));
+                return true;
+            }
+            Err(error) => (0, Refusal::Text(error)),
         },
-    });
-    match found {
-        Ok((form, found)) => {
-            literal.write(Literal::of(found, form));
-            true
-        }
-        Err((form, refusal)) => {
-            let valid_up_to = if let Refusal::Text(error) = &refusal { error.valid_up_to() } else { 0 };
-            error.write(Made::new(Stop { valid_up_to, form }, refusal));
-            false
-        }
-    }
+        Ok((readers, text)) => match Readers::new(readers).map(|readers| read_forms(&readers, text)) {
+            Some(Ok(Number::Literal { literal: found, form })) => {
+                literal.write(Literal::of(found, form));
+                return true;
+            }
+            Some(Err(FormError { form, error, .. })) => (form, Refusal::Text(error)),
+            _ => (0, Refusal::Argument("a number that is not a literal")),
+        },
+    };
+    let valid_up_to = if let Refusal::Text(error) = &refusal { error.valid_up_to() } else { 0 };
+    error.write(Made::new(Stop { valid_up_to, form }, refusal));
+    false
 }
 
 calls! {

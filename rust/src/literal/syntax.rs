@@ -44,7 +44,7 @@ impl Conditions {
     /// Returns whether there are no conditions.
     #[must_use]
     pub const fn is_none(self) -> bool {
-        !(self.required_base_prefix || self.required_base_suffix || self.no_negative_mantissa_sign)
+        !(self.required_base_prefix | self.required_base_suffix | self.no_negative_mantissa_sign)
     }
 }
 

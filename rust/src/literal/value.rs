@@ -9,14 +9,14 @@ mod float;
 mod integer;
 mod plain;
 #[allow(clippy::len_zero, reason = "as it is proved")]
-mod text;
+mod plain_float;
 
 pub use integer::ValueErrorKind;
 
 use float::{binary_size, to_float};
 use integer::{integer_digits, to_integer};
 use plain::plain_integer;
-use text::text_to_float;
+use plain_float::{plain_float, text_to_float};
 
 /// A type that can be [parsed][Reader::parse]: each integer type of Rust, `f64` and `f32`.
 ///
@@ -302,8 +302,8 @@ macro_rules! floats {
 
             impl Sealed for $type {
                 #[inline]
-                fn from_plain(_: &Reader, _: &[u8]) -> Option<$type> {
-                    None
+                fn from_plain(reader: &Reader, text: &[u8]) -> Option<$type> {
+                    plain_float(reader.syntax, text)
                 }
             }
 
