@@ -203,10 +203,10 @@ module _ (m : Notation) (h : HasRoles m) where
         let t = peel s b c text d is in
         let more = subst (λ o. Arrives O m (Some (after s (b == 48) t.role)) (count parts.Integer o c) text d) t.plays t.rest in
         let other : (t.role ≡ roles.Sign) → ⊥ = λ sign.
-            let fresh : is_fresh stage ≡ true = let taken = subst (λ r. takes m s (b == 43) r ≡ true) sign t.taken in grind arith in
-            let counted = subst (λ r. Arrives O m (Some (after s (b == 48) r)) (add c (piece_of parts.Integer r)) text d) sign more in
-            false≢true (sym (unsigned fresh) ∙ ap (λ (c : Cuts). nat_lt 0 (c pieces.Sign)) (sym counted.1)
-            ∙ stays (Some (after s (b == 48) roles.Sign)) (add c pieces.Sign) text pieces.Sign (grind (arith, nat_tests))) in
+        let fresh : is_fresh stage ≡ true = let taken = subst (λ r. takes m s (b == 43) r ≡ true) sign t.taken in grind arith in
+        let counted = subst (λ r. Arrives O m (Some (after s (b == 48) r)) (add c (piece_of parts.Integer r)) text d) sign more in
+        false≢true (sym (unsigned fresh) ∙ ap (λ (c : Cuts). nat_lt 0 (c pieces.Sign)) (sym counted.1)
+        ∙ stays (Some (after s (b == 48) roles.Sign)) (add c pieces.Sign) text pieces.Sign (grind (arith, nat_tests))) in
         arrives_byte C m h s b t.role c text d t.going t.plays t.taken (admitted t.role other)
         (lift (after s (b == 48) t.role) (add c (piece_of parts.Integer t.role)) text (calm t.role other t.taken)
         (shown s c (b == 48) t.role refl suffix) more) where

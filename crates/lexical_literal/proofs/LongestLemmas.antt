@@ -11,7 +11,7 @@ use Rattle.lexical_literal.specs.Literal.{Literal, IsLiteral, Reads, is_none_or_
 use Rattle.lexical_literal.specs.Additions.Summary.{Cuts, byte_class, in_part, scan, step, is_accepted, is_complete}
 use Rattle.lexical_literal.specs.Additions.Summary.{tally, count, add, piece_number, start, no_cuts, HasLengths}
 use Rattle.lexical_literal.specs.Front.{IsFront, IsValidUpTo, NoLiteral, ReadsFront}
-use Rattle.lexical_literal.specs.Additions.Longest.{HasStopped, IsLongest, IsScanned}
+use Rattle.lexical_literal.specs.Additions.Longest.{IsLongest, IsRefusedAt, IsScanned}
 use Rattle.lexical_literal.specs.Additions.Causes.{allows, class_of_next}
 use Rattle.lexical_literal.specs.Additions.Tables as tables
 use Rattle.lexical_literal.specs.declared.read.Scanned.{Scanned}
@@ -78,11 +78,12 @@ module _ (m : Notation) (text : List ℕ) where
     ]
 
     -- Reading stops at the end of the text, unless the text is a literal, or before.
-    pub stops : (scanned.valid_up_to ≡ length text → is_complete m (tables.summary_at scanned.row) ≡ false) → HasStopped m text scanned
+    pub stops : (scanned.valid_up_to ≡ length text → is_complete m (tables.summary_at scanned.row) ≡ false) → IsRefusedAt m text scanned
     stops partial = record { seeks = seeks; is = is; refused = refused_there partial }
 
-    pub none_stops : NoLiteral m text → HasStopped m text scanned
-    none_stops none = stops (λ all. false_from_ne_true _ (λ complete. let l = whole_literal all complete in none l.0 l.1))
+    -- If the text is a literal, then reading stops at its end.
+    pub whole_all : (l : Literal) → Reads m l text → scanned.valid_up_to ≡ length text
+    whole_all l reads = let all = all_right l reads in omega (arith, all, is.error.within)
 
     -- If the front does not allow what follows, then the text is not a literal.
     pub none_whole : allows m (tables.summary_at scanned.row) (class_of_next m (slice_get text scanned.valid_up_to)) ≡ false → NoLiteral m text

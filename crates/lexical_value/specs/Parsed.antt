@@ -1,9 +1,8 @@
 -- What a call returns that reads a text and computes its value.
 use Rattle.std.specs.Prelude.{ℕ, List, Result, Ok, Err}
 use Rattle.lexical_util.specs.Record.{raw}
-use Rattle.lexical_literal.specs.Cause.{IsRefusal}
-use Rattle.lexical_literal.specs.Literal.{Literal, Reads}
-use Rattle.lexical_literal.specs.Notation.{notation_of}
+use Rattle.lexical_literal.specs.Literal.{Literal}
+use Rattle.lexical_literal.specs.Takes.{IsError, Takes}
 use Rattle.lexical_literal.specs.declared.syntax.Grammar.{Grammar}
 use Rattle.lexical_number.specs.Numeral.{Range}
 use Rattle.lexical_value.specs.Integer.{IsInteger, IsNoInteger}
@@ -13,7 +12,7 @@ use Rattle.lexical_value.specs.declared.parse.ParseError.TheVariants as errors
 -- `IsParsed range g text result` holds if `result` is the value of the integer `text` in `range`, why `text` is not a
 -- literal, or why the value of the literal is not in `range`.
 abbrev pub IsParsed : {T : Type 0} → Range T → Grammar → List ℕ → Result T ParseError → Type 0
-IsParsed range g text (Ok x) = (l : Literal) × Reads (notation_of g) l text × IsInteger (raw g.word) l (range.value x)
-IsParsed range g text (Err (errors.Read error)) = IsRefusal (notation_of g) text error.refusal
+IsParsed range g text (Ok x) = (l : Literal) × Takes g l text × IsInteger (raw g.word) l (range.value x)
+IsParsed range g text (Err (errors.Read error)) = IsError g text error.refusal
 IsParsed range g text (Err (errors.Value kind)) =
-    (l : Literal) × Reads (notation_of g) l text × IsNoInteger range.least range.largest (raw g.word) l kind
+    (l : Literal) × Takes g l text × IsNoInteger range.least range.largest (raw g.word) l kind
