@@ -35,7 +35,7 @@ use Rattle.lexical_literal.specs.declared.steps.Summary.{Summary}
 use Rattle.lexical_literal.specs.declared.syntax.Condition.{Condition}
 use Rattle.lexical_literal.specs.declared.syntax.Condition.TheVariants as conditions
 use Rattle.lexical_literal.proofs.CauseLemmas.{all_flags, bit_small, found_in, mask_flags, none_in, only_mask}
-use Rattle.lexical_literal.proofs.JointLemmas.{Alone, at_next, each_passes, free_allows, free_is, going, joint, same_free, split}
+use Rattle.lexical_literal.proofs.JointLemmas.{Alone, at_next, each_passes, free_allows, free_is, going, joint, split}
 use Rattle.lexical_literal.proofs.RefusalLemmas.{apart}
 use Rattle.lexical_literal.proofs.CauseLemmas.{same_flag}
 

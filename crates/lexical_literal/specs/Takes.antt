@@ -1,6 +1,6 @@
 -- What a syntax takes: the literals of its notation whose integers are in groups, if it requires this, and why another text is
 -- refused.
-use Rattle.std.specs.Prelude.{ℕ, ◌≡◌, ◌≤◌, ◌+◌, ◌⊎◌, IsTrue, List, Option, Some, None, false, length, take}
+use Rattle.std.specs.Prelude.{ℕ, ◌≡◌, ◌≤◌, ◌+◌, ◌⊎◌, IsTrue, List, Some, None, false, length, take}
 use Rattle.lexical_util.specs.declared.error.Error.TheVariants as errors
 use Rattle.lexical_literal.specs.Cause.{IsRefusal}
 use Rattle.lexical_literal.specs.Front.{NoLiteral, ReadsFront}

@@ -1,6 +1,5 @@
 -- The longest front that is a literal of a form, or the error of the form that goes furthest.
 use Rattle.std.proofs.Common.{inl, ◌+◌, refl, sym, ap, subst, ◌∙◌, is_some}
-use Rattle.std.proofs.lemmas.Bool.{false≢true}
 use Rattle.lexical_literal.proofs.FormLemmas.{IsBest, IsLongestOf, best_error, best_more, best_within, longer_some, front_is, front_within, longest_more, longest_stays, none_front, none_reads_whole}
 use Rattle.lexical_literal.proofs.list.ReaderList.find_front.Goals as goal
 use Rattle.lexical_literal.proofs.list.ReaderList.find_front.Goals.{in-Ok, in-Err}

@@ -1,6 +1,5 @@
 -- The form has the front.
-use Rattle.std.proofs.Common.{Some, get_or, refl, sym, ap, subst, ◌∙◌, IsSomeAnd, slice_get}
-use Rattle.std.proofs.lemmas.Option.{slice_get-get_or}
+use Rattle.std.proofs.Common.{refl, sym, subst, IsSomeAnd, slice_get}
 use Rattle.lexical_literal.specs.Additions.Longest.{IsCountedFront, IsGroupedFront}
 use Rattle.lexical_literal.specs.Notation.{notation_of}
 use Rattle.lexical_literal.specs.Takes.{IsUngroupedFront}

@@ -1,5 +1,5 @@
 -- The lengths that were counted are those of the parts.
-use Rattle.std.proofs.Common.{inl, inr, sym, ◌∙◌, arith}
+use Rattle.std.proofs.Common.{inl, inr, sym, ◌∙◌}
 use Rattle.std.proofs.lemmas.Bool.{false≢true}
 use Rattle.lexical_literal.proofs.LongestLemmas.{none_whole, stops, whole_counted, whole_literal}
 use Rattle.lexical_literal.proofs.read.Reader.lengths.Goals as goal
