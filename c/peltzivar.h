@@ -318,7 +318,7 @@ enum { PELTZIVAR_SPELLING_NAN = 1, PELTZIVAR_SPELLING_INF = 2, PELTZIVAR_SPELLIN
 PELTZIVAR_MUST_USE bool peltzivar_read_special(const peltzivar_reader *reader, const peltzivar_specials *specials,
     const char *text, size_t len, peltzivar_special *out);
 
-/* If a language or file format has a name of len bytes, such as "JSON" or "C_HEX_FLOAT", writes its spellings to
+/* If a language or file format has a name of len bytes, such as "JSON" or "C_SHARP", writes its spellings to
  * *specials and returns its reader. Both last as long as the program. A spelling that it lacks is "". Otherwise, writes
  * nothing and returns a null pointer. Names are case-sensitive. In Python, `help(peltzivar.Language)` describes each.
  *

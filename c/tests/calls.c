@@ -217,8 +217,8 @@ static void test_values(void) {
         peltzivar_value_status statuses[2];
     } rows[] = {{"TOML", "-9_223_372_036_854_775_808", INT64_MIN, 7, -9223372036854775808.0, {0, PELTZIVAR_VALUE_TOO_SMALL}},
         {"TOML", "18446744073709551615", 7, UINT64_MAX, 18446744073709551616.0, {PELTZIVAR_VALUE_TOO_LARGE, 0}},
-        {"RUST_HEX_INTEGER", "-0x0", 0, 0, -0.0, {0, 0}}, {"C_HEX_FLOAT", "0x1.8p-1", 7, 7, 0.75, {1, PELTZIVAR_VALUE_FLOAT}},
-        {"JSON", "1e999", 7, 7, HUGE_VAL, {1, 1}}, {"SPREADSHEET_CSV", "1,234.50", 7, 7, 1234.5, {1, 1}}};
+        {"SWIFT", "-0x0", 0, 0, -0.0, {0, 0}}, {"C", "0x1.8p-1", 7, 7, 0.75, {1, PELTZIVAR_VALUE_FLOAT}},
+        {"JSON", "1e999", 7, 7, HUGE_VAL, {1, 1}}, {"CSV_EN", "1,234.50", 7, 7, 1234.5, {1, 1}}};
     peltzivar_literal it;
     for (size_t i = 0; i < sizeof rows / sizeof *rows; i++) {
         int64_t integer = 7;

@@ -31,8 +31,8 @@ use Rattle.lexical_writer.specs.declared.run.Source.{Source}
 use Rattle.lexical_writer.specs.declared.run.Source.TheVariants as sources
 use Rattle.lexical_writer.specs.declared.layout.Layout.{Layout}
 use Rattle.lexical_writer.specs.declared.layout.Style.{Style}
-use Rattle.lexical_writer.specs.declared.layout.WriteErrorKind.{WriteErrorKind}
-use Rattle.lexical_writer.specs.declared.layout.WriteErrorKind.TheVariants as errors
+use Rattle.lexical_writer.specs.declared.layout.WriteError.{WriteError}
+use Rattle.lexical_writer.specs.declared.layout.WriteError.TheVariants as errors
 use Rattle.lexical_writer.proofs.DigitLemmas.{grouped_digits, lean_below, lean_number, zero_below, zero_number}
 use Rattle.lexical_writer.proofs.LiteralLemmas.{fraction_below, power_below, radixes, some_radix}
 use Rattle.lexical_writer.proofs.ValueLemmas.{integer_number, minus}
@@ -225,7 +225,7 @@ module _ (r : Record) (parts : Parts) (g : Grammar) (style : Style) (is : IsSynt
 pub converted : (r : Record) (given : Parts) (g : Grammar) (style : Style) → IsSyntax g
     → ((byte : ℕ) → byte_value byte < (raw g.word).byte layout.mantissa_radix → IsTrue (sets.used_separator (raw g.word) byte) → ⊥)
     → ((word e p : ℕ) → Lawful word → OptionsFit word e p → OptionsHaveOneRole word e p)
-    → conversion_refusal r given (raw g.word) ≡ None → (result : Result Layout WriteErrorKind) → IsLaidOut g style (amount_of r given (raw g.word)) result
+    → conversion_refusal r given (raw g.word) ≡ None → (result : Result Layout WriteError) → IsLaidOut g style (amount_of r given (raw g.word)) result
     → IfOk result (λ layout. SameFraction r (literal_of given) (raw g.word) (written layout))
 converted r given g style is apart accepted fits (Ok layout) laid =
     subst (λ l. SameFraction r (literal_of given) (raw g.word) l) (sym laid.1) (same_fraction r given g style is apart accepted fits laid.0)

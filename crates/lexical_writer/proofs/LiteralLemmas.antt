@@ -16,9 +16,12 @@ use Rattle.lexical_util.specs.Unfoldable.{cased, Lawful, Holds}
 use Rattle.lexical_util.specs.declared.format_flags.Part.{Part}
 use Rattle.lexical_util.specs.declared.format_flags.Part.TheVariants as parts
 use Rattle.lexical_base.proofs.ValueLemmas.{byte_value-digit_character}
-use Rattle.lexical_literal.specs.Literal.{IsLiteral, has_leading_zero, is_absent, is_none_or_one, is_none_or_prefix, is_plus, is_present, requirement}
+use Rattle.lexical_literal.specs.Literal.{IsLiteral, IsSpelled, condition, has_leading_zero, is_absent, is_none_or_one, is_none_or_prefix, is_plus, is_present, requirement}
 use Rattle.lexical_literal.specs.Notation.{lacks_options, notation_of, point_of, exponent_character_of, radix_of}
 use Rattle.lexical_literal.specs.Syntax.{IsSyntax, FitIfAny}
+use Rattle.lexical_literal.specs.declared.syntax.Condition.{Condition}
+use Rattle.lexical_literal.specs.declared.syntax.Condition.TheVariants as conditions
+use Rattle.lexical_literal.specs.declared.syntax.ConditionsError.TheVariants as contradictions
 use Rattle.lexical_literal.specs.declared.syntax.Grammar.{Grammar}
 use Rattle.lexical_literal.specs.declared.syntax.Options.{Options}
 use Rattle.lexical_writer.specs.Digits.{character, grouped, or_zero, values_of, without_zeros}
@@ -27,7 +30,7 @@ use Rattle.lexical_writer.specs.Layout.{laid_out, only_if, point_byte, power_dig
 use Rattle.lexical_writer.specs.declared.layout.Amount.{Amount}
 use Rattle.lexical_writer.specs.declared.layout.Power.{Power}
 use Rattle.lexical_writer.specs.declared.layout.Style.{Style}
-use Rattle.lexical_writer.specs.declared.layout.WriteErrorKind.TheVariants as errors
+use Rattle.lexical_writer.specs.declared.layout.WriteError.TheVariants as errors
 use Rattle.lexical_writer.proofs.DigitLemmas.{digits_present, grouped_present, lean_below, source_below, zero_below, zero_present, digits_below}
 use Rattle.lexical_writer.proofs.GroupLemmas.{grouped_run, no_leading_zero}
 
@@ -90,10 +93,36 @@ some_group true false n some = (refl, refl)
 some_group true true n some = absurd (omega (arith, some))
 some_group false b n some = absurd (omega (arith, some))
 
-none_refused : (a b : Bool) → (if a then Some errors.Fraction else (if b then Some errors.Exponent else None)) ≡ None → (a ≡ false) × (b ≡ false)
-none_refused true b is = absurd (let apart : Some errors.Fraction ≡ None = is in cc)
-none_refused false true is = absurd (let apart : Some errors.Exponent ≡ None = is in cc)
-none_refused false false is = (refl, refl)
+none_refused : (n a b : Bool) → (if n then Some errors.Negative else (if a then Some errors.Fraction else (if b then Some errors.Exponent else None))) ≡ None
+    → (n ≡ false) × (a ≡ false) × (b ≡ false)
+none_refused true a b is = absurd (let apart : Some errors.Negative ≡ None = is in cc)
+none_refused false true b is = absurd (let apart : Some errors.Fraction ≡ None = is in cc)
+none_refused false false true is = absurd (let apart : Some errors.Exponent ≡ None = is in cc)
+none_refused false false false is = (refl, refl, refl)
+
+-- Where a byte is required, it is there.
+none_lacks : (a b c : Bool) → (if a then Some contradictions.NoBasePrefix else (if b then Some contradictions.NoBaseSuffix
+    else (if c then Some contradictions.NoSign else None))) ≡ None → (a ≡ false) × (b ≡ false)
+none_lacks true b c is = absurd (let apart : Some contradictions.NoBasePrefix ≡ None = is in cc)
+none_lacks false true c is = absurd (let apart : Some contradictions.NoBaseSuffix ≡ None = is in cc)
+none_lacks false false c is = (refl, refl)
+
+prefix_required : (style required absent : Bool) (byte : ℕ) → (required && absent) ≡ false → required ≡ true
+    → is_present (after_zero (only_if ((style || required) && not absent) byte)) ≡ true
+prefix_required style required absent byte none set = grind arith
+
+suffix_required : (style required absent : Bool) (byte : ℕ) → (required && absent) ≡ false → required ≡ true
+    → is_present (option_to_list (only_if ((style || required) && not absent) byte)) ≡ true
+suffix_required style required absent byte none set = grind arith
+
+not_minus : (negative required : Bool) → negative ≡ false
+    → (is_absent (option_to_list (sign_of negative required)) || is_plus (option_to_list (sign_of negative required))) ≡ true
+not_minus true required is = absurd (false≢true (sym is))
+not_minus false true is = refl
+not_minus false false is = refl
+
+and_false : (a b : Bool) → (a && b) ≡ false → b ≡ true → a ≡ false
+and_false a b none is = grind arith
 
 exponent_none : (lacks forbidden required some : Bool) → (forbidden && required) ≡ false → ((lacks || forbidden) && some) ≡ false
     → (lacks || forbidden) ≡ true → (some || (required && not lacks)) ≡ false
@@ -238,14 +267,14 @@ module _ (g : Grammar) (style : Style) (amount : Amount) (is : IsSyntax g)
       go false there =
           or_right _ _ (fraction_there (either (is_present (laid_out g style amount).integer) (is_present (fraction_digits radix amount.fraction)) integer_or there))
 
-  allowed : ((lacks_options g.options && is_some amount.fraction) ≡ false)
+  allowed : ((amount.negative && g.conditions.no_negative_mantissa_sign) ≡ false) × ((lacks_options g.options && is_some amount.fraction) ≡ false)
       × (((lacks_options g.options || (raw g.word).flag layout.no_exponent_notation) && is_some amount.exponent) ≡ false)
-  allowed = none_refused (lacks_options g.options && is_some amount.fraction) _ can
+  allowed = none_refused _ (lacks_options g.options && is_some amount.fraction) _ can
 
   -- No exponent is written where none is allowed, or where literals are integers.
   no_exponent : (lacks_options g.options || (raw g.word).flag layout.no_exponent_notation) ≡ true → has_exponent g amount ≡ false
   no_exponent none = exponent_none (lacks_options g.options) ((raw g.word).flag layout.no_exponent_notation) _ (is_some amount.exponent) (agree g.word is.lawful).0
-      allowed.1 none
+      allowed.2 none
 
   no_lead : has_leading_zero ((notation_of g).digit parts.Integer) (laid_out g style amount).integer ≡ false
   no_lead = no_leading_zero (notation_of g) parts.Integer radix _ (group_of (raw g.word) style) (radixes g.word is.lawful parts.Integer).1 (digit parts.Integer) between
@@ -286,7 +315,7 @@ module _ (g : Grammar) (style : Style) (amount : Amount) (is : IsSyntax g)
   character_there (Some o) fit true has = own _ o.exponent (not_none o.exponent (accepted g.word o.exponent o.point is.lawful fit).exponent_is_text)
 
   no_point : lacks_options g.options ≡ true → has_point g amount ≡ false
-  no_point lacks = point_none (lacks_options g.options) (is_some amount.fraction) (has_exponent g amount) _ allowed.0
+  no_point lacks = point_none (lacks_options g.options) (is_some amount.fraction) (has_exponent g amount) _ allowed.1
       (no_exponent (or_left _ ((raw g.word).flag layout.no_exponent_notation) lacks)) lacks
 
   prefix_there : (test : Bool) → (test ≡ true → ((raw g.word).byte layout.base_prefix == 0) ≡ false)
@@ -299,10 +328,20 @@ module _ (g : Grammar) (style : Style) (amount : Amount) (is : IsSyntax g)
   suffix_there true some = own _ _ (some refl)
   suffix_there false some = refl
 
-  pub literal : IsLiteral (notation_of g) (laid_out g style amount)
-  literal = record {
+  -- The conditions are met.
+  there : ((g.conditions.required_base_prefix && ((raw g.word).byte layout.base_prefix == 0)) ≡ false)
+      × ((g.conditions.required_base_suffix && ((raw g.word).byte layout.base_suffix == 0)) ≡ false)
+  there = none_lacks _ _ _ is.conditions
+
+  conditions_met : (c : Condition) → IsTrue ((notation_of g).condition c) → IsTrue (condition c (laid_out g style amount))
+  conditions_met conditions.BasePrefix set = prefix_required style.prefix _ _ _ there.0 set
+  conditions_met conditions.BaseSuffix set = suffix_required style.suffix _ _ _ there.1 set
+  conditions_met conditions.NegativeSign set = not_minus amount.negative _ (and_false _ _ allowed.0 set)
+
+  spelled : IsSpelled (notation_of g) (laid_out g style amount)
+  spelled = record {
     sign = one_sign amount.negative _;
-    prefix = prefix_there _ (but_not style.prefix ((raw g.word).byte layout.base_prefix == 0));
+    prefix = prefix_there _ (but_not (style.prefix || g.conditions.required_base_prefix) ((raw g.word).byte layout.base_prefix == 0));
     integer = grouped_run (notation_of g) parts.Integer radix _ (group_of (raw g.word) style) (radixes g.word is.lawful parts.Integer).1 (digit parts.Integer) between
         _ (zero_below radix (has_zero (raw g.word) amount) _ (some_radix parts.Integer) (lean_below radix _ integer_below));
     point = point_there g.options is.fit (has_point g amount) no_point;
@@ -313,9 +352,12 @@ module _ (g : Grammar) (style : Style) (amount : Amount) (is : IsSyntax g)
     exponent = grouped_run (notation_of g) parts.Exponent (effective_exponent_radix (raw g.word)) 0 0 (radixes g.word is.lawful parts.Exponent).1 (digit parts.Exponent)
         (λ some. absurd (omega (arith, some)))
         _ (zero_below _ (has_exponent g amount) _ (some_radix parts.Exponent) (lean_below _ _ power_below));
-    suffix = suffix_there _ (but_not style.suffix ((raw g.word).byte layout.base_suffix == 0));
+    suffix = suffix_there _ (but_not (style.suffix || g.conditions.required_base_suffix) ((raw g.word).byte layout.base_suffix == 0));
     after_point = λ absent. no_fraction amount.fraction (has_exponent g amount && (raw g.word).flag layout.no_exponent_without_fraction) (point_byte g.options) _ radix absent;
     after_character = λ absent. no_power amount.exponent _ (exponent_byte g.options) _ _ absent;
     some_number = floats (is_present (laid_out g style amount).integer) amount.fraction _ (point_byte g.options) _ radix integer_or;
     requirements = met;
   }
+
+  pub literal : IsLiteral (notation_of g) (laid_out g style amount)
+  literal = record { spelled = spelled; conditions = conditions_met }

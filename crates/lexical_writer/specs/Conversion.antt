@@ -13,8 +13,8 @@ use Rattle.lexical_writer.specs.declared.layout.Amount.{Amount}
 use Rattle.lexical_writer.specs.declared.layout.Layout.{Layout}
 use Rattle.lexical_writer.specs.declared.layout.Power.{Power}
 use Rattle.lexical_writer.specs.declared.layout.Style.{Style}
-use Rattle.lexical_writer.specs.declared.layout.WriteErrorKind.{WriteErrorKind}
-use Rattle.lexical_writer.specs.declared.layout.WriteErrorKind.TheVariants as errors
+use Rattle.lexical_writer.specs.declared.layout.WriteError.{WriteError}
+use Rattle.lexical_writer.specs.declared.layout.WriteError.TheVariants as errors
 use Rattle.lexical_writer.specs.declared.run.Source.{Source}
 use Rattle.lexical_writer.specs.declared.run.Source.TheVariants as sources
 
@@ -33,7 +33,7 @@ abbrev pub is_too_long : List ℕ → ℕ → ℕ → Bool
 is_too_long bytes from to = not (from == to) && nat_lt (2 ^ 128 - 1) (number from bytes)
 
 -- `conversion_refusal r parts s` is why `parts` cannot be written in the format `s`, if radixes and bases are the reason.
-abbrev pub conversion_refusal : Record → Parts → Record → Option WriteErrorKind
+abbrev pub conversion_refusal : Record → Parts → Record → Option WriteError
 conversion_refusal r parts s =
     if not (r.byte layout.mantissa_radix == s.byte layout.mantissa_radix)
     || (has_power parts && not (effective_exponent_base r == effective_exponent_base s))
@@ -65,6 +65,6 @@ amount_of r parts s = record {
 }
 
 -- `IsConverted r parts g style result` holds if `result` is what is written for `parts`, or why it cannot be written.
-abbrev pub IsConverted : Record → Parts → Grammar → Style → Result Layout WriteErrorKind → Type 0
+abbrev pub IsConverted : Record → Parts → Grammar → Style → Result Layout WriteError → Type 0
 IsConverted r parts g style result = MatchOption (conversion_refusal r parts (raw g.word)) (IsLaidOut g style (amount_of r parts (raw g.word)) result)
     (λ error. result ≡ Err error)

@@ -1,10 +1,11 @@
 -- How a number is laid out as a literal.
-use Rattle.std.specs.Prelude.{ℕ, ◌≡◌, ◌<◌, ℤ, ◌==◌, ◌&&◌, ◌||◌, not, Bool, true, false, if◌then◌else◌, List, [], ◌∷◌, Option, Some, None, Result, Ok, Err, is_some, option_to_list}
+use Rattle.std.specs.Prelude.{ℕ, ◌≡◌, ◌<◌, ℤ, ◌==◌, ◌&&◌, ◌||◌, not, Bool, true, false, if◌then◌else◌, List, [], ◌∷◌, Option, Some, None, Result, Ok, Err, is_some, option_to_list, IsTrue}
 use Rattle.std.specs.Borrow.{Bor}
 use Rattle.lexical_util.specs.Layout as layout
 use Rattle.lexical_util.specs.Record.{Record, raw, effective_exponent_radix}
 use Rattle.lexical_literal.specs.Literal.{Literal, is_absent, is_present}
-use Rattle.lexical_literal.specs.Notation.{lacks_options}
+use Rattle.lexical_literal.specs.Additions.Summary.{needs_exponent}
+use Rattle.lexical_literal.specs.Notation.{lacks_options, notation_of}
 use Rattle.lexical_literal.specs.declared.syntax.Grammar.{Grammar}
 use Rattle.lexical_literal.specs.declared.syntax.Options.{Options}
 use Rattle.lexical_number.specs.Number.{digits_in}
@@ -15,8 +16,8 @@ use Rattle.lexical_writer.specs.declared.layout.Layout.{Layout}
 use Rattle.lexical_writer.specs.declared.layout.Power.{Power}
 use Rattle.lexical_writer.specs.declared.layout.Style.{Style}
 use Rattle.lexical_writer.specs.declared.run.Source.TheVariants as sources
-use Rattle.lexical_writer.specs.declared.layout.WriteErrorKind.{WriteErrorKind}
-use Rattle.lexical_writer.specs.declared.layout.WriteErrorKind.TheVariants as errors
+use Rattle.lexical_writer.specs.declared.layout.WriteError.{WriteError}
+use Rattle.lexical_writer.specs.declared.layout.WriteError.TheVariants as errors
 
 -- `after_zero byte` is a zero and `byte`, or nothing if `byte` is absent.
 abbrev pub after_zero : Option ℕ → List ℕ
@@ -96,7 +97,7 @@ laid_out g style amount =
     let radix = r.byte layout.mantissa_radix in
     record {
       sign = option_to_list (sign_of amount.negative (r.flag layout.required_mantissa_sign));
-      prefix = after_zero (only_if (style.prefix && not (r.byte layout.base_prefix == 0)) (r.byte layout.base_prefix));
+      prefix = after_zero (only_if ((style.prefix || g.conditions.required_base_prefix) && not (r.byte layout.base_prefix == 0)) (r.byte layout.base_prefix));
       integer = grouped (r.byte layout.digit_separator) (group_of r style) (or_zero (has_zero r amount) (without_zeros (values_of radix amount.integer)));
       point = option_to_list (only_if (has_point g amount) (point_byte g.options));
       fraction = grouped 0 0 (or_zero (has_point g amount && r.flag layout.required_fraction_digits) (fraction_digits radix amount.fraction));
@@ -104,17 +105,18 @@ laid_out g style amount =
       exponent_sign =
           if has_exponent g amount then option_to_list (sign_of (is_negative amount.exponent) (r.flag layout.required_exponent_sign)) else [];
       exponent = grouped 0 0 (or_zero (has_exponent g amount) (without_zeros (power_digits (effective_exponent_radix r) amount.exponent)));
-      suffix = option_to_list (only_if (style.suffix && not (r.byte layout.base_suffix == 0)) (r.byte layout.base_suffix));
+      suffix = option_to_list (only_if ((style.suffix || g.conditions.required_base_suffix) && not (r.byte layout.base_suffix == 0)) (r.byte layout.base_suffix));
     }
 
 -- `refusal g amount` is why `amount` cannot be written as a literal of `g`, or `None` if it can.
-abbrev pub refusal : Grammar → Amount → Option WriteErrorKind
+abbrev pub refusal : Grammar → Amount → Option WriteError
 refusal g amount =
-    if lacks_options g.options && is_some amount.fraction then Some errors.Fraction
-    else (if (lacks_options g.options || (raw g.word).flag layout.no_exponent_notation) && is_some amount.exponent then Some errors.Exponent else None)
+    if amount.negative && g.conditions.no_negative_mantissa_sign then Some errors.Negative
+    else (if lacks_options g.options && is_some amount.fraction then Some errors.Fraction
+    else (if (lacks_options g.options || (raw g.word).flag layout.no_exponent_notation) && is_some amount.exponent then Some errors.Exponent else None))
 
 -- `IsLaidOut g style amount result` holds if `result` is what is written for `amount`, or why it cannot be written.
-abbrev pub IsLaidOut : Grammar → Style → Amount → Result Layout WriteErrorKind → Type 0
+abbrev pub IsLaidOut : Grammar → Style → Amount → Result Layout WriteError → Type 0
 IsLaidOut g style amount (Ok layout) = (refusal g amount ≡ None) × (literal_of layout ≡ laid_out g style amount)
 IsLaidOut g style amount (Err error) = refusal g amount ≡ Some error
 
@@ -129,3 +131,10 @@ pub record IsWhole (g : Grammar) (style : Style) (z : ℤ) (l : Literal) : Type 
   pub value : with_sign negative size ≡ z
   pub minus : negative ≡ true → 0 < size
   pub parts : l ≡ laid_out g style (whole negative size)
+
+-- `IsNotWritten g z kind` holds if `kind` is why `g` has no integer with the value `z`: each literal has an exponent, or `z` is
+-- below 0 and no literal is.
+abbrev pub IsNotWritten : Grammar → ℤ → WriteError → Type 0
+IsNotWritten g z errors.Float = IsTrue (needs_exponent (notation_of g))
+IsNotWritten g z errors.Negative = IsTrue g.conditions.no_negative_mantissa_sign × (size : ℕ) × (0 < size) × (with_sign true size ≡ z)
+IsNotWritten g z _ = ⊥

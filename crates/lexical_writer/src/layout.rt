@@ -11,7 +11,7 @@ ghost use Rattle.lexical_writer.specs.Digits.{grouped, or_zero, run_text, values
 ghost use Rattle.lexical_writer.specs.Layout.{after_zero, exponent_byte, fraction_digits, group_of, has_exponent, has_point, has_zero};
 ghost use Rattle.lexical_writer.specs.Layout.{IsLaidOut, is_negative, laid_out, literal_of};
 ghost use Rattle.lexical_writer.specs.Layout.{only_if, point_byte, power_digits, refusal, sign_of};
-ghost use Rattle.lexical_writer.specs.declared.layout.WriteErrorKind.TheVariants as errors;
+ghost use Rattle.lexical_writer.specs.declared.layout.WriteError.TheVariants as errors;
 ghost use Rattle.lexical_writer.specs.Private.{IsTaken};
 
 use crate::digits::{count, without_zeros};
@@ -36,15 +36,21 @@ pub struct Style {
 
 /// Why a number cannot be written as a literal of a syntax.
 #[derive(Debug, Clone, Copy, PartialEq, Eq, Hash)]
-pub enum WriteErrorKind {
+pub enum WriteError {
     /// The mantissa radixes differ or, for a number with an exponent, the exponent bases.
     Radix,
+    /// The number is below 0, or -0, and no literal has the sign `-`.
+    Negative,
     /// The number has a fraction, and the literals of the syntax are integers.
     Fraction,
     /// The number has an exponent, and no literal has one, or its exponent digits have another radix and are too many.
     Exponent,
     /// The number is an integer of Rust, and each literal has an exponent.
     Float,
+    /// The number is NaN or infinity, which no literal is.
+    Special,
+    /// The buffer is too short for the text, which has this number of bytes.
+    Buffer(usize),
 }
 
 /// The exponent of a number.
@@ -152,13 +158,16 @@ const fn only_if(condition: bool, byte: u8) -> Option<u8>
 }
 
 // Returns the first error whose condition is true.
-const fn first_error(fraction: bool, exponent: bool) -> Option<WriteErrorKind>
-    ensures { result ≡ (if fraction then Some errors.Fraction else (if exponent then Some errors.Exponent else None)) }
+const fn first_error(negative: bool, fraction: bool, exponent: bool) -> Option<WriteError>
+    ensures { result ≡ (if negative then Some errors.Negative
+        else (if fraction then Some errors.Fraction else (if exponent then Some errors.Exponent else None))) }
 {
-    if fraction {
-        Some(WriteErrorKind::Fraction)
+    if negative {
+        Some(WriteError::Negative)
+    } else if fraction {
+        Some(WriteError::Fraction)
     } else if exponent {
-        Some(WriteErrorKind::Exponent)
+        Some(WriteError::Exponent)
     } else {
         None
     }
@@ -217,7 +226,7 @@ impl<'a> Amount<'a> {
     /// # Errors
     ///
     /// If no literal has this form, returns why.
-    pub fn lay_out(&self, syntax: &Syntax, style: Style) -> Result<Layout<'a>, WriteErrorKind>
+    pub fn lay_out(&self, syntax: &Syntax, style: Style) -> Result<Layout<'a>, WriteError>
         ensures parts { IsLaidOut syntax.now style self.now result }
         ensures literal { IfOk result (λ layout. IsLiteral (notation_of syntax.now) (literal_of layout)) }
         ensures lawful { IsSyntax syntax.now }
@@ -228,7 +237,7 @@ impl<'a> Amount<'a> {
     }
 
     // Returns the parts of the literal.
-    fn plan(&self, syntax: &Syntax, style: Style) -> Result<Layout<'a>, WriteErrorKind>
+    fn plan(&self, syntax: &Syntax, style: Style) -> Result<Layout<'a>, WriteError>
         ensures lawful { IsSyntax syntax.now }
         ensures parts { IsLaidOut syntax.now style self.now result }
     {
@@ -239,28 +248,36 @@ impl<'a> Amount<'a> {
         let options = syntax.options();
         let has_exponent = self.has_exponent(syntax);
         let has_point = self.has_point(syntax);
+        let conditions = syntax.conditions();
         Ok(Layout {
             sign: sign_of(self.negative, format.required_mantissa_sign()),
-            prefix: byte_if(style.prefix, base_prefix(format.word())),
+            prefix: byte_if(
+                style.prefix || conditions.required_base_prefix,
+                base_prefix(format.word()),
+            ),
             integer: self.integer_run(syntax, style),
             point: only_if(has_point, point_byte(options)),
             fraction: self.fraction_run(syntax, has_point),
             exponent_character: only_if(has_exponent, exponent_byte(options)),
             exponent_sign: self.exponent_sign(syntax, has_exponent),
             exponent: self.exponent_run(syntax, has_exponent),
-            suffix: byte_if(style.suffix, base_suffix(format.word())),
+            suffix: byte_if(
+                style.suffix || conditions.required_base_suffix,
+                base_suffix(format.word()),
+            ),
         })
     }
 
     // Returns why the number cannot be written, if it cannot.
-    fn refusal(&self, syntax: &Syntax) -> Option<WriteErrorKind>
+    fn refusal(&self, syntax: &Syntax) -> Option<WriteError>
         ensures { result ≡ refusal syntax.now self.now }
     {
         let integers = lacks_options(syntax.options());
         let no_exponent = integers || syntax.format().view().no_exponent_notation();
+        let negative = self.negative && syntax.conditions().no_negative_mantissa_sign;
         let fraction = integers && self.fraction.is_some();
         let exponent = no_exponent && self.exponent.is_some();
-        first_error(fraction, exponent)
+        first_error(negative, fraction, exponent)
     }
 
     // Returns whether an exponent is written.

@@ -11,9 +11,9 @@ ghost use Rattle.lexical_value.specs.Value.{is_minus};
 ghost use Rattle.lexical_writer.specs.Conversion.{IsConverted, SameFraction, amount_of, conversion_refusal, fraction_of, has_power};
 ghost use Rattle.lexical_writer.specs.Conversion.{is_too_long, power_of, source_of};
 ghost use Rattle.lexical_writer.specs.Layout.{literal_of as written};
-ghost use Rattle.lexical_writer.specs.declared.layout.WriteErrorKind.TheVariants as errors;
+ghost use Rattle.lexical_writer.specs.declared.layout.WriteError.TheVariants as errors;
 
-use crate::layout::{Amount, Layout, Power, Style, WriteErrorKind};
+use crate::layout::{Amount, Layout, Power, Style, WriteError};
 use crate::run::Source;
 use lexical_literal::read::Parts;
 use lexical_literal::syntax::Syntax;
@@ -32,7 +32,7 @@ pub fn format_literal<'a>(
     parts: &Parts<'a>,
     syntax: &Syntax,
     style: Style,
-) -> Result<Layout<'a>, WriteErrorKind>
+) -> Result<Layout<'a>, WriteError>
     // What is written is a literal, with the value of the literal that was given.
     ensures literal { IfOk result (λ layout. IsLiteral (notation_of syntax.now) (written layout)) }
     ensures value { IfOk result (λ layout.
@@ -61,7 +61,7 @@ fn conversion_refusal(
     format: NumberFormat,
     parts: &Parts,
     target: NumberFormat,
-) -> Option<WriteErrorKind>
+) -> Option<WriteError>
     ensures { result ≡ conversion_refusal (raw format) parts.now (raw target) }
 {
     let power = has_power(parts);
@@ -77,13 +77,13 @@ fn conversion_refusal(
 }
 
 // Returns the first error whose condition is true.
-const fn first_refusal(radix: bool, long: bool) -> Option<WriteErrorKind>
+const fn first_refusal(radix: bool, long: bool) -> Option<WriteError>
     ensures { result ≡ (if radix then Some errors.Radix else (if long then Some errors.Exponent else None)) }
 {
     if radix {
-        Some(WriteErrorKind::Radix)
+        Some(WriteError::Radix)
     } else if long {
-        Some(WriteErrorKind::Exponent)
+        Some(WriteError::Exponent)
     } else {
         None
     }
