@@ -425,9 +425,8 @@ names! { literal::Language:
         literal::FormError>] read_prefix;
     [fn(a: &literal::Language, b: &'static [u8]) -> Result<literal::Number<'static>, literal::FormError>] read;
     [fn<T: literal::FromLiteral>(a: &literal::Language, b: impl AsRef<[u8]>) -> Result<T, literal::ParseError>] parse;
-    [literal::Language] ADA C_FLOAT C_HEX_FLOAT C_SHARP FORTRAN GO_HEX_FLOAT HASKELL JAVA JAVASCRIPT JSON JULIA KOTLIN
-        NASM_HEX_INTEGER OCAML PYTHON PYTHON_HEX_INTEGER RUBY RUST_HEX_INTEGER SPREADSHEET_CSV SQL SWIFT_HEX_FLOAT TOML
-        YAML;
+    [literal::Language] ADA C CSV_DE CSV_EN C_PLUS_PLUS C_SHARP FORTRAN GO HASKELL JAVA JAVASCRIPT JSON JULIA KOTLIN
+        NASM OCAML PYTHON RUBY RUST SQL SWIFT TOML YAML;
 }
 names! { literal::Literal<'static>:
     [const fn(a: &literal::Literal<'static>) -> &'static [u8]] as_bytes exponent exponent_character exponent_sign
