@@ -151,6 +151,7 @@ impl Run<'_> {
             → S.has start sink.new (text ++ run_text self.now) }
     {
         match self.source {
+            Source::Bytes([]) if !self.zero => (),
             Source::Bytes(bytes) => put_or_zero(sink, bytes, count(bytes, self.radix), self),
             Source::Number(number) => put_whole(sink, number, self),
         }

@@ -114,6 +114,7 @@ impl Run<'_> {
     // Writes the digits, or a 0 for absent ones.
     pub(crate) fn put<S: Sink>(&self, sink: &mut S) {
         match self.source {
+            Source::Bytes([]) if !self.zero => (),
             Source::Bytes(bytes) => put_or_zero(sink, bytes, count(bytes, self.radix), self),
             Source::Number(number) => put_whole(sink, number, self),
         }
