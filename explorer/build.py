@@ -55,11 +55,6 @@ def named(text):
     return re.sub(numbers, lambda match: re.sub(r"\d+", lambda number: names[number[0]], match[1]), text)
 
 
-def term(name):
-    """Returns what a term of FORMAT means."""
-    return "{}: {}".format(*rows(rf"^\| ({re.escape(name)}) \| (.*) \| [^|]* \|$")[0])
-
-
 def html(text):
     """Returns paragraphs, lists, tables and blocks of code in Markdown as HTML. Links become their texts."""
     made = ""
@@ -115,14 +110,12 @@ def fields():
     return {"flags": flags, "groups": groups, "bytes": numbers}
 
 
-def setting(call):
-    """Returns a setter call of a language as a setting."""
-    name, argument = re.fullmatch(r"\.(\w+)\((.*)\)", call).groups()
-    value = re.sub(r"^NonZeroU8::new\((.*)\)$", r"\1", argument)
-    value = re.sub(r"^b'\\?(.)'$", r"'\1'", value)
-    if not re.fullmatch(r"'.'|\d+|true|false", value):
-        sys.exit(f"rust/src/literal/language.rs: not a value: {argument}")
-    return f"{name}={value}"
+def conditions():
+    """Returns the conditions: the name of each, what it does, and a text that it refuses."""
+    text = (TOP / "rust/src/literal/conditions.rs").read_text()
+    row = r"/// (.*?)\. If set, [^`]*(`[^`]*`).*\n    #\[must_use\]\n    pub const fn (\w+)\(mut self, \w+: bool\)"
+    found = re.findall(row, text) or sys.exit("rust/src/literal/conditions.rs: no conditions")
+    return [{"name": name, "meaning": does, "refuses": [text.strip("`")]} for does, text, name in found]
 
 
 def numbers(name, has_specials):
@@ -132,22 +125,12 @@ def numbers(name, has_specials):
     return "\n".join(text if mark == "+" else f"!{text}" for mark, text in rows)
 
 
-def languages():
-    """Returns the languages: name, comment, settings, options and numbers. Integers alone have the options 0."""
-    text = (TOP / "rust/src/literal/language.rs").read_text()
-    head = r"^    (\w+) = \w+\((?:b'(.)', )?NumberFormatBuilder::new\(\)"
-    found = re.findall(rf"((?:^    ///.*\n)+){head}((?:\n        \..*)*)\s*\)([,;])", text, re.M)
-    if len(found) != len(re.findall(head, text, re.M)):
-        sys.exit("rust/src/literal/language.rs: a language has another form")
-    for comment, name, exponent, body, end in found:
-        yield {
-            "name": name,
-            "about": " ".join(comment.replace("///", "").split()),
-            "settings": [setting(call) for call in re.findall(r"^ +(\.\w+\(.*?\))(?: //.*)?$", body, re.M)],
-            "exponent": ord(exponent or "\0"),
-            "point": ord("." if exponent else "\0"),
-            "numbers": numbers(name, end == ","),
-        }
+def languages(forms):
+    """Returns the languages: name, comment, numbers and forms."""
+    text = (TOP / "rust/src/literal/language/tables.rs").read_text()
+    for comment, name, end in re.findall(r"((?:^    ///[^\n]*\n)+)^    (\w+) = \{.*?\}(,| *;)", text, re.M | re.S):
+        about = " ".join(comment.replace("///", "").split())
+        yield {"name": name, "about": about, "numbers": numbers(name, end == ","), "forms": forms[name]}
 
 
 def rules():
@@ -155,13 +138,14 @@ def rules():
     return [named(condition) for condition in rows(r"^\| \d+ \| (.*?) \| `Invalid")]
 
 
-def data():
-    """Returns the data that the page shows."""
+def data(forms):
+    """Returns the data that the page shows, with these forms of languages."""
     header = (TOP / "c/peltzivar.h").read_text()
     return {
         **fields(),
+        "conditions": conditions(),
         "rules": rules(),
-        "languages": [*languages()],
+        "languages": [*languages(forms)],
         "version": re.search(r'^#define PELTZIVAR_VERSION "(.*)"$', header, re.M)[1],
     }
 
@@ -205,14 +189,21 @@ def compiler(folder):
 
 
 def compiled():
-    """Returns the WebAssembly of library.rs with the crate."""
+    """Returns the WebAssembly of library.rs with the crate, and what languages.rs prints, by language."""
     with tempfile.TemporaryDirectory() as folder:
         rustc, wasm = compiler(folder), pathlib.Path(folder, "library.wasm")
-        crate = ["--edition=2021", "--crate-type=rlib", "--crate-name=peltzivar", f"--out-dir={folder}"]
-        output(*rustc, *crate, TOP / "rust/src/lib.rs")
+        crate = ["--edition=2021", "--crate-type=rlib", "--crate-name=peltzivar", TOP / "rust/src/lib.rs"]
+        output(*rustc, *crate, f"--out-dir={folder}")
         page = ["--edition=2024", "--crate-type=cdylib", "-Clto=fat", "-Ccodegen-units=1", "-Cstrip=symbols"]
         output(*rustc, *page, "--extern=peltzivar", "-o", wasm, HERE / "library.rs")
-        return wasm.read_bytes()
+        host, program = pathlib.Path(folder, "host"), pathlib.Path(folder, "languages")
+        output(rustc[0], *crate, f"--out-dir={host}")
+        output(rustc[0], "--edition=2024", f"-L{host}", "--extern=peltzivar", "-o", program, HERE / "languages.rs")
+        forms = {}
+        for line in output(program).splitlines():
+            language, name, syntax = line.split("\t")
+            forms.setdefault(language, []).append({"name": name, "syntax": syntax})
+        return base64.b64encode(gzip.compress(wasm.read_bytes(), mtime=0)).decode(), forms
 
 
 def digest(text):
@@ -220,18 +211,17 @@ def digest(text):
     return f"'sha256-{base64.b64encode(hashlib.sha256(text.encode()).digest()).decode()}'"
 
 
-def page(wasm):
-    """Returns the page with this WebAssembly, which is compressed, and written in base64."""
+def page(wasm, forms):
+    """Returns the page with this WebAssembly, which is compressed, and written in base64, and these forms of languages."""
     style = "\n" + (HERE / "page.css").read_text()
     script = "\n" + "\n".join((HERE / f"{name}.js").read_text() for name in SCRIPTS)
-    embedded = json.dumps(data(), ensure_ascii=False, separators=(",", ":")).replace("<", "\\u003c")
+    embedded = json.dumps(data(forms), ensure_ascii=False, separators=(",", ":")).replace("<", "\\u003c")
     policy = f"default-src 'none'; script-src {digest(script)} 'wasm-unsafe-eval'; style-src {digest(style)}"
     parts = {
         "literals": html(section("Literals")) + html(section("Where separators may be")),
         "rules": html("\n".join(f"- Rule {index}: {rule}." for index, rule in enumerate(rules(), 1))),
-        "punctuation": html("\n\n".join([term("*punctuation*"), term("*allowed ASCII*")])),
         "limits": html(section("What a format cannot express")),
-        "equivalent": html("\n\n".join([term("*equivalent* words"), term("*normal form* of a word")])),
+        "terms": html(section("Terms")),
         "policy": f"{policy}; img-src data:; base-uri 'none'; form-action 'none'",
         "style": style,
         "data": embedded,
@@ -249,9 +239,12 @@ def main(arguments):
     old = PAGE.read_text() if PAGE.exists() else ""
     found = re.search(r'<script id="library" [^>]*data-hash="(\w+)">([^<]*)</script>', old)
     is_current = bool(found) and found[1] == hash_of(found[2])
+    if is_current:
+        shown = json.loads(re.search(r'<script type="application/json" id="data">([^<]*)</script>', old)[1])["languages"]
+        made = found[2], {language["name"]: language["forms"] for language in shown}
     if arguments:
-        sys.exit(0 if is_current and old == page(found[2]) else "explorer/index.html: not up to date: run explorer/build")
-    text = page(found[2] if is_current else base64.b64encode(gzip.compress(compiled(), mtime=0)).decode())
+        sys.exit(0 if is_current and old == page(*made) else "explorer/index.html: not up to date: run explorer/build")
+    text = page(*(made if is_current else compiled()))
     if len(text.encode()) >= MOST_BYTES:
         sys.exit(f"explorer/index.html: {len(text.encode())} bytes, more than {MOST_BYTES}")
     PAGE.write_text(text)

@@ -23,7 +23,8 @@ class Code {
         return first ? `There is no reader: ${first.text}.` : "";
     }
 
-    rust({ word, exponent, point }, shown) {
+    rust(state, shown) {
+        const { word, exponent, point } = state;
         const problem = this.problem(shown);
         if (problem) return `// ${problem}\npub const WORD: u128 = ${wordText(word)};\n`;
         const calls = this.edits(word).map(({ name, isByte, isNumber, value }) => {
@@ -31,20 +32,22 @@ class Code {
             const optional = value ? `NonZeroU8::new(${byte})` : "None";
             return `    .${name}(${!isByte ? Boolean(value) : name === "mantissa_radix" ? byte : optional})\n`;
         });
-        const isFloat = exponent || point;
         const build = `NumberFormatBuilder::new()\n${calls.join("")}    .build_format_or_panic()`;
-        const format = shown.isBuilt ? build : `Format::of::<${wordText(word)}>()`;
+        const isFloat = exponent || point;
         const options = [exponent, point].map((it) => character(it, "b")).join(", ");
+        const conditions = this.library.conditions.filter(({ flag }) => state.conditions & flag).map(({ name }) => `.${name}(true)`);
+        const hasBytes = shown.isBuilt && calls.some((call) => call.includes("NonZeroU8"));
         const syntax = isFloat ? `Syntax::new_or_panic(FORMAT, ${options})` : "Syntax::integers(FORMAT)";
+        const names = `${conditions.length ? "Conditions, " : ""}ParseError, Reader, Syntax`;
         return [
-            ...(calls.some((call) => shown.isBuilt && call.includes("NonZeroU8")) ? ["use core::num::NonZeroU8;"] : []),
-            "use peltzivar::literal::{ParseError, Reader, Syntax};",
+            ...(hasBytes ? ["use core::num::NonZeroU8;"] : []),
+            `use peltzivar::literal::{${names}};`,
             `use peltzivar::${shown.isBuilt ? "{Format, NumberFormatBuilder}" : "Format"};`,
             "",
             `/// ${wordText(word)}`,
-            `pub const FORMAT: Format = ${format};`,
-            "",
-            `pub const SYNTAX: Syntax = ${syntax};`,
+            `pub const FORMAT: Format = ${shown.isBuilt ? build : `Format::of::<${wordText(word)}>()`};`,
+            `pub const SYNTAX: Syntax = ${syntax}${conditions.length ? "" : ";"}`,
+            ...(conditions.length ? [`    .with_or_panic(Conditions::NONE${conditions.join("")});`] : []),
             "pub static READER: Reader = Reader::new(SYNTAX);",
             "",
             `pub fn read(text: &str) -> Result<${isFloat ? "f64" : "i64"}, ParseError> {`,
@@ -55,51 +58,62 @@ class Code {
     }
 
     c(state, shown) {
-        const { word, exponent, point } = state;
         const problem = this.problem(shown);
-        const halves = [word & HALF, word >> 64n].map((half) => `UINT64_C(0x${half.toString(16).toUpperCase()})`);
-        const value = `{${halves.join(", ")}}`;
-        const start = '#include "peltzivar.h"\n\n';
-        if (problem) return `${start}/* ${problem} */\nstatic const peltzivar_word WORD = ${value};\n`;
-        const settings = this.edits(word).map((edit) => this.library.setting(edit, edit.value));
-        const options = [exponent, point].map((it) => character(it, "")).join(", ");
-        return [
-            `${start}/* ${[wordText(word), ...settings].join("\n * ")} */`,
-            `static const peltzivar_syntax SYNTAX = {${value}, ${options}};`,
-            "",
-            "/* Makes the reader, for peltzivar_read. Call this once, before the first text is read. */",
-            "bool make_reader(peltzivar_reader *reader) {",
-            "    return peltzivar_reader_init(reader, &SYNTAX) == PELTZIVAR_SUCCESS;",
-            "}",
-            "",
-        ].join("\n");
+        const halves = [BigInt.asUintN(64, state.word), state.word >> 64n].map((it) => `UINT64_C(0x${it.toString(16).toUpperCase()})`);
+        const start = `#include "peltzivar.h"\n`;
+        if (problem) return `${start}\n/* ${problem} */\nstatic const peltzivar_word WORD = {${halves.join(", ")}};\n`;
+        const lines = this.lines(state).map((line) => `    ${JSON.stringify(`${line}\n`)}`).join("\n");
+        const [type, call] = state.exponent ? ["double", "peltzivar_to_f64"] : ["int64_t", "peltzivar_to_i64"];
+        return `${start}#include <string.h>
+
+/* ${wordText(state.word)} */
+static const char SETTINGS[] =
+${lines || '    ""'};
+
+/* Makes the reader. Call this once, before the first text is read. */
+bool make_reader(peltzivar_reader *reader) {
+    peltzivar_syntax syntax;
+    return !peltzivar_read_settings(SETTINGS, strlen(SETTINGS), &syntax)
+        && peltzivar_reader_init(reader, &syntax) == PELTZIVAR_SUCCESS;
+}
+
+/* Writes the value of a number, and returns false if the text has none. */
+bool read_number(const peltzivar_reader *reader, const char *text, ${type} *value) {
+    peltzivar_literal literal;
+    peltzivar_read_error error;
+    return peltzivar_read(reader, text, strlen(text), &literal, &error)
+        && ${call}(&literal, value) == PELTZIVAR_VALUE_OK;
+}
+`;
     }
 
-    python({ word, exponent, point }, shown) {
+    python(state, shown) {
         const problem = this.problem(shown);
-        if (problem) return `from peltzivar import FormatView\n\n# ${problem}\nview = FormatView(${wordText(word)})\n`;
-        const byte = (value) => (value > 32 && value < 127 ? JSON.stringify(String.fromCharCode(value)) : String(value || "None"));
-        const rows = this.edits(word).map(({ name, isByte, isNumber, value }) => {
-            const text = isNumber ? (name === "mantissa_radix" ? value : value || "None") : byte(value);
-            return `    ${name}=${!isByte ? (value ? "True" : "False") : text},\n`;
-        });
-        const format = shown.isBuilt ? `Format.of(${rows.length ? `\n${rows.join("")}` : ""})` : `Format(${wordText(word)})`;
-        return [
-            "from peltzivar import Format, Syntax",
-            "",
-            `# ${wordText(word)}`,
-            `format = ${format}`,
-            `syntax = Syntax(format, exponent=${byte(exponent)}, point=${byte(point)})`,
-            "",
-        ].join("\n");
+        const word = wordText(state.word);
+        if (problem) return `from peltzivar import FormatView\n\n# ${problem}\nview = FormatView(${word})\n`;
+        const lines = this.lines(state).map((line) => `    ${JSON.stringify(line)},\n`).join("");
+        return `from peltzivar import Syntax
+
+# ${word}
+syntax = Syntax.of(${lines && `\n${lines}`})
+
+
+def read(text):
+    return syntax.read(text).value
+`;
     }
 
-    /* The settings of the word, and then those of the options that are not the usual ones. */
-    settings(state, { isBuilt }) {
+    /* Returns the settings of a state: those of the word, and then those of options and conditions that are not the usual
+     * ones. */
+    lines(state) {
         const settings = this.edits(state.word).map((edit) => this.library.setting(edit, edit.value));
-        const { word } = this.library.build(settings);
+        return [...settings, ...this.library.differences(state, { ...this.library.usual, word: state.word }).map(({ text }) => text)];
+    }
+
+    settings(state, { isBuilt }) {
+        const lines = this.lines(state);
+        const { word } = this.library.read(lines.join("\n"));
         const nearest = isBuilt ? [] : [`# No builder makes this word. These settings build the nearest one, ${wordText(word)}.`];
-        const options = this.library.differences(state, { ...STANDARD_OPTIONS, word: state.word }).map(({ text }) => text);
-        return [`# ${wordText(state.word)}`, ...nearest, ...settings, ...options, ""].join("\n");
+        return [`# ${wordText(state.word)}`, ...nearest, ...lines, ""].join("\n");
     }
 }

@@ -1,38 +1,17 @@
 //! Texts that tell two formats apart: one accepts them and the other refuses them, or both give them other values.
 
 use core::fmt;
+use core::num::NonZeroU8;
 
-use peltzivar::literal::{ReadError, ReadErrorKind, Reader, ValueError};
-use peltzivar::Role;
+use peltzivar::literal::{ReadError, ReadErrorKind};
+use peltzivar::{FormatView, Role};
 
-use crate::suggest::{read, State, SPECIALS};
+use crate::forms::{value_of, Forms, Value};
+use crate::suggest::State;
 
 /// How many texts are shown of those that one format refuses, and how many of its causes are found.
 pub const MOST: usize = 6;
 const MOST_CAUSES: usize = 16;
-
-/// The value of a number: an integer by its sign and size, and a float by its bits.
-#[derive(Clone, Copy, PartialEq)]
-pub enum Value {
-    Integer(bool, u128),
-    Float(u64),
-    Unknown(ValueError),
-}
-
-/// Returns the value of a text that is a number or a special value.
-pub fn value_of(reader: &Reader, text: &[u8]) -> Option<Value> {
-    let Ok(literal) = reader.read(text) else {
-        return SPECIALS.read(&reader.syntax(), text).map(|it| Value::Float(it.to_f64().to_bits()));
-    };
-    let value = match literal.is_float() {
-        true => literal.to_f64().map(|it| Value::Float(it.to_bits())),
-        false => match literal.to_i128() {
-            Ok(value) => Ok(Value::Integer(value < 0, value.unsigned_abs())),
-            Err(error) => literal.to_u128().map(|it| Value::Integer(false, it)).map_err(|_| error),
-        },
-    };
-    Some(value.unwrap_or_else(Value::Unknown))
-}
 
 /// The parts of the texts that are tried, the usual one first. `_`, `x`, `e`, `.`, `h` and `F` stand for the separator, the
 /// prefix, the exponent character, the point, the suffix and the largest digit.
@@ -64,12 +43,27 @@ impl Text {
     fn new(state: State, parts: [&str; 6]) -> Option<Self> {
         let mut text = Self { bytes: [0; 24], size: 0 };
         for byte in parts.iter().flat_map(|part| part.bytes()) {
-            let byte = state.byte_for(byte);
+            let byte = byte_for(state, byte);
             *text.bytes.get_mut(text.size)? = byte;
             text.size += 1;
             byte.is_ascii_graphic().then_some(())?;
         }
         Some(text)
+    }
+}
+
+/// Returns the byte of a state that a byte of an example stands for. It is 0 if the state lacks it.
+fn byte_for(state: State, byte: u8) -> u8 {
+    let view = FormatView::new(state.word);
+    match byte {
+        b'_' => view.digit_separator().map_or(0, NonZeroU8::get),
+        b'x' => view.base_prefix().map_or(0, NonZeroU8::get),
+        b'h' => view.base_suffix().map_or(0, NonZeroU8::get),
+        b'e' => state.exponent,
+        b'.' => state.point,
+        b'F' => char::from_digit(view.mantissa_radix() - 1, 36).map_or(0, |it| it.to_ascii_uppercase() as u8),
+        b'X' | b'H' | b'E' => byte_for(state, byte.to_ascii_lowercase()).to_ascii_uppercase(),
+        _ => byte,
     }
 }
 
@@ -98,16 +92,18 @@ fn texts(state: State) -> impl Iterator<Item = Text> {
 /// is accepted. One text of each is enough.
 type Shown = (ReadErrorKind, u128, Option<Role>);
 
-/// A text that one of two formats refuses, and why.
+/// A text that is refused, and why.
 pub type Refused = (Text, ReadError);
 
-/// Returns the shortest texts of each cause that the first format accepts and the second refuses.
-pub fn refused(state: State, [accepts, refuses]: [&Reader; 2]) -> impl Iterator<Item = Refused> {
+/// Returns the shortest texts of each cause that forms accept and others refuse.
+pub fn refused(forms: &Forms, others: &Forms) -> impl Iterator<Item = Refused> {
     let mut found: [Option<(Shown, Refused)>; MOST_CAUSES] = [None; MOST_CAUSES];
-    for text in texts(state).filter(|text| read(accepts, text.as_bytes()).is_ok()) {
-        let Err(error) = read(refuses, text.as_bytes()) else { continue };
-        let role = error.byte().and_then(|byte| accepts.syntax().role_of(byte));
-        let shown = (error.kind(), error.mask(), role);
+    for text in forms.states().flat_map(texts) {
+        let (Ok(number), Err(refusal)) = (forms.readers().read(text.as_bytes()), others.readers().read(text.as_bytes())) else {
+            continue;
+        };
+        let (error, syntax) = (refusal.error, forms.readers().as_slice()[number.form().unwrap_or(0)].syntax());
+        let shown = (error.kind(), error.mask(), error.byte().and_then(|byte| syntax.role_of(byte)));
         let place = found.iter_mut().find(|it| it.is_none_or(|it| it.0 == shown));
         if let Some(place) = place.filter(|it| it.is_none_or(|it| text.size < it.1 .0.size)) {
             *place = Some((shown, (text, error)));
@@ -117,11 +113,11 @@ pub fn refused(state: State, [accepts, refuses]: [&Reader; 2]) -> impl Iterator<
     found.into_iter().flatten().map(|it| it.1).take(MOST)
 }
 
-/// Returns the first text to which two formats give other values, with both values.
-pub fn other_values(state: State, readers: [&Reader; 2]) -> Option<(Text, [Value; 2])> {
-    texts(state).find_map(|text| {
-        let [first, second] = readers.map(|reader| value_of(reader, text.as_bytes()));
-        let values = [first?, second?];
+/// Returns the first text to which forms and others give different values, with both values.
+pub fn other_values(forms: &Forms, others: &Forms) -> Option<(Text, [Value; 2])> {
+    forms.states().flat_map(texts).find_map(|text| {
+        let number = forms.readers().read(text.as_bytes()).ok()?;
+        let values = [value_of(number), value_of(others.readers().read(text.as_bytes()).ok()?)];
         (values[0] != values[1]).then_some((text, values))
     })
 }

@@ -27,8 +27,9 @@ class Trial {
 
     /* Reads the numbers of a state, and shows what was read. Returns how many of them are as expected and how many are not
      * read, in words, and the first number that is not as expected. */
-    show(state) {
+    show(state, forms) {
         this.state = state;
+        this.forms = forms;
         const box = find("literal");
         if (box.value !== state.numbers) box.value = state.numbers;
         box.rows = Math.min(Math.max(state.numbers.split("\n").length, 2), MOST_ROWS);
@@ -57,7 +58,7 @@ class Trial {
 
     /* Returns what the library returns for lines, with what each line expects and what is offered in words. */
     read(lines) {
-        const answers = this.library.numbers(this.state, lines.map(({ text }) => text).join("\n"));
+        const answers = this.library.numbers(this.forms, lines.map(({ text }) => text).join("\n"));
         return answers.map(({ offers, ...answer }, index) => {
             const isRefused = lines[index].text.startsWith("!");
             const text = lines[index].text.slice(Number(isRefused));
@@ -76,42 +77,37 @@ class Trial {
 
     row(answer) {
         const { text, place, isRefused, isExpected, mask = 0 } = answer;
-        const change = () => this.turn(place);
         const nothing = isRefused ? "No flag alone refuses it." : "No format that differs in a few fields accepts it.";
         const offers = answer.offers.map((offer, index) => this.offer(place, offer, index));
-        const label = `${text} must be refused`;
-        const box = element("input", { type: "checkbox", change, id: `refuse-${place}`, "aria-label": label });
+        if (!isExpected && !offers.length && this.forms.length === 1) offers.push(element("li", {}, nothing));
+        const attributes = { change: () => this.turn(place), id: `refuse-${place}`, "aria-label": `${text} must be refused` };
+        const box = element("input", { type: "checkbox", ...attributes });
         box.checked = isRefused;
-        return element(
-            "li",
-            { class: isExpected ? "" : "unexpected", "data-field": this.library.namesOf(BigInt(mask)).join(" ") },
-            element(
-                "div",
-                {},
-                element("span", { class: "written" }, this.pieces(answer)),
-                element("p", { class: isExpected ? "good" : "bad" }, this.told(answer)),
-            ),
-            element("label", { class: "refuse", title: "must be refused" }, box, "refuse"),
-            element("ul", {}, isExpected || offers.length ? offers : element("li", {}, nothing)),
-        );
+        const told = element("p", { class: isExpected ? "good" : "bad" }, this.told(answer));
+        const line = element("div", {}, element("span", { class: "written" }, this.pieces(answer)), told);
+        const refuse = element("label", { class: "refuse", title: "must be refused" }, box, "refuse");
+        const fields = this.library.namesOf(BigInt(mask)).join(" ");
+        const kind = isExpected ? "" : "unexpected";
+        return element("li", { class: kind, "data-field": fields }, line, refuse, element("ul", {}, offers));
     }
 
     /* Returns what is told of a number in a state. */
-    told({ text, error, start, isRefused, ...answer }) {
+    told({ text, error, start, isRefused, form = 0, ...answer }) {
         const where = start < text.length ? `at index ${start}` : "at the end";
-        const what = error ? `${where}: ${error}` : this.reading(answer);
+        const name = this.forms.length > 1 ? `, ${this.forms[form].name}` : "";
+        const what = (error ? `${where}: ${error}` : this.reading(answer)) + name;
         if (isRefused) return error ? `refused: ${what}` : `accepted as ${what}, but it must be refused`;
         return error ? what : `accepted: ${what}`;
     }
 
     /* Returns the text with its parts, in which the wrong bytes are marked, or a place if there are none. */
-    pieces({ text, parts, start, end }) {
+    pieces({ text, parts, start, end, form = 0 }) {
         const bytes = new TextEncoder().encode(text);
         let next = 0;
         const all = [...parts, { size: bytes.length }].map(({ kind, size }) => ({ kind, start: next, end: next += size }));
         const cut = (from, to) => all.filter((part) => part.start < to && from < part.end).map(({ kind, start, end }) => {
             const piece = new TextDecoder().decode(bytes.subarray(Math.max(start, from), Math.min(end, to)));
-            return kind ? this.spans(kind, piece) : piece;
+            return kind ? this.spans(kind, piece, form) : piece;
         }).flat();
         if (start === undefined) return cut(0, bytes.length);
         const marked = element("mark", {}, start < end ? cut(start, end) : "\u00a0");
@@ -119,8 +115,8 @@ class Trial {
     }
 
     /* Returns the spans of a part. Digit separators between its digits have spans of their own. */
-    spans(kind, text) {
-        const byte = this.library.get(this.state.word, "digit_separator");
+    spans(kind, text, form) {
+        const byte = this.library.get(this.forms[form].word, "digit_separator");
         const runs = new RegExp(`(\\x${byte.toString(16).padStart(2, "0")}+)`);
         const pieces = ["integer", "fraction", "exponent"].includes(kind) ? text.split(runs) : [text];
         return pieces.flatMap((piece, index) => {
@@ -133,8 +129,7 @@ class Trial {
     /* Returns a state that is offered, as a button with its settings, with what the number is then. */
     offer(place, { label, then, changes }, index) {
         const use = () => {
-            const { word, exponent, point } = this.answers.find((it) => it.place === place).offers[index];
-            this.change({ word, exponent, point });
+            this.change(stateOf(this.answers.find((it) => it.place === place).offers[index]));
             (find("read").querySelector(".use") ?? find("literal")).focus();
         };
         const fields = changes.map(({ name }) => name).join(" ");

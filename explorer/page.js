@@ -5,14 +5,14 @@ const LANGUAGES = ["rust", "c", "python", "settings"];
 /* After how many milliseconds without an edit the fragment is written, and how many pixels are beside a hint. */
 const [PAUSE, GAP] = [400, 6];
 /* The parts of a fragment. */
-const FRAGMENT = /^#?(word|exponent|point|numbers|compare|tab)=/;
+const FRAGMENT = /^#?(word|exponent|point|conditions|numbers|compare|tab)=/;
 /* What is told for a while of a link that is copied from a file, which others cannot open. */
 const [TOLD, TOLD_FOR] = ["Copied from # on: paste it behind the address of the page.", 8000];
 
 /* Returns what a hint tells of each field by its name: where it is, what it means, and examples. */
-function meaningsOf({ fields, groups }) {
+function meaningsOf({ fields, groups, conditions }) {
     const text = (field) => [placeOf(field), field.meaning, examples(field)].filter(Boolean).join(": ");
-    const all = [...fields, ...groups, ...OPTIONS].map((field) => [field.name, text(field)]);
+    const all = [...fields, ...groups, ...OPTIONS, ...conditions].map((field) => [field.name, text(field)]);
     return new Map([...all, ["reserved", "bits of no field, which are 0 in a lawful word"]]);
 }
 
@@ -20,7 +20,8 @@ class Page {
     constructor(library, data) {
         this.library = library;
         this.data = data;
-        for (const language of data.languages) language.word = library.build(language.settings).word;
+        const forms = data.languages.flatMap((language) => language.forms);
+        for (const form of forms) Object.assign(form, library.stateOfSyntax(form.syntax));
         [this.past, this.future] = [[], []];
         const edit = (name, value, key) => this.edit(name, value, key);
         const use = (state) => {
@@ -48,12 +49,8 @@ class Page {
         click("undo", () => this.travel(this.past, this.future));
         click("redo", () => this.travel(this.future, this.past));
         document.addEventListener("keydown", (event) => this.undo(event));
-        click("standard", () => this.jump({ word: this.library.standard, ...STANDARD_OPTIONS }));
+        click("standard", () => this.jump(this.library.usual));
         find("language").addEventListener("change", ({ target }) => this.start(target.value));
-        find("as-numbers").addEventListener("change", (event) => {
-            this.controls.asNumbers = event.target.checked;
-            this.show();
-        });
         for (const { id, dataset } of document.querySelectorAll("[data-copies]")) {
             const beside = find(dataset.copies);
             click(id, () => copy(find(id), beside.value ?? beside.textContent));
@@ -141,17 +138,27 @@ class Page {
     /* Starts from a language, with its numbers in place of those of another. */
     start(name) {
         const { languages } = this.data;
-        const { word, exponent, point, numbers } = languages.find((it) => it.name === name) ?? this.state;
+        const { forms, numbers } = languages.find((it) => it.name === name) ?? { forms: [this.state], ...this.state };
         const isOwn = this.state.numbers && !languages.some((it) => it.numbers === this.state.numbers);
-        this.jump({ word, exponent, point, numbers: isOwn ? this.state.numbers : numbers });
+        this.jump({ ...stateOf(forms[0]), numbers: isOwn ? this.state.numbers : numbers });
     }
 
-    /* Shows the language as chosen while the state is its state. */
+    /* Shows the language as chosen while the state is that of one of its forms, and returns the forms that are read. */
     showLanguage() {
-        const isSame = (it) => ["word", "exponent", "point"].every((name) => it[name] === this.state[name]);
-        const language = this.data.languages.find((it) => it.name === find("language").value && isSame(it));
+        const isShown = (form) => Object.entries(stateOf(form)).every(([name, value]) => this.state[name] === value);
+        const chosen = this.data.languages.find(({ name }) => name === find("language").value);
+        const language = chosen?.forms.some(isShown) ? chosen : undefined;
         find("language").value = language?.name ?? "";
         find("about").replaceChildren(...withCode(language?.about ?? ""));
+        const forms = language?.forms ?? [this.state];
+        const buttons = forms.map((form) => {
+            return button("form", form.name, () => this.jump(stateOf(form)), { "aria-pressed": String(isShown(form)) });
+        });
+        find("forms").hidden = forms.length === 1;
+        const hadFocus = [...find("forms").children].indexOf(document.activeElement);
+        find("forms").replaceChildren(...buttons);
+        buttons[hadFocus]?.focus();
+        return forms;
     }
 
     /* Takes a text as the word, or a link as the state, if it is whole, or shows why it is not one. */
@@ -185,6 +192,9 @@ class Page {
 
     /* Changes a field or an option. Numbers are integers alone without both options, or floats with both. */
     edit(name, value, key) {
+        const { conditions } = this.state;
+        const flag = this.library.conditions.find((it) => it.name === name)?.flag;
+        if (flag) return this.change({ conditions: value ? conditions | flag : conditions & ~flag }, key);
         if (!(name in STANDARD_OPTIONS)) return this.change({ word: this.library.put(this.state.word, name, value) }, key);
         const other = name === "point" ? "exponent" : "point";
         const isAlone = (value === 0) !== (this.state[other] === 0);
@@ -217,12 +227,13 @@ class Page {
     }
 
     fragment() {
-        const { word, exponent, point, numbers } = this.state;
+        const { word, exponent, point, numbers, ...rest } = this.state;
+        const conditions = this.library.conditions.filter(({ flag }) => rest.conditions & flag).map(({ name }) => name).join(" ");
         const compared = find("compare").value === "another" ? find("other").value : find("compare").value;
         const tab = this.language === LANGUAGES[0] ? "" : this.language;
-        const others = Object.entries({ numbers, compare: compared, tab }).filter(([, text]) => text);
-        const rest = others.map(([name, text]) => `&${name}=${encodeURIComponent(text)}`).join("");
-        return `#word=${wordText(word)}&exponent=${exponent}&point=${point}${rest}`;
+        const others = Object.entries({ conditions, numbers, compare: compared, tab }).filter(([, text]) => text);
+        const all = others.map(([name, text]) => `&${name}=${encodeURIComponent(text)}`).join("");
+        return `#word=${wordText(word)}&exponent=${exponent}&point=${point}${all}`;
     }
 
     /* Writes the fragment, at once or after a pause. */
@@ -242,10 +253,11 @@ class Page {
         const parts = new URLSearchParams(FRAGMENT.test(hash) ? hash.replaceAll("+", "%2B") : { word: hash });
         const byte = (name) => (parts.has(name) ? this.library.byte(parts.get(name)) : STANDARD_OPTIONS[name]);
         const word = parts.get("word") ? this.library.read(parts.get("word")).word : this.library.standard;
-        const found = { word, exponent: byte("exponent"), point: byte("point") };
+        const names = (parts.get("conditions") ?? "").split(" ");
+        const conditions = this.library.conditions.reduce((all, { name, flag }) => (names.includes(name) ? all | flag : all), 0);
+        const found = { word, exponent: byte("exponent"), point: byte("point"), conditions };
         const lost = Object.keys(found).filter((name) => found[name] === undefined);
-        const usual = { word: this.library.standard, ...STANDARD_OPTIONS };
-        for (const name of lost) found[name] = usual[name];
+        for (const name of lost) found[name] = this.library.usual[name];
         if (this.state) this.past.push(this.state);
         this.future = [];
         this.state = { ...found, numbers: (parts.get("numbers") ?? "").replace(/\r\n?/g, "\n") };
@@ -281,17 +293,17 @@ class Page {
         if (document.activeElement !== find("word") && !isKept) this.showWord();
         find("undo").disabled = !this.past.length;
         find("redo").disabled = !this.future.length;
-        this.showLanguage();
-        const reasons = this.report.show(this.state, this.shown);
+        const forms = this.showLanguage();
+        const reasons = this.report.show(this.state, this.shown, forms);
         this.controls.show(this.state);
         showBits(this.cells, word);
-        const { count, isGood, first } = this.trial.show(this.state);
+        const { count, isGood, first } = this.trial.show(this.state, forms);
         setText(find("count"), count);
         find("count").className = isGood ? "good" : "bad";
         const nothing = count ? "" : "The word satisfies all rules. Type numbers to try it.";
         setText(find("first-error"), reasons[0]?.text ?? first ?? nothing);
-        const fields = new Set(reasons.flatMap((reason) => reason.fields));
-        this.blame(fields, new Set(this.library.changes(word, this.library.standard).map(({ name }) => name)));
+        const blamed = reasons.flatMap((reason) => reason.fields);
+        this.blame(new Set(blamed), new Set(this.library.differences(this.state, this.library.usual).map(({ name }) => name)));
         this.showCode();
         this.saveLater();
     }

@@ -135,6 +135,8 @@ class Package(InFolder):
         for package, folder in (([wheel], ".*/site-packages"), (["--editable", checkout], checkout)):
             self.run_in(*install, *package)
             self.assertRegex(self.run_in("environment/bin/python", *IMPORT[1:]), f"^{WORD} {folder}/peltzivar/__init__.py$")
+            modules = "import pkgutil, peltzivar; print([*pkgutil.iter_modules(peltzivar.__path__)])"
+            self.assertEqual(self.run_in("environment/bin/python", "-B", "-c", modules), "[]\n")
 
 
 if __name__ == "__main__":

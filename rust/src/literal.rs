@@ -28,30 +28,27 @@
 //!
 //! # Writing numbers
 //!
-//! A format also determines how a number may be written. This writes an integer with a prefix and groups of three digits,
-//! where the format has them:
+//! A syntax also determines how a number may be written. [`Syntax::format_integer`] writes an integer of Rust, and
+//! [`Syntax::format_literal`] a literal of another syntax. What is written is a literal, with the same value. Nothing is
+//! allocated.
 //!
 //! ```
-//! use peltzivar::{digit::digit_to_char, literal::Language, Format, Part};
+//! use peltzivar::literal::{Language, Style, WriteError};
 //!
-//! fn write(mut value: u64, format: Format) -> Vec<u8> {
-//!     let (mut text, radix) = (Vec::new(), u64::from(format.radix()));
-//!     let separator = format.digit_separator().filter(|_| format.separators(Part::Integer).internal);
-//!     for count in 1.. {
-//!         text.push(digit_to_char((value % radix) as u32));
-//!         value /= radix;
-//!         match separator {
-//!             _ if value == 0 => break,
-//!             Some(separator) if count % 3 == 0 => text.push(separator.get()),
-//!             _ => (),
-//!         }
-//!     }
-//!     text.extend(format.base_prefix().into_iter().flat_map(|prefix| [prefix.get(), b'0']));
-//!     text.reverse();
-//!     text
-//! }
-//! let text = write(0xC0FFEE, Language::RUST_HEX_INTEGER.forms()[0].syntax.format());
-//! assert_eq!((text.as_slice(), Language::RUST_HEX_INTEGER.parse(&text)), (&b"0xC0F_FEE"[..], Ok(0xC0FFEE)));
+//! let number = Language::C.read(b"1'000.5e3").unwrap();
+//! let python = Language::PYTHON.forms()[0].syntax;
+//! let text = python.format_literal(&number.literal().unwrap(), Style::PLAIN.group(3))?;
+//! assert_eq!(text.to_string(), "1_000.5e3");
+//! assert_eq!(python.format_integer(1_234_567, Style::PLAIN)?.as_str(), Some("1234567"));
+//! // In Python, the `-` of `-1` is an operator.
+//! assert_eq!(python.format_integer(-1, Style::PLAIN).unwrap_err(), WriteError::Negative);
+//!
+//! // A float is written from its shortest digits, which std prints.
+//! let digits = format!("{:?}", 0.1_f64 + 0.2);
+//! let number = Language::RUST.read(digits.as_bytes()).unwrap();
+//! let comma = Language::CSV_DE.forms()[0].syntax;
+//! assert_eq!(comma.format_literal(&number.literal().unwrap(), Style::PLAIN)?.to_string(), "0,30000000000000004");
+//! # Ok::<(), WriteError>(())
 //! ```
 
 #[allow(clippy::redundant_pattern_matching, reason = "as it is proved")]
@@ -80,6 +77,7 @@ mod syntax;
 mod tables;
 mod text;
 mod value;
+mod writer;
 
 pub use cause::{Place, ReadError, ReadErrorKind};
 pub use language::{Form, Language};
@@ -90,3 +88,4 @@ pub use readers::{Number, Readers};
 pub use specials::{Sign, Special, Specials, Spelling};
 pub use syntax::{Conditions, ConditionsError, Syntax};
 pub use value::{FromLiteral, ParseError, ValueError, ValueErrorKind};
+pub use writer::{Style, WriteError, WriteInteger, Written};

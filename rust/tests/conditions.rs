@@ -46,6 +46,28 @@ fn each_condition_refuses_a_text_alone() {
     }
 }
 
+/// The rows of FORMAT: texts that are literals with a condition, and texts that only it refuses.
+#[test]
+fn conditions_accept_and_reject_the_texts_of_the_page() {
+    let section =
+        include_str!("../../docs/FORMAT.md").split("\n## ").find(|it| it.starts_with("Conditions\n")).unwrap();
+    let rows = section.lines().filter(|line| line.starts_with("| `")).map(|line| Vec::from_iter(line.split('|')));
+    for row in rows {
+        let [name, settings, accepted, rejected] = [1, 3, 4, 5].map(|at| row[at].trim().trim_matches('`'));
+        let reader = |condition: &str| {
+            let settings = settings.split(' ').filter(|it| !it.is_empty()).map(String::from);
+            Reader::new(Settings::read(settings.chain([condition.into()])).unwrap().build_syntax().unwrap())
+        };
+        let (conditional, free) = (reader(name), reader("#"));
+        for (texts, is_accepted) in [(accepted, true), (rejected, false)] {
+            for text in texts.split("` `") {
+                let found = [&conditional, &free].map(|reader| reader.read(text.as_bytes()).is_ok());
+                assert_eq!(found, [is_accepted, true], "{name}: {text}");
+            }
+        }
+    }
+}
+
 /// A flag and a condition are both to blame, and the sentence is that of the flag.
 #[test]
 fn conditions_are_blamed_beside_flags() {

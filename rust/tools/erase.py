@@ -35,6 +35,7 @@ PLACES = {
     "lexical_util": LIBRARY,
     "lexical_number": ("src/number", "crate", "crate::number", "core"),
     "lexical_literal": ("src/literal", "crate", "crate::literal", "core"),
+    "lexical_writer": ("src/literal/writer", "crate", "crate::literal::writer", "core"),
     "lexical_value": ("src/literal/value", "crate", "crate::literal::value", "core"),
     "numfmt": ("numfmt/src", "peltzivar", "crate", "std"),
 }
@@ -104,8 +105,8 @@ EVERYWHERE = [
 # Types that may grow. In plain Rust, a match outside the crate has to have an arm for what they lack today.
 GROWS = {
     "enum": "ArgumentKind Byte Cause Class Edit EditErrorKind Error FlagSetter Note Part Place Radixes ReadErrorKind Role Rule "
-    "Setter ValueErrorKind",
-    "struct": "FormError NamedByte Separators",
+    "Setter ValueErrorKind WriteError",
+    "struct": "FormError NamedByte Separators Style",
 }
 for kind, types in GROWS.items():
     items = [f"pub {kind} {name} {{" for name in types.split()]
@@ -133,6 +134,7 @@ ATTRIBUTES = [
     ("list.rt", "#[derive(Drop)]", "#[derive(Debug, Clone, Copy, PartialEq, Eq)]"),
     ("read.rt", "#[derive(Drop)]", "#[derive(Clone)]"),
     ("tables.rt", "#[derive(Drop)]", "#[derive(Clone)]"),
+    ("sink.rt", "#[derive(Drop)]", "#[derive(Debug)]"),
     # `Debug` prints the answers.
     ("cause.rt", "#[derive(Debug, Clone, Copy, PartialEq, Eq, Hash)]\npub struct ReadError {", "#[derive(Clone, Copy, PartialEq, Eq, Hash)]\npub struct ReadError {"),
     ("lawful.rt", "Eq)]\npub struct FormatError", "Eq, Hash)]\npub struct FormatError"),
@@ -190,8 +192,8 @@ class Source:
             return self.words.index(";", start) + 1
         if self.words[start] == "ghost" and self.words[start + 2] in "=:" and self.words[start + 3] == "{":
             end = self.behind(start + 3)
-            if self.words[end] != ";":
-                self.refuse(end, "a ghost item does not end with `;`")
+            if self.words[end] not in (";", ","):
+                self.refuse(end, "a ghost item does not end with `;` or `,`")
             return end + 1
         if self.stands(index, "#", "[", "tactic", "(") or self.stands(index, "#", "!", "[", "tactic", "("):
             return self.behind(self.words.index("[", index))

@@ -1,5 +1,5 @@
 -- Lemmas.
-mod RunLemmas
+pub mod RunLemmas
 mod ScanLemmas
 mod StepLemmas
 mod CutLemmas

@@ -306,12 +306,21 @@ const fn is_negative(part: Part, plus: bool, role: Role) -> bool
 }
 
 // Returns whether the conditions let a byte with the role `role` follow.
+#[inline(always)]
 const fn admits(conditions: Conditions, read: Summary, plus: bool, zero: bool, role: Role) -> bool
     ensures { result ≡ admits (has conditions) read plus zero role }
 {
     if conditions.are_free() {
         return true;
     }
+    some_admit(conditions, read, plus, zero, role)
+}
+
+// Returns the same. It is not inlined, so that steps without conditions take no longer.
+#[cold]
+const fn some_admit(conditions: Conditions, read: Summary, plus: bool, zero: bool, role: Role) -> bool
+    ensures { result ≡ admits (has conditions) read plus zero role }
+{
     let needs_prefix = conditions.required_base_prefix && lacks_prefix(read.stage);
     (!needs_prefix || leads_to_prefix(read.stage, zero, role))
         && !(conditions.no_negative_mantissa_sign && is_negative(read.part, plus, role))

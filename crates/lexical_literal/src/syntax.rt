@@ -72,7 +72,7 @@ impl Conditions {
     pub(crate) const fn are_free(self) -> bool
         ensures { result ≡ not (has self Condition.BasePrefix || (has self Condition.BaseSuffix || has self Condition.NegativeSign)) }
     {
-        !(self.required_base_prefix || self.required_base_suffix || self.no_negative_mantissa_sign)
+        !(self.required_base_prefix | self.required_base_suffix | self.no_negative_mantissa_sign)
     }
 }
 

@@ -1,5 +1,5 @@
 -- The number that digits represent when they follow those of another number.
-use Rattle.std.proofs.Common.{◌≡◌, ℕ, suc, ◌+◌, ◌*◌, ◌<◌, ◌≤◌, List, ◌∷◌, length, drop, get_or, nat_lt}
+use Rattle.std.proofs.Common.{◌≡◌, ℕ, suc, ◌+◌, ◌*◌, ◌%◌, ◌^◌, ◌<◌, ◌≤◌, List, ◌∷◌, length, drop, get_or, nat_lt}
 use Rattle.std.proofs.Common.{Bool, true, false, cond, refl}
 use Rattle.std.proofs.lemmas.Bool.Decides.{nat_tests}
 use Rattle.std.proofs.Common.{Option, Some, None, IsSome, sym, ap, subst, ◌∙◌, arith, drop-cons, [], ◌++◌}
@@ -7,6 +7,8 @@ use Rattle.std.proofs.lemmas.List.Elements.{filter_map-append}
 use Rattle.std.proofs.lemmas.Int.Digits.{number_after_ge}
 use Rattle.std.specs.Int.Digits.{number_from_digits_after}
 use Rattle.std.specs.List.{AllByRecursion, cons_option}
+use Rattle.std.proofs.Math.Nat.{mul-le-mul_left, mul-le-mul_right, pow-le-pow_right, pow-suc}
+use lib.ListN.{length-append}
 use Rattle.lexical_base.specs.Digits.{byte_value, digit_of}
 use Rattle.lexical_number.specs.Leading.{number_after}
 use Rattle.lexical_number.specs.Number.{digits_in}
@@ -46,3 +48,28 @@ pub too_large : (radix n i d : ℕ) (bytes : List ℕ) → i < length bytes → 
 too_large radix n i d bytes inside e =
     subst (λ whole. n * radix + d ≤ whole) (sym (at radix n i bytes inside (Some d) e))
     (grows radix (n * radix + d) (get_or bytes i 0) d (drop (i + 1) bytes) e)
+
+-- Digits of 10 make a number with at most as many digits.
+below : (n : ℕ) (bytes : List ℕ) → number_after 10 n bytes < (n + 1) * 10 ^ length bytes
+below n [] = omega arith
+below n (byte ∷ bytes) = go (λ m. below m bytes) (nat_lt (byte_value byte) 10) refl
+  where
+    go : ((m : ℕ) → number_after 10 m bytes < (m + 1) * 10 ^ length bytes) → (test : Bool) → nat_lt (byte_value byte) 10 ≡ test
+        → number_from_digits_after 10 n (cons_option (cond test (Some (byte_value byte)) None) (digits_in 10 bytes)) < (n + 1) * 10 ^ suc (length bytes)
+    go rest true is =
+        let digit : byte_value byte < 10 = grind (arith, nat_tests) in
+        let least : (n * 10 + byte_value byte + 1) * 10 ^ length bytes ≤ (n + 1) * 10 * 10 ^ length bytes =
+        (let small : n * 10 + byte_value byte + 1 ≤ (n + 1) * 10 = omega arith in mul-le-mul_right (10 ^ length bytes) small) in
+        omega (arith, rest (n * 10 + byte_value byte), least, ap (λ x. (n + 1) * x) (pow-suc 10 (length bytes)))
+    go rest false is =
+        let least : (n + 1) * 10 ^ length bytes * 1 ≤ (n + 1) * 10 ^ length bytes * 10 = mul-le-mul_left ((n + 1) * 10 ^ length bytes) (omega arith) in
+        omega (arith, rest n, least, ap (λ x. (n + 1) * x) (pow-suc 10 (length bytes)))
+
+-- Up to 19 digits are below `2 ^ 64`.
+pub number_short : (xs ys : List ℕ) → length xs + length ys ≤ 19
+    → number_after 10 (number_after 10 0 xs % 2 ^ 64) ys % 2 ^ 64 ≡ number_after 10 0 (xs ++ ys)
+number_short xs ys short =
+    let most : 10 ^ length xs ≤ 10 ^ 19 = pow-le-pow_right {n = 10} (omega arith) {i = length xs} {j = 19} (omega arith) in
+    let all : 10 ^ length (xs ++ ys) ≤ 10 ^ 19 = pow-le-pow_right {n = 10} (omega arith) {i = length (xs ++ ys)} {j = 19} (omega (arith, length-append xs ys)) in
+    let first : number_after 10 0 xs % 2 ^ 64 ≡ number_after 10 0 xs = omega (arith, below 0 xs, most) in
+    ap (λ n. number_after 10 n ys % 2 ^ 64) first ∙ ap (λ n. n % 2 ^ 64) (sym (number_after-append 10 0 xs ys)) ∙ omega (arith, below 0 (xs ++ ys), all)

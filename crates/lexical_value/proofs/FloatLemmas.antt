@@ -48,3 +48,7 @@ two_le radix bits is some = subst (λ r. 2 ≤ r) (sym is) (pow_mono {i = 1} {j 
 -- Leading digits in a radix by its number of bits.
 pub by_bits : (radix bits n digits dropped : ℕ) (more : Bool) → radix ≡ 2 ^ bits → Leads radix n digits more dropped → Leads (2 ^ bits) n digits more dropped
 by_bits radix bits n digits dropped more is = subst (λ r. Leads r n digits more dropped) is
+
+pub not_true : (b : Bool) → (b ≡ true → false ≡ true) → b ≡ false
+not_true true apart = sym (apart refl)
+not_true false apart = refl

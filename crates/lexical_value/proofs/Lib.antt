@@ -2,3 +2,5 @@ mod FloatLemmas
 mod TextLemmas
 mod PlainLemmas
 mod ValueLemmas
+mod DigitLemmas
+mod PlainFloatLemmas

@@ -39,7 +39,7 @@ plain negative digits = record {
 }
 
 -- Without conditions, none is set.
-none_set : (c : Condition) → has no_conditions c ≡ false
+pub none_set : (c : Condition) → has no_conditions c ≡ false
 none_set conditions.BasePrefix = refl
 none_set _ = refl
 

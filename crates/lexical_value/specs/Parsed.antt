@@ -1,11 +1,14 @@
 -- What a call returns that reads a text and computes its value.
-use Rattle.std.specs.Prelude.{ℕ, List, Result, Ok, Err}
+use Rattle.std.specs.Prelude.{ℕ, ◌≡◌, ◌||◌, IsFalse, List, Result, Ok, Err}
+use Rattle.std.specs.Float.{Float, Format}
 use Rattle.lexical_util.specs.Record.{raw}
 use Rattle.lexical_literal.specs.Literal.{Literal}
 use Rattle.lexical_literal.specs.Takes.{IsError, Takes}
 use Rattle.lexical_literal.specs.declared.syntax.Grammar.{Grammar}
 use Rattle.lexical_number.specs.Numeral.{Range}
+use Rattle.lexical_value.specs.Float.{is_binary, is_decimal, nearest}
 use Rattle.lexical_value.specs.Integer.{IsInteger, IsNoInteger}
+use Rattle.lexical_value.specs.declared.integer.ValueErrorKind.TheVariants as kinds
 use Rattle.lexical_value.specs.declared.parse.ParseError.{ParseError}
 use Rattle.lexical_value.specs.declared.parse.ParseError.TheVariants as errors
 
@@ -16,3 +19,11 @@ IsParsed range g text (Ok x) = (l : Literal) × Takes g l text × IsInteger (raw
 IsParsed range g text (Err (errors.Read error)) = IsError g text error.refusal
 IsParsed range g text (Err (errors.Value kind)) =
     (l : Literal) × Takes g l text × IsNoInteger range.least range.largest (raw g.word) l kind
+
+-- `IsParsedFloat f value g text result` holds if `result` is the float of `f` that is nearest to the literal `text`, why
+-- `text` is not a literal, or that no literal has a float.
+abbrev pub IsParsedFloat : {T : Type 0} → Format → (T → Float) → Grammar → List ℕ → Result T ParseError → Type 0
+IsParsedFloat f value g text (Ok x) = (l : Literal) × Takes g l text × (value x ≡ nearest f (raw g.word) l)
+IsParsedFloat f value g text (Err (errors.Read error)) = IsError g text error.refusal
+IsParsedFloat f value g text (Err (errors.Value kind)) =
+    IsFalse (is_decimal (raw g.word) || is_binary (raw g.word)) × (kind ≡ kinds.UnsupportedRadix)

@@ -8,4 +8,4 @@ pub mod integer;
 pub mod laws;
 pub mod parse;
 mod plain;
-mod text;
+mod plain_float;

@@ -1,11 +1,15 @@
 //! Texts that are read and converted at once.
 
-ghost use Rattle.lexical_value.specs.Parsed.{IsParsed};
+ghost use Rattle.lexical_number.specs.Binary.{format_of};
+ghost use Rattle.lexical_value.specs.Parsed.{IsParsed, IsParsedFloat};
 
+use crate::float::to_float;
 use crate::integer::{ValueErrorKind, to_integer};
 use crate::plain::plain_integer;
+use crate::plain_float::plain_float;
 use lexical_literal::cause::ReadError;
 use lexical_literal::read::Reader;
+use lexical_number::float::Float;
 use lexical_number::integer::Integer;
 
 /// Why a text has no value in a type.
@@ -34,6 +38,27 @@ pub fn parse_integer<T: Integer>(reader: &Reader, text: &[u8]) -> Result<T, Pars
     }
     match reader.read(text) {
         Ok(parts) => match to_integer(format, &parts) {
+            Ok(value) => Ok(value),
+            Err(kind) => Err(ParseError::Value(kind)),
+        },
+        Err(error) => Err(ParseError::Read(error)),
+    }
+}
+
+/// Returns the value of the literal `text` as a value of a float type, as [`to_float`] does.
+///
+/// # Errors
+///
+/// If `text` is not a literal, or if literals have no value in a float type, returns why.
+pub fn parse_float<F: Float>(reader: &Reader, text: &[u8]) -> Result<F, ParseError>
+    ensures { IsParsedFloat (format_of F.DOUBLE) F.value reader.now text.now result }
+{
+    let syntax = reader.syntax();
+    if let Some(value) = plain_float(syntax, text) {
+        return Ok(value);
+    }
+    match reader.read(text) {
+        Ok(parts) => match to_float(syntax.format().view(), &parts) {
             Ok(value) => Ok(value),
             Err(kind) => Err(ParseError::Value(kind)),
         },

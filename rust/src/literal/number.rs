@@ -109,10 +109,10 @@ impl Eq for Reader {}
 /// let literal = Language::TOML.read(b"-9_223_372_036_854_775_808")?.literal().unwrap();
 /// assert_eq!(i64::try_from(literal), Ok(i64::MIN));
 /// assert_eq!(i32::try_from(literal).unwrap_err().to_string(), "below -2147483648, the least i32");
-/// assert_eq!(Language::RUST_HEX_INTEGER.parse::<u16>("0xFFFF")?, u16::MAX);
+/// assert_eq!(Language::RUST.parse::<u16>("0xFFFF")?, u16::MAX);
 ///
 /// // A float is no integer, even if its value is whole.
-/// let literal = Language::SPREADSHEET_CSV.read(b"1,234.50")?.literal().unwrap();
+/// let literal = Language::CSV_EN.read(b"1,234.50")?.literal().unwrap();
 /// assert_eq!(literal.to_i64().unwrap_err().kind(), ValueErrorKind::Float);
 /// assert_eq!(f64::try_from(literal)?, 1234.5);
 /// # Ok::<(), ParseError>(())
@@ -235,17 +235,26 @@ impl AsRef<[u8]> for Literal<'_> {
 /// Prints the text that was read, with the width and the fill of the formatter. A precision is ignored.
 impl fmt::Display for Literal<'_> {
     fn fmt(&self, f: &mut fmt::Formatter<'_>) -> fmt::Result {
-        let missing = f.width().unwrap_or(0).saturating_sub(self.text.len());
-        let before = match f.align() {
-            Some(fmt::Alignment::Right) => missing,
-            Some(fmt::Alignment::Center) => missing / 2,
-            Some(fmt::Alignment::Left) | None => 0,
-        };
-        let fill = f.fill();
-        (0..before).try_for_each(|_| f.write_char(fill))?;
-        f.write_str(self.as_str())?;
-        (before..missing).try_for_each(|_| f.write_char(fill))
+        pad(f, self.text.len(), |f| f.write_str(self.as_str()))
     }
+}
+
+/// Prints a text of `length` characters with the width and the fill of the formatter.
+pub(super) fn pad(
+    f: &mut fmt::Formatter<'_>,
+    length: usize,
+    print: impl FnOnce(&mut fmt::Formatter<'_>) -> fmt::Result,
+) -> fmt::Result {
+    let missing = f.width().unwrap_or(0).saturating_sub(length);
+    let before = match f.align() {
+        Some(fmt::Alignment::Right) => missing,
+        Some(fmt::Alignment::Center) => missing / 2,
+        Some(fmt::Alignment::Left) | None => 0,
+    };
+    let fill = f.fill();
+    (0..before).try_for_each(|_| f.write_char(fill))?;
+    print(f)?;
+    (before..missing).try_for_each(|_| f.write_char(fill))
 }
 
 /// Writes the parts that are present, such as `Literal { integer: "1", point: ".", fraction: "5" }`.

@@ -56,7 +56,7 @@ impl Conditions {
 
     // Returns whether there are no conditions on what follows what has been read.
     pub(crate) const fn are_free(self) -> bool {
-        !(self.required_base_prefix || self.required_base_suffix || self.no_negative_mantissa_sign)
+        !(self.required_base_prefix | self.required_base_suffix | self.no_negative_mantissa_sign)
     }
 }
 

@@ -9,14 +9,14 @@ mod float;
 mod integer;
 mod plain;
 #[allow(clippy::len_zero, reason = "as it is proved")]
-mod text;
+mod plain_float;
 
 pub use integer::ValueErrorKind;
 
 use float::{binary_size, to_float};
 use integer::{integer_digits, to_integer};
 use plain::plain_integer;
-use text::text_to_float;
+use plain_float::{plain_float, text_to_float};
 
 /// A type that can be [parsed][Reader::parse]: each integer type of Rust, `f64` and `f32`.
 ///
@@ -71,7 +71,7 @@ impl<'a> Literal<'a> {
     /// ```
     /// use peltzivar::literal::Language;
     ///
-    /// let literal = Language::RUST_HEX_INTEGER.read(b"0xFF")?.literal().unwrap();
+    /// let literal = Language::RUST.read(b"0xFF")?.literal().unwrap();
     /// assert_eq!(u128::from_str_radix(&literal.plain().unwrap().to_string(), 16), Ok(255));
     /// # Ok::<(), peltzivar::literal::FormError>(())
     /// ```
@@ -302,8 +302,8 @@ macro_rules! floats {
 
             impl Sealed for $type {
                 #[inline]
-                fn from_plain(_: &Reader, _: &[u8]) -> Option<$type> {
-                    None
+                fn from_plain(reader: &Reader, text: &[u8]) -> Option<$type> {
+                    plain_float(reader.syntax, text)
                 }
             }
 
