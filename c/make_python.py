@@ -13,7 +13,7 @@ import textwrap
 HERE = pathlib.Path(__file__).resolve().parent
 HEADER = HERE.joinpath("peltzivar.h").read_text()
 SETTERS = HERE.parent.joinpath("rust/src/format_builder/setters.rs").read_text()
-LANGUAGES = HERE.parent.joinpath("rust/src/literal/language.rs").read_text()
+LANGUAGES = HERE.parent.joinpath("rust/src/literal/language/tables.rs").read_text()
 CODE = " ".join(re.sub(r"/\*.*?\*/|^#.*?$", "", HEADER, flags=re.S | re.M).split())
 STRUCTS = {name: f"_{name[10:].title().replace('_', '')}" for name in re.findall(r"} (peltzivar_\w+);", CODE)}
 SET = [(name.lower(), int(bit)) for name, bit in re.findall(r"\bPELTZIVAR_SET_(\w+) = (\d+)", HEADER)]
@@ -65,7 +65,7 @@ def constants():
     for row in (
         ("Setter", r"SET_(\w+)", "The setters. A member has the name of the setter in uppercase."),
         ("Rule", r"RULE_(\w+)", f"The rules, in the order in which they are checked. {RULE}", *CONDITION),
-        ("Error", r"((?!SET_|RULE_|PART_|ROLE_|KIND_|SPELLING_|VALUE_|CONDITION_)\w+)", f"The errors, and success. {ERROR}", *DESCRIPTION),
+        ("Error", r"((?!SET_|RULE_|PART_|ROLE_|KIND_|SPELLING_|VALUE_|CONDITION_|WRITE_)\w+)", f"The errors, and success. {ERROR}", *DESCRIPTION),
         ("Part", r"PART_(\w+)", "The parts of a number that can have digit separators."),
         ("Role", r"ROLE_((?!NONE)\w+)", "The roles of a byte in a number."),
         ("ReadErrorKind", r"KIND_(\w+)", "The kinds of causes why a text is not a literal."),
@@ -122,14 +122,16 @@ def settings():
 
 def languages():
     """Returns the lines."""
-    documented = re.findall(r"((?:^ +///.*\n)+) +(\w+) = \{", LANGUAGES, re.M)
+    # Text behind `languages!`: the documentation, the name and the forms of each, in turn.
+    _, *parts = re.split(r"((?:^ +///.*\n)+) +(\w+) = \{", LANGUAGES, flags=re.M)
+    documented = [*zip(parts[::3], parts[1::3], parts[2::3])]
     yield '"""How a language, or a file, writes numbers. `languages` is another name of this class.'
     yield from ("", "`read(text)` returns a `Literal` of a syntax of `forms`, or a `Special` with a spelling of `specials`.")
-    yield from ("", "No format rejects `-`, or requires a prefix, a suffix or a decimal point. So `C_FLOAT` reads `1`.")
-    for text, name in documented:
+    for text, name, forms in documented:
         about = " ".join(text.replace("///", " ").replace("×", "*").split())
-        yield from ("", *textwrap.wrap(f"{name}: {about}", 115, subsequent_indent="    "))
-    yield from ('"""', "", *(f'{name} = "{name}"' for _, name in documented))
+        names = "; ".join(re.findall(r'"([^"]+)":', forms))
+        yield from ("", *textwrap.wrap(f"{name}: {about} Forms: {names}.", 115, subsequent_indent="    "))
+    yield from ('"""', "", *(f'{name} = "{name}"' for _, name, _ in documented))
 
 
 def made(text):

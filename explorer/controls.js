@@ -30,7 +30,6 @@ class Controls {
         this.edit = edit;
         this.boxes = new Map();
         this.inputs = new Map();
-        this.asNumbers = false;
         this.makeBytes();
         this.makeFlags();
         this.makeSeparators();
@@ -62,14 +61,9 @@ class Controls {
     /* Returns the row of a flag or a group: what it does, with examples, and then its name. */
     flagRow(field) {
         const { name, part, meaning } = field;
-        return element(
-            "div",
-            { class: "flag-row control field", "data-field": name },
-            this.box(field),
-            element("label", { for: name }, element("span", { class: `dot ${part}` }), ...withCode(meaning)),
-            element("span", { class: "meaning" }, withCode(examples(field))),
-            this.nameOf(field),
-        );
+        const label = element("label", { for: name }, element("span", { class: `dot ${part}` }), ...withCode(meaning));
+        const all = [this.box(field), label, element("span", { class: "meaning" }, withCode(examples(field))), this.nameOf(field)];
+        return element("div", { class: "flag-row control field", "data-field": name }, all);
     }
 
     /* Returns the name of a field, and where it is in the word. */
@@ -126,8 +120,7 @@ class Controls {
     }
 
     makeBytes() {
-        const rows = [...this.library.bytes, ...OPTIONS].map((field) => this.byteRow(field));
-        find("bytes").append(...rows);
+        find("bytes").append(...[...this.library.bytes, ...OPTIONS].map((field) => this.byteRow(field)));
         find("conditions").append(...this.library.conditions.map((condition) => this.flagRow(condition)));
     }
 
@@ -171,9 +164,9 @@ class Controls {
     show(state) {
         this.shown = state;
         for (const [name, box] of this.boxes) {
-            const mask = this.library.named.get(name)?.mask;
-            if (!mask) box.checked = Boolean(state[name]);
-            if (!mask) continue;
+            const { mask, flag } = this.library.named.get(name) ?? this.library.conditions.find((it) => it.name === name);
+            if (flag) box.checked = Boolean(state.conditions & flag);
+            if (flag) continue;
             box.checked = (state.word & mask) === mask;
             box.indeterminate = !box.checked && (state.word & mask) !== 0n;
         }
@@ -193,7 +186,7 @@ class Controls {
         const isNamed = byteText(byte) !== String(byte);
         const numbers = [isNamed ? byteText(byte) : "", byte, `0x${byte.toString(16).toUpperCase().padStart(2, "0")}`];
         setText(other, byte !== effective ? `means ${effective}` : isAbsent || isNumber ? "" : numbers.join(" "));
-        const asNumber = isNumber || this.asNumbers || (byte >= 48 && byte < 58);
+        const asNumber = isNumber || (byte >= 48 && byte < 58);
         Object.assign(input, { byte, text: isAbsent ? "" : asNumber ? String(byte) : byteText(byte) });
         if (!isKept) this.fill(name);
     }

@@ -2,16 +2,16 @@
 
 use core::str::FromStr;
 
-use peltzivar::literal::{Conditions, Number, Reader, Readers, ValueError};
+use peltzivar::literal::{Number, Reader, Readers, ValueError};
 
-use crate::suggest::{values_of, with_condition, State, SPECIALS};
+use crate::suggest::{State, SPECIALS};
 
 /// How many forms a language has.
 const MOST: usize = 24;
 
 /// The states of forms, and their readers.
 pub struct Forms {
-    states: [Option<State>; MOST],
+    states: [State; MOST],
     readers: [Reader; MOST],
     size: usize,
 }
@@ -21,18 +21,17 @@ impl Forms {
     pub fn new(mut all: impl Iterator<Item = State>) -> Option<Self> {
         let first = all.next()?;
         let reader = first.syntax().map(Reader::new)?;
-        let mut forms = Self { states: [None; MOST], readers: core::array::from_fn(|_| reader.clone()), size: 1 };
-        forms.states[0] = Some(first);
+        let mut forms = Self { states: [first; MOST], readers: core::array::from_fn(|_| reader.clone()), size: 1 };
         for state in all.take(MOST - 1) {
             forms.readers[forms.size] = Reader::new(state.syntax()?);
-            forms.states[forms.size] = Some(state);
+            forms.states[forms.size] = state;
             forms.size += 1;
         }
         Some(forms)
     }
 
-    pub fn states(&self) -> impl Iterator<Item = State> {
-        self.states.iter().flatten().copied()
+    pub fn states(&self) -> impl ExactSizeIterator<Item = State> {
+        self.states[..self.size].iter().copied()
     }
 
     pub fn readers(&self) -> Readers<'_> {
@@ -40,18 +39,12 @@ impl Forms {
     }
 }
 
-/// Returns the options of a state as bytes: the exponent character, the decimal point, and a bit for each condition.
-pub fn options_of(state: State) -> u32 {
-    let bits = values_of(state.conditions).iter().rev().fold(0, |bits, &is_set| bits << 1 | u8::from(is_set));
-    u32::from_le_bytes([state.exponent, state.point, bits, 0])
-}
-
-/// Reads the states of a line. Each is its word and, behind a colon, its options, as `options_of` returns them.
+/// Reads the states of a line. Each is its word and, behind a colon, a number of three bytes: the exponent character, above
+/// it the decimal point, and then the conditions.
 pub fn states_of(line: &str) -> impl Iterator<Item = State> {
     line.split(' ').map(|state| {
         let (word, options) = state.split_once(':').unwrap_or((state, ""));
-        let [exponent, point, bits, _] = u32::from_str(options).unwrap_or(0).to_le_bytes();
-        let conditions = (0..3).fold(Conditions::NONE, |all, index| with_condition(all, index, bits >> index & 1 != 0));
+        let [exponent, point, conditions, _] = u32::from_str(options).unwrap_or(0).to_le_bytes();
         State { word: u128::from_str(word).unwrap_or(0), exponent, point, conditions }
     })
 }

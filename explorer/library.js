@@ -10,14 +10,12 @@ const OPTIONS = [
     { name: "exponent", title: "exponent character", meaning: "an option of the parser, such as the `e` in `1e5`" },
     { name: "point", title: "decimal point", meaning: "an option of the parser, such as the `.` in `1.5`" },
 ];
-const STANDARD_OPTIONS = { exponent: 101, point: 46 };
-/* How many bits of the options, as they are passed, are below the conditions. */
-const CONDITIONS_SHIFT = 16;
+const STANDARD_OPTIONS = { exponent: 101, point: 46, conditions: 0 };
 
 class Library {
     constructor(calls, { flags, groups, bytes, conditions }) {
         this.calls = calls;
-        this.conditions = conditions.map((condition) => ({ ...condition, part: "option" }));
+        this.conditions = conditions.map((condition, index) => ({ ...condition, part: "option", flag: 1 << index }));
         this.flags = flags.map((flag) => ({ ...flag, mask: 1n << BigInt(flag.bit) }));
         this.bytes = bytes.map((byte) => ({ ...byte, isByte: true, mask: 255n << BigInt(byte.bit) }));
         this.groups = groups.map((group) => {
@@ -28,7 +26,7 @@ class Library {
         this.named = new Map([...this.fields, ...this.groups].map((field) => [field.name, field]));
         this.known = this.fields.reduce((all, { mask }) => all | mask, 0n);
         this.standard = this.build([]).word;
-        this.usual = this.stateOf({ word: this.standard, ...STANDARD_OPTIONS });
+        this.usual = { word: this.standard, ...STANDARD_OPTIONS };
     }
 
     /* Returns a library from its compressed WebAssembly. */
@@ -56,46 +54,38 @@ class Library {
     /* Returns all about a state: whether the word is built, its error, normal form, reasons and notes, and why the options
      * do not fit. Reasons and notes have their text, the fields that they blame, the broken rules, and repaired states. */
     explain(state) {
-        const answer = this.call("explain", this.passed([state]));
+        const answer = this.call("explain", passed([state]));
         const named = ({ mask, options: own = [], repairs = [], ...it }) => {
             const fields = [...own, ...this.namesOf(BigInt(mask))];
-            return { ...it, mask: BigInt(mask), fields, repairs: repairs.map((it) => this.passedBack(it)) };
+            return { ...it, mask: BigInt(mask), fields, repairs: repairs.map(withWord) };
         };
         const [reasons, options, notes] = ["reasons", "options", "notes"].map((name) => answer[name].map(named));
         if (answer.contradiction) {
-            const [name] = answer.contradiction.split(" ");
-            options.push({ text: answer.contradiction, fields: [name], rules: [], repairs: [{ ...state, [name]: 0 }] });
+            const { name, flag } = this.conditions.find(({ name }) => answer.contradiction.startsWith(name));
+            const repairs = [{ ...state, conditions: state.conditions & ~flag }];
+            options.push({ text: answer.contradiction, fields: [name], rules: [], repairs });
         }
         return { ...answer, normal: BigInt(answer.normal), reasons, options, notes };
     }
 
     /* Returns an object for each line of a text, as `numbers` of library.rs describes: none if a word is not lawful. */
     numbers(states, text) {
-        const answers = this.call("numbers", `${this.passed(states)}\n${text}`);
-        return answers.map((answer) => ({ ...answer, offers: answer.offers.map((it) => this.passedBack(it)) }));
+        const answers = this.call("numbers", `${passed(states)}\n${text}`);
+        return answers.map((answer) => ({ ...answer, offers: answer.offers.map(withWord) }));
     }
 
     /* Returns texts that tell the states of some forms from those of others, as `differ` of library.rs describes. */
     differ(states, others) {
-        return this.call("differ", `${this.passed(states)}\n${this.passed(others)}`);
+        return this.call("differ", `${passed(states)}\n${passed(others)}`);
     }
 
-    /* Returns the line by which states are passed to the library, and a state that it returned, with the rest of that. */
-    passed(states) {
-        const bits = (state) => this.conditions.reduce((all, { name }, index) => all | (state[name] << index), 0);
-        const options = (state) => state.exponent + 256 * state.point + (bits(state) << CONDITIONS_SHIFT);
-        return states.map((state) => `${state.word}:${options(state)}`).join(" ");
-    }
-
-    passedBack({ word, options, ...rest }) {
-        const bits = this.conditions.map(({ name }, index) => [name, (options >> (CONDITIONS_SHIFT + index)) & 1]);
-        const state = { word: BigInt(word), exponent: options & 255, point: (options >> 8) & 255 };
-        return { ...rest, ...state, ...Object.fromEntries(bits) };
-    }
-
-    /* Returns the state of a form: its word, its options and its conditions. One that is not there is not set. */
-    stateOf({ word, exponent, point, ...rest }) {
-        return { word, exponent, point, ...Object.fromEntries(this.conditions.map(({ name }) => [name, rest[name] ?? 0])) };
+    /* Returns the state of a syntax as the library prints it: a word, two bytes unless numbers are integers alone, and the
+     * conditions as settings. */
+    stateOfSyntax(text) {
+        const [word, exponent = 0, point = 0] = text.split(" ").filter((it) => !it.includes("="));
+        const set = this.conditions.filter(({ name }) => text.includes(`${name}=true`));
+        const conditions = set.reduce((all, { flag }) => all | flag, 0);
+        return { word: BigInt(word), exponent: Number(exponent), point: Number(point), conditions };
     }
 
     /* Returns {value}, or {error} if the setter does not take the text. A separator needs a flag that allows it. */
@@ -142,9 +132,10 @@ class Library {
             const [text, before] = [state, other].map((it) => `${name}=${it[name] ? quoted(it[name], "") : "none"}`);
             return { name, isByte: true, text, before, value: other[name] };
         });
-        const conditions = this.conditions.filter(({ name }) => state[name] !== other[name]).map(({ name }) => {
-            const [text, before] = [state, other].map((it) => `${name}=${Boolean(it[name])}`);
-            return { name, text, before, value: other[name] };
+        const changed = this.conditions.filter(({ flag }) => (state.conditions ^ other.conditions) & flag);
+        const conditions = changed.map(({ name, flag }) => {
+            const [text, before] = [state, other].map(({ conditions }) => `${name}=${Boolean(conditions & flag)}`);
+            return { name, text, before, value: other.conditions & flag };
         });
         return [...fields, ...options, ...conditions];
     }
@@ -169,11 +160,12 @@ class Library {
      * settings, in which # begins a comment. */
     read(text) {
         const [options, settings] = [{}, []];
-        const names = this.conditions.map(({ name }) => name).join("|");
-        const rest = text.replace(new RegExp(`\\b(${names})=(true|false)\\b[\\s,;]*`, "g"), (_, name, value) => {
-            options[name] = Number(value === "true");
-            return "";
-        });
+        const rest = this.conditions.reduce((rest, { name, flag }) => {
+            return rest.replace(new RegExp(`\\b${name}=(true|false)\\b[\\s,;]*`, "g"), (_, value) => {
+                options.conditions = (options.conditions & ~flag) | (value === "true" ? flag : 0);
+                return "";
+            });
+        }, text);
         const word = rest.replace(/\b(exponent|point)\s*=\s*('.'|[^\s,;#]*)[\s,;]*/g, (_, name, value) => {
             options[name] = this.byte(/^'.'$/.test(value) ? value[1] : value);
             return "";
@@ -192,11 +184,27 @@ class Library {
     }
 }
 
+/* Returns the line by which states are passed to the library. */
+function passed(states) {
+    const options = ({ exponent, point, conditions }) => exponent | (point << 8) | (conditions << 16);
+    return states.map((state) => `${state.word}:${options(state)}`).join(" ");
+}
+
+/* Returns the state of a form, without its name. */
+function stateOf({ word, exponent, point, conditions }) {
+    return { word, exponent, point, conditions };
+}
+
 /* Returns the value of a number, which the library computed, as text, or why it has none. */
 function valueText({ integer, float, unknown }) {
     if (float === undefined) return integer ?? unknown;
     const [value] = new Float64Array(BigUint64Array.of(BigInt(float)).buffer);
     return Object.is(value, -0) ? "-0" : String(value);
+}
+
+/* Returns an answer with its word as a number. */
+function withWord(answer) {
+    return { ...answer, word: BigInt(answer.word) };
 }
 
 /* Returns a word as text. */

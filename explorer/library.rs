@@ -7,11 +7,11 @@ use core::fmt::{self, Display, Write};
 use core::ops::Range;
 
 use peltzivar::edits::{apply, is_built, normal_form};
-use peltzivar::literal::{Conditions, FormError, Number, Reader, Readers};
+use peltzivar::literal::{FormError, Number, Reader, Readers};
 use peltzivar::{Edit, Error, FormatView, NumberFormatBuilder, Reason, Rule};
 use examples::{Refused, other_values, refused};
-use forms::{Forms, Value, options_of, states_of, value_of};
-use suggest::{Found, Line, State, blamed_options, lines_of, offers, repairs};
+use forms::{Forms, Value, states_of, value_of};
+use suggest::{Found, Line, State, blamed_options, conditions_of, lines_of, offers, repairs};
 
 mod examples;
 mod forms;
@@ -74,8 +74,8 @@ pub extern "C" fn explain(length: usize) -> usize {
         list(out, view.reasons(), |out, reason| put_reason(out, state, reason))?;
         out.write_str(r#","options":"#)?;
         list(out, view.options_reasons(exponent, point), |out, reason| put_reason(out, state, reason))?;
-        let fitting = State { conditions: Conditions::NONE, ..state }.exact();
-        let contradiction = fitting.and_then(|syntax| syntax.with(conditions).err());
+        let fitting = State { conditions: 0, ..state }.exact();
+        let contradiction = fitting.and_then(|syntax| syntax.with(conditions_of(conditions)).err());
         contradiction.map_or(Ok(()), |it| write!(out, r#","contradiction":{}"#, Quoted(it)))?;
         out.write_str(r#","notes":"#)?;
         list(out, view.notes(), |out, note| {
@@ -103,8 +103,8 @@ fn put_reason(out: &mut Answer, state: State, reason: Reason) -> fmt::Result {
 }
 
 /// Writes an object with a state, without its last brace.
-fn put_state(out: &mut Answer, state: State) -> fmt::Result {
-    write!(out, r#"{{"word":{},"options":{}"#, Word(state.word), options_of(state))
+fn put_state(out: &mut Answer, State { word, exponent, point, conditions }: State) -> fmt::Result {
+    write!(out, r#"{{"word":{},"exponent":{exponent},"point":{point},"conditions":{conditions}"#, Word(word))
 }
 
 /// Returns an object for each line but the first, which has the forms: the value and the parts of its number, or the parts
@@ -122,15 +122,12 @@ pub extern "C" fn numbers(length: usize) -> usize {
 }
 
 fn put_line(out: &mut Answer, forms: &Forms, lines: &[u8], line: Line<'_>) -> fmt::Result {
-    let mut states = forms.states();
     out.write_str("{")?;
     put_reading(out, forms.readers(), line.text)?;
     out.write_str(r#","offers":"#)?;
     let is_expected = forms.readers().read(line.text).is_err() == line.is_refused;
-    let found = match (states.next(), states.next()) {
-        (Some(state), None) if !is_expected => offers(state, lines, line),
-        _ => Found::new(lines),
-    };
+    let mut states = forms.states().filter(|_| !is_expected && forms.states().len() == 1);
+    let found = states.next().map_or(Found::new(lines), |state| offers(state, lines, line));
     list(out, found.best(), |out, (state, expected)| {
         put_state(out, state)?;
         write!(out, r#","expected":{expected},"#)?;
@@ -170,30 +167,29 @@ fn put_reading(out: &mut Answer, readers: Readers<'_>, text: &[u8]) -> fmt::Resu
     }
 }
 
-/// Returns texts that tell the forms of two lines apart: `refused` has those that the others refuse, for each of both, and
-/// `values` those of `text`, one to which they give different values. If a word is not lawful, returns an empty object.
+/// Returns texts that tell the forms of two lines apart: those that the second ones refuse, those that the first ones refuse,
+/// and one to which they give different values. If a word is not lawful, returns an empty array.
 #[unsafe(no_mangle)]
 pub extern "C" fn differ(length: usize) -> usize {
     let (first, second) = text_of(length);
     let lines = [first, core::str::from_utf8(second).unwrap_or("")];
     let [Some(first), Some(second)] = lines.map(|it| Forms::new(states_of(it))) else {
-        return answer(|out| out.write_str("{}"));
+        return answer(|out| out.write_str("[]"));
     };
     answer(|out| {
-        out.write_str(r#"{"refused":["#)?;
+        out.write_str("[")?;
         list(out, refused(&first, &second), put_refused)?;
         out.write_str(",")?;
         list(out, refused(&second, &first), put_refused)?;
-        out.write_str("]")?;
-        if let Some((text, values)) = other_values(&first, &second) {
-            write!(out, r#","text":{},"values":"#, Quoted(text))?;
-            list(out, values.into_iter(), |out, value| {
-                out.write_str("{")?;
-                put_value(out, value)?;
-                out.write_str("}")
-            })?;
-        }
-        out.write_str("}")
+        out.write_str(",")?;
+        list(out, other_values(&first, &second).into_iter(), |out, (text, [here, there])| {
+            write!(out, r#"{{"text":{},"here":{{"#, Quoted(text))?;
+            put_value(out, here)?;
+            out.write_str(r#"},"there":{"#)?;
+            put_value(out, there)?;
+            out.write_str("}}")
+        })?;
+        out.write_str("]")
     })
 }
 

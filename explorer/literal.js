@@ -77,25 +77,18 @@ class Trial {
 
     row(answer) {
         const { text, place, isRefused, isExpected, mask = 0 } = answer;
-        const change = () => this.turn(place);
-        const one = isRefused ? "No flag alone refuses it." : "No format that differs in a few fields accepts it.";
-        const nothing = this.forms.length === 1 ? one : "";
+        const nothing = isRefused ? "No flag alone refuses it." : "No format that differs in a few fields accepts it.";
         const offers = answer.offers.map((offer, index) => this.offer(place, offer, index));
-        const label = `${text} must be refused`;
-        const box = element("input", { type: "checkbox", change, id: `refuse-${place}`, "aria-label": label });
+        if (!isExpected && !offers.length && this.forms.length === 1) offers.push(element("li", {}, nothing));
+        const attributes = { change: () => this.turn(place), id: `refuse-${place}`, "aria-label": `${text} must be refused` };
+        const box = element("input", { type: "checkbox", ...attributes });
         box.checked = isRefused;
-        return element(
-            "li",
-            { class: isExpected ? "" : "unexpected", "data-field": this.library.namesOf(BigInt(mask)).join(" ") },
-            element(
-                "div",
-                {},
-                element("span", { class: "written" }, this.pieces(answer)),
-                element("p", { class: isExpected ? "good" : "bad" }, this.told(answer)),
-            ),
-            element("label", { class: "refuse", title: "must be refused" }, box, "refuse"),
-            element("ul", {}, isExpected || offers.length ? offers : element("li", {}, nothing)),
-        );
+        const told = element("p", { class: isExpected ? "good" : "bad" }, this.told(answer));
+        const line = element("div", {}, element("span", { class: "written" }, this.pieces(answer)), told);
+        const refuse = element("label", { class: "refuse", title: "must be refused" }, box, "refuse");
+        const fields = this.library.namesOf(BigInt(mask)).join(" ");
+        const kind = isExpected ? "" : "unexpected";
+        return element("li", { class: kind, "data-field": fields }, line, refuse, element("ul", {}, offers));
     }
 
     /* Returns what is told of a number in a state. */
@@ -136,7 +129,7 @@ class Trial {
     /* Returns a state that is offered, as a button with its settings, with what the number is then. */
     offer(place, { label, then, changes }, index) {
         const use = () => {
-            this.change(this.library.stateOf(this.answers.find((it) => it.place === place).offers[index]));
+            this.change(stateOf(this.answers.find((it) => it.place === place).offers[index]));
             (find("read").querySelector(".use") ?? find("literal")).focus();
         };
         const fields = changes.map(({ name }) => name).join(" ");

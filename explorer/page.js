@@ -21,7 +21,7 @@ class Page {
         this.library = library;
         this.data = data;
         const forms = data.languages.flatMap((language) => language.forms);
-        for (const form of forms) form.word = library.build(form.settings).word;
+        for (const form of forms) Object.assign(form, library.stateOfSyntax(form.syntax));
         [this.past, this.future] = [[], []];
         const edit = (name, value, key) => this.edit(name, value, key);
         const use = (state) => {
@@ -51,10 +51,6 @@ class Page {
         document.addEventListener("keydown", (event) => this.undo(event));
         click("standard", () => this.jump(this.library.usual));
         find("language").addEventListener("change", ({ target }) => this.start(target.value));
-        find("as-numbers").addEventListener("change", (event) => {
-            this.controls.asNumbers = event.target.checked;
-            this.show();
-        });
         for (const { id, dataset } of document.querySelectorAll("[data-copies]")) {
             const beside = find(dataset.copies);
             click(id, () => copy(find(id), beside.value ?? beside.textContent));
@@ -144,19 +140,19 @@ class Page {
         const { languages } = this.data;
         const { forms, numbers } = languages.find((it) => it.name === name) ?? { forms: [this.state], ...this.state };
         const isOwn = this.state.numbers && !languages.some((it) => it.numbers === this.state.numbers);
-        this.jump({ ...this.library.stateOf(forms[0]), numbers: isOwn ? this.state.numbers : numbers });
+        this.jump({ ...stateOf(forms[0]), numbers: isOwn ? this.state.numbers : numbers });
     }
 
     /* Shows the language as chosen while the state is that of one of its forms, and returns the forms that are read. */
     showLanguage() {
-        const isShown = (form) => Object.entries(this.library.stateOf(form)).every(([name, value]) => this.state[name] === value);
+        const isShown = (form) => Object.entries(stateOf(form)).every(([name, value]) => this.state[name] === value);
         const chosen = this.data.languages.find(({ name }) => name === find("language").value);
         const language = chosen?.forms.some(isShown) ? chosen : undefined;
         find("language").value = language?.name ?? "";
         find("about").replaceChildren(...withCode(language?.about ?? ""));
         const forms = language?.forms ?? [this.state];
         const buttons = forms.map((form) => {
-            return button("form", form.name, () => this.jump(this.library.stateOf(form)), { "aria-pressed": String(isShown(form)) });
+            return button("form", form.name, () => this.jump(stateOf(form)), { "aria-pressed": String(isShown(form)) });
         });
         find("forms").hidden = forms.length === 1;
         const hadFocus = [...find("forms").children].indexOf(document.activeElement);
@@ -196,7 +192,9 @@ class Page {
 
     /* Changes a field or an option. Numbers are integers alone without both options, or floats with both. */
     edit(name, value, key) {
-        if (this.library.conditions.some((it) => it.name === name)) return this.change({ [name]: value }, key);
+        const { conditions } = this.state;
+        const flag = this.library.conditions.find((it) => it.name === name)?.flag;
+        if (flag) return this.change({ conditions: value ? conditions | flag : conditions & ~flag }, key);
         if (!(name in STANDARD_OPTIONS)) return this.change({ word: this.library.put(this.state.word, name, value) }, key);
         const other = name === "point" ? "exponent" : "point";
         const isAlone = (value === 0) !== (this.state[other] === 0);
@@ -229,13 +227,13 @@ class Page {
     }
 
     fragment() {
-        const { word, exponent, point, numbers } = this.state;
-        const conditions = this.library.conditions.map(({ name }) => name).filter((name) => this.state[name]).join(" ");
+        const { word, exponent, point, numbers, ...rest } = this.state;
+        const conditions = this.library.conditions.filter(({ flag }) => rest.conditions & flag).map(({ name }) => name).join(" ");
         const compared = find("compare").value === "another" ? find("other").value : find("compare").value;
         const tab = this.language === LANGUAGES[0] ? "" : this.language;
         const others = Object.entries({ conditions, numbers, compare: compared, tab }).filter(([, text]) => text);
-        const rest = others.map(([name, text]) => `&${name}=${encodeURIComponent(text)}`).join("");
-        return `#word=${wordText(word)}&exponent=${exponent}&point=${point}${rest}`;
+        const all = others.map(([name, text]) => `&${name}=${encodeURIComponent(text)}`).join("");
+        return `#word=${wordText(word)}&exponent=${exponent}&point=${point}${all}`;
     }
 
     /* Writes the fragment, at once or after a pause. */
@@ -255,8 +253,9 @@ class Page {
         const parts = new URLSearchParams(FRAGMENT.test(hash) ? hash.replaceAll("+", "%2B") : { word: hash });
         const byte = (name) => (parts.has(name) ? this.library.byte(parts.get(name)) : STANDARD_OPTIONS[name]);
         const word = parts.get("word") ? this.library.read(parts.get("word")).word : this.library.standard;
-        const conditions = (parts.get("conditions") ?? "").split(" ").map((name) => [name, 1]);
-        const found = this.library.stateOf({ word, exponent: byte("exponent"), point: byte("point"), ...Object.fromEntries(conditions) });
+        const names = (parts.get("conditions") ?? "").split(" ");
+        const conditions = this.library.conditions.reduce((all, { name, flag }) => (names.includes(name) ? all | flag : all), 0);
+        const found = { word, exponent: byte("exponent"), point: byte("point"), conditions };
         const lost = Object.keys(found).filter((name) => found[name] === undefined);
         for (const name of lost) found[name] = this.library.usual[name];
         if (this.state) this.past.push(this.state);
@@ -303,8 +302,8 @@ class Page {
         find("count").className = isGood ? "good" : "bad";
         const nothing = count ? "" : "The word satisfies all rules. Type numbers to try it.";
         setText(find("first-error"), reasons[0]?.text ?? first ?? nothing);
-        const fields = new Set(reasons.flatMap((reason) => reason.fields));
-        this.blame(fields, new Set(this.library.changes(word, this.library.standard).map(({ name }) => name)));
+        const blamed = reasons.flatMap((reason) => reason.fields);
+        this.blame(new Set(blamed), new Set(this.library.differences(this.state, this.library.usual).map(({ name }) => name)));
         this.showCode();
         this.saveLater();
     }

@@ -28,7 +28,7 @@ class Report {
         });
     }
 
-    /* Shows a reason why the word is not lawful, or why an option does not fit. */
+    /* Shows a reason why the word is not lawful, or why an option or a condition does not fit. */
     reason({ text, fields, rules, repairs }) {
         const broken = rules.map(({ index, error }) => {
             const text = `breaks rule ${index + 1}, \u201c${this.data.rules[index]}\u201d: `;
@@ -37,17 +37,12 @@ class Report {
         const buttons = repairs.map((state) => {
             const changes = this.library.differences(state, this.state);
             const label = changes.map((it) => it.text).join(", ") || "clear the reserved bits";
-            const names = changes.map(({ name }) => name).join(" ");
-            return button("use", label, () => this.use(state), { "data-field": names });
+            return button("use", label, () => this.use(state), { "data-field": changes.map(({ name }) => name).join(" ") });
         });
-        return element(
-            "li",
-            { class: "reason", "data-field": fields.join(" ") },
-            element("strong", {}, text),
-            element("ul", { class: "rules" }, broken),
-            element("p", {}, element("span", { class: "key" }, "To blame"), this.links(fields)),
-            buttons.length ? element("p", {}, element("span", { class: "key" }, "Ends it"), buttons) : "",
-        );
+        const row = (key, all) => (all.length ? element("p", {}, element("span", { class: "key" }, key), all) : "");
+        const parts = [element("strong", {}, text), element("ul", { class: "rules" }, broken)];
+        const rows = [row("To blame", this.links(fields)), row("Ends it", buttons)];
+        return element("li", { class: "reason", "data-field": fields.join(" ") }, parts, rows);
     }
 
     note({ text, fields }) {
@@ -108,17 +103,16 @@ class Report {
         (find("changes").querySelectorAll("button")[Math.min(hadFocus, chips.length - 1)] ?? find("compare")).focus();
     }
 
-    /* Returns lists of the texts that one of two formats refuses, and the text with other values. */
-    texts({ refused = [], text, values }) {
-        const titles = ["Accepted here and refused there", "Refused here and accepted there"];
-        const lists = refused.flatMap((texts, index) => {
-            const rows = texts.map(({ text, error }) => element("li", {}, element("code", {}, text), ` ${error}`));
+    /* Returns lists of the texts that tell two formats apart, as `differ` of library.rs returns them. */
+    texts(lists) {
+        const titles = ["Accepted here and refused there", "Refused here and accepted there", "With another value"];
+        return lists.flatMap((texts, index) => {
+            const rows = texts.map(({ text, error, here, there }) => {
+                const told = error ?? `is ${valueText(here)} here, and ${valueText(there)} there`;
+                return element("li", {}, element("code", {}, text), ` ${told}`);
+            });
             return rows.length ? [element("h3", {}, titles[index]), element("ul", {}, rows)] : [];
         });
-        if (!values) return lists;
-        const [here, there] = values.map(valueText);
-        const row = element("li", {}, element("code", {}, text), ` is ${here} here, and ${there} there`);
-        return [...lists, element("h3", {}, "With another value"), element("ul", {}, row)];
     }
 
     showNormal(word, normal) {
@@ -128,11 +122,11 @@ class Report {
     }
 
     /* Shows all of this for a state and what explains it, and returns the reasons. */
-    show(state, { error, reasons, options, notes, normal }, forms) {
+    show(state, { error, reasons, options, notes, normal, contradiction }, forms) {
         this.state = state;
         this.forms = forms;
         const all = [...reasons, ...options];
-        const lawful = options.length ? "An option does not fit" : "Lawful";
+        const lawful = options.length ? `${contradiction ? "A condition" : "An option"} does not fit` : "Lawful";
         setText(find("verdict"), error ? `Not lawful: ${all.length} reason${all.length > 1 ? "s" : ""}` : lawful);
         find("verdict").className = all.length ? "bad" : "good";
         find("report").hidden = !all.length && !notes.length;

@@ -32,13 +32,13 @@ const NO_POINT: u8 = 12;
 /// The usual exponent characters.
 const EXPONENTS: [u8; 3] = [b'e', b'p', b'^'];
 
-/// A format word, the options of a parser, and conditions. If both options are 0, numbers are integers alone.
+/// A format word, the options of a parser, and a bit for each condition. If both options are 0, numbers are integers alone.
 #[derive(Clone, Copy, Debug, PartialEq, Eq)]
 pub struct State {
     pub word: u128,
     pub exponent: u8,
     pub point: u8,
-    pub conditions: Conditions,
+    pub conditions: u8,
 }
 
 impl State {
@@ -53,16 +53,16 @@ impl State {
             true => Syntax::integers(format),
             false => Syntax::new(format, self.exponent, self.point).ok()?,
         };
-        syntax.with(self.conditions).ok()
+        syntax.with(conditions_of(self.conditions)).ok()
     }
 
     /// Returns the syntax if the word is lawful. No byte matches an option that does not fit, and there are no conditions if
     /// one does not fit.
     pub fn syntax(self) -> Option<Syntax> {
         let others = [(NO_EXPONENT, self.point), (self.exponent, NO_POINT), (NO_EXPONENT, NO_POINT)];
-        let all = [Self { conditions: Conditions::NONE, ..self }].into_iter();
-        let others = all.chain(others.map(|(exponent, point)| Self { exponent, point, conditions: Conditions::NONE, ..self }));
-        self.exact().or_else(|| others.into_iter().find_map(Self::exact))
+        let all = [(self.exponent, self.point)].into_iter().chain(others);
+        let mut others = all.map(|(exponent, point)| Self { exponent, point, conditions: 0, ..self });
+        self.exact().or_else(|| others.find_map(Self::exact))
     }
 
     /// Returns the state with an exponent character and a decimal point that fit, if the word is lawful.
@@ -125,18 +125,15 @@ pub fn read(reader: &Reader, text: &[u8]) -> Result<(), ReadError> {
     }
 }
 
-/// Returns the conditions in the order in which they are passed.
-pub fn values_of(conditions: Conditions) -> [bool; 3] {
-    [conditions.required_base_prefix, conditions.required_base_suffix, conditions.no_negative_mantissa_sign]
+/// Returns the conditions of bits, and the bits of conditions.
+pub fn conditions_of(bits: u8) -> Conditions {
+    let [prefix, suffix, sign] = [1, 2, 4].map(|bit| bits & bit != 0);
+    Conditions::NONE.required_base_prefix(prefix).required_base_suffix(suffix).no_negative_mantissa_sign(sign)
 }
 
-/// Returns conditions with another value of one of them.
-pub fn with_condition(conditions: Conditions, index: usize, value: bool) -> Conditions {
-    match index {
-        0 => conditions.required_base_prefix(value),
-        1 => conditions.required_base_suffix(value),
-        _ => conditions.no_negative_mantissa_sign(value),
-    }
+fn bits_of_conditions(it: Conditions) -> u8 {
+    let all = [it.required_base_prefix, it.required_base_suffix, it.no_negative_mantissa_sign];
+    all.iter().rev().fold(0, |bits, &is_set| bits << 1 | u8::from(is_set))
 }
 
 /// Returns each flag of a mask of flags, from the lowest.
@@ -211,8 +208,8 @@ pub fn offers<'a>(state: State, lines: &'a [u8], line: Line<'_>) -> Found<'a> {
 }
 
 fn refusing(state: State, text: &[u8], found: &mut Found<'_>) {
-    for index in 0..3 {
-        let other = State { conditions: with_condition(state.conditions, index, true), ..state };
+    for bit in [1, 2, 4] {
+        let other = State { conditions: state.conditions | bit, ..state };
         if other.exact().is_some_and(|it| read(&Reader::new(it), text).is_err()) {
             found.push(other);
         }
@@ -256,9 +253,7 @@ fn settled(mut state: State, text: &[u8]) -> Result<State, usize> {
         match error {
             Some(error) if matches!(error.kind(), ReadErrorKind::Requirement | ReadErrorKind::Case) => {
                 state.word &= !error.mask();
-                let unmet = values_of(error.conditions());
-                let indexes = (0..3).filter(|&index| unmet[index]);
-                state.conditions = indexes.fold(state.conditions, |all, index| with_condition(all, index, false));
+                state.conditions &= !bits_of_conditions(error.conditions());
             }
             error => return Err(error.map_or(text.len(), |it| it.valid_up_to())),
         }

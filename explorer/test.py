@@ -36,9 +36,9 @@ STANDARD = "0x00000A0000000000000000000000000C"
 # A word with bits in each of its bytes, and among both kinds of flags.
 MIXED = "0x0A0210687800005F00000FC70001441F"
 # Words with an exponent character, a decimal point and the normal form, also with bytes that need an escape or cannot be
-# seen, without options, and a word that no builder makes. The last one has no reader.
+# seen, without options, with a condition, and a word that no builder makes. The last one has no reader.
 NORMAL = "0x0A0A0A0000000000000000000000000C"
-STATES = [(STANDARD, "e", ".", NORMAL), (MIXED, "p", ",", MIXED), (STANDARD, "\\", "'", NORMAL), (STANDARD, "", "", NORMAL),
+STATES = [(STANDARD, "e", ".", NORMAL), (MIXED, "p", ",", f"{MIXED} required_base_prefix"), (STANDARD, "\\", "'", NORMAL), (STANDARD, "", "", NORMAL),
           ("0x000002095C000027000000010000000C", "^", '"', "0x020202095C000027000000010000000C"),
           ("0x00000A000000005F000000000000000C", "e", ".", NORMAL), ("0x01FF257862000020800017FF8003FFFF", "e", ".", "")]
 # Returns those of the recorded results that the library in the page does not return.
@@ -168,14 +168,16 @@ class Walk(unittest.TestCase):
         folder = pathlib.Path(tempfile.mkdtemp())
         self.addCleanup(shutil.rmtree, folder)
         codes = []
-        for word, exponent, point, _ in STATES:
-            self.load(f"#word={word}&exponent={ord(exponent or chr(0))}&point={ord(point or chr(0))}&tab={language}")
+        for word, exponent, point, normal in STATES:
+            options = f"&exponent={ord(exponent or chr(0))}&point={ord(point or chr(0))}&conditions={normal.partition(' ')[2]}"
+            self.load(f"#word={word}{options}&tab={language}")
             codes.append(self.run_script("return document.getElementById('code').textContent"))
         return folder, codes
 
     def assert_states(self, printed):
-        """Fails unless each line has the normal form, the exponent character and the decimal point of one of STATES."""
-        wanted = [f"{normal} {ord(exponent or chr(0))} {ord(point or chr(0))}" for _, exponent, point, normal in STATES]
+        """Fails unless each line has the normal form of one of STATES, its options, and whether the prefix is required."""
+        wanted = [f"{normal[:34]} {ord(exponent or chr(0))} {ord(point or chr(0))} {int(' ' in normal)}"
+                  for _, exponent, point, normal in STATES]
         self.assertEqual([line.strip() for line in printed.splitlines()], [*wanted[:-1], STATES[-1][0]])
 
     def cargo(self, command, manifest, folder, *options):
@@ -189,7 +191,8 @@ class Walk(unittest.TestCase):
     @unittest.skipUnless(has("cargo"), "no cargo")
     def test_rust_code_makes_the_reader(self):
         folder, codes = self.code("rust")
-        show = 'println!("{} {} {}", SYNTAX.format(), SYNTAX.exponent().unwrap_or(0), SYNTAX.point().unwrap_or(0)); assert!(read("").is_err());'
+        options = "SYNTAX.exponent().unwrap_or(0), SYNTAX.point().unwrap_or(0), SYNTAX.conditions().required_base_prefix as u8"
+        show = f'println!("{{}} {{}} {{}} {{}}", SYNTAX.format(), {options}); assert!(read("").is_err());'
         shows = [show] * (len(codes) - 1) + ['println!("{WORD:#034X}");']
         modules = [f"mod m{index} {{\n{code}\npub fn show() {{ {shows[index]} }}\n}}\n" for index, code in enumerate(codes)]
         calls = " ".join(f"m{index}::show();" for index in range(len(codes)))
@@ -204,7 +207,8 @@ class Walk(unittest.TestCase):
         folder, codes = self.code("c")
         library = self.library(folder, ".a")
         show = r'printf("0x%016llX%016llX ", (unsigned long long){0}.high, (unsigned long long){0}.low);'
-        rest = r'printf("%d %d\n", reader.syntax.exponent, reader.syntax.decimal_point); return read_number(&reader, "", 0);'
+        options = "reader.syntax.exponent, reader.syntax.decimal_point, reader.syntax.required_base_prefix"
+        rest = rf'printf("%d %d %d\n", {options}); return read_number(&reader, "", 0);'
         reader = f"peltzivar_reader reader; if (!make_reader(&reader)) return 1; {show.format('reader.syntax.format')} {rest}"
         printed = ""
         for index, code in enumerate(codes):
@@ -218,7 +222,8 @@ class Walk(unittest.TestCase):
     def test_python_code_makes_the_reader(self):
         folder, codes = self.code("python")
         library = self.library(folder, ".so", ".dylib")
-        show = "print(syntax.format, *(ord(it) if it else 0 for it in (syntax.exponent, syntax.point)))\n"
+        options = "*(ord(it) if it else 0 for it in (syntax.exponent, syntax.point)), int(syntax.required_base_prefix)"
+        show = f"print(syntax.format, {options})\n"
         (folder / "main.py").write_text("".join(f"{text}{show}" for text in codes[:-1]) + f"{codes[-1]}print(view)\n")
         variables = {"PELTZIVAR_LIBRARY": str(library), "PYTHONPATH": str(TOP / "c"), "PYTHONDONTWRITEBYTECODE": "1"}
         self.assert_states(run(sys.executable, folder / "main.py", env={**os.environ, **variables}))
@@ -319,14 +324,41 @@ class Walk(unittest.TestCase):
         self.assertEqual(shown(), (told, ["mantissa_radix=10"]))
 
     def test_texts_tell_two_languages_apart(self):
-        Select(self.find("#language")).select_by_value("TOML")
-        Select(self.find("#compare")).select_by_value("JSON")
-        self.assertEqual(self.texts("#texts h3"), ["Accepted here and refused there"])
-        self.assertIn("1_0 unexpected character '_'", self.texts("#texts li"))
-        self.assertIn("+1 unexpected plus sign, which no_positive_mantissa_sign forbids", self.texts("#texts li"))
-        Select(self.find("#language")).select_by_value("PYTHON_HEX_INTEGER")
+        Select(self.find("#language")).select_by_value("JSON")
+        Select(self.find("#compare")).select_by_value("C")
+        self.assertEqual(self.texts("#texts h3")[:2], ["Accepted here and refused there", "Refused here and accepted there"])
+        self.assertIn("-1 unexpected minus sign, which no_negative_mantissa_sign forbids", self.texts("#texts li"))
         self.assertIn("0x1 unexpected character 'x'", self.texts("#texts li"))
-        self.assertEqual(self.texts("#texts li")[-1], "10 is 16 here, and 10 there")
+        Select(self.find("#compare")).select_by_value("C:octal")
+        self.click("#no_special")
+        self.assertEqual(self.texts("#texts li")[-1], "10 is 10 here, and 8 there")
+
+    def test_forms_of_a_language_are_read_together(self):
+        self.type("#literal", "0x1F\n0b12\n1_000\n!1u")
+        Select(self.find("#language")).select_by_value("RUST")
+        self.assertEqual(self.texts("#read p"), [
+            "accepted: integer = 31, hexadecimal", "at index 3: unexpected character '2', binary",
+            "accepted: integer = 1000, decimal", "refused: at index 1: unexpected character 'u', decimal"])
+        self.click("#forms button", "hexadecimal")
+        self.assertEqual((self.value("#base_prefix"), self.value("#language"), self.focused()), ("x", "RUST", ""))
+        self.assertTrue(self.find("#required_base_prefix").is_selected())
+        self.assertEqual((self.value("#exponent"), self.value("#point")), ("", ""))
+        self.assertEqual(self.text("#count"), "3 of 4 as expected")
+        self.click("#no_special")
+        self.assertEqual((self.value("#language"), self.text("#count")), ("", "2 of 4 as expected"))
+
+    def test_conditions_are_offered_and_fit_the_format(self):
+        self.load("#word=0x0A0210007800005F000000010000000C&exponent=112&numbers=!1F%0A0x1F%0A-0x1F")
+        self.click("#read .use", "set required_base_prefix=true")
+        self.assertEqual(self.text("#count"), "3 of 3 as expected")
+        self.assertTrue(self.find("#required_base_prefix").is_selected())
+        self.click("#no_negative_mantissa_sign")
+        self.assertIn("at index 0: unexpected minus sign", self.text("#read .unexpected p"))
+        self.wait(lambda: "&conditions=required_base_prefix%20no_negative" in self.run_script("return location.hash"))
+        self.type("#base_prefix", "")
+        self.assertEqual(self.text("#verdict"), "A condition does not fit")
+        self.click(".reason .use", "required_base_prefix=false")
+        self.assertEqual((self.text("#verdict"), self.find("#required_base_prefix").is_selected()), ("Lawful", False))
 
     def test_groups_of_separator_flags_and_a_note(self):
         self.type("#digit_separator", "_")
@@ -434,9 +466,9 @@ class Walk(unittest.TestCase):
         for name in self.run_script("return page.data.languages.map(({ name }) => name)"):
             Select(self.find("#language")).select_by_value(name)
             self.assertEqual((self.text("#verdict"), self.texts("#read .unexpected")), ("Lawful", []), name)
-            self.assertIn("!", self.value("#literal"), name)
-        Select(self.find("#language")).select_by_value("C_HEX_FLOAT")
+        Select(self.find("#language")).select_by_value("C")
         self.assertIn("C23", self.text("#about"))
+        self.click("#forms button", "hexadecimal float")
         self.assertEqual((self.value("#exponent"), self.value("#digit_separator")), ("p", "'"))
         self.assertEqual(self.value(), "0x0A02100078000027000000070000441C")
         self.click("#no_special")
@@ -444,10 +476,10 @@ class Walk(unittest.TestCase):
         self.type("#literal", "7")
         Select(self.find("#language")).select_by_value("JSON")
         Select(self.find("#language")).select_by_value("")
-        self.assertEqual((self.value(), self.value("#literal")), ("0x00000A0000000000000000000000341F", "7"))
+        self.assertEqual((self.value(), self.value("#literal")), ("0x0A0A0A0000000000000000000000341F", "7"))
 
     def test_integers_alone_have_no_options(self):
-        Select(self.find("#language")).select_by_value("RUST_HEX_INTEGER")
+        self.type("#exponent", "")
         self.assertEqual((self.value("#exponent"), self.value("#point")), ("", ""))
         self.type("#exponent", "p")
         self.assertEqual((self.value("#point"), self.text("#verdict")), (".", "Lawful"))
@@ -533,14 +565,14 @@ class Walk(unittest.TestCase):
 
     def test_numbers_are_tried(self):
         self.load("#word=0x00000A000000005F000000020000000C")
-        self.type("#literal", "-0.1_2e5\n-1_000\n1\u00e9\n!1\n!.x")
-        self.assertEqual(self.texts("#read > li:first-child .written span"), ["-", "0", ".", "1", "_", "2", "e", "5"])
+        self.type("#literal", "-0.1_2e-5\n-1_000\n1\u00e9\n!1\n!.x")
+        self.assertEqual(self.texts("#read > li:first-child .written span"), ["-", "0", ".", "1", "_", "2", "e", "-", "5"])
         self.assertEqual(self.find("#read .separator").get_attribute("data-field"), "digit_separator")
         self.assertEqual(self.texts("#read > li:nth-child(2) .written"), ["-1_000"])
         self.assertEqual(self.texts("#read > li:nth-child(2) .written span"), ["-", "1"])
         self.assertEqual(self.texts("#read mark"), ["_", "\u00e9", "x"])
         self.assertEqual(self.texts("#read p"), [
-            "accepted: float = -12000",
+            "accepted: float = -0.0000012",
             "at index 2: unexpected digit separator in the integer after a digit, which requires "
             "integer_internal_digit_separator or integer_trailing_digit_separator",
             "at index 1: unexpected character '\u00e9'",

@@ -1,7 +1,7 @@
 """Reads numbers as a language, a file or you write them, with their values, and says why a text is not one.
 
     >>> from peltzivar import Syntax, languages
-    >>> languages.TOML.read("1_000.5").value, languages.RUST_HEX_INTEGER.read("0x1F").value
+    >>> languages.TOML.read("1_000.5").value, languages.RUST.read("0x1F").value
     (1000.5, 31)
     >>> prices = Syntax.of(digit_separator=".", internal_digit_separator=True, point=",")
     >>> price = prices.read("1.234,50")
@@ -343,6 +343,13 @@ class _Special(Structure):
     ]
 
 
+class _Style(Structure):
+    _fields_ = [
+        ("group", c_uint8),
+        ("without_base", c_bool),
+    ]
+
+
 class _Edit(Structure):
     _fields_ = [
         ("setter", c_uint8),
@@ -394,6 +401,12 @@ _CALLS: Dict[str, Tuple[Any, List[Any]]] = {
     "language_name": (c_char_p, [c_size_t]),
     "form_name": (c_char_p, [POINTER(_Reader), c_size_t]),
     "form_syntax": (c_bool, [POINTER(_Reader), c_size_t, POINTER(_Syntax)]),
+    "format_i64": (c_uint8, [POINTER(_Reader), c_int64, POINTER(_Style), c_char_p, c_size_t, POINTER(c_size_t)]),
+    "format_u64": (c_uint8, [POINTER(_Reader), c_uint64, POINTER(_Style), c_char_p, c_size_t, POINTER(c_size_t)]),
+    "format_i128": (c_uint8, [POINTER(_Reader), _I128, POINTER(_Style), c_char_p, c_size_t, POINTER(c_size_t)]),
+    "format_f64": (c_uint8, [POINTER(_Reader), c_double, POINTER(_Style), c_char_p, c_size_t, POINTER(c_size_t)]),
+    "format_literal": (c_uint8, [POINTER(_Reader), POINTER(_Literal), POINTER(_Style), c_char_p, c_size_t, POINTER(c_size_t)]),
+    "write_description": (c_char_p, [c_uint8]),
     "build": (c_bool, [POINTER(_Edit), c_size_t, POINTER(_Word)]),
     "edit_word": (c_bool, [_Word, POINTER(_Edit), c_size_t, POINTER(_Word)]),
     "check": (c_uint32, [_Word]),
@@ -1511,6 +1524,38 @@ class Syntax:
         literal = _accepted(self, text, _read(self, _library.read_prefix, text))
         return literal, text[len(literal.text) :]
 
+    def format_number(
+        self, value: Union[int, float, Decimal, Literal[Any]], *, group: int = 0, without_base: bool = False
+    ) -> str:
+        """Returns a number as a literal. Reading the text returns the same value.
+
+            >>> prices = Syntax.of(digit_separator=".", internal_digit_separator=True, point=",")
+            >>> prices.format_number(Decimal("1234567.50"), group=3)
+            '1.234.567,50'
+
+        Of a float, the digits are those of `repr`. `group` is the number of integer digits in a group, if the format
+        allows separators between them. `without_base` leaves out the base prefix and the base suffix, unless conditions
+        require them. Raises ValueError if no literal has this value, or if the digits have another radix, as those of a
+        Decimal and of an int with more than 128 bits, which are decimal.
+        """
+        style, needed = _Style(_number("group", group), _typed("without_base", without_base, bool)), c_size_t(64)
+        number: Any
+        if isinstance(value, int) and -(1 << 127) <= value < 1 << 127:
+            call, number = _library.format_i128, _I128(value & (1 << 64) - 1, value >> 64)
+        elif isinstance(value, float) or isinstance(value, Decimal) and not value.is_finite():
+            call, number = _library.format_f64, float(value)
+        elif isinstance(value, (int, Decimal)):
+            text = str(value) if isinstance(value, int) or abs(value.adjusted()) > 400 else f"{value:f}"
+            literal = Syntax(Format()).read(text)
+            call, number = _library.format_literal, literal._found
+        else:
+            call, number = _library.format_literal, _typed("value", value, Literal, "a number or a Literal")._found
+        for _ in range(2):
+            buffer = create_string_buffer(needed.value)
+            if not (status := call(self._reader, number, style, buffer, len(buffer), needed)):
+                return buffer.value.decode()
+        raise ValueError(_library.write_description(status).decode())
+
     @property
     def _syntaxes(self) -> Tuple[Syntax, ...]:
         return (self,)
@@ -1627,94 +1672,95 @@ class Language(_Named):
 
     `read(text)` returns a `Literal` of a syntax of `forms`, or a `Special` with a spelling of `specials`.
 
-    No format rejects `-`, or requires a prefix, a suffix or a decimal point. So `C_FLOAT` reads `1`.
+    ADA: Ada's decimal literals (Reference Manual 2012, 2.4.1). A format cannot accept based literals, such as
+        `16#FF#`, or accept `1.0E-3` but reject `1E-3`. Forms: decimal.
 
-    ADA: Ada's decimal literals (Reference Manual 2012, 2.4.1). A format cannot accept `1.0E-3` but reject `1E-3`.
+    C: C's integer and floating constants (C23, 6.4.4.1 and 6.4.4.2). A format cannot accept `1u`, `1L` and `1.0f`.
+        Forms: decimal; octal; hexadecimal; binary; hexadecimal float.
 
-    C_FLOAT: C's decimal floating constants (C23, Floating constants). A format cannot accept both `1.0f` and `1.0L`.
+    CSV_DE: Numbers in CSV, as German spreadsheets write cells of the format `#.##0,00` (RFC 4180): `1.234,50`. Forms:
+        decimal.
 
-    C_HEX_FLOAT: C's hexadecimal floating constants (C23, Floating constants): `0x1.8p3` is 1.5 * 2^3. A format cannot
-        accept both `0x1p3f` and `0x1p3L`, reject `-0x1p3`, or require the prefix, so `1p3` is accepted.
+    CSV_EN: Numbers in CSV, as English spreadsheets write cells of the format `#,##0.00`, in quotes (RFC 4180):
+        `"1,234.50"`. A format cannot accept the minus sign U+2212 of Gnumeric: replace it by `-`. Forms: decimal.
 
-    C_SHARP: C#'s real literals and decimal integers (C# standard, 6.4.5.3 and 6.4.5.4). A format cannot accept `1L`,
-        `1f` and `1m`.
+    C_PLUS_PLUS: C++'s integer and floating literals (C++17, 5.13.2 and 5.13.4). A format cannot accept `1u`, `1L`,
+        `1.0f` and suffixes of users. Forms: decimal; octal; hexadecimal; binary; hexadecimal float.
 
-    FORTRAN: Fortran's signed integers and reals (ISO/IEC 1539-1:2018, 7.4.3). A format cannot accept both `1E3` and
-        `1D3`, or a kind as in `1.0_8`.
+    C_SHARP: C#'s integer and real literals (C# standard, 6.4.5.3 and 6.4.5.4). A format cannot accept `1L`, `1f` and
+        `1m`. Forms: decimal; hexadecimal; binary.
 
-    GO_HEX_FLOAT: Go's hexadecimal floats (Language Specification, Floating-point literals). A format cannot reject
-        `-0x1p3`, or require the prefix, so `1p3` is accepted.
+    FORTRAN: Fortran's signed integers and reals (ISO/IEC 1539-1:2018, 7.4.3). A format cannot accept a kind, as in
+        `1.0_8`, or binary, octal and hexadecimal constants, such as `Z'FF'`. Forms: decimal; double precision.
 
-    HASKELL: Haskell's floats and decimal integers (Haskell 2010 Report, 2.5).
+    GO: Go's integer and floating-point literals (Language Specification). A format cannot accept `1i`. Forms: decimal;
+        octal; hexadecimal; octal, 0o; binary; hexadecimal float.
 
-    JAVA: Java's decimal floats and integers (Language Specification 21, 3.10.1 and 3.10.2). A format cannot accept
-        `1L`, `1f` and `1d`.
+    HASKELL: Haskell's integers and floats (Haskell 2010 Report, 2.5). Forms: decimal; hexadecimal; octal.
 
-    JAVASCRIPT: JavaScript's decimal literals in strict code (ECMA-262, Numeric Literals). A format cannot accept `1n`
-        but reject `1.5n`.
+    JAVA: Java's integer and floating-point literals (Language Specification 21, 3.10.1 and 3.10.2). A format cannot
+        accept `1L`, `1f` and `1d`. Forms: decimal; octal; hexadecimal; binary; hexadecimal float.
 
-    JSON: JSON's numbers (RFC 8259, 6. Numbers).
+    JAVASCRIPT: JavaScript's numeric literals in strict code (ECMA-262, Numeric Literals). A format cannot accept `1n`.
+        Forms: decimal; hexadecimal; octal; binary.
 
-    JULIA: Julia's decimal floats and integers (Manual 1.11, Integers and Floating-Point Numbers). A format cannot
-        accept both `1e3` and `1f3`.
+    JSON: JSON's numbers (RFC 8259, 6. Numbers). Forms: decimal.
 
-    KOTLIN: Kotlin's real literals and decimal integers (Kotlin language specification 1.9, Literals). A format cannot
-        accept `1L`, `1f` and `1u`.
+    JULIA: Julia's integers and floats (Manual 1.11, Integers and Floating-Point Numbers). Forms: decimal; 32 bits;
+        hexadecimal; octal; binary; hexadecimal float.
 
-    NASM_HEX_INTEGER: NASM's hexadecimal integers with the suffix `h` (NASM manual, Numeric Constants). A format cannot
-        accept `0FFx` too, reject `-1h` or `FFh`, which is a name, or require the suffix, so `10` is 16.
+    KOTLIN: Kotlin's integer and real literals (Kotlin language specification 1.9, Literals). A format cannot accept
+        `1L`, `1f` and `1u`. Forms: decimal; hexadecimal; binary.
 
-    OCAML: OCaml's decimal floats and integers (Manual 5.2, 11.1 Lexical conventions). A format cannot accept `1._`,
-        whose fraction has a separator alone, or `1l`, `1L` and `1n`.
+    NASM: NASM's numeric constants (NASM manual, Numeric Constants and Floating-Point Constants). A format cannot
+        accept `$0c8`, or reject `ffh`, which is a name. Forms: decimal; decimal, d; decimal, t; hexadecimal, h;
+        hexadecimal, x; octal, o; octal, q; binary, b; binary, y; decimal, 0d; decimal, 0t; hexadecimal, 0h;
+        hexadecimal, 0x; octal, 0o; octal, 0q; binary, 0b; binary, 0y.
 
-    PYTHON: Python's floats and decimal integers (Language Reference 3.12, 2.4.5 and 2.4.6). A format cannot accept
-        `00` and reject `01`.
+    OCAML: OCaml's integers and floats (Manual 5.2, 11.1 Lexical conventions). A format cannot accept `1._`, whose
+        fraction has a separator alone, or `1l`, `1L` and `1n`. Forms: decimal; hexadecimal; octal; binary.
 
-    PYTHON_HEX_INTEGER: Python's hexadecimal integers (Language Reference 3.12, 2.4.5). A format cannot reject `-0x1F`,
-        or require the prefix, so `10` is 16.
+    PYTHON: Python's integers and floats (Language Reference 3.12, 2.4.5 and 2.4.6). A format cannot accept `00` and
+        reject `01`, or accept `1j`. Forms: decimal; hexadecimal; octal; binary.
 
-    RUBY: Ruby's floats and decimal integers (ISO/IEC 30170:2012, 8.7.6.2). A format cannot accept `1r` and `1i`, or
-        accept `0d10` but reject `0d1.5`.
+    RUBY: Ruby's integers and floats (ISO/IEC 30170:2012, 8.7.6.2), with signs. A format cannot accept `1r` and `1i`.
+        Forms: decimal; octal; hexadecimal; octal, 0o; binary; decimal, 0d.
 
-    RUST_HEX_INTEGER: Rust's hexadecimal integers (Reference, Integer literals). A format cannot accept the suffix in
-        `0x1F_u8`, reject `-0x1F`, or require the prefix, so `10` is 16.
+    RUST: Rust's integers and floats (Reference, Integer literals and Floating-point literals). A format cannot accept
+        the suffixes in `0x1F_u8` and `1f32`. Forms: decimal; with a point at the end; hexadecimal; octal; binary.
 
-    SPREADSHEET_CSV: Numbers in CSV, as spreadsheets write cells of the format `#,##0.00`, in quotes (RFC 4180):
-        `"1,234.50"`. A format cannot require groups of three digits, or accept the minus sign U+2212 of Gnumeric:
-        replace it by `-`. For `1.234,50` use the separator `.` and the decimal point `,`.
+    SQL: SQL's signed numeric literals (ISO/IEC 9075-2:2016, 5.3 `<literal>`). Forms: decimal.
 
-    SQL: SQL's signed numeric literals (ISO/IEC 9075-2:2016, 5.3 `<literal>`).
+    SWIFT: Swift's numeric literals, with the sign `-` (The Swift Programming Language, Lexical Structure). Forms:
+        decimal; hexadecimal; octal; binary; hexadecimal float.
 
-    SWIFT_HEX_FLOAT: Swift's hexadecimal floats (The Swift Programming Language, Lexical Structure, Floating-Point
-        Literals). A format cannot require the prefix, so `1p3` is accepted.
+    TOML: TOML's integers and floats (TOML 1.0.0, Integer and Float). Forms: decimal; hexadecimal; octal; binary.
 
-    TOML: TOML's floats and decimal integers (TOML 1.0.0, Integer and Float).
-
-    YAML: YAML's floats and decimal integers (YAML 1.2.2, 10.3.2 Tag Resolution): those of the standard format. A
-        format cannot accept `.inf` and `.INF` but reject `.iNF`, or accept `-.inf` but reject `-.nan`.
+    YAML: YAML's integers and floats (YAML 1.2.2, 10.3.2 Tag Resolution). A format cannot accept `.inf` and `.INF` but
+        reject `.iNF`, or accept `-.inf` but reject `-.nan`. Forms: decimal; octal; hexadecimal.
     """
 
     ADA = "ADA"
-    C_FLOAT = "C_FLOAT"
-    C_HEX_FLOAT = "C_HEX_FLOAT"
+    C = "C"
+    CSV_DE = "CSV_DE"
+    CSV_EN = "CSV_EN"
+    C_PLUS_PLUS = "C_PLUS_PLUS"
     C_SHARP = "C_SHARP"
     FORTRAN = "FORTRAN"
-    GO_HEX_FLOAT = "GO_HEX_FLOAT"
+    GO = "GO"
     HASKELL = "HASKELL"
     JAVA = "JAVA"
     JAVASCRIPT = "JAVASCRIPT"
     JSON = "JSON"
     JULIA = "JULIA"
     KOTLIN = "KOTLIN"
-    NASM_HEX_INTEGER = "NASM_HEX_INTEGER"
+    NASM = "NASM"
     OCAML = "OCAML"
     PYTHON = "PYTHON"
-    PYTHON_HEX_INTEGER = "PYTHON_HEX_INTEGER"
     RUBY = "RUBY"
-    RUST_HEX_INTEGER = "RUST_HEX_INTEGER"
-    SPREADSHEET_CSV = "SPREADSHEET_CSV"
+    RUST = "RUST"
     SQL = "SQL"
-    SWIFT_HEX_FLOAT = "SWIFT_HEX_FLOAT"
+    SWIFT = "SWIFT"
     TOML = "TOML"
     YAML = "YAML"
     # End

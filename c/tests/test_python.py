@@ -200,9 +200,9 @@ class Literals(unittest.TestCase):
             (Language.JSON, "-0", 0, "-0", 0),
             (Language.JSON, "1.50e-1", 0.15, "0.150", Fraction(3, 20)),
             (Language.JSON, "1e400", math.inf, "1E+400", 10**400),
-            (Language.SPREADSHEET_CSV, "1,234.50", 1234.5, "1234.50", Fraction(2469, 2)),
-            (Language.RUST_HEX_INTEGER, "0x1_F", 31, "31", 31),
-            (Language.C_HEX_FLOAT, "-0x1.8p-1", -0.75, "-0.75", Fraction(-3, 4)),
+            (Language.CSV_EN, "1,234.50", 1234.5, "1234.50", Fraction(2469, 2)),
+            (Language.RUST, "0x1_F", 31, "31", 31),
+            (Language.SWIFT, "-0x1.8p-1", -0.75, "-0.75", Fraction(-3, 4)),
         ]
         for language, text, value, decimal, fraction in rows:
             for given in (text, text.encode()):
@@ -219,18 +219,18 @@ class Literals(unittest.TestCase):
         self.assertNotEqual(Syntax(Format()).read("1.5"), Syntax(Format(), "e", ",").read("1,5"))
 
     def test_values_that_are_refused(self):
-        ternary, decimal, binary = Syntax(Format.of(radix=3)), Language.JSON, Language.C_HEX_FLOAT
+        ternary, decimal, binary = Syntax(Format.of(radix=3)), Language.JSON, Language.C
         self.assertEqual((ternary.read("-12").value, str(ternary.read("12").decimal()), ternary.read("0.1").fraction()), (-5, "5", Fraction(1, 3)))
         self.assertRaisesRegex(ValueError, "mantissa radix and the exponent base", float, ternary.read("12"))
         self.assertRaisesRegex(ValueError, "products of 2 and 5", ternary.read("0.1").decimal)
         self.assertRaisesRegex(ValueError, r"\(4300", int, decimal.read("9" * 4301))
-        self.assertEqual(int(Language.RUST_HEX_INTEGER.read("F" * 5000)), 16**5000 - 1)
+        self.assertEqual(int(Language.RUST.read("0x" + "F" * 5000)), 16**5000 - 1)
         self.assertEqual(len(decimal.read("9" * 10**6).decimal().as_tuple().digits), 10**6)
         self.assertEqual(decimal.read("1e999999").fraction(), 10**999999)
-        self.assertEqual(binary.read("1p-1430676").decimal().adjusted(), -430677)
+        self.assertEqual(binary.read("0x1p-1430676").decimal().adjusted(), -430677)
         large = [decimal.read("9" * (10**6 + 1)).decimal, decimal.read("1e1000000").fraction, decimal.read("1e-1000000").fraction]
-        large += [decimal.read("1e" + "9" * 5000).decimal, binary.read("1p-1430677").decimal, binary.read("1p3321929").decimal]
-        for call in [*large, binary.read("1p99999999999999999999").fraction]:
+        large += [decimal.read("1e" + "9" * 5000).decimal, binary.read("0x1p-1430677").decimal, binary.read("0x1p3321929").decimal]
+        for call in [*large, binary.read("0x1p99999999999999999999").fraction]:
             self.assertRaisesRegex(OverflowError, "more than 10\\^6 digits", call)
 
     def test_conditions(self):
@@ -247,6 +247,18 @@ class Literals(unittest.TestCase):
                 self.assertEqual((error.kind, error.conditions, error.mask, error.edits), (ReadErrorKind.REQUIREMENT, (name,), 0, ()))
         for error, call in ((OptionsError, lambda: Syntax(Format(), required_base_prefix=True)), (SettingsError, lambda: Syntax.of("required_base_prefix=true"))):
             self.assertRaisesRegex(error, "^required_base_prefix is set, and the format has no base prefix$", call)
+
+    def test_numbers_are_written(self):
+        german, hexadecimal = Syntax.of(digit_separator=".", internal_digit_separator=True, point=","), Syntax.of(radix=16, base_prefix="x", exponent="p")
+        rows = [(0, "0"), (-1234567, "-1.234.567"), (10**40, "10" + ".000" * 13), (1234.5, "1.234,5"), (-1e300, "-1e300"), (Decimal("1234.50"), "1.234,50")]
+        for value, text in [*rows, (Decimal("1E+3"), "1.000"), (Decimal("1E-500"), "1e-500"), (Language.CSV_EN.read("1,234.50"), "1.234,50")]:
+            self.assertEqual(german.format_number(value, group=3), text)
+            if not isinstance(value, peltzivar.Literal):
+                self.assertEqual(german.read(text).decimal(), Decimal(repr(value)) if isinstance(value, float) else value)
+        self.assertEqual([hexadecimal.format_number(2**128 // 3), hexadecimal.format_number(31, without_base=True)], ["0x" + "5" * 32, "1F"])
+        wrong = [(german, math.inf, "NaN or infinity"), (german, Decimal("NaN"), "NaN or infinity"), (hexadecimal, 2**127, "radix")]
+        for syntax, value, sentence in [*wrong, (Syntax.integers(Format()), 1.5, "decimal point"), (Language.C.forms["octal"], -1, "'-'")]:
+            self.assertRaisesRegex(ValueError, sentence, syntax.format_number, value)
 
     def test_a_locale_plays_no_role(self):
         """Tests C, too, since it has the same locale."""
@@ -305,6 +317,19 @@ class Literals(unittest.TestCase):
                 is_read = False
             self.assertEqual(is_read, mark in ("+", "-!"), (name, text))
 
+    def test_forms_of_languages(self):
+        rows = [("10", "decimal", 10), ("017", "octal", 15), ("0x1F", "hexadecimal", 31), ("0x1.8p1", "hexadecimal float", 3.0)]
+        for text, form, value in rows:
+            for it in (Language.C.read(text), Language.C.read_prefix(text + "z")[0]):
+                for literal in (it, pickle.loads(pickle.dumps(it))):
+                    self.assertEqual((literal.form, repr(literal.value), literal.syntax), (form, repr(value), Language.C.forms[form]))
+                    self.assertEqual(Language.C.forms[form].read(text), literal)
+        for text, form, index in (("0b12", "binary", 3), ("10d", "decimal", 2), ("0b", "binary", 2), ("0b102z", "binary", 4)):
+            with self.assertRaises(LiteralError) as caught:
+                Language.PYTHON.read(text)
+            error = pickle.loads(pickle.dumps(caught.exception))
+            self.assertEqual((error.form, error.valid_up_to), (form, index), text)
+
     def test_special_values(self):
         for text, wanted in (("+inf", "+INF"), (b"-nan", "-NAN"), ("inf", "INF")):
             special = Language.TOML.read(text)
@@ -347,6 +372,7 @@ WRONG = [
     ("Syntax.of(exponnt='_')", TypeError, "of() got an unexpected keyword argument 'exponnt': unknown setting `exponnt`; did you mean `exponent`?"),
     ("Format.of(exponent='p')", TypeError, "of() got an unexpected keyword argument 'exponent': unknown setting name"),
     ("Syntax.of(required_base_prefix=1)", TypeError, "required_base_prefix is a bool, not int"),
+    ("Syntax(Format()).format_number('1')", TypeError, "value is a number or a Literal, not str"),
     ("Syntax.of(point='')", ValueError, f"point is {BYTE}: ''"),
     ("Edit.of('digit_seperator', '_')", ValueError, f"setter 'digit_seperator': {SUGGESTION}"),
     ("Format.of(\"digit_seperator='_'\")", ValueError, f"digit_seperator='_': {SUGGESTION}"),

@@ -43,7 +43,7 @@ def suffix(pattern):
     return Cause("+", f"(?P<number>.+?)({pattern})", "a suffix of a type")
 
 
-RANGE = Cause("-", r".*[eEpP]\+?\d{3,}|.{10,}", "a number that the tool has no type for")
+RANGE = Cause("-", r".*[dDeEpP]\+?\d{3,}|.{10,}", "a number that the tool has no type for")
 
 # A language: its name, its tool, the alphabet of the short texts, the separator of the seeds, and what other random texts are
 # near to.
@@ -75,7 +75,7 @@ LANGUAGES = [
         Cause("+", ".*[pP][+-]_*", "a sign without an exponent"),
         Cause("+", r".*(\._+([eEpP].*)?|[eEpP][+-]?_+)|0[a-zA-Z]_+\..*", "a part of separators alone")]),
     Language("OCAML", "ocaml", "018._exp-+b", "_", "1l 1n 1L 1z", [
-        suffix("[g-zG-Z]"), Cause("+", r"[0-9][0-9_]*\._[_0-9eE+-]*[g-zG-Z]?", "a fraction of separators alone")]),
+        suffix("[g-zG-Z]"), Cause("+", r".*\._+([eEpP].*)?[g-zG-Z]?", "a fraction of separators alone")]),
     Language("PYTHON", "ast", "018._exj-+b", "_", "1j 0j", [
         suffix("[jJ]"), Cause("+", "0[0_]*", "an integer of zeros alone"), Cause("+", "[0-9_]+[jJ]", "digits of an imaginary number")]),
     Language("RUBY", "ruby", "018._exr-+b", "_", "1r 1i 1ri 0d10", [suffix("ri?|i")]),
@@ -85,5 +85,6 @@ LANGUAGES = [
     Language("SQL", "postgres", "019.eE+-x_", "_", "", []),
     Language("SQL", "sqlite", "019.eE+-x_", "_", "", [Cause("+", "[+-]?0[xX].*", "hexadecimal, beyond the standard")]),
     Language("TOML", "tomllib", "018._exo-+b", "_", "inf nan +inf", []),
-    Language("YAML", "yaml", "018.exo-+inf", "_", ".inf -.Inf .NaN", []),
+    Language("YAML", "yaml", "018.exo-+inf", "_", ".inf -.Inf .NaN", [
+        Cause("-", r"[+-]?\.(?i:inf|nan)", "a case or a sign that a format cannot refuse")]),
 ]

@@ -57,18 +57,23 @@ static READERS: [Reader; COUNT] = {
     readers
 };
 
-/// The most forms of a language.
-const MOST_FORMS: usize = 8;
-
-/// Returns the name of a form. The forms of each language have the next indices.
-const fn form_name(index: usize) -> &'static str {
-    let forms = Language::ALL[index / MOST_FORMS].forms();
-    assert!(forms.len() <= MOST_FORMS);
-    if index % MOST_FORMS < forms.len() {
-        forms[index % MOST_FORMS].name
-    } else {
-        ""
+/// Returns the number of forms that the languages before one have.
+const fn forms_before(language: usize) -> usize {
+    let (mut count, mut index) = (0, 0);
+    while index < language {
+        count += Language::ALL[index].forms().len();
+        index += 1;
     }
+    count
+}
+
+/// Returns the name of a form by its index among those of all languages.
+const fn form_name(index: usize) -> &'static str {
+    let mut language = 0;
+    while forms_before(language + 1) <= index {
+        language += 1;
+    }
+    Language::ALL[language].forms()[index - forms_before(language)].name
 }
 
 /// Returns the index of the language that a reader reads, and its forms.
@@ -88,7 +93,7 @@ const fn or_empty(spelling: Option<&'static [u8]>) -> &'static [u8] {
 
 texts! {
     NAMES: [32; COUNT] = |index| Language::ALL[index].name().as_bytes();
-    FORM_NAMES: [32; COUNT * MOST_FORMS] = |index| form_name(index).as_bytes();
+    FORM_NAMES: [32; forms_before(COUNT)] = |index| form_name(index).as_bytes();
     NAN: [16; COUNT] = |index| or_empty(Language::ALL[index].specials().nan);
     INF: [16; COUNT] = |index| or_empty(Language::ALL[index].specials().inf);
     INFINITY: [16; COUNT] = |index| or_empty(Language::ALL[index].specials().infinity);
@@ -114,8 +119,8 @@ calls! {
     fn peltzivar_language_name(index: usize) -> *const u8 { at(&NAMES, index) }
 
     fn peltzivar_form_name(reader: Option<&Reader>, form: usize) -> *const u8 {
-        let index = language_of(reader).filter(|_| form < MOST_FORMS).map(|(index, _)| index * MOST_FORMS + form);
-        at(&FORM_NAMES, index.unwrap_or(usize::MAX))
+        let language = language_of(reader).filter(|(_, forms)| form < forms.len());
+        at(&FORM_NAMES, language.map_or(usize::MAX, |(language, _)| forms_before(language) + form))
     }
 
     fn peltzivar_form_syntax(reader: Option<&Reader>, form: usize, out: Out<Syntax>) -> bool {

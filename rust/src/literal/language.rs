@@ -6,10 +6,11 @@ use core::{fmt, hash};
 /// How a language, or a file, writes numbers: the syntax and the reader of each form, such as decimal and hexadecimal,
 /// and the spellings of NaN and infinity. The readers are constants, so no tables are made at run time.
 ///
-/// The documentation of each language names the section of the grammar that it follows, and what a format cannot
-/// express. No format rejects `-`, and no format requires its base prefix or suffix, or a decimal point, so
-/// [`C_FLOAT`][Self::C_FLOAT] reads `1` and `08`. A language whose name ends in `_INTEGER` has integers alone. To copy
-/// a format, print its setter calls with [`source`][crate::source].
+/// A text is a number if it is one token of the language. So `-1` is one only where the grammar says so, and a suffix that
+/// names a type, as in `10u`, belongs to no number: [`read_prefix`][Self::read_prefix] returns `10` and `u`. Decimal is the
+/// first form. The documentation of each language names the section of the grammar that it follows, and what a format
+/// cannot express. `compare/languages` holds the languages against their tools. To copy a format, print its setter calls
+/// with [`source`][crate::source].
 ///
 /// [`Readers`] are the same for forms of your own.
 ///
@@ -47,7 +48,7 @@ pub struct Form {
 }
 
 impl Language {
-    /// Returns the name of the constant, such as `C_HEX_FLOAT`.
+    /// Returns the name of the constant, such as `C_SHARP`.
     #[must_use]
     pub const fn name(&self) -> &'static str {
         self.0.name

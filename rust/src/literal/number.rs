@@ -109,10 +109,10 @@ impl Eq for Reader {}
 /// let literal = Language::TOML.read(b"-9_223_372_036_854_775_808")?.literal().unwrap();
 /// assert_eq!(i64::try_from(literal), Ok(i64::MIN));
 /// assert_eq!(i32::try_from(literal).unwrap_err().to_string(), "below -2147483648, the least i32");
-/// assert_eq!(Language::RUST_HEX_INTEGER.parse::<u16>("0xFFFF")?, u16::MAX);
+/// assert_eq!(Language::RUST.parse::<u16>("0xFFFF")?, u16::MAX);
 ///
 /// // A float is no integer, even if its value is whole.
-/// let literal = Language::SPREADSHEET_CSV.read(b"1,234.50")?.literal().unwrap();
+/// let literal = Language::CSV_EN.read(b"1,234.50")?.literal().unwrap();
 /// assert_eq!(literal.to_i64().unwrap_err().kind(), ValueErrorKind::Float);
 /// assert_eq!(f64::try_from(literal)?, 1234.5);
 /// # Ok::<(), ParseError>(())

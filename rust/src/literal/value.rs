@@ -71,7 +71,7 @@ impl<'a> Literal<'a> {
     /// ```
     /// use peltzivar::literal::Language;
     ///
-    /// let literal = Language::RUST_HEX_INTEGER.read(b"0xFF")?.literal().unwrap();
+    /// let literal = Language::RUST.read(b"0xFF")?.literal().unwrap();
     /// assert_eq!(u128::from_str_radix(&literal.plain().unwrap().to_string(), 16), Ok(255));
     /// # Ok::<(), peltzivar::literal::FormError>(())
     /// ```
