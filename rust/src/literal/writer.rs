@@ -181,6 +181,10 @@ impl Sink for Printer<'_, '_> {
             self.result = self.f.write_char(byte.into());
         }
     }
+
+    fn put_all(&mut self, bytes: &[u8]) {
+        bytes.iter().for_each(|byte| self.put(*byte));
+    }
 }
 
 /// Prints the reason, such as `no literal has the sign '-'`.
