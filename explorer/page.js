@@ -21,7 +21,7 @@ class Page {
         this.library = library;
         this.data = data;
         const forms = data.languages.flatMap((language) => language.forms);
-        for (const form of forms) Object.assign(form, { word: library.build(form.settings).word, conditions: 0 });
+        for (const form of forms) Object.assign(form, library.stateOfSyntax(form.syntax));
         [this.past, this.future] = [[], []];
         const edit = (name, value, key) => this.edit(name, value, key);
         const use = (state) => {

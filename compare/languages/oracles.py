@@ -85,5 +85,6 @@ LANGUAGES = [
     Language("SQL", "postgres", "019.eE+-x_", "_", "", []),
     Language("SQL", "sqlite", "019.eE+-x_", "_", "", [Cause("+", "[+-]?0[xX].*", "hexadecimal, beyond the standard")]),
     Language("TOML", "tomllib", "018._exo-+b", "_", "inf nan +inf", []),
-    Language("YAML", "yaml", "018.exo-+inf", "_", ".inf -.Inf .NaN", []),
+    Language("YAML", "yaml", "018.exo-+inf", "_", ".inf -.Inf .NaN", [
+        Cause("-", r"[+-]?\.(?i:inf|nan)", "a case or a sign that a format cannot refuse")]),
 ]

@@ -245,56 +245,88 @@ fn special_values_are_known() {
     assert_eq!((special(separators, "nf"), special("", "1"), special("no_special=true", "inf")), (None, None, None));
 }
 
-/// Returns the rows of literals.txt: a language, a text, and whether the format of the language accepts it.
-fn rows() -> impl Iterator<Item = (Language, &'static str, bool)> {
-    let rows = include_str!("literals.txt").lines().filter(|row| !row.is_empty() && !row.starts_with('#'));
+/// A row of a table: a language, a text, whether the language accepts it, and the value, if the tool printed one.
+type Row = (Language, &'static str, bool, Option<f64>);
+
+/// Returns the rows of literals.txt, and what the tools of languages answered.
+fn rows() -> impl Iterator<Item = Row> {
+    let tables = [include_str!("literals.txt"), include_str!("known/languages.txt")];
+    let rows = tables.into_iter().flat_map(str::lines).filter(|row| !row.is_empty() && !row.starts_with("# "));
     rows.map(|row| {
-        let [name, mark, text] = [0, 1, 2].map(|column| row.split_whitespace().nth(column).expect(row));
-        assert!(["+", "-", "+!", "-!"].contains(&mark), "{row}");
-        (*Language::ALL.iter().find(|it| it.name() == name).expect(row), text, ["+", "-!"].contains(&mark))
+        let cells = Vec::from_iter(row.split_whitespace());
+        let &[name, mark, text, ..] = &cells[..] else { panic!("{row}") };
+        let is_accepted = match mark {
+            "+" | "-!" | "=!" => true,
+            "-" | "+!" => false,
+            _ => panic!("{row}"),
+        };
+        let value = cells.get(3).filter(|_| mark == "+").and_then(|value| value.parse().ok());
+        (*Language::ALL.iter().find(|it| it.name() == name).expect(row), text, is_accepted, value)
     })
 }
 
 #[test]
-fn languages_accept_and_reject_what_their_grammars_do() {
-    for (language, text, is_accepted) in rows() {
+fn languages_answer_as_their_grammars_and_tools_do() {
+    for (language, text, is_accepted, value) in rows() {
         let result = language.read(text.as_bytes());
         assert_eq!(result.is_ok(), is_accepted, "{language}: {text}: {result:?}");
         let first = language.readers().as_slice().iter().position(|reader| read(reader, text.as_bytes()).is_ok());
         assert_eq!(result.ok().and_then(|number| number.form()), first, "{language}: {text}");
-    }
-}
-
-/// For each setting with which a language differs from a new builder, a row changes without it. The exponent base changes
-/// values alone. Where a format is not lawful without a setting, consecutive separators have a row.
-#[test]
-fn each_setting_of_a_language_has_a_row() {
-    for (language, index) in Language::ALL.iter().flat_map(|it| (0..it.forms().len()).map(move |index| (it, index))) {
-        let (syntax, own) = (language.forms()[index].syntax, language.specials());
-        let specials = if own == Specials::default() { SPECIALS } else { own };
-        for edit in syntax.format().edits().filter(|edit| !matches!(edit, Edit::ExponentBase(_))) {
-            let others: NumberFormatBuilder = syntax.format().edits().filter(|it| *it != edit).collect();
-            let Ok(format) = others.build_format() else { continue };
-            let options = syntax.exponent().zip(syntax.point());
-            let with_options = options.map(|(exponent, point)| Syntax::new_or_panic(format, exponent, point));
-            let without = with_options.unwrap_or(Syntax::integers(format));
-            let mut forms = language.readers().as_slice().to_vec();
-            forms[index] = Reader::new(without);
-            let readers = Readers::new(&forms).unwrap().with_specials(specials);
-            let mut rows = rows().filter(|row| row.0 == *language);
-            let has_row = rows.any(|(_, text, is_accepted)| readers.read(text.as_bytes()).is_ok() != is_accepted);
-            assert!(has_row || without == syntax, "rust/tests/literals.txt: no row of {language} needs {edit}");
+        if let (Ok(number), Some(value)) = (result, value) {
+            let found = number.to_f64();
+            assert!(found == value || found.is_nan() && value.is_nan(), "{language}: {text} is {value}, not {found}");
         }
     }
 }
 
-/// The digits of a hexadecimal float are multiplied by a power of 2, and the digits of other floats by a power of 10.
+/// For each setting with which a form differs from a new builder, and for each condition, a row changes without it. The
+/// exponent base changes values alone, and the first form decides what special values are. Where a format is not lawful
+/// without a setting, consecutive separators have a row.
+#[test]
+fn each_setting_of_a_language_has_a_row() {
+    for language in Language::ALL {
+        let rows = Vec::from_iter(rows().filter(|row| row.0 == *language));
+        let own = language.specials();
+        let specials = if own == Specials::default() { SPECIALS } else { own };
+        for (index, form) in language.forms().iter().enumerate() {
+            let has_row = |without: Syntax| {
+                let mut forms = language.readers().as_slice().to_vec();
+                forms[index] = Reader::new(without);
+                let readers = Readers::new(&forms).unwrap().with_specials(specials);
+                rows.iter().any(|(_, text, is_accepted, _)| readers.read(text.as_bytes()).is_ok() != *is_accepted)
+            };
+            let (syntax, conditions) = (form.syntax, form.syntax.conditions());
+            let is_seen = |edit: &Edit| match edit {
+                Edit::ExponentBase(_) => false,
+                Edit::Flag(flag, _) => index == 0 || *flag != FlagSetter::NoSpecial,
+                _ => true,
+            };
+            for edit in syntax.format().edits().filter(is_seen) {
+                let others: NumberFormatBuilder = syntax.format().edits().filter(|it| *it != edit).collect();
+                let Ok(format) = others.build_format() else { continue };
+                let options = syntax.exponent().zip(syntax.point());
+                let with_options = options.map(|(exponent, point)| Syntax::new_or_panic(format, exponent, point));
+                let Ok(without) = with_options.unwrap_or(Syntax::integers(format)).with(conditions) else { continue };
+                assert!(has_row(without) || without == syntax, "no row of {language} needs {edit} of {}", form.name);
+            }
+            for other in [
+                conditions.required_base_prefix(false),
+                conditions.required_base_suffix(false),
+                conditions.no_negative_mantissa_sign(false),
+            ] {
+                let is_needed = other == conditions || has_row(syntax.with_or_panic(other));
+                assert!(is_needed, "no row of {language} needs {conditions:?} of {}", form.name);
+            }
+        }
+    }
+}
+
+/// The digits before the exponent character `p` are multiplied by a power of 2, and others by a power of 10.
 #[test]
 fn exponents_of_languages_have_the_bases_of_their_grammars() {
     for (language, form) in Language::ALL.iter().flat_map(|it| it.forms().iter().map(move |form| (it, form))) {
-        let base = if form.name == "hexadecimal" { 2 } else { 10 };
         let syntax = form.syntax;
-        assert_eq!(syntax.point().is_none(), language.name().ends_with("_INTEGER"), "{language}");
+        let base = if syntax.exponent() == Some(b'p') { 2 } else { 10 };
         assert!(syntax.point().is_none() || syntax.format().exponent_base() == base, "{language}");
     }
 }
@@ -323,7 +355,7 @@ fn any_bytes_are_read() {
     for language in Language::ALL {
         texts.iter().for_each(|text| agree(*language, text));
     }
-    for (language, text, _) in rows() {
+    for (language, text, ..) in rows() {
         let long = text.replace('1', &"1".repeat(99));
         for (front, rest) in (0..=long.len()).map(|size| long.as_bytes().split_at(size)) {
             agree(language, front);
