@@ -1,9 +1,10 @@
 -- What is laid out is a literal.
 use Rattle.std.proofs.Common.{ℕ, ◌≡◌, ◌<◌, ◌≤◌, ◌==◌, ◌&&◌, ◌||◌, not, if◌then◌else◌, Bool, true, false, nat_lt, IsTrue, List, []}
-use Rattle.std.proofs.Common.{Option, Some, None, is_some, option_to_list, refl, sym, ap, ◌∙◌, arith}
+use Rattle.std.proofs.Common.{cond, Option, Some, None, is_some, option_to_list, refl, sym, ap, ◌∙◌, arith}
 use Rattle.std.proofs.lemmas.Bool.{and_right, false≢true, lt-ltb, or_left, or_right}
 use Rattle.std.proofs.lemmas.Bool.Decides.{nat_tests}
 use Rattle.std.specs.Borrow.{Bor}
+use Rattle.std.specs.List.{find}
 use Rattle.std.specs.Int.Digits.{AllBelowBase}
 use Rattle.lexical_util.specs.Ascii.{allowed_ascii}
 use Rattle.lexical_util.specs.Digits.{byte_value}
@@ -18,7 +19,7 @@ use Rattle.lexical_util.specs.declared.format_flags.Part.TheVariants as parts
 use Rattle.lexical_base.proofs.ValueLemmas.{byte_value-digit_character}
 use Rattle.lexical_literal.specs.Literal.{IsLiteral, IsSpelled, condition, has_leading_zero, is_absent, is_none_or_one, is_none_or_prefix, is_plus, is_present, requirement}
 use Rattle.lexical_literal.specs.Notation.{lacks_options, notation_of, point_of, exponent_character_of, radix_of}
-use Rattle.lexical_literal.specs.Syntax.{IsSyntax, FitIfAny}
+use Rattle.lexical_literal.specs.Syntax.{IsSyntax, FitIfAny, contradicts}
 use Rattle.lexical_literal.specs.declared.syntax.Condition.{Condition}
 use Rattle.lexical_literal.specs.declared.syntax.Condition.TheVariants as conditions
 use Rattle.lexical_literal.specs.declared.syntax.ConditionsError.TheVariants as contradictions
@@ -101,11 +102,13 @@ none_refused false false true is = absurd (let apart : Some errors.Exponent ≡ 
 none_refused false false false is = (refl, refl, refl)
 
 -- Where a byte is required, it is there.
-none_lacks : (a b : Bool) → (if a then Some contradictions.NoBasePrefix else (if b then Some contradictions.NoBaseSuffix else None)) ≡ None
-    → (a ≡ false) × (b ≡ false)
-none_lacks true b is = absurd (let apart : Some contradictions.NoBasePrefix ≡ None = is in cc)
-none_lacks false true is = absurd (let apart : Some contradictions.NoBaseSuffix ≡ None = is in cc)
-none_lacks false false is = (refl, refl)
+first_two : {A : Type 0} (f : A → Bool) (a b : A) (rest : List A) → find f (a ∷ b ∷ rest) ≡ None → (f a ≡ false) × (f b ≡ false)
+first_two f a b rest is = go (f a) (f b) is
+  where
+    go : (s t : Bool) → cond s (Some a) (cond t (Some b) (find f rest)) ≡ None → (s ≡ false) × (t ≡ false)
+    go true t is = absurd (let apart : Some a ≡ None = is in cc)
+    go false true is = absurd (let apart : Some b ≡ None = is in cc)
+    go false false is = (refl, refl)
 
 prefix_required : (style required absent : Bool) (byte : ℕ) → (required && absent) ≡ false → required ≡ true
     → is_present (after_zero (only_if ((style || required) && not absent) byte)) ≡ true
@@ -331,7 +334,7 @@ module _ (g : Grammar) (style : Style) (amount : Amount) (is : IsSyntax g)
   -- The conditions are met.
   there : ((g.conditions.required_base_prefix && ((raw g.word).byte layout.base_prefix == 0)) ≡ false)
       × ((g.conditions.required_base_suffix && ((raw g.word).byte layout.base_suffix == 0)) ≡ false)
-  there = none_lacks _ _ is.conditions
+  there = first_two (λ error. contradicts error (raw g.word) g.conditions) contradictions.NoBasePrefix contradictions.NoBaseSuffix _ is.conditions
 
   conditions_met : (c : Condition) → IsTrue ((notation_of g).condition c) → IsTrue (condition c (laid_out g style amount))
   conditions_met conditions.BasePrefix set = prefix_required style.prefix _ _ _ there.0 set
