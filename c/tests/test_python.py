@@ -309,7 +309,7 @@ class Literals(unittest.TestCase):
 
     def test_languages_read_the_texts_of_their_grammars(self):
         rows = [row.split()[:3] for row in (TOP / "rust/tests/literals.txt").read_text().splitlines() if row and row[0] != "#"]
-        self.assertEqual({name for name, *_ in rows}, {it.name for it in Language})
+        self.assertLessEqual({name for name, *_ in rows}, {it.name for it in Language})
         for name, mark, text in rows:
             try:
                 is_read = bool(getattr(peltzivar.languages, name).read(text))

@@ -54,11 +54,12 @@
 #[allow(clippy::redundant_pattern_matching, reason = "as it is proved")]
 mod cause;
 mod conditions;
+mod groups;
 mod language;
 #[allow(clippy::len_zero, reason = "as it is proved")]
 mod list;
 mod number;
-#[allow(clippy::needless_lifetimes, reason = "as it is proved")]
+#[allow(clippy::manual_unwrap_or, clippy::needless_lifetimes, reason = "as it is proved")]
 mod read;
 mod readers;
 mod sentence;

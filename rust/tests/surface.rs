@@ -81,10 +81,14 @@ const _: fn(literal::FormError) -> (usize, literal::ReadError) = |it| match it {
 const _: fn(literal::Form) -> (&'static str, literal::Syntax) = |it| match it {
     literal::Form { name, syntax, .. } => (name, syntax),
 };
-const _: fn(literal::Conditions) -> (bool, bool, bool) = |it| match it {
-    literal::Conditions { required_base_prefix, required_base_suffix, no_negative_mantissa_sign, .. } => {
-        (required_base_prefix, required_base_suffix, no_negative_mantissa_sign)
-    }
+const _: fn(literal::Conditions) -> (bool, bool, bool, Option<u8>) = |it| match it {
+    literal::Conditions {
+        required_base_prefix,
+        required_base_suffix,
+        no_negative_mantissa_sign,
+        integer_group_size,
+        ..
+    } => (required_base_prefix, required_base_suffix, no_negative_mantissa_sign, integer_group_size),
 };
 const _: fn(Separators) -> (bool, bool, bool, bool) = |it| match it {
     Separators { internal, leading, trailing, consecutive, .. } => (internal, leading, trailing, consecutive),
@@ -411,13 +415,14 @@ names! { error::Class:
 }
 names! { literal::Conditions:
     [const fn(a: literal::Conditions) -> bool] is_none;
+    [const fn(a: literal::Conditions, b: Option<u8>) -> literal::Conditions] integer_group_size;
     [const fn(a: literal::Conditions, b: bool) -> literal::Conditions] no_negative_mantissa_sign required_base_prefix
         required_base_suffix;
     [literal::Conditions] NONE;
 }
 names! { literal::ConditionsError:
     [const fn(a: &literal::ConditionsError) -> ShortText] text;
-    [literal::ConditionsError] NoBasePrefix NoBaseSuffix;
+    [literal::ConditionsError] GroupSize NoBasePrefix NoBaseSuffix NoInternalSeparator;
 }
 names! { literal::Language:
     [&'static [literal::Language]] ALL;
