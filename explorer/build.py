@@ -118,16 +118,6 @@ def conditions():
     return [{"name": name, "meaning": does, "refuses": [text.strip("`")]} for does, text, name in found]
 
 
-def setting(call):
-    """Returns a setter call of a language as a setting."""
-    name, argument = re.fullmatch(r"\.(\w+)\((.*)\)", call).groups()
-    value = re.sub(r"^NonZeroU8::new\((.*)\)$", r"\1", argument)
-    value = re.sub(r"^b'\\?(.)'$", r"'\1'", value)
-    if not re.fullmatch(r"'.'|\d+|true|false", value):
-        sys.exit(f"rust/src/literal/language.rs: not a value: {argument}")
-    return f"{name}={value}"
-
-
 def numbers(name, has_specials):
     """Returns the numbers of a language, one a line: those that it rejects behind a `!`. Spellings of NaN are no field."""
     rows = re.findall(rf"^{name} +([+-]) +(\S+)", (TOP / "rust/tests/literals.txt").read_text(), re.M)
@@ -136,27 +126,25 @@ def numbers(name, has_specials):
 
 
 def languages():
-    """Returns the languages: name, comment, numbers and forms. Each form has a name, settings, and options: integers alone
-    have the options 0."""
-    text = (TOP / "rust/src/literal/language.rs").read_text()
-    found = re.findall(r"((?:^    ///[^\n]*\n)+)^    (\w+) = \{ (.*?)\n? *\}(,| *;)", text, re.M | re.S)
-    head = r'"([^"]+)": \w+\((?:b\'(.)\', )?NumberFormatBuilder::new\(\)'
-    for comment, name, body, end in found:
-        forms = re.findall(rf"{head}((?:\n +\..*)*)", body)
-        if not forms or len(forms) != body.count("NumberFormatBuilder::new()"):
-            sys.exit(f"rust/src/literal/language.rs: {name} has another form")
+    """Returns the languages: name, comment, numbers and forms. Each form has a name, settings, conditions, and options:
+    integers alone have the options 0."""
+    text = (TOP / "rust/src/literal/language/tables.rs").read_text()
+    found = re.findall(r"((?:^    ///[^\n]*\n)+)^    (\w+) = \{.*?\n?(?: {4})? ?\}(,|;)", text, re.M | re.S)
+    lines = output("cargo", "run", "-q", "--manifest-path", TOP / "rust/Cargo.toml", "--example", "languages").splitlines()
+    for comment, name, end in found:
+        forms = [line.split("\t")[1:] for line in lines if line.startswith(f"{name}\t")]
         yield {
             "name": name,
             "about": " ".join(comment.replace("///", "").split()),
-            "numbers": numbers(name, "," in end),
+            "numbers": numbers(name, end == ","),
             "forms": [
                 {
                     "name": form,
-                    "settings": [setting(call) for call in re.findall(r"^ +(\.\w+\(.*?\))(?: //.*)?$", calls, re.M)],
-                    "exponent": ord(exponent or "\0"),
-                    "point": ord("." if exponent else "\0"),
+                    "settings": settings.split(),
+                    "conditions": re.findall(r"(\w+)=true", syntax),
+                    **dict(zip(("exponent", "point"), map(int, [*re.findall(r" (\d+)\b", syntax), 0, 0]))),
                 }
-                for form, exponent, calls in forms
+                for form, syntax, settings in forms
             ],
         }
 

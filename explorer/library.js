@@ -147,6 +147,11 @@ class Library {
         return `${name}=${isNumber ? value : quoted(value, "")}`;
     }
 
+    /* Returns the conditions with these names, as bits. */
+    conditionsOf(names) {
+        return this.conditions.reduce((all, { name, flag }) => (names.includes(name) ? all | flag : all), 0);
+    }
+
     /* Returns {word, notes}, and the options and conditions of a text, or {error}. The text is hexadecimal, decimal, or
      * settings, in which # begins a comment. */
     read(text) {

@@ -329,9 +329,8 @@ class Walk(unittest.TestCase):
         self.assertEqual(self.texts("#texts h3"), ["Accepted here and refused there"])
         self.assertIn("1_0 unexpected character '_'", self.texts("#texts li"))
         self.assertIn("+1 unexpected plus sign, which no_positive_mantissa_sign forbids", self.texts("#texts li"))
-        Select(self.find("#language")).select_by_value("PYTHON_HEX_INTEGER")
-        self.assertIn("0x1 unexpected character 'x'", self.texts("#texts li"))
-        self.assertEqual(self.texts("#texts li")[-1], "10 is 16 here, and 10 there")
+        Select(self.find("#language")).select_by_value("PYTHON")
+        self.assertIn("1. expected a digit after the decimal point", "".join(self.texts("#texts li")))
 
     def test_conditions_are_offered_and_fit_the_format(self):
         self.load("#word=0x0A0210007800005F000000010000000C&exponent=112&numbers=!1F%0A0x1F%0A-0x1F")
@@ -453,10 +452,10 @@ class Walk(unittest.TestCase):
             Select(self.find("#language")).select_by_value(name)
             self.assertEqual((self.text("#verdict"), self.texts("#read .unexpected")), ("Lawful", []), name)
             self.assertIn("!", self.value("#literal"), name)
-        Select(self.find("#language")).select_by_value("C_HEX_FLOAT")
+        Select(self.find("#language")).select_by_value("C")
         self.assertIn("C23", self.text("#about"))
-        self.assertEqual((self.value("#exponent"), self.value("#digit_separator")), ("p", "'"))
-        self.assertEqual(self.value(), "0x0A02100078000027000000070000441C")
+        self.assertEqual((self.value("#exponent"), self.value("#digit_separator")), ("e", "'"))
+        self.assertEqual(self.value(), "0x0A0A0A0000000027000000070000141C")
         self.click("#no_special")
         self.assertEqual(self.value("#language"), "")
         self.type("#literal", "7")
@@ -465,7 +464,7 @@ class Walk(unittest.TestCase):
         self.assertEqual((self.value(), self.value("#literal")), ("0x00000A0000000000000000000000341F", "7"))
 
     def test_integers_alone_have_no_options(self):
-        Select(self.find("#language")).select_by_value("RUST_HEX_INTEGER")
+        self.load("#word=0x10101000780000000000000100000000&exponent=0&point=0")
         self.assertEqual((self.value("#exponent"), self.value("#point")), ("", ""))
         self.type("#exponent", "p")
         self.assertEqual((self.value("#point"), self.text("#verdict")), (".", "Lawful"))
