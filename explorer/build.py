@@ -125,28 +125,12 @@ def numbers(name, has_specials):
     return "\n".join(text if mark == "+" else f"!{text}" for mark, text in rows)
 
 
-def languages():
-    """Returns the languages: name, comment, numbers and forms. Each form has a name, settings, conditions, and options:
-    integers alone have the options 0."""
+def languages(forms):
+    """Returns the languages: name, comment, numbers and forms."""
     text = (TOP / "rust/src/literal/language/tables.rs").read_text()
-    found = re.findall(r"((?:^    ///[^\n]*\n)+)^    (\w+) = \{.*?\n?(?: {4})? ?\}(,|;)", text, re.M | re.S)
-    lines = output("cargo", "run", "-q", "--manifest-path", TOP / "rust/Cargo.toml", "--example", "languages").splitlines()
-    for comment, name, end in found:
-        forms = [line.split("\t")[1:] for line in lines if line.startswith(f"{name}\t")]
-        yield {
-            "name": name,
-            "about": " ".join(comment.replace("///", "").split()),
-            "numbers": numbers(name, end == ","),
-            "forms": [
-                {
-                    "name": form,
-                    "settings": settings.split(),
-                    "conditions": re.findall(r"(\w+)=true", syntax),
-                    **dict(zip(("exponent", "point"), map(int, [*re.findall(r" (\d+)\b", syntax), 0, 0]))),
-                }
-                for form, syntax, settings in forms
-            ],
-        }
+    for comment, name, end in re.findall(r"((?:^    ///[^\n]*\n)+)^    (\w+) = \{.*?\}(,| *;)", text, re.M | re.S):
+        about = " ".join(comment.replace("///", "").split())
+        yield {"name": name, "about": about, "numbers": numbers(name, end == ","), "forms": forms[name]}
 
 
 def rules():
@@ -154,14 +138,14 @@ def rules():
     return [named(condition) for condition in rows(r"^\| \d+ \| (.*?) \| `Invalid")]
 
 
-def data():
-    """Returns the data that the page shows."""
+def data(forms):
+    """Returns the data that the page shows, with these forms of languages."""
     header = (TOP / "c/peltzivar.h").read_text()
     return {
         **fields(),
         "conditions": conditions(),
         "rules": rules(),
-        "languages": [*languages()],
+        "languages": [*languages(forms)],
         "version": re.search(r'^#define PELTZIVAR_VERSION "(.*)"$', header, re.M)[1],
     }
 
@@ -205,14 +189,21 @@ def compiler(folder):
 
 
 def compiled():
-    """Returns the WebAssembly of library.rs with the crate."""
+    """Returns the WebAssembly of library.rs with the crate, and what languages.rs prints, by language."""
     with tempfile.TemporaryDirectory() as folder:
         rustc, wasm = compiler(folder), pathlib.Path(folder, "library.wasm")
-        crate = ["--edition=2021", "--crate-type=rlib", "--crate-name=peltzivar", f"--out-dir={folder}"]
-        output(*rustc, *crate, TOP / "rust/src/lib.rs")
+        crate = ["--edition=2021", "--crate-type=rlib", "--crate-name=peltzivar", TOP / "rust/src/lib.rs"]
+        output(*rustc, *crate, f"--out-dir={folder}")
         page = ["--edition=2024", "--crate-type=cdylib", "-Clto=fat", "-Ccodegen-units=1", "-Cstrip=symbols"]
         output(*rustc, *page, "--extern=peltzivar", "-o", wasm, HERE / "library.rs")
-        return wasm.read_bytes()
+        host, program = pathlib.Path(folder, "host"), pathlib.Path(folder, "languages")
+        output(rustc[0], *crate, f"--out-dir={host}")
+        output(rustc[0], "--edition=2024", f"-L{host}", "--extern=peltzivar", "-o", program, HERE / "languages.rs")
+        forms = {}
+        for line in output(program).splitlines():
+            language, name, syntax = line.split("\t")
+            forms.setdefault(language, []).append({"name": name, "syntax": syntax})
+        return base64.b64encode(gzip.compress(wasm.read_bytes(), mtime=0)).decode(), forms
 
 
 def digest(text):
@@ -220,11 +211,11 @@ def digest(text):
     return f"'sha256-{base64.b64encode(hashlib.sha256(text.encode()).digest()).decode()}'"
 
 
-def page(wasm):
-    """Returns the page with this WebAssembly, which is compressed, and written in base64."""
+def page(wasm, forms):
+    """Returns the page with this WebAssembly, which is compressed, and written in base64, and these forms of languages."""
     style = "\n" + (HERE / "page.css").read_text()
     script = "\n" + "\n".join((HERE / f"{name}.js").read_text() for name in SCRIPTS)
-    embedded = json.dumps(data(), ensure_ascii=False, separators=(",", ":")).replace("<", "\\u003c")
+    embedded = json.dumps(data(forms), ensure_ascii=False, separators=(",", ":")).replace("<", "\\u003c")
     policy = f"default-src 'none'; script-src {digest(script)} 'wasm-unsafe-eval'; style-src {digest(style)}"
     parts = {
         "literals": html(section("Literals")) + html(section("Where separators may be")),
@@ -248,9 +239,12 @@ def main(arguments):
     old = PAGE.read_text() if PAGE.exists() else ""
     found = re.search(r'<script id="library" [^>]*data-hash="(\w+)">([^<]*)</script>', old)
     is_current = bool(found) and found[1] == hash_of(found[2])
+    if is_current:
+        shown = json.loads(re.search(r'<script type="application/json" id="data">([^<]*)</script>', old)[1])["languages"]
+        made = found[2], {language["name"]: language["forms"] for language in shown}
     if arguments:
-        sys.exit(0 if is_current and old == page(found[2]) else "explorer/index.html: not up to date: run explorer/build")
-    text = page(found[2] if is_current else base64.b64encode(gzip.compress(compiled(), mtime=0)).decode())
+        sys.exit(0 if is_current and old == page(*made) else "explorer/index.html: not up to date: run explorer/build")
+    text = page(*(made if is_current else compiled()))
     if len(text.encode()) >= MOST_BYTES:
         sys.exit(f"explorer/index.html: {len(text.encode())} bytes, more than {MOST_BYTES}")
     PAGE.write_text(text)

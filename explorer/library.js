@@ -79,6 +79,15 @@ class Library {
         return this.call("differ", `${passed(states)}\n${passed(others)}`);
     }
 
+    /* Returns the state of a syntax as the library prints it: a word, two bytes unless numbers are integers alone, and the
+     * conditions as settings. */
+    stateOfSyntax(text) {
+        const [word, exponent = 0, point = 0] = text.split(" ").filter((it) => !it.includes("="));
+        const set = this.conditions.filter(({ name }) => text.includes(`${name}=true`));
+        const conditions = set.reduce((all, { flag }) => all | flag, 0);
+        return { word: BigInt(word), exponent: Number(exponent), point: Number(point), conditions };
+    }
+
     /* Returns {value}, or {error} if the setter does not take the text. A separator needs a flag that allows it. */
     parse(name, text) {
         const { word, error } = this.build(["digit_separator_flags=true", `${name}=${text.replace("\n", " ")}`]);
@@ -145,11 +154,6 @@ class Library {
         if (!isByte) return `${name}=${Boolean(value)}`;
         if (value === 0 && name !== "mantissa_radix") return `${name}=none`;
         return `${name}=${isNumber ? value : quoted(value, "")}`;
-    }
-
-    /* Returns the conditions with these names, as bits. */
-    conditionsOf(names) {
-        return this.conditions.reduce((all, { name, flag }) => (names.includes(name) ? all | flag : all), 0);
     }
 
     /* Returns {word, notes}, and the options and conditions of a text, or {error}. The text is hexadecimal, decimal, or

@@ -21,7 +21,7 @@ class Page {
         this.library = library;
         this.data = data;
         const forms = data.languages.flatMap((language) => language.forms);
-        for (const form of forms) Object.assign(form, { word: library.build(form.settings).word, conditions: library.conditionsOf(form.conditions) });
+        for (const form of forms) Object.assign(form, library.stateOfSyntax(form.syntax));
         [this.past, this.future] = [[], []];
         const edit = (name, value, key) => this.edit(name, value, key);
         const use = (state) => {
@@ -254,7 +254,7 @@ class Page {
         const byte = (name) => (parts.has(name) ? this.library.byte(parts.get(name)) : STANDARD_OPTIONS[name]);
         const word = parts.get("word") ? this.library.read(parts.get("word")).word : this.library.standard;
         const names = (parts.get("conditions") ?? "").split(" ");
-        const conditions = this.library.conditionsOf(names);
+        const conditions = this.library.conditions.reduce((all, { name, flag }) => (names.includes(name) ? all | flag : all), 0);
         const found = { word, exponent: byte("exponent"), point: byte("point"), conditions };
         const lost = Object.keys(found).filter((name) => found[name] === undefined);
         for (const name of lost) found[name] = this.library.usual[name];

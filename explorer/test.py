@@ -324,13 +324,28 @@ class Walk(unittest.TestCase):
         self.assertEqual(shown(), (told, ["mantissa_radix=10"]))
 
     def test_texts_tell_two_languages_apart(self):
-        Select(self.find("#language")).select_by_value("TOML")
-        Select(self.find("#compare")).select_by_value("JSON")
-        self.assertEqual(self.texts("#texts h3"), ["Accepted here and refused there"])
-        self.assertIn("1_0 unexpected character '_'", self.texts("#texts li"))
-        self.assertIn("+1 unexpected plus sign, which no_positive_mantissa_sign forbids", self.texts("#texts li"))
-        Select(self.find("#language")).select_by_value("PYTHON")
-        self.assertIn("1. expected a digit after the decimal point", "".join(self.texts("#texts li")))
+        Select(self.find("#language")).select_by_value("JSON")
+        Select(self.find("#compare")).select_by_value("C")
+        self.assertEqual(self.texts("#texts h3")[:2], ["Accepted here and refused there", "Refused here and accepted there"])
+        self.assertIn("-1 unexpected minus sign, which no_negative_mantissa_sign forbids", self.texts("#texts li"))
+        self.assertIn("0x1 unexpected character 'x'", self.texts("#texts li"))
+        Select(self.find("#compare")).select_by_value("C:octal")
+        self.click("#no_special")
+        self.assertEqual(self.texts("#texts li")[-1], "10 is 10 here, and 8 there")
+
+    def test_forms_of_a_language_are_read_together(self):
+        self.type("#literal", "0x1F\n0b12\n1_000\n!1u")
+        Select(self.find("#language")).select_by_value("RUST")
+        self.assertEqual(self.texts("#read p"), [
+            "accepted: integer = 31, hexadecimal", "at index 3: unexpected character '2', binary",
+            "accepted: integer = 1000, decimal", "refused: at index 1: unexpected character 'u', decimal"])
+        self.click("#forms button", "hexadecimal")
+        self.assertEqual((self.value("#base_prefix"), self.value("#language"), self.focused()), ("x", "RUST", ""))
+        self.assertTrue(self.find("#required_base_prefix").is_selected())
+        self.assertEqual((self.value("#exponent"), self.value("#point")), ("", ""))
+        self.assertEqual(self.text("#count"), "3 of 4 as expected")
+        self.click("#no_special")
+        self.assertEqual((self.value("#language"), self.text("#count")), ("", "2 of 4 as expected"))
 
     def test_conditions_are_offered_and_fit_the_format(self):
         self.load("#word=0x0A0210007800005F000000010000000C&exponent=112&numbers=!1F%0A0x1F%0A-0x1F")
@@ -451,20 +466,20 @@ class Walk(unittest.TestCase):
         for name in self.run_script("return page.data.languages.map(({ name }) => name)"):
             Select(self.find("#language")).select_by_value(name)
             self.assertEqual((self.text("#verdict"), self.texts("#read .unexpected")), ("Lawful", []), name)
-            self.assertIn("!", self.value("#literal"), name)
         Select(self.find("#language")).select_by_value("C")
         self.assertIn("C23", self.text("#about"))
-        self.assertEqual((self.value("#exponent"), self.value("#digit_separator")), ("e", "'"))
-        self.assertEqual(self.value(), "0x0A0A0A0000000027000000070000141C")
+        self.click("#forms button", "hexadecimal float")
+        self.assertEqual((self.value("#exponent"), self.value("#digit_separator")), ("p", "'"))
+        self.assertEqual(self.value(), "0x0A02100078000027000000070000441C")
         self.click("#no_special")
         self.assertEqual(self.value("#language"), "")
         self.type("#literal", "7")
         Select(self.find("#language")).select_by_value("JSON")
         Select(self.find("#language")).select_by_value("")
-        self.assertEqual((self.value(), self.value("#literal")), ("0x00000A0000000000000000000000341F", "7"))
+        self.assertEqual((self.value(), self.value("#literal")), ("0x0A0A0A0000000000000000000000341F", "7"))
 
     def test_integers_alone_have_no_options(self):
-        self.load("#word=0x10101000780000000000000100000000&exponent=0&point=0")
+        self.type("#exponent", "")
         self.assertEqual((self.value("#exponent"), self.value("#point")), ("", ""))
         self.type("#exponent", "p")
         self.assertEqual((self.value("#point"), self.text("#verdict")), (".", "Lawful"))
@@ -550,14 +565,14 @@ class Walk(unittest.TestCase):
 
     def test_numbers_are_tried(self):
         self.load("#word=0x00000A000000005F000000020000000C")
-        self.type("#literal", "-0.1_2e5\n-1_000\n1\u00e9\n!1\n!.x")
-        self.assertEqual(self.texts("#read > li:first-child .written span"), ["-", "0", ".", "1", "_", "2", "e", "5"])
+        self.type("#literal", "-0.1_2e-5\n-1_000\n1\u00e9\n!1\n!.x")
+        self.assertEqual(self.texts("#read > li:first-child .written span"), ["-", "0", ".", "1", "_", "2", "e", "-", "5"])
         self.assertEqual(self.find("#read .separator").get_attribute("data-field"), "digit_separator")
         self.assertEqual(self.texts("#read > li:nth-child(2) .written"), ["-1_000"])
         self.assertEqual(self.texts("#read > li:nth-child(2) .written span"), ["-", "1"])
         self.assertEqual(self.texts("#read mark"), ["_", "\u00e9", "x"])
         self.assertEqual(self.texts("#read p"), [
-            "accepted: float = -12000",
+            "accepted: float = -0.0000012",
             "at index 2: unexpected digit separator in the integer after a digit, which requires "
             "integer_internal_digit_separator or integer_trailing_digit_separator",
             "at index 1: unexpected character '\u00e9'",
