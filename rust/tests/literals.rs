@@ -251,7 +251,7 @@ type Row = (Language, &'static str, bool, Option<f64>);
 /// Returns the rows of literals.txt, and what the tools of languages answered.
 fn rows() -> impl Iterator<Item = Row> {
     let tables = [include_str!("literals.txt"), include_str!("known/languages.txt")];
-    let rows = tables.into_iter().flat_map(str::lines).filter(|row| !row.is_empty() && !row.starts_with("# "));
+    let rows = tables.into_iter().flat_map(str::lines).filter(|row| !row.is_empty() && !row.starts_with('#'));
     rows.map(|row| {
         let cells = Vec::from_iter(row.split_whitespace());
         let &[name, mark, text, ..] = &cells[..] else { panic!("{row}") };
@@ -284,6 +284,7 @@ fn languages_answer_as_their_grammars_and_tools_do() {
 /// without a setting, consecutive separators have a row.
 #[test]
 fn each_setting_of_a_language_has_a_row() {
+    let mut missing = vec![];
     for language in Language::ALL {
         let rows = Vec::from_iter(rows().filter(|row| row.0 == *language));
         let own = language.specials();
@@ -307,7 +308,8 @@ fn each_setting_of_a_language_has_a_row() {
                 let options = syntax.exponent().zip(syntax.point());
                 let with_options = options.map(|(exponent, point)| Syntax::new_or_panic(format, exponent, point));
                 let Ok(without) = with_options.unwrap_or(Syntax::integers(format)).with(conditions) else { continue };
-                assert!(has_row(without) || without == syntax, "no row of {language} needs {edit} of {}", form.name);
+                let is_needed = without == syntax || has_row(without);
+                missing.extend((!is_needed).then(|| format!("{language}, {}: {edit}", form.name)));
             }
             for other in [
                 conditions.required_base_prefix(false),
@@ -315,10 +317,11 @@ fn each_setting_of_a_language_has_a_row() {
                 conditions.no_negative_mantissa_sign(false),
             ] {
                 let is_needed = other == conditions || has_row(syntax.with_or_panic(other));
-                assert!(is_needed, "no row of {language} needs {conditions:?} of {}", form.name);
+                missing.extend((!is_needed).then(|| format!("{language}, {}: {conditions:?}", form.name)));
             }
         }
     }
+    assert!(missing.is_empty(), "no row needs these settings: {missing:#?}");
 }
 
 /// The digits before the exponent character `p` are multiplied by a power of 2, and others by a power of 10.
@@ -331,7 +334,7 @@ fn exponents_of_languages_have_the_bases_of_their_grammars() {
     }
 }
 
-/// Each text of up to five bytes that have a role, or none, in some language, and the pieces of long ones: no call panics,
+/// Each text of up to four bytes that have a role, or none, in some language, and the pieces of long ones: no call panics,
 /// and a text is a literal if the longest one that it begins with is the text.
 #[test]
 fn any_bytes_are_read() {
@@ -348,7 +351,7 @@ fn any_bytes_are_read() {
     };
     let bytes = b"-0x_.eph\0\xFF";
     let mut texts = vec![vec![]];
-    for _ in 0..5 {
+    for _ in 0..4 {
         let longer = texts.iter().flat_map(|text| bytes.map(|byte| [text.as_slice(), &[byte]].concat()));
         texts = longer.chain([vec![]]).collect();
     }

@@ -40,7 +40,7 @@ pub struct Literals {
     hundred: Texts,
 }
 
-const LANGUAGES: [Language; 3] = [Language::JSON, Language::TOML, Language::C_FLOAT];
+const LANGUAGES: [Language; 3] = [Language::JSON, Language::TOML, Language::C];
 const ROWS: &str = include_str!("../../../rust/tests/literals.txt");
 
 impl Literals {
@@ -62,8 +62,9 @@ impl Literals {
             accepted: texts(random, 100_000, literal, |_, _| true),
             integers: texts(random, 100_000, |random, _| integer(random, None), |_, _| true),
             grouped: vec![Group::new(Language::TOML, (0..100_000).map(|_| integer(random, Some('_'))))],
-            prefixed: vec![Group::new(
-                Language::RUST_HEX_INTEGER,
+            prefixed: vec![Group::of_form(
+                Language::RUST,
+                2,
                 (0..100_000).map(|_| format!("0x{:X}", random.below(1 << 36))),
             )],
             exponents: vec![Group::new(
@@ -71,8 +72,9 @@ impl Literals {
                 (0..100_000).map(|_| format!("1.{}e{}", fixed(random, 16), random.below(600) as i64 - 300)),
             )],
             fractions: vec![Group::new(Language::JSON, (0..100_000).map(|_| format!("0.{}", fixed(random, 17))))],
-            hexadecimal: vec![Group::new(
-                Language::C_HEX_FLOAT,
+            hexadecimal: vec![Group::of_form(
+                Language::C,
+                4,
                 (0..100_000).map(|_| format!("0x1.{}p{}", fixed(random, 13), random.below(100))),
             )],
             hundred: vec![Group::new(Language::TOML, (0..100).map(|_| literal(random, Language::TOML)))],
@@ -84,7 +86,11 @@ impl Literals {
 
 impl Group {
     fn new(language: Language, texts: impl IntoIterator<Item = String>) -> Group {
-        Group { language, reader: &language.readers().as_slice()[0], texts: texts.into_iter().collect() }
+        Group::of_form(language, 0, texts)
+    }
+
+    fn of_form(language: Language, form: usize, texts: impl IntoIterator<Item = String>) -> Group {
+        Group { language, reader: &language.readers().as_slice()[form], texts: texts.into_iter().collect() }
     }
 }
 
@@ -93,7 +99,7 @@ fn is_float(text: &str) -> bool {
 }
 
 fn accepts(language: Language, text: &str) -> bool {
-    language.read(text.as_bytes()).is_ok()
+    language.readers().as_slice()[0].read(text.as_bytes()).is_ok()
 }
 
 fn is_refused(language: Language, text: &str) -> bool {
@@ -114,7 +120,7 @@ fn texts(
     LANGUAGES.into_iter().map(&mut of).collect()
 }
 
-/// Returns the rows of literals.txt that a language and `parse::<f64>` accept.
+/// Returns the rows of literals.txt that the first form of a language and `parse::<f64>` accept.
 fn rows_of(language: Language) -> Vec<(Language, &'static str)> {
     let rows = ROWS.lines().map(|line| line.split_whitespace().collect::<Vec<_>>());
     let own = rows.filter(|row| row.first() == Some(&language.name())).map(|row| row[2]);
@@ -146,12 +152,16 @@ fn integer(random: &mut Random, separator: Option<char>) -> String {
 
 /// A literal of JSON, TOML or C. Half have a fraction, a third has an exponent, and in TOML and C, a quarter has separators.
 fn literal(random: &mut Random, language: Language) -> String {
-    let signs: &[&str] = if language == Language::TOML { &["-", "", "+"] } else { &["-", "", ""] };
+    let signs = match language {
+        Language::TOML => ["-", "", "+"],
+        Language::JSON => ["-", "", ""],
+        _ => [""; 3],
+    };
     let own = if language == Language::JSON { None } else { Some(if language == Language::TOML { '_' } else { '\'' }) };
     let separator = own.filter(|_| random.one_in(4));
     let integer = digits(random, 9, separator);
     let zeros = integer.bytes().take_while(|it| !(b'1'..=b'9').contains(it)).count();
-    let mut text = format!("{}{}", random.pick(signs), if zeros < integer.len() { &integer[zeros..] } else { "0" });
+    let mut text = format!("{}{}", random.pick(&signs), if zeros < integer.len() { &integer[zeros..] } else { "0" });
     if random.one_in(2) {
         text = text + "." + &digits(random, 8, separator);
     }
