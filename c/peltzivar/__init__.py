@@ -261,6 +261,7 @@ class _Syntax(Structure):
         ("required_base_prefix", c_bool),
         ("required_base_suffix", c_bool),
         ("no_negative_mantissa_sign", c_bool),
+        ("integer_group_size", c_uint8),
     ]
 
 
@@ -1317,8 +1318,8 @@ class Syntax:
         >>> literal.value, literal.parts.fraction, literal.parts.exponent
         (-12.0, '8', '3')
 
-    The conditions are that a literal has the base prefix or the base suffix, and that its sign is not `-`. The format is
-    in normal form, so equivalent formats have the same syntax. Raises OptionsError if the exponent character or the
+    The conditions are that a literal has the base prefix or the base suffix, that its sign is not `-`, and that the
+    digit separators of its integer, if it has any, make groups of 2 to 8 digits, as in `1,234`. The format is in normal form, so equivalent formats have the same syntax. Raises OptionsError if the exponent character or the
     decimal point does not fit the normal form, if only one of them is None, or if the format contradicts a condition.
     """
 
@@ -1329,6 +1330,7 @@ class Syntax:
     required_base_prefix: bool = False
     required_base_suffix: bool = False
     no_negative_mantissa_sign: bool = False
+    integer_group_size: Optional[int] = None
     # End
     _reader: Any = field(init=False, repr=False, compare=False)
     _fields: Any = field(init=False, repr=False, compare=False)
@@ -1415,6 +1417,7 @@ class Syntax:
         required_base_prefix: bool = _KEPT,
         required_base_suffix: bool = _KEPT,
         no_negative_mantissa_sign: bool = _KEPT,
+        integer_group_size: Optional[int] = _KEPT,
         # End
     ) -> Syntax:
         """Returns the syntax that settings make, such as the lines of a file, and then keyword arguments. Raises
@@ -1491,6 +1494,7 @@ class Syntax:
         required_base_prefix: bool = _KEPT,
         required_base_suffix: bool = _KEPT,
         no_negative_mantissa_sign: bool = _KEPT,
+        integer_group_size: Optional[int] = _KEPT,
         # End
     ) -> Tuple[Note, ...]:
         """Returns the notes on settings that later ones override, the first 32 alone, and on those that have no effect,
