@@ -345,8 +345,8 @@ PELTZIVAR_MUST_USE bool peltzivar_form_syntax(const peltzivar_reader *reader, si
 /* WRITING
  *
  * Each call writes a number as a literal of a reader's syntax, or of the first form of a language, and a null
- * terminator to a buffer of len bytes. It writes to *needed how many bytes are enough, and returns PELTZIVAR_WRITE_OK if
- * len is. Otherwise, it writes only the beginning and a null terminator, and returns PELTZIVAR_WRITE_BUFFER. If the
+ * terminator to a buffer of len bytes. It writes to *needed how many bytes are enough, and returns PELTZIVAR_WRITE_OK
+ * if len is. Otherwise, it writes only the beginning and a null terminator, and returns PELTZIVAR_WRITE_BUFFER. If the
  * number cannot be written, it leaves the memory unchanged and returns why. Reading the text returns the same value. */
 
 /* How numbers are written where a syntax leaves a choice: the number of integer digits in a group, if the format allows

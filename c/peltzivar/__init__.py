@@ -3,21 +3,22 @@
     >>> from peltzivar import Syntax, languages
     >>> languages.TOML.read("1_000.5").value, languages.RUST.read("0x1F").value
     (1000.5, 31)
-    >>> prices = Syntax.of(digit_separator=".", internal_digit_separator=True, point=",")
+    >>> prices = Syntax.of(digit_separator=".", internal_digit_separator=True, integer_group_size=3, point=",")
     >>> price = prices.read("1.234,50")
     >>> price.value, price.decimal()
     (1234.5, Decimal('1234.50'))
 
 `read` returns a `Literal`, or raises a LiteralError. A `Language` has the numbers of a language, and `Syntax.of` takes
-settings: a keyword argument for each field of a format, the exponent character and the decimal point. Each field is an
-attribute of `FormatView`. Settings can also be texts, such as the lines of a file. Wrong ones raise a SettingsError:
+settings: a keyword argument for each field of a format, the exponent character, the decimal point and the conditions of
+`Syntax`. Each field is an attribute of `FormatView`. Settings can also be texts, such as the lines of a file. Wrong
+ones raise a SettingsError:
 
     >>> Syntax.of("radix = 16", "base_prefix = 'b'")
     Traceback (most recent call last):
     peltzivar.SettingsError: the base prefix 'b' is a digit in radix 16
-    >>> prices.read("1.234,,50")
+    >>> prices.read("12.34")
     Traceback (most recent call last):
-    peltzivar.LiteralError: unexpected character ','
+    peltzivar.LiteralError: expected groups of 3 digits, which integer_group_size requires
 
 A format is a 128-bit word. It is lawful if it satisfies all rules. A `FormatView` holds any word, and a `Format` a lawful
 one. In the repository, docs/FORMAT.md describes fields, rules and literals, and docs/C-AND-PYTHON.md this module. A
