@@ -34,8 +34,8 @@
  * satisfies all rules below. FORMAT.md, which is installed in share/doc/peltzivar, describes each byte and rule, and
  * each flag with texts that it accepts and rejects.
  *
- * If a call succeeds, a peltzivar_error is 0 (PELTZIVAR_SUCCESS), a peltzivar_value_status is 0 (PELTZIVAR_VALUE_OK), a
- * bool is true, and peltzivar_read_settings returns 0. No function depends on the locale.
+ * If a call succeeds, a peltzivar_error is 0 (PELTZIVAR_SUCCESS), a peltzivar_value_status is 0 (PELTZIVAR_VALUE_OK), so
+ * is a peltzivar_write_status, a bool is true, and peltzivar_read_settings returns 0. No function depends on the locale.
  *
  * Each function that ends in _text, and peltzivar_source, write a null-terminated ASCII string to a buffer of len
  * bytes, as snprintf does. If the string and its null terminator do not fit, they write only the beginning of the
@@ -338,6 +338,55 @@ const char *peltzivar_form_name(const peltzivar_reader *reader, size_t form);
 /* Writes the syntax of a form of a language to *out and returns true. If peltzivar_form_name returns an empty string,
  * leaves *out unchanged and returns false. */
 PELTZIVAR_MUST_USE bool peltzivar_form_syntax(const peltzivar_reader *reader, size_t form, peltzivar_syntax *out);
+
+/* WRITING
+ *
+ * Each call writes a number as a literal of a reader's syntax, which is that of the first form of a language, and a null
+ * terminator to a buffer of len bytes. It writes to *needed how many bytes are enough, and returns PELTZIVAR_WRITE_OK if
+ * len is. Otherwise, it writes only the beginning and a null terminator, and returns PELTZIVAR_WRITE_BUFFER. If the number
+ * cannot be written, it leaves the memory unchanged and returns why. Reading the text returns the same value. */
+
+/* How numbers are written where a syntax leaves a choice: the number of integer digits in a group, if the format allows
+ * separators between them, or 0 for no groups, and whether the base prefix and the base suffix are left out unless
+ * conditions require them. A null pointer is the same as zeros. */
+typedef struct {
+    uint8_t group;
+    bool without_base;
+} peltzivar_style;
+
+/* Whether a number is written. */
+typedef uint8_t peltzivar_write_status;
+enum {
+    PELTZIVAR_WRITE_OK = 0,
+    PELTZIVAR_WRITE_RADIX = 1, /* The mantissa radixes differ or, if there is an exponent, the exponent bases. */
+    PELTZIVAR_WRITE_NEGATIVE = 2, /* No literal has the sign `-`. */
+    PELTZIVAR_WRITE_FRACTION = 3, /* Literals are integers, and the number has a decimal point. */
+    PELTZIVAR_WRITE_EXPONENT = 4, /* No literal has an exponent, or one of so many digits. */
+    PELTZIVAR_WRITE_FLOAT = 5, /* Each literal has an exponent, and the number is of an integer type. */
+    PELTZIVAR_WRITE_SPECIAL = 6, /* The number is NaN or infinity. */
+    PELTZIVAR_WRITE_BUFFER = 7, /* The buffer is too short. */
+    PELTZIVAR_WRITE_NOT_MADE = 8 /* No call has made the reader, or the literal. */
+};
+
+/* Write an integer, with its digits in the mantissa radix. */
+PELTZIVAR_MUST_USE peltzivar_write_status peltzivar_format_i64(const peltzivar_reader *reader, int64_t value,
+    const peltzivar_style *style, char *text, size_t len, size_t *needed);
+PELTZIVAR_MUST_USE peltzivar_write_status peltzivar_format_u64(const peltzivar_reader *reader, uint64_t value,
+    const peltzivar_style *style, char *text, size_t len, size_t *needed);
+PELTZIVAR_MUST_USE peltzivar_write_status peltzivar_format_i128(const peltzivar_reader *reader, peltzivar_i128 value,
+    const peltzivar_style *style, char *text, size_t len, size_t *needed);
+
+/* Writes the shortest decimal digits that are read as this float. A very large or very small one has an exponent, if the
+ * syntax has one. */
+PELTZIVAR_MUST_USE peltzivar_write_status peltzivar_format_f64(const peltzivar_reader *reader, double value,
+    const peltzivar_style *style, char *text, size_t len, size_t *needed);
+
+/* Writes a literal, which may be of another syntax, with the same value and without leading zeros. */
+PELTZIVAR_MUST_USE peltzivar_write_status peltzivar_format_literal(const peltzivar_reader *reader,
+    const peltzivar_literal *literal, const peltzivar_style *style, char *text, size_t len, size_t *needed);
+
+/* Returns what a status means, such as "no literal has this exponent". PELTZIVAR_WRITE_OK has an empty string. */
+const char *peltzivar_write_description(peltzivar_write_status status);
 
 /* WORDS */
 

@@ -343,6 +343,13 @@ class _Special(Structure):
     ]
 
 
+class _Style(Structure):
+    _fields_ = [
+        ("group", c_uint8),
+        ("without_base", c_bool),
+    ]
+
+
 class _Edit(Structure):
     _fields_ = [
         ("setter", c_uint8),
@@ -394,6 +401,12 @@ _CALLS: Dict[str, Tuple[Any, List[Any]]] = {
     "language_name": (c_char_p, [c_size_t]),
     "form_name": (c_char_p, [POINTER(_Reader), c_size_t]),
     "form_syntax": (c_bool, [POINTER(_Reader), c_size_t, POINTER(_Syntax)]),
+    "format_i64": (c_uint8, [POINTER(_Reader), c_int64, POINTER(_Style), c_char_p, c_size_t, POINTER(c_size_t)]),
+    "format_u64": (c_uint8, [POINTER(_Reader), c_uint64, POINTER(_Style), c_char_p, c_size_t, POINTER(c_size_t)]),
+    "format_i128": (c_uint8, [POINTER(_Reader), _I128, POINTER(_Style), c_char_p, c_size_t, POINTER(c_size_t)]),
+    "format_f64": (c_uint8, [POINTER(_Reader), c_double, POINTER(_Style), c_char_p, c_size_t, POINTER(c_size_t)]),
+    "format_literal": (c_uint8, [POINTER(_Reader), POINTER(_Literal), POINTER(_Style), c_char_p, c_size_t, POINTER(c_size_t)]),
+    "write_description": (c_char_p, [c_uint8]),
     "build": (c_bool, [POINTER(_Edit), c_size_t, POINTER(_Word)]),
     "edit_word": (c_bool, [_Word, POINTER(_Edit), c_size_t, POINTER(_Word)]),
     "check": (c_uint32, [_Word]),
@@ -1510,6 +1523,38 @@ class Syntax:
         """
         literal = _accepted(self, text, _read(self, _library.read_prefix, text))
         return literal, text[len(literal.text) :]
+
+    def format_number(
+        self, value: Union[int, float, Decimal, Literal[Any]], *, group: int = 0, without_base: bool = False
+    ) -> str:
+        """Returns a number as a literal. Reading the text returns the same value.
+
+            >>> prices = Syntax.of(digit_separator=".", internal_digit_separator=True, point=",")
+            >>> prices.format_number(Decimal("1234567.50"), group=3)
+            '1.234.567,50'
+
+        Of a float, the digits are those of `repr`. `group` is the number of integer digits in a group, if the format
+        allows separators between them. `without_base` leaves out the base prefix and the base suffix, unless conditions
+        require them. Raises ValueError if no literal has this value, or if the digits have another radix, as those of a
+        Decimal and of an int with more than 128 bits, which are decimal.
+        """
+        style, needed = _Style(_number("group", group), _typed("without_base", without_base, bool)), c_size_t(64)
+        number: Any
+        if isinstance(value, int) and -(1 << 127) <= value < 1 << 127:
+            call, number = _library.format_i128, _I128(value & (1 << 64) - 1, value >> 64)
+        elif isinstance(value, float) or isinstance(value, Decimal) and not value.is_finite():
+            call, number = _library.format_f64, float(value)
+        elif isinstance(value, (int, Decimal)):
+            text = str(value) if isinstance(value, int) or abs(value.adjusted()) > 400 else f"{value:f}"
+            literal = Syntax(Format()).read(text)
+            call, number = _library.format_literal, literal._found
+        else:
+            call, number = _library.format_literal, _typed("value", value, Literal, "a number or a Literal")._found
+        for _ in range(2):
+            buffer = create_string_buffer(needed.value)
+            if not (status := call(self._reader, number, style, buffer, len(buffer), needed)):
+                return buffer.value.decode()
+        raise ValueError(_library.write_description(status).decode())
 
     @property
     def _syntaxes(self) -> Tuple[Syntax, ...]:

@@ -276,6 +276,41 @@ static void test_conditions(void) {
     CHECK(WRITES("required_base_suffix is set, and the format has no base suffix", peltzivar_syntax_error_text(&syntax, text, sizeof text)));
 }
 
+/* Numbers are written as literals, and a buffer that is too short has the beginning. */
+static void test_writing(void) {
+    static const char lines[] = "digit_separator='.'\ninternal_digit_separator=true\npoint=','";
+    static const peltzivar_style grouped = {3, false}, bare = {0, true};
+    const peltzivar_reader *const json = peltzivar_language("JSON", 4, NULL);
+    const peltzivar_i128 least = {0, INT64_MIN};
+    peltzivar_syntax syntax;
+    peltzivar_reader german, hexadecimal, unmade;
+    peltzivar_literal literal;
+    char wide[512];
+    size_t needed = 7;
+    CHECK(!peltzivar_read_settings(lines, sizeof lines - 1, &syntax) && !peltzivar_reader_init(&german, &syntax));
+    CHECK(!peltzivar_read_settings("radix=16\nbase_prefix='x'\nexponent='p'", 37, &syntax) && !peltzivar_reader_init(&hexadecimal, &syntax));
+    memset(&unmade, 0, sizeof unmade), memset(&literal, 0, sizeof literal);
+    CHECK(!peltzivar_format_i64(&german, -1234567, &grouped, text, sizeof text, &needed) && !strcmp(text, "-1.234.567") && needed == 11);
+    CHECK(!peltzivar_format_u64(&hexadecimal, UINT64_MAX, NULL, text, sizeof text, NULL) && !strcmp(text, "0xFFFFFFFFFFFFFFFF"));
+    CHECK(!peltzivar_format_u64(&hexadecimal, 31, &bare, text, 3, &needed) && !strcmp(text, "1F") && needed == 3);
+    CHECK(!peltzivar_format_i128(json, least, NULL, text, sizeof text, NULL) && !strcmp(text, "-170141183460469231731687303715884105728"));
+    CHECK(!peltzivar_format_f64(&german, 1234.5, &grouped, text, sizeof text, NULL) && !strcmp(text, "1.234,5"));
+    CHECK(!peltzivar_format_f64(json, -1e300, NULL, text, sizeof text, NULL) && !strcmp(text, "-1e300"));
+    CHECK(!peltzivar_format_f64(peltzivar_language("CSV_EN", 6, NULL), 5e-324, NULL, wide, sizeof wide, &needed) && needed == 327);
+    CHECK(peltzivar_format_f64(json, HUGE_VAL, NULL, text, sizeof text, &needed) == PELTZIVAR_WRITE_SPECIAL && needed == 327);
+    CHECK(peltzivar_format_f64(&hexadecimal, 0.5, NULL, text, sizeof text, NULL) == PELTZIVAR_WRITE_RADIX);
+    CHECK(peltzivar_format_i64(&unmade, 1, NULL, text, sizeof text, NULL) == PELTZIVAR_WRITE_NOT_MADE);
+    CHECK(peltzivar_format_literal(json, &literal, NULL, text, sizeof text, NULL) == PELTZIVAR_WRITE_NOT_MADE);
+    CHECK(peltzivar_read(&german, "-1.234,50", 9, &literal, NULL));
+    CHECK(!peltzivar_format_literal(json, &literal, NULL, text, sizeof text, NULL) && !strcmp(text, "-1234.50"));
+    memset(text, '#', sizeof text);
+    CHECK(peltzivar_format_literal(json, &literal, NULL, text, 8, &needed) == PELTZIVAR_WRITE_BUFFER && needed == 9);
+    CHECK(!strcmp(text, "-1234.5") && text[8] == '#');
+    CHECK(peltzivar_format_i64(json, 10, NULL, NULL, 0, &needed) == PELTZIVAR_WRITE_BUFFER && needed == 3);
+    CHECK(peltzivar_format_i64(peltzivar_language("C", 1, NULL), -1, NULL, text, sizeof text, NULL) == PELTZIVAR_WRITE_NEGATIVE);
+    CHECK(!strcmp(peltzivar_write_description(PELTZIVAR_WRITE_NEGATIVE), "no literal has the sign '-'") && !*peltzivar_write_description(255));
+}
+
 static void test_special_values(void) {
     const peltzivar_reader *const reader = peltzivar_language("YAML", 4, NULL);
     static const peltzivar_specials all = {"NaN", "inf", "infinity"}, few = {NULL, "", "infinity"};
@@ -373,6 +408,6 @@ static void test_null(void) {
 
 int main(void) {
     test_constants(), test_setters(), test_fields(), test_words(), test_options(), test_texts(), test_readers();
-    test_literals(), test_values(), test_conditions(), test_special_values(), test_languages(), test_settings(), test_null();
+    test_literals(), test_values(), test_conditions(), test_writing(), test_special_values(), test_languages(), test_settings(), test_null();
     return failed;
 }

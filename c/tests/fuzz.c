@@ -153,6 +153,19 @@ static void test_values(const peltzivar_literal *literal) {
     CHECK(of_float ? of_float == PELTZIVAR_VALUE_RADIX && real == 7 : status || real == (double)integer);
 }
 
+/* A literal can be written in its own syntax, and what is written has the same value. */
+static void test_written(const peltzivar_reader *reader, const peltzivar_literal *literal) {
+    const peltzivar_style style = {(uint8_t)(draw() % 5), draw() % 2};
+    peltzivar_literal again;
+    peltzivar_i128 values[2] = {{7, 7}, {7, 7}};
+    double reals[2] = {7, 7};
+    size_t needed = 0;
+    CHECK(!peltzivar_format_literal(reader, literal, &style, text, sizeof text, &needed) && needed == strlen(text) + 1);
+    CHECK(peltzivar_read(reader, text, needed - 1, &again, NULL));
+    CHECK(peltzivar_to_i128(literal, &values[0]) == peltzivar_to_i128(&again, &values[1]) && !memcmp(&values[0], &values[1], 16));
+    CHECK(peltzivar_to_f64(literal, &reals[0]) == peltzivar_to_f64(&again, &reals[1]) && !memcmp(&reals[0], &reals[1], 8));
+}
+
 /* What is read is written, and nothing else. The parts of a literal are its bytes. */
 static void test_literals(peltzivar_word word) {
     peltzivar_reader reader;
@@ -192,7 +205,7 @@ static void test_literals(peltzivar_word word) {
         CHECK(peltzivar_read(&reader, from, literal.size, &literal_before, NULL));
         CHECK(!memcmp(&literal, &literal_before, offsetof(peltzivar_literal, size)));
         CHECK(literal.is_float == (literal.integer.end < literal.exponent_character.end));
-        test_values(&literal);
+        test_values(&literal), test_written(&reader, &literal);
     } else CHECK(!is_read);
     free(from);
 }

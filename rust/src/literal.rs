@@ -39,7 +39,9 @@
 //! let python = Language::PYTHON.forms()[0].syntax;
 //! let text = python.format_literal(&number.literal().unwrap(), Style::PLAIN.group(3))?;
 //! assert_eq!(text.to_string(), "1_000.5e3");
-//! assert_eq!(python.format_integer(-1_234_567, Style::PLAIN)?.as_str(), Some("-1234567"));
+//! assert_eq!(python.format_integer(1_234_567, Style::PLAIN)?.as_str(), Some("1234567"));
+//! // In Python, the `-` of `-1` is an operator.
+//! assert_eq!(python.format_integer(-1, Style::PLAIN).unwrap_err(), WriteError::Negative);
 //!
 //! // A float is written from its shortest digits, which std prints.
 //! let digits = format!("{:?}", 0.1_f64 + 0.2);
@@ -52,11 +54,12 @@
 #[allow(clippy::redundant_pattern_matching, reason = "as it is proved")]
 mod cause;
 mod conditions;
+mod groups;
 mod language;
 #[allow(clippy::len_zero, reason = "as it is proved")]
 mod list;
 mod number;
-#[allow(clippy::needless_lifetimes, reason = "as it is proved")]
+#[allow(clippy::manual_unwrap_or, clippy::needless_lifetimes, reason = "as it is proved")]
 mod read;
 mod readers;
 mod sentence;

@@ -4,7 +4,10 @@ use core::fmt::{self, Write};
 use core::str::from_utf8;
 
 use crate::edits::{apply, likeness, Edit, EditError, EditErrorKind, Fault, FlagSetter, Setter, FIELD_COUNT};
-use crate::format::{NumberFormatBuilder, BASE_PREFIX, BASE_SUFFIX, EXPONENT_BASE, EXPONENT_RADIX, MANTISSA_RADIX};
+use crate::format::{
+    NumberFormatBuilder, BASE_PREFIX, BASE_SUFFIX, EXPONENT_BASE, EXPONENT_RADIX, INTEGER_INTERNAL_DIGIT_SEPARATOR,
+    MANTISSA_RADIX,
+};
 use crate::format_error::ONE_OPTION;
 use crate::lawful::Rejected;
 use crate::literal::{Conditions, ConditionsError, Syntax};
@@ -301,6 +304,7 @@ fn mask_of(error: ConditionsError) -> Mask {
     let word = match error {
         ConditionsError::NoBasePrefix => BASE_PREFIX,
         ConditionsError::NoBaseSuffix => BASE_SUFFIX,
+        ConditionsError::GroupSize | ConditionsError::NoInternalSeparator => INTEGER_INTERNAL_DIGIT_SEPARATOR,
     };
     Mask { word, options: 4 << error.condition() }
 }

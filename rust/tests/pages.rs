@@ -53,6 +53,7 @@ fn examples_end_as_their_comments_state() {
         ("literal -- 0x000A10007800005F000000010000000C 101 46 1", 2, "WORD E P: the exponent character 'e' is a digit in "),
         ("literal -- 12 101 46 1", 2, "WORD E P: a format word begins with `0x`\n"),
         ("settings -- rust/examples/settings.txt", 0, "0x100A10007800005F000000010000000C 112 46\n"),
+        ("convert -- C", 2, "usage: convert SOURCE TARGET, two of [ADA, C, "),
         ("settings", 1, "\"\": No such file or directory (os error 2)\n"),
     ];
     for (example, wanted, part) in rows {

@@ -47,7 +47,11 @@ use peltzivar::format_builder::NonZeroU8 as _;
 use peltzivar::format_builder::NumberFormatBuilder as _;
 use peltzivar::format_builder::OptionU8 as _;
 use peltzivar::literal::FromLiteral as _;
+use peltzivar::literal::WriteInteger as _;
 const _: fn(u128) -> source::BuilderExpression = source::BuilderExpression;
+const _: fn(literal::Style) -> (usize, bool, bool) = |it| match it {
+    literal::Style { group, prefix, suffix, .. } => (group, prefix, suffix),
+};
 const _: fn(literal::Spelling) = |it| match it {
     literal::Spelling::Nan { .. } | literal::Spelling::Inf { .. } | literal::Spelling::Infinity { .. } => (),
 };
@@ -77,10 +81,14 @@ const _: fn(literal::FormError) -> (usize, literal::ReadError) = |it| match it {
 const _: fn(literal::Form) -> (&'static str, literal::Syntax) = |it| match it {
     literal::Form { name, syntax, .. } => (name, syntax),
 };
-const _: fn(literal::Conditions) -> (bool, bool, bool) = |it| match it {
-    literal::Conditions { required_base_prefix, required_base_suffix, no_negative_mantissa_sign, .. } => {
-        (required_base_prefix, required_base_suffix, no_negative_mantissa_sign)
-    }
+const _: fn(literal::Conditions) -> (bool, bool, bool, Option<u8>) = |it| match it {
+    literal::Conditions {
+        required_base_prefix,
+        required_base_suffix,
+        no_negative_mantissa_sign,
+        integer_group_size,
+        ..
+    } => (required_base_prefix, required_base_suffix, no_negative_mantissa_sign, integer_group_size),
 };
 const _: fn(Separators) -> (bool, bool, bool, bool) = |it| match it {
     Separators { internal, leading, trailing, consecutive, .. } => (internal, leading, trailing, consecutive),
@@ -140,8 +148,8 @@ names! { Error:
         InvalidFloatParseAlgorithm InvalidFloatPrecision InvalidInfString InvalidInfinityString InvalidMantissaRadix
         InvalidMantissaSign InvalidNanString InvalidNegativeExponentBreak InvalidPositiveExponentBreak
         InvalidPunctuation InvalidRadix InvalidSpecial NanStringTooLong Success;
+    [const fn(a: &'static Error) -> Option<&'static usize>] index;
     [const fn(a: &Error) -> &'static str] description;
-    [const fn(a: &Error) -> Option<&usize>] index;
     [const fn(a: &Error) -> bool] is_empty is_empty_exponent is_empty_fraction is_empty_integer is_empty_mantissa
         is_exponent_without_fraction is_inf_string_too_long is_infinity_string_too_long is_infinity_string_too_short
         is_invalid_base_prefix is_invalid_base_suffix is_invalid_consecutive_exponent_digit_separator
@@ -163,7 +171,7 @@ names! { Error:
 }
 names! { Finding:
     [const fn(a: &Finding) -> FindingKind] kind;
-    [fn(a: &Finding) -> &[usize]] indexes;
+    [fn(a: &'static Finding) -> &'static [usize]] indexes;
 }
 names! { FindingKind:
     [fn(&'static str) -> FindingKind] Overridden;
@@ -392,7 +400,7 @@ names! { Settings:
     [fn(a: impl IntoIterator<Item = impl AsRef<[u8]>>) -> Result<Settings, LineError>] read;
 }
 names! { ShortText:
-    [const fn(a: &ShortText) -> &str] as_str;
+    [const fn(a: &'static ShortText) -> &'static str] as_str;
     [const fn(a: &str) -> ShortText] of;
     [const fn(a: ShortText, b: &str) -> ShortText] and;
     [const fn(a: ShortText, b: u128) -> ShortText] hexadecimal;
@@ -407,13 +415,14 @@ names! { error::Class:
 }
 names! { literal::Conditions:
     [const fn(a: literal::Conditions) -> bool] is_none;
+    [const fn(a: literal::Conditions, b: Option<u8>) -> literal::Conditions] integer_group_size;
     [const fn(a: literal::Conditions, b: bool) -> literal::Conditions] no_negative_mantissa_sign required_base_prefix
         required_base_suffix;
     [literal::Conditions] NONE;
 }
 names! { literal::ConditionsError:
     [const fn(a: &literal::ConditionsError) -> ShortText] text;
-    [literal::ConditionsError] NoBasePrefix NoBaseSuffix;
+    [literal::ConditionsError] GroupSize NoBasePrefix NoBaseSuffix NoInternalSeparator;
 }
 names! { literal::Language:
     [&'static [literal::Language]] ALL;
@@ -510,6 +519,11 @@ names! { literal::Specials<'static>:
 names! { literal::Spelling:
     [literal::Spelling] Inf Infinity Nan;
 }
+names! { literal::Style:
+    [const fn(a: literal::Style) -> literal::Style] without_base;
+    [const fn(a: literal::Style, b: usize) -> literal::Style] group;
+    [literal::Style] PLAIN;
+}
 names! { literal::Syntax:
     [const fn(a: &literal::Syntax) -> Format] format;
     [const fn(a: &literal::Syntax) -> Option<u8>] exponent point;
@@ -521,6 +535,10 @@ names! { literal::Syntax:
     [const fn(a: Format, b: u8, c: u8) -> literal::Syntax] new_or_panic;
     [const fn(a: literal::Syntax, b: literal::Conditions) -> Result<literal::Syntax, literal::ConditionsError>] with;
     [const fn(a: literal::Syntax, b: literal::Conditions) -> literal::Syntax] with_or_panic;
+    [fn(a: &literal::Syntax, b: &literal::Literal<'static>, c: literal::Style) -> Result<literal::Written<'static>,
+        literal::WriteError>] format_literal;
+    [fn(a: &literal::Syntax, b: impl literal::WriteInteger, c: literal::Style) -> Result<literal::Written<'static>,
+        literal::WriteError>] format_integer;
 }
 names! { literal::ValueError:
     [const fn(a: &literal::ValueError) -> &'static str] target;
@@ -528,6 +546,14 @@ names! { literal::ValueError:
 }
 names! { literal::ValueErrorKind:
     [literal::ValueErrorKind] Float Special TooLarge TooSmall UnsupportedRadix;
+}
+names! { literal::WriteError:
+    [fn(usize) -> literal::WriteError] Buffer;
+    [literal::WriteError] Exponent Float Fraction Negative Radix Special;
+}
+names! { literal::Written<'static>:
+    [fn(a: &'static literal::Written<'static>) -> Option<&'static str>] as_str;
+    [fn(a: &literal::Written<'static>, b: &'static mut [u8]) -> Result<&'static str, literal::WriteError>] write_into;
 }
 names! { mod ascii:
     [const fn(a: &[u8]) -> bool] is_valid_ascii_slice is_valid_letter_slice;
@@ -654,10 +680,14 @@ has! { literal::Sign: Clone + Copy + Debug + Eq + Hash + PartialEq }
 has! { literal::Special: Clone + Copy + Debug + Eq + Hash + PartialEq }
 has! { literal::Specials<'static>: Clone + Copy + Debug + Default + Eq + Hash + PartialEq }
 has! { literal::Spelling: Clone + Copy + Debug + Eq + Hash + PartialEq }
+has! { literal::Style: Clone + Copy + Debug + Default + Eq + Hash + PartialEq }
 has! { literal::Syntax: Clone + Copy + Debug + Display + Eq + FromStr<Err = FormatError> + Hash + Ord + PartialEq +
 PartialOrd }
 has! { literal::ValueError: Clone + Copy + Debug + Display + Eq + Hash + PartialEq + std::error::Error }
 has! { literal::ValueErrorKind: Clone + Copy + Debug + Eq + Hash + PartialEq }
+has! { literal::WriteError: Clone + Copy + Debug + Display + Eq + Hash + PartialEq + std::error::Error }
+has! { literal::Written<'_>: Debug + Display }
+has! { literal::Written<'static>: Clone + Copy }
 has! { source::BuilderExpression: Clone + Copy + Debug + Display }
 has! { u128: From<Format> + From<FormatView> + TryFrom<literal::Literal<'static>, Error = literal::ValueError> +
 TryFrom<literal::Number<'static>, Error = literal::ValueError> }

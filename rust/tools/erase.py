@@ -89,12 +89,17 @@ REPLACED = [
     ("cause.rt", "pub const fn span(&self)", "#[doc(hidden)] pub const fn bounds(&self)"),
 ]
 
+# Nor is what calls these.
+NOT_CONST = {
+    "read.rt": "explain find find_front front grouped has_groups lengths refuse ungrouped",
+    "list.rt": "find find_front grouped refuse",
+}
+REPLACED += [(file, f"fn {name}(", f"const fn {name}(") for file, names in NOT_CONST.items() for name in names.split()]
+
 # Texts that plain Rust replaces in every file, wherever they occur.
 EVERYWHERE = [
     ("fn fmt<W: fmt::Write>(&self, f: &mut fmt::Formatter<W>)", "fn fmt(&self, f: &mut fmt::Formatter<'_>)"),
     ("rattlefmt::skip", "rustfmt::skip"),
-    ("pub(crate) fn find_front(&self", "pub(crate) const fn find_front(&self"),
-    ("pub(crate) fn front(&self", "pub(crate) const fn front(&self"),
 ]
 
 # Types that may grow. In plain Rust, a match outside the crate has to have an arm for what they lack today.

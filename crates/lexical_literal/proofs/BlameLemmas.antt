@@ -35,7 +35,7 @@ use Rattle.lexical_literal.specs.declared.steps.Summary.{Summary}
 use Rattle.lexical_literal.specs.declared.syntax.Condition.{Condition}
 use Rattle.lexical_literal.specs.declared.syntax.Condition.TheVariants as conditions
 use Rattle.lexical_literal.proofs.CauseLemmas.{all_flags, bit_small, found_in, mask_flags, none_in, only_mask}
-use Rattle.lexical_literal.proofs.JointLemmas.{Alone, at_next, each_passes, free_allows, free_is, going, joint, same_free, split}
+use Rattle.lexical_literal.proofs.JointLemmas.{Alone, at_next, each_passes, free_allows, free_is, going, joint, split}
 use Rattle.lexical_literal.proofs.RefusalLemmas.{apart}
 use Rattle.lexical_literal.proofs.CauseLemmas.{same_flag}
 
@@ -318,7 +318,7 @@ module _ (g : Grammar) (text : List ℕ) (row : ℕ) (tail : List ℕ) (k : Mark
   s = summary_at row
 
   abbrev spot : Option ℕ → Spot
-  spot next = record { grammar = g; row = row; byte = next; tail = tail; marks = k }
+  spot next = record { grammar = g; row = row; byte = next; tail = tail; marks = k; is_ungrouped = false }
 
   pub refusal_at : IsValidUpTo n text size → IsReadOf n s (take size text) → allows n s (class_of_next n (slice_get text size)) ≡ false
       → (next : Option ℕ) → next ≡ slice_get text size → k ≡ marks_of n (take size text)
@@ -341,6 +341,7 @@ module _ (g : Grammar) (text : List ℕ) (row : ℕ) (tail : List ℕ) (k : Mark
             (subst (λ next. (has (conditions_of C) c ≡ true) ↔ IsUnmet n (take size text) next c) is_next
             (subst (λ t. (t ≡ true) ↔ IsUnmet n (take size text) next c) (sym (has_of C c))
             (each_unmet n s (class_of_next n next) (take size text) next (read.decides next) c)));
+        groups = refl;
         mask = only_mask b.flags;
         span = ap (λ k. span_of n k next b.kind f c) same;
         code = λ j. error_of n (same j) b.kind f c (span_of n k next b.kind f c).0;

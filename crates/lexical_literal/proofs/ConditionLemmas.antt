@@ -1,7 +1,7 @@
 -- The texts that are accepted with the conditions of a notation are its literals.
 use Rattle.std.proofs.Common.{ℕ, ◌≡◌, Bool, true, false, not, ◌==◌, ◌&&◌, ◌||◌, ◌+◌, inl, inr, if◌then◌else◌, nat_lt, List, [], ◌∷◌, ◌++◌, length}
 use Rattle.std.proofs.Common.{Option, Some, None, refl, sym, ap, subst, ◌∙◌, arith}
-use Rattle.std.proofs.lemmas.Bool.{false≢true, and_parts, and_from, cases_Bool, eqb-true}
+use Rattle.std.proofs.lemmas.Bool.{false≢true, and_parts, cases_Bool, eqb-true}
 use Rattle.std.proofs.lemmas.Bool.Decides.{nat_tests}
 use Rattle.lexical_util.specs.Roles.{signs}
 use Rattle.lexical_util.specs.declared.feature_format.roles.Role.{Role}
@@ -10,7 +10,7 @@ use Rattle.lexical_util.specs.declared.format_flags.Part.TheVariants as parts
 use Rattle.lexical_literal.specs.Notation.{Notation}
 use Rattle.lexical_literal.specs.Literal.{Literal, IsLiteral, IsSpelled, Reads, condition, is_absent, is_none_or_one, is_none_or_prefix, is_plus, is_present}
 use Rattle.lexical_literal.specs.Literal.{text_of}
-use Rattle.lexical_literal.specs.Additions.Summary.{Cuts, HasLengths, add, admits, after, count, finishes, implies, is_fresh, is_negative}
+use Rattle.lexical_literal.specs.Additions.Summary.{Cuts, HasLengths, add, admits, after, count, finishes, is_fresh, is_negative}
 use Rattle.lexical_literal.specs.Additions.Summary.{lacks_prefix, no_condition, no_cuts, piece_number, piece_of, start, step_by, byte_class, takes, tally_by}
 use Rattle.lexical_literal.specs.declared.steps.Piece.{Piece}
 use Rattle.lexical_literal.specs.declared.steps.Piece.TheVariants as pieces
@@ -203,10 +203,10 @@ module _ (m : Notation) (h : HasRoles m) where
         let t = peel s b c text d is in
         let more = subst (λ o. Arrives O m (Some (after s (b == 48) t.role)) (count parts.Integer o c) text d) t.plays t.rest in
         let other : (t.role ≡ roles.Sign) → ⊥ = λ sign.
-            let fresh : is_fresh stage ≡ true = let taken = subst (λ r. takes m s (b == 43) r ≡ true) sign t.taken in grind arith in
-            let counted = subst (λ r. Arrives O m (Some (after s (b == 48) r)) (add c (piece_of parts.Integer r)) text d) sign more in
-            false≢true (sym (unsigned fresh) ∙ ap (λ (c : Cuts). nat_lt 0 (c pieces.Sign)) (sym counted.1)
-            ∙ stays (Some (after s (b == 48) roles.Sign)) (add c pieces.Sign) text pieces.Sign (grind (arith, nat_tests))) in
+        let fresh : is_fresh stage ≡ true = let taken = subst (λ r. takes m s (b == 43) r ≡ true) sign t.taken in grind arith in
+        let counted = subst (λ r. Arrives O m (Some (after s (b == 48) r)) (add c (piece_of parts.Integer r)) text d) sign more in
+        false≢true (sym (unsigned fresh) ∙ ap (λ (c : Cuts). nat_lt 0 (c pieces.Sign)) (sym counted.1)
+        ∙ stays (Some (after s (b == 48) roles.Sign)) (add c pieces.Sign) text pieces.Sign (grind (arith, nat_tests))) in
         arrives_byte C m h s b t.role c text d t.going t.plays t.taken (admitted t.role other)
         (lift (after s (b == 48) t.role) (add c (piece_of parts.Integer t.role)) text (calm t.role other t.taken)
         (shown s c (b == 48) t.role refl suffix) more) where

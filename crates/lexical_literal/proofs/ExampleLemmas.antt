@@ -53,21 +53,24 @@ literal_if : (m : Notation) (l : Literal) → list_any m.flag required_flags ≡
 literal_if m l none is =
     let (sign, (prefix, (integer, (point, (fraction, (character, (exponent_sign, (exponent, (suffix, (after_point, (after_character, (some, (prefixed, (suffixed, (signed, end))))))))))))))) =
     each (tests m l) is in
-    record { conditions = conditions_met m l (grind arith) (grind arith) (grind arith); spelled = record {
-      sign = sign;
-      prefix = prefix;
-      integer = integer;
-      point = point;
-      fraction = fraction;
-      exponent_character = character;
-      exponent_sign = exponent_sign;
-      exponent = exponent;
-      suffix = suffix;
-      after_point = λ absent. grind arith;
-      after_character = λ absent. (grind arith, grind arith);
-      some_number = some;
-      requirements = met m l none;
-    } }
+    record {
+      conditions = conditions_met m l (grind arith) (grind arith) (grind arith);
+      spelled = record {
+        sign = sign;
+        prefix = prefix;
+        integer = integer;
+        point = point;
+        fraction = fraction;
+        exponent_character = character;
+        exponent_sign = exponent_sign;
+        exponent = exponent;
+        suffix = suffix;
+        after_point = λ absent. grind arith;
+        after_character = λ absent. (grind arith, grind arith);
+        some_number = some;
+        requirements = met m l none;
+      };
+    }
 
 -- A text has two readings if it is the text of two different lists of parts that pass the test.
 pub two : (m : Notation) (text : List ℕ) (l k : Literal) → list_any m.flag required_flags ≡ false → text ≡ text_of l → text ≡ text_of k

@@ -1,17 +1,17 @@
 -- Several forms: what has been found in the first of them, and what one form more adds.
-use Rattle.std.proofs.Common.{ℕ, ◌≡◌, ◌<◌, ◌≤◌, ◌+◌, inl, inr, List, Option, Some, None, All, IsSomeAnd, length, take, get_or, slice_get}
-use Rattle.std.proofs.Common.{false, is_some, nat_lt, refl, sym, subst, ◌∙◌, arith}
+use Rattle.std.proofs.Common.{ℕ, ◌≡◌, ◌<◌, ◌≤◌, ◌+◌, inl, inr, List, [], append-nil, Option, Some, None, All, IsSomeAnd, length, take, get_or, slice_get}
+use Rattle.std.proofs.Common.{false, is_some, nat_lt, Result, Ok, Err, refl, sym, ap, subst, ◌∙◌, arith}
 use Rattle.std.proofs.lemmas.Bool.Decides.{nat_tests}
 use Rattle.std.proofs.lemmas.Bool.{cases_Bool, cases_lt, false≢true}
 use Rattle.std.proofs.lemmas.List.{take_all}
 use Rattle.std.proofs.lemmas.List.Elements.{All-more}
 use Rattle.std.proofs.lemmas.Option.{slice_get-get_or, slice_get_within}
-use Rattle.lexical_literal.specs.Additions.Forms.{IsReadFront, NoFront, further, longer}
-use Rattle.lexical_literal.specs.Additions.Summary.{HasLengths}
-use Rattle.lexical_literal.specs.Additions.Tables.{cuts_of}
-use Rattle.lexical_literal.specs.Cause.{IsRefusal}
+use Rattle.lexical_literal.specs.Additions.Forms.{IsFoundFrontForm, IsGroupedForm, IsReadFront, further, longer}
+use Rattle.lexical_literal.specs.Additions.Longest.{IsCountedFront, IsGroupedFront}
+use Rattle.lexical_literal.specs.Takes.{IsError, IsUngroupedFront, NoFront, Refuses, Takes}
+use Rattle.lexical_literal.specs.declared.cause.Refusal.{Refusal}
 use Rattle.lexical_literal.specs.Forms.{GoesTo, HasFront, IsFirst, IsFormError, IsGreatest}
-use Rattle.lexical_literal.specs.Front.{IsValidUpTo, NoLiteral, ReadsFront}
+use Rattle.lexical_literal.specs.Front.{IsValidUpTo, ReadsFront}
 use Rattle.lexical_literal.specs.Literal.{Literal, Reads}
 use Rattle.lexical_literal.specs.Notation.{Notation, notation_of}
 use Rattle.lexical_literal.specs.declared.list.FormError.{FormError}
@@ -27,9 +27,27 @@ pub some_of : {X : Type 0} (P : X → Type 0) (o : Option X) → IsSomeAnd o P �
 some_of P None holds = elim holds [ ]
 some_of P (Some x) holds = (x, refl, holds)
 
+-- The form that a list of readers has at an index.
+pub form_is : (forms readers : List Grammar) (g : Grammar) (i : ℕ) → readers ≡ forms → i < length forms → g ≡ get_or readers i g → slice_get forms i ≡ Some g
+form_is forms readers g i same inside is = slice_get-get_or forms i g inside ∙ ap Some (sym (is ∙ ap (λ l. get_or l i g) same))
+
 -- A text has one longest front that some literal begins with.
 one_size : (m : Notation) (text : List ℕ) (a b : ℕ) → IsValidUpTo m text a → IsValidUpTo m text b → a ≤ b
 one_size m text a b is other = let longer = λ (below : b < a). other.no_longer a below is.within is.front in grind arith
+
+-- An error of a text says how far it is right.
+error_up_to : (g : Grammar) (text : List ℕ) (error : Refusal) → IsError g text error → IsValidUpTo (notation_of g) text error.valid_up_to
+error_up_to g text error (inl is) = is.valid_up_to
+error_up_to g text error (inr is) = subst (IsValidUpTo (notation_of g) text) (sym is.valid_up_to) (record {
+  within = omega arith;
+  front = record {
+    more = [];
+    literal = is.literal;
+    reads =
+        subst (Reads (notation_of g) is.literal) (sym (append-nil (take (length text) text) ∙ take_all (length text) text (omega arith))) is.reads;
+  };
+  no_longer = λ more longer within _. absurd (omega (arith, longer, within));
+})
 
 -- A text has one longest front that is a literal.
 one_front : (m : Notation) (text : List ℕ) (l k : Literal) (a b : ℕ) → ReadsFront m l text a → ReadsFront m k text b → a ≤ b
@@ -116,36 +134,35 @@ module _ (forms : List Grammar) (text : List ℕ) where
     }
 
     -- `found` is the longest front that is a literal of it.
-    pub longest_more : (found : Found) (l : Literal) → ReadsFront (notation_of g) l text found.size → HasLengths l (cuts_of found.counts)
+    pub longest_more : (found : Found) → IsCountedFront (notation_of g) text found
         → (longest : Option (ℕ × Found)) → IsLongestOf i longest → IsLongestOf (i + 1) (longer longest i found)
-    longest_more found l reads lengths None old = record {
-      read = (l, lengths, at (λ g. ReadsFront (notation_of g) l text found.size) reads);
+    longest_more found is None old = record {
+      read = at (λ g. IsCountedFront (notation_of g) text found) is;
       before = λ k d below n front. absurd (old k d below n front.1.within front.0 front.1.reads);
       others = all_more (λ g. (n : ℕ) → HasFront text g n → n ≤ found.size) (λ k d below n front. absurd (old k d below n front.1.within front.0 front.1.reads))
-          (λ n front. one_front (notation_of g) text front.0 l n found.size front.1 reads);
+          (λ n front. one_front (notation_of g) text front.0 is.literal n found.size front.1 is.reads);
     }
-    longest_more found l reads lengths (Some best) old = elim (cases_lt best.1.size found.size) [
+    longest_more found is (Some best) old = elim (cases_lt best.1.size found.size) [
       | inl more ↦ subst (IsLongestOf (i + 1)) {x = Some (i, found)} (grind (arith, nat_tests)) (record {
-        read = (l, lengths, at (λ g. ReadsFront (notation_of g) l text found.size) reads);
+        read = at (λ g. IsCountedFront (notation_of g) text found) is;
         before = λ k d below n front. let less = old.others k d below n front in omega (arith, less, more);
         others = all_more (λ g. (n : ℕ) → HasFront text g n → n ≤ found.size) (λ k d below n front. let less = old.others k d below n front in omega (arith, less, more))
-            (λ n front. one_front (notation_of g) text front.0 l n found.size front.1 reads);
+            (λ n front. one_front (notation_of g) text front.0 is.literal n found.size front.1 is.reads);
       })
       | inr less ↦ subst (IsLongestOf (i + 1)) {x = Some best} (grind (arith, nat_tests)) (record {
         read = old.read;
         before = old.before;
         others = all_more (λ g. (n : ℕ) → HasFront text g n → n ≤ best.1.size) old.others
-            (λ n front. let short = one_front (notation_of g) text front.0 l n found.size front.1 reads in omega (arith, short, less));
+            (λ n front. let short = one_front (notation_of g) text front.0 is.literal n found.size front.1 is.reads in omega (arith, short, less));
       })
     ]
 
     -- It is the first that reads the text.
-    pub first_here : (l : Literal) → Reads (notation_of g) l text → All (λ g. NoLiteral (notation_of g) text) (take i forms) → IsFirst forms text i l
-    first_here l reads before = record { reads = at (λ g. Reads (notation_of g) l text) reads; before = before }
+    pub first_here : (l : Literal) → Takes g l text → All (λ g. Refuses g text) (take i forms) → IsFirst forms text i l
+    first_here l takes before = record { takes = at (λ g. Takes g l text) takes; before = before }
 
-    pub refused_more : NoLiteral (notation_of g) text → All (λ g. NoLiteral (notation_of g) text) (take i forms)
-        → All (λ g. NoLiteral (notation_of g) text) (take (i + 1) forms)
-    refused_more none all = all_more (λ g. NoLiteral (notation_of g) text) all none
+    pub refused_more : Refuses g text → All (λ g. Refuses g text) (take i forms) → All (λ g. Refuses g text) (take (i + 1) forms)
+    refused_more none all = all_more (λ g. Refuses g text) all none
 
   -- All forms have been tried.
   module _ (i : ℕ) (end : length forms ≤ i) (some : 0 < length forms) where
@@ -156,33 +173,57 @@ module _ (forms : List Grammar) (text : List ℕ) where
     best_within best is = let here = some_of (λ g. GoesTo text g best.size) (slice_get forms best.form) (is.here (omega (arith, end, some))) in
         slice_get_within forms best.form here.0 here.1
 
-    pub none_reads : All (λ g. NoLiteral (notation_of g) text) (take i forms) → All (λ g. NoLiteral (notation_of g) text) forms
-    none_reads = all_tried (λ g. NoLiteral (notation_of g) text)
+    pub none_reads : All (λ g. Refuses g text) (take i forms) → All (λ g. Refuses g text) forms
+    none_reads = all_tried (λ g. Refuses g text)
 
     pub none_front : All (NoFront text) (take i forms) → All (NoFront text) forms
     none_front = all_tried (NoFront text)
 
     -- A text of which no front is a literal is none.
-    pub none_reads_whole : All (NoFront text) (take i forms) → All (λ g. NoLiteral (notation_of g) text) forms
-    none_reads_whole none k d below l reads =
-        none_front none k d below (length text) (omega arith) l (subst (Reads (notation_of (get_or forms k d)) l) (sym (take_all (length text) text (omega arith))) reads)
+    pub none_reads_whole : All (NoFront text) (take i forms) → All (λ g. Refuses g text) forms
+    none_reads_whole none k d below l takes = none_front none k d below (length text) (omega arith) l
+        (subst (Reads (notation_of (get_or forms k d)) l) (sym (take_all (length text) text (omega arith))) takes.reads)
+
+    pub front_within : (form : ℕ) (found : Found) → IsFrontOf i form found → form < length forms
+    front_within form found is = let here = some_of (λ g. IsCountedFront (notation_of g) text found) (slice_get forms form) is.read in
+        slice_get_within forms form here.0 here.1
 
     pub longest_is : (form : ℕ) (found : Found) → IsFrontOf i form found → IsGreatest (HasFront text) forms form found.size
-    longest_is form found is = let l = is.read.0 in let here = some_of (λ g. ReadsFront (notation_of g) l text found.size) (slice_get forms form) is.read.2 in record {
-      here = subst (λ o. IsSomeAnd o (λ g. HasFront text g found.size)) (sym here.1) (l, here.2);
+    longest_is form found is = let here = some_of (λ g. IsCountedFront (notation_of g) text found) (slice_get forms form) is.read in record {
+      here = subst (λ o. IsSomeAnd o (λ g. HasFront text g found.size)) (sym here.1) (here.2.literal, here.2.reads);
       before = is.before;
       others = all_tried (λ g. (n : ℕ) → HasFront text g n → n ≤ found.size) is.others;
     }
 
+    -- The longest front, or why it is not in groups.
+    pub front_is : (form : ℕ) (found : Found) → IsFrontOf i form found → (result : Result (ℕ × Found) FormError)
+        → IsGroupedForm forms text form found result → IsFoundFrontForm forms text result
+    front_is form found is (Ok other) grouped = record {
+      longest = subst (λ k. IsGreatest (HasFront text) forms k other.1.size) (sym grouped.same.0)
+          (subst (λ (f : Found). IsGreatest (HasFront text) forms form f.size) (sym grouped.same.1) (longest_is form found is));
+      found = subst (λ k. IsSomeAnd (slice_get forms k) (λ g. IsGroupedFront g text other.1)) (sym grouped.same.0) grouped.grouped;
+      error = tt;
+    }
+    front_is form found is (Err error) grouped = record {
+      longest = tt;
+      found = tt;
+      error = inr (
+        found.size,
+        subst (λ k. IsGreatest (HasFront text) forms k found.size) (sym grouped.form_is) (longest_is form found is),
+        subst (λ k. IsSomeAnd (slice_get forms k) (λ g. IsUngroupedFront g text found.size error.error.refusal)) (sym grouped.form_is) grouped.error,
+      );
+    }
+
     -- The error of the best form.
     pub best_error : (best : Reach) → IsBest i best → (error : FormError) → error.form ≡ best.form
-        → IsSomeAnd (slice_get forms best.form) (λ g. IsRefusal (notation_of g) text error.error.refusal) → IsFormError forms text error
+        → IsSomeAnd (slice_get forms best.form) (λ g. IsError g text error.error.refusal) → IsFormError forms text error
     best_error best is error same refusal =
         let g = some_of (λ g. GoesTo text g best.size) (slice_get forms best.form) (is.here (omega (arith, end, some))) in
-        let refused = some_is (λ g. IsRefusal (notation_of g) text error.error.refusal) (slice_get forms best.form) g.0 g.1 refusal in
+        let refused = some_is (λ g. IsError g text error.error.refusal) (slice_get forms best.form) g.0 g.1 refusal in
         let n = error.error.refusal.valid_up_to in
-        let up = one_size (notation_of g.0) text n best.size refused.valid_up_to g.2 in
-        let down = one_size (notation_of g.0) text best.size n g.2 refused.valid_up_to in
+        let reached = error_up_to g.0 text error.error.refusal refused in
+        let up = one_size (notation_of g.0) text n best.size reached g.2 in
+        let down = one_size (notation_of g.0) text best.size n g.2 reached in
         let equal : best.size ≡ n = omega (arith, up, down) in
         let greatest : IsGreatest (GoesTo text) forms best.form best.size = record {
           here = is.here (omega (arith, end, some));
@@ -191,5 +232,5 @@ module _ (forms : List Grammar) (text : List ℕ) where
         } in
         record {
           furthest = subst (λ k. IsGreatest (GoesTo text) forms k n) (sym same) (subst (IsGreatest (GoesTo text) forms best.form) equal greatest);
-          refusal = subst (λ k. IsSomeAnd (slice_get forms k) (λ g. IsRefusal (notation_of g) text error.error.refusal)) (sym same) refusal;
+          refusal = subst (λ k. IsSomeAnd (slice_get forms k) (λ g. IsError g text error.error.refusal)) (sym same) refusal;
         }

@@ -1,7 +1,7 @@
 -- Groups, read from left to right, and where separators are, counted from the right.
 use Rattle.std.proofs.Common.{ℕ, ◌≡◌, ◌<◌, ◌≤◌, ◌+◌, ◌-◌, ◌*◌, ◌%◌, ◌==◌, ◌&&◌, ◌||◌, ◌⊎◌, Bool, true, false, if◌then◌else◌, inl, inr}
-use Rattle.std.proofs.Common.{List, [], ◌∷◌, suc, zero, length, drop, drop-cons, get_or, slice_get, add-one, refl, sym, ap, subst, ◌∙◌, arith}
-use Rattle.std.proofs.lemmas.Bool.{and_parts, and_from, cases_Bool, cases_lt, false≢true}
+use Rattle.std.proofs.Common.{Some, List, [], ◌∷◌, suc, zero, length, drop, drop-cons, get_or, slice_get, add-one, refl, sym, ap, subst, ◌∙◌, arith}
+use Rattle.std.proofs.lemmas.Bool.{and_parts, and_from, cases_Bool, cases_lt, false≢true, false_from_ne_true}
 use Rattle.std.proofs.lemmas.Bool.Decides.{nat_tests}
 use Rattle.std.proofs.lemmas.Nat.{mod-mul-add}
 use Rattle.std.proofs.lemmas.Option.{slice_get-get_or}
@@ -10,7 +10,11 @@ use Rattle.std.specs.Bool.{beq}
 use Rattle.std.specs.List.{list_any}
 use Rattle.lexical_util.specs.Ascii.{ByteSet}
 use Rattle.lexical_literal.specs.Cause.{first_in, is_in}
-use Rattle.lexical_literal.specs.Groups.{are_groups, begins_in, group_begins, group_size, is_grouped, is_right}
+use Rattle.lexical_literal.specs.Groups.{are_groups, begins_in, group_begins, group_size, has_groups, is_grouped, is_right}
+use Rattle.lexical_literal.specs.Literal.{Literal, Reads}
+use Rattle.lexical_literal.specs.Notation.{notation_of}
+use Rattle.lexical_literal.specs.Takes.{Refuses}
+use Rattle.lexical_literal.specs.declared.syntax.Grammar.{Grammar}
 
 module _ (S : ByteSet) (size : ℕ) where
   -- `rights n bytes` is true if `bytes`, behind a separator and `n` digits, end a group of `size` digits, and more such groups
@@ -128,6 +132,14 @@ module _ (S : ByteSet) (size : ℕ) where
         | inl first ↦ let zero : start ≡ 0 = grind (arith, nat_tests) in rw (zero, is) (and_from _ _ (subst (λ s. is_right s n size ≡ true) zero right) rest)
         | inr other ↦ let whole : (n == size) ≡ true = grind arith in rw (other, is) (and_from _ _ whole rest)
       ]
+
+-- A literal that the syntax refuses is not in groups.
+pub not_grouped : (g : Grammar) (text : List ℕ) (l : Literal) → Reads (notation_of g) l text → Refuses g text → (size : ℕ)
+    → g.conditions.integer_group_size ≡ Some size → is_grouped (notation_of g).separator size l.integer ≡ false
+not_grouped g text l reads refuses size required = false_from_ne_true _ (λ grouped. refuses l (record {
+  reads = reads;
+  groups = subst (λ o. has_groups (notation_of g).separator o l.integer ≡ true) (sym required) grouped;
+}))
 
 -- `NoneFrom S bytes start end` holds if no byte from the index `start` to `end` is in `S`.
 abbrev pub NoneFrom : ByteSet → List ℕ → ℕ → ℕ → Type 0

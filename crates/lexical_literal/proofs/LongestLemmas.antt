@@ -1,21 +1,19 @@
 -- Fronts of a text, and where the loop is left.
-use Rattle.std.proofs.Common.{ℕ, Bool, IsTrue, ◌&&◌, Option, if◌then◌else◌, ◌≡◌, ◌==◌, ◌<◌, ◌≤◌, ◌+◌, inl, inr, true, false, List, [], ◌∷◌, ◌++◌}
+use Rattle.std.proofs.Common.{ℕ, Bool, IsTrue, ◌&&◌, Option, if◌then◌else◌, ◌≡◌, ◌<◌, ◌≤◌, ◌+◌, inl, inr, true, false, List, [], ◌∷◌, ◌++◌}
 use Rattle.std.proofs.Common.{length, get_or, take, drop, Some, None, refl, sym, ap, subst, append_assoc, append-nil, take-append-drop, ◌∙◌, arith}
 use Rattle.std.specs.Prelude.{slice_get}
 use Rattle.std.proofs.lemmas.Bool.{false≢true, false_from_ne_true, cases_lt}
 use Rattle.std.proofs.lemmas.Option.{slice_get_past}
-use Rattle.std.proofs.lemmas.Bool.Decides.{nat_tests}
 use Rattle.std.proofs.lemmas.List.{take-take, take_more, take_all}
 use Rattle.lexical_literal.specs.Notation.{Notation}
-use Rattle.lexical_literal.specs.Literal.{Literal, IsLiteral, Reads, is_none_or_prefix}
+use Rattle.lexical_literal.specs.Literal.{Literal, IsLiteral, Reads}
 use Rattle.lexical_literal.specs.Additions.Summary.{Cuts, byte_class, in_part, scan, step, is_accepted, is_complete}
-use Rattle.lexical_literal.specs.Additions.Summary.{tally, count, add, piece_number, start, no_cuts, HasLengths}
+use Rattle.lexical_literal.specs.Additions.Summary.{tally, count, start, no_cuts, HasLengths}
 use Rattle.lexical_literal.specs.Front.{IsFront, IsValidUpTo, NoLiteral, ReadsFront}
-use Rattle.lexical_literal.specs.Additions.Longest.{HasStopped, IsLongest, IsScanned}
+use Rattle.lexical_literal.specs.Additions.Longest.{IsLongest, IsRefusedAt, IsScanned}
 use Rattle.lexical_literal.specs.Additions.Causes.{allows, class_of_next}
 use Rattle.lexical_literal.specs.Additions.Tables as tables
 use Rattle.lexical_literal.specs.declared.read.Scanned.{Scanned}
-use Rattle.lexical_literal.specs.declared.steps.Piece.{Piece}
 use Rattle.lexical_literal.specs.declared.steps.Summary.{Summary}
 use Rattle.lexical_literal.specs.declared.tables.TheConstants.{ROWS}
 use Rattle.lexical_literal.proofs.ScanLemmas.{IsReady, scan_append, tally_append}
@@ -78,11 +76,12 @@ module _ (m : Notation) (text : List ℕ) where
     ]
 
     -- Reading stops at the end of the text, unless the text is a literal, or before.
-    pub stops : (scanned.valid_up_to ≡ length text → is_complete m (tables.summary_at scanned.row) ≡ false) → HasStopped m text scanned
+    pub stops : (scanned.valid_up_to ≡ length text → is_complete m (tables.summary_at scanned.row) ≡ false) → IsRefusedAt m text scanned
     stops partial = record { seeks = seeks; is = is; refused = refused_there partial }
 
-    pub none_stops : NoLiteral m text → HasStopped m text scanned
-    none_stops none = stops (λ all. false_from_ne_true _ (λ complete. let l = whole_literal all complete in none l.0 l.1))
+    -- If the text is a literal, then reading stops at its end.
+    pub whole_all : (l : Literal) → Reads m l text → scanned.valid_up_to ≡ length text
+    whole_all l reads = let all = all_right l reads in omega (arith, all, is.error.within)
 
     -- If the front does not allow what follows, then the text is not a literal.
     pub none_whole : allows m (tables.summary_at scanned.row) (class_of_next m (slice_get text scanned.valid_up_to)) ≡ false → NoLiteral m text

@@ -66,11 +66,12 @@ one_mask : (a b : ℕ) → a ≡ bits_of a flags → b ≡ bits_of b flags → (
 unfolding bits_of
 one_mask a b one two same = one ∙ (λ j. sum_by (λ f. if same f j then 2 ^ bit f else 0) flags) ∙ sym two
 
-one_set : (a b : Conditions) → ((c : Condition) → has a c ≡ has b c) → a ≡ b
-one_set a b same = λ j. record {
+one_set : (a b : Conditions) → ((c : Condition) → has a c ≡ has b c) → a.integer_group_size ≡ b.integer_group_size → a ≡ b
+one_set a b same groups = λ j. record {
   required_base_prefix = same conditions.BasePrefix j;
   required_base_suffix = same conditions.BaseSuffix j;
   no_negative_mantissa_sign = same conditions.NegativeSign j;
+  integer_group_size = groups j;
 }
 
 module _ (m : Notation) (text : List ℕ) where
@@ -85,7 +86,7 @@ module _ (m : Notation) (text : List ℕ) where
       let same = one_cause m _ _ _ (slice_get text a.valid_up_to) a.kind b.kind one.cause other in
       let mask = one_mask a.mask b.mask one.mask two.mask same.flags in
       let unmet = one_set a.conditions b.conditions (λ c. same_truth (has a.conditions c) (has b.conditions c) (one.conditions c)
-          (subst (λ n. (has b.conditions c ≡ true) ↔ IsUnmet m (take n text) (slice_get text n) c) (sym size) (two.conditions c))) in
+      (subst (λ n. (has b.conditions c ≡ true) ↔ IsUnmet m (take n text) (slice_get text n) c) (sym size) (two.conditions c))) (one.groups ∙ sym two.groups) in
       let byte = one.byte ∙ ap (slice_get text) size ∙ sym two.byte in
       let span = one.span ∙ (λ j. span_of m (marks_of m (take (size j) text)) (byte j) (same.kind j) (lowest (mask j)) (first_unmet (mask j) (unmet j))) ∙ sym two.span in
       let code = one.code ∙ (λ j. error_of m (marks_of m (take (size j) text)) (same.kind j) (lowest (mask j)) (first_unmet (mask j) (unmet j)) (span j).0) ∙ sym two.code in

@@ -1,6 +1,6 @@
 -- Digit groups: where the separators of an integer are, if it has any, and the first group that has not the right size.
 use Rattle.std.specs.Prelude.{ℕ, ◌≡◌, Bool, true, false, not, ◌+◌, ◌-◌, ◌%◌, ◌<◌, ◌≤◌, ◌&&◌, ◌||◌, ◌==◌, nat_lt, nat_le, if◌then◌else◌, IsTrue}
-use Rattle.std.specs.Prelude.{List, [], ◌∷◌, drop, length, slice_get}
+use Rattle.std.specs.Prelude.{List, [], ◌∷◌, Option, Some, None, drop, length, slice_get}
 use Rattle.std.specs.Bool.{beq}
 use Rattle.std.specs.List.{list_any}
 use Rattle.lexical_util.specs.Ascii.{ByteSet}
@@ -21,6 +21,11 @@ begins_in S (byte ∷ bytes) = S byte
 -- `size` digits end that are counted from the right.
 abbrev pub is_grouped : ByteSet → ℕ → List ℕ → Bool
 is_grouped S size bytes = not (list_any S bytes) || (not (begins_in S bytes) && are_groups S size bytes)
+
+-- `has_groups S size bytes` is true if `bytes` are grouped, or if no `size` is required.
+abbrev pub has_groups : ByteSet → Option ℕ → List ℕ → Bool
+has_groups S None bytes = true
+has_groups S (Some size) bytes = is_grouped S size bytes
 
 -- `group_begins S bytes start` is true if `start` is 0, or if a separator is before the index `start`.
 abbrev pub group_begins : ByteSet → List ℕ → ℕ → Bool

@@ -7,6 +7,7 @@ pub mod Readings
 pub mod Syntax
 pub mod Specials
 pub mod Cause
-pub mod Forms
 pub mod Groups
+pub mod Takes
+pub mod Forms
 pub mod Additions

@@ -58,7 +58,8 @@ has c conditions.NegativeSign = c.no_negative_mantissa_sign
 
 -- `no_conditions` has no condition.
 abbrev pub no_conditions : Conditions
-no_conditions = record { required_base_prefix = false; required_base_suffix = false; no_negative_mantissa_sign = false }
+no_conditions =
+    record { required_base_prefix = false; required_base_suffix = false; no_negative_mantissa_sign = false; integer_group_size = None }
 
 -- `notation_of g` is the notation of the format, the options and the conditions of `g`.
 abbrev pub notation_of : Grammar → Notation

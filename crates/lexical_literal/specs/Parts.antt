@@ -1,9 +1,11 @@
 -- What a reader returns: the parts of a literal, or an error.
-use Rattle.std.specs.Prelude.{ℕ, ◌≡◌, ◌≤◌, IfErr, IfOk, IsErr, IsOkAnd, List, Result, length, take}
-use Rattle.lexical_literal.specs.Cause.{Explained, IsRefusal}
-use Rattle.lexical_literal.specs.Front.{NoLiteral, ReadsFront}
-use Rattle.lexical_literal.specs.Literal.{Literal, Reads}
-use Rattle.lexical_literal.specs.Notation.{Notation}
+use Rattle.std.specs.Prelude.{ℕ, ◌≡◌, IfErr, IfOk, IsOkAnd, List, Result}
+use Rattle.lexical_literal.specs.Cause.{Explained}
+use Rattle.lexical_literal.specs.Front.{ReadsFront}
+use Rattle.lexical_literal.specs.Literal.{Literal}
+use Rattle.lexical_literal.specs.Notation.{notation_of}
+use Rattle.lexical_literal.specs.Takes.{AreGroups, IsError, IsFrontError, Takes}
+use Rattle.lexical_literal.specs.declared.syntax.Grammar.{Grammar}
 use Rattle.lexical_literal.specs.declared.number.Front.{Front}
 use Rattle.lexical_literal.specs.declared.read.Parts.{Parts}
 
@@ -21,22 +23,22 @@ literal_of parts = record {
   suffix = parts.suffix.now;
 }
 
--- `IsRead m text result` holds if `result` has the only parts of the literal `text`, or is the error of a text that is
+-- `IsRead g text result` holds if `result` has the only parts of the literal `text`, or is the error of a text that is
 -- not a literal.
-pub record IsRead (m : Notation) (text : List ℕ) (result : Result Parts Explained) : Type 0 where
+pub record IsRead (g : Grammar) (text : List ℕ) (result : Result Parts Explained) : Type 0 where
   -- The text is a literal with the parts that are returned.
-  pub found : IfOk result (λ parts. Reads m (literal_of parts) text)
+  pub found : IfOk result (λ parts. Takes g (literal_of parts) text)
   -- A literal has no other parts, and they are returned.
-  pub only : (l : Literal) → Reads m l text → IsOkAnd result (λ parts. literal_of parts ≡ l)
+  pub only : (l : Literal) → Takes g l text → IsOkAnd result (λ parts. literal_of parts ≡ l)
   -- An error says how far the text is right, why it is not a literal, and which bytes to show.
-  pub error : IfErr result (λ error. IsRefusal m text error.refusal)
+  pub error : IfErr result (λ error. IsError g text error.refusal)
 
--- `IsReadPrefix m text result` holds if `result` has the longest front of `text` that is a literal, with its parts, or is
--- the error of a text of which no front is a literal.
-pub record IsReadPrefix (m : Notation) (text : List ℕ) (result : Result Front Explained) : Type 0 where
+-- `IsReadPrefix g text result` holds if `result` has the longest front of `text` that is a literal, apart from its groups,
+-- with its parts, and this front is in groups, or is the error of a text for which there is no such front.
+pub record IsReadPrefix (g : Grammar) (text : List ℕ) (result : Result Front Explained) : Type 0 where
   -- A front of the text is a literal with the parts that are returned, and no longer front is a literal.
-  pub found : IfOk result (λ front. ReadsFront m (literal_of front.parts) text front.size)
-  -- If no front is returned, no front is a literal.
-  pub none : IsErr result → (size : ℕ) → size ≤ length text → NoLiteral m (take size text)
-  -- An error says how far the text is right, why it is not a literal, and which bytes to show.
-  pub error : IfErr result (λ error. IsRefusal m text error.refusal)
+  pub found : IfOk result (λ front. ReadsFront (notation_of g) (literal_of front.parts) text front.size)
+  -- The integer of this literal is in groups.
+  pub grouped : IfOk result (λ front. AreGroups g (literal_of front.parts))
+  -- An error says that no front is a literal, or that the integer of the longest one is not in groups.
+  pub error : IfErr result (λ error. IsFrontError g text error.refusal)

@@ -1,11 +1,12 @@
 //! Why a text is not a literal.
 
-ghost use Rattle.std.specs.Prelude.{◌≡◌, ◌≢◌, ◌<◌, Some, if◌then◌else◌, ◌&&◌, ◌||◌, ◌==◌, ℕ, false, not};
+ghost use Rattle.std.specs.Prelude.{◌≡◌, ◌≢◌, ◌<◌, ◌^◌, Some, if◌then◌else◌, ◌&&◌, ◌||◌, ◌==◌, ℕ, false, not};
 ghost use Rattle.lexical_util.specs.Layout.{Flag, bit, part, separators_in};
 ghost use Rattle.lexical_util.specs.Record.{raw};
 ghost use Rattle.lexical_util.specs.Roles.{other_case};
 ghost use Rattle.lexical_literal.specs.Additions.Causes.{allows, class_of_next, is_role, place_of, role_of_next};
-ghost use Rattle.lexical_literal.specs.Additions.Explained.{blame, cases, conditions_of, mask_of, requirements, separators, unmet, wrong};
+ghost use Rattle.lexical_literal.specs.Additions.Explained.{blame, cases, conditions_of, mask_of, refusal_of, requirements, separators, unmet};
+ghost use Rattle.lexical_literal.specs.Additions.Explained.{ungrouped_of, wrong};
 ghost use Rattle.lexical_literal.specs.Additions.Summary.{byte_class};
 ghost use Rattle.lexical_literal.specs.Additions.Tables.{summary_at};
 ghost use Rattle.lexical_literal.specs.Cause.{SomeFlag, adding, bare, binds, case_set, first_unmet, is_one_of, is_same, requirement_flags};
@@ -62,7 +63,8 @@ pub struct Marks {
 }
 
 // Where reading stopped: the row of what has been read, the byte that cannot follow, or `None` if bytes are missing, and the
-// bytes that follow it in its character, or 0 for each that does not.
+// bytes that follow it in its character, or 0 for each that does not. If the text is a literal whose integer is not in groups,
+// the first wrong group begins at `marks.first`, and ends at `marks.run`.
 #[derive(Debug, Clone, Copy, PartialEq, Eq, Hash)]
 pub struct Spot {
     pub(crate) grammar: Grammar,
@@ -70,6 +72,7 @@ pub struct Spot {
     pub(crate) byte: Option<u8>,
     pub(crate) tail: [u8; 3],
     pub(crate) marks: Marks,
+    pub(crate) is_ungrouped: bool,
 }
 
 // What an error answers.
@@ -177,14 +180,56 @@ impl ReadError {
     pub(crate) const fn explain(&self) -> Refusal
         ensures { result ≡ self.now.refusal }
     {
+        if self.spot.is_ungrouped {
+            self.spot.ungrouped()
+        } else {
+            self.spot.refusal()
+        }
+    }
+}
+
+impl Spot {
+    // Returns the answers of a text whose integer is not in groups.
+    const fn ungrouped(self) -> Refusal
+        ensures { result ≡ ungrouped_of self }
+    {
+        let Marks {
+            size,
+            first,
+            run,
+            ..
+        } = self.marks;
+        Refusal {
+            valid_up_to: size,
+            byte: self.byte,
+            kind: ReadErrorKind::Requirement,
+            mask: 0,
+            conditions: Conditions {
+                required_base_prefix: false,
+                required_base_suffix: false,
+                no_negative_mantissa_sign: false,
+                integer_group_size: self.grammar.conditions.integer_group_size,
+            },
+            start: first,
+            end: run,
+            code: Error::InvalidDigit(first),
+        }
+    }
+
+    // Returns the answers of a text with which no literal goes on.
+    const fn refusal(self) -> Refusal
+        requires row { self.row < ROWS }
+        requires size { self.marks.size < 2 ^ 63 }
+        ensures { result ≡ refusal_of (notation_of self.grammar) self }
+    {
         let Spot {
             grammar,
             byte,
             marks,
             ..
-        } = self.spot;
-        let Blame { kind, mask } = self.spot.blame();
-        let conditions = self.spot.stop().unmet();
+        } = self;
+        let Blame { kind, mask } = self.blame();
+        let conditions = self.stop().unmet();
         let number = mask.trailing_zeros();
         let unmet = first_unmet(mask, conditions);
         let (start, end) = span(grammar, marks, byte, kind, number, unmet);
@@ -199,9 +244,7 @@ impl ReadError {
             code: error(grammar, marks, kind, number, unmet, start),
         }
     }
-}
 
-impl Spot {
     // Returns the kind, and the mask of the flags that are to blame.
     const fn blame(self) -> Blame
         requires { self.row < ROWS }
@@ -256,6 +299,7 @@ const fn alone(condition: Condition) -> Conditions
         required_base_prefix: matches!(condition, Condition::BasePrefix),
         required_base_suffix: matches!(condition, Condition::BaseSuffix),
         no_negative_mantissa_sign: matches!(condition, Condition::NegativeSign),
+        integer_group_size: None,
     }
 }
 
@@ -376,7 +420,7 @@ impl Stop {
         if alone != 0 {
             return alone;
         }
-        if self.unmet().is_none() {
+        if self.unmet().are_free() {
             binding & ZEROS
         } else {
             0
@@ -388,7 +432,7 @@ impl Stop {
         ensures { result ≡ conditions_of (unmet (notation_of self.grammar) self.read self.next) }
     {
         let set = self.grammar.conditions;
-        if set.is_none() {
+        if set.are_free() {
             return Conditions::NONE;
         }
         if !self.allows(self.bare()) {
@@ -398,6 +442,7 @@ impl Stop {
             required_base_prefix: self.is_unmet(Condition::BasePrefix),
             required_base_suffix: self.is_unmet(Condition::BaseSuffix),
             no_negative_mantissa_sign: self.is_unmet(Condition::NegativeSign),
+            integer_group_size: None,
         }
     }
 

@@ -1,10 +1,8 @@
 //! Lists of readers: the numbers of a language that has several forms, such as `10`, `0x1F` and `0b1`.
 
 ghost use Rattle.std.specs.Prelude.{◌≡◌, ◌<◌, All, IsSomeAnd, SomeIff, length, slice_get};
-ghost use Rattle.lexical_literal.specs.Additions.Forms.{IsFoundForm, IsFoundFrontForm, further, longer};
-ghost use Rattle.lexical_literal.specs.Cause.{IsRefusal};
-ghost use Rattle.lexical_literal.specs.Front.{NoLiteral};
-ghost use Rattle.lexical_literal.specs.Notation.{notation_of};
+ghost use Rattle.lexical_literal.specs.Additions.Forms.{IsFoundForm, IsFoundFrontForm, IsGroupedForm, IsReadFront, further, longer};
+ghost use Rattle.lexical_literal.specs.Takes.{IsError, Refuses};
 
 use crate::cause::ReadError;
 use crate::read::{Found, Reader};
@@ -66,7 +64,7 @@ impl<'a> ReaderList<'a> {
     }
 
     // Returns the index of the first form that takes `text`, and the lengths of its parts, or why no form takes it.
-    pub(crate) const fn find(&self, text: &[u8]) -> Result<(usize, [usize; 9]), FormError>
+    pub(crate) fn find(&self, text: &[u8]) -> Result<(usize, [usize; 9]), FormError>
         ensures { IsFoundForm self.now text.now result }
     {
         let mut furthest = Reach { form: 0, size: 0 };
@@ -82,7 +80,7 @@ impl<'a> ReaderList<'a> {
     }
 
     // Returns the longest front of `text` that is a literal of a form, with the index of the form, the first of equals, or
-    // why there is none.
+    // why there is none. Its groups are tested last.
     pub(crate) fn find_front(&self, text: &[u8]) -> Result<(usize, Found), FormError>
         ensures { IsFoundFrontForm self.now text.now result }
     {
@@ -97,17 +95,29 @@ impl<'a> ReaderList<'a> {
             form += 1;
         }
         match longest {
-            Some(found) => Ok(found),
+            Some((form, found)) => self.grouped(text, form, found),
             None => Err(self.refuse(text, furthest.form)),
         }
     }
 
-    // Returns why `text` is not a literal of a form.
-    const fn refuse(&self, text: &[u8], form: usize) -> FormError
+    // Returns the front `found` of a form, or why its integer is not in groups.
+    fn grouped(&self, text: &[u8], form: usize, found: Found) -> Result<(usize, Found), FormError>
         requires within { form < length self.now }
-        requires none { All (λ g. NoLiteral (notation_of g) text.now) self.now }
+        requires read { IsReadFront self.now text.now form found }
+        ensures { IsGroupedForm self.now text.now form found result }
+    {
+        match self.readers()[form].grouped(text, found) {
+            Ok(found) => Ok((form, found)),
+            Err(error) => Err(FormError { form, error }),
+        }
+    }
+
+    // Returns why `text` is not a literal of a form.
+    fn refuse(&self, text: &[u8], form: usize) -> FormError
+        requires within { form < length self.now }
+        requires none { All (λ g. Refuses g text.now) self.now }
         ensures form { result.form ≡ form }
-        ensures refusal { IsSomeAnd (slice_get self.now form) (λ g. IsRefusal (notation_of g) text.now result.error.refusal) }
+        ensures refusal { IsSomeAnd (slice_get self.now form) (λ g. IsError g text.now result.error.refusal) }
     {
         let error = self.readers()[form].explain(text);
         FormError { form, error }

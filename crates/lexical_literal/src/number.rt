@@ -1,7 +1,6 @@
 //! Calls that read literals.
 
 ghost use Rattle.lexical_literal.specs.Forms.{IsFrontByForms, IsReadByForms};
-ghost use Rattle.lexical_literal.specs.Notation.{notation_of};
 ghost use Rattle.lexical_literal.specs.Parts.{IsRead, IsReadPrefix};
 
 use crate::cause::ReadError;
@@ -24,7 +23,7 @@ impl Reader {
     ///
     /// If `text` is not a literal, returns why, and how far it is right.
     pub fn read<'a>(&self, text: &'a [u8]) -> Result<Parts<'a>, ReadError>
-        ensures { IsRead (notation_of self.now) text.now result }
+        ensures { IsRead self.now text.now result }
     {
         match self.find(text) {
             Ok(counts) => Ok(cut(text, counts)),
@@ -33,13 +32,14 @@ impl Reader {
     }
 
     /// Returns the longest front of `text` that is a literal. What follows it may be anything. No byte behind the first
-    /// character that no literal can have is looked at.
+    /// character that no literal can have is looked at. Groups of digits are tested last: they do not end a front.
     ///
     /// # Errors
     ///
-    /// If no front of `text` is a literal, returns the error of [`read`][Self::read].
+    /// If no front of `text` is a literal, returns the error of [`read`][Self::read]. If the integer of the longest front is
+    /// not in groups, returns its error.
     pub fn read_prefix<'a>(&self, text: &'a [u8]) -> Result<Front<'a>, ReadError>
-        ensures { IsReadPrefix (notation_of self.now) text.now result }
+        ensures { IsReadPrefix self.now text.now result }
     {
         match self.find_front(text) {
             Ok(found) => {

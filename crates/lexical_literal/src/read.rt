@@ -2,17 +2,20 @@
 
 ghost use Rattle.std.specs.Prelude.{◌≡◌, ◌++◌, ◌∷◌, ◌&&◌, ◌<◌, ◌≤◌, Bool, ℕ, List, [], false, length, slice_get, take};
 ghost use Rattle.lexical_literal.specs.Additions.Explained.{tail_byte, tail_size};
-ghost use Rattle.lexical_literal.specs.Additions.Longest.{HasStopped, IsFound, IsFoundFront, IsMeasured, IsMeasuredFront, IsScanned};
+ghost use Rattle.lexical_literal.specs.Additions.Longest.{HasParts, HasStopped, IsCountedFront, IsFound, IsFoundFront, IsGrouped, IsMeasured};
+ghost use Rattle.lexical_literal.specs.Additions.Longest.{IsMeasuredFront, IsRefusedAt, IsScanned};
 ghost use Rattle.lexical_literal.specs.Additions.Summary.{HasLengths, is_complete};
 ghost use Rattle.lexical_literal.specs.Additions.Tables.{cuts_of, summary_at};
 ghost use Rattle.lexical_literal.specs.Cause.{IsRefusal};
-ghost use Rattle.lexical_literal.specs.Front.{NoLiteral};
-ghost use Rattle.lexical_literal.specs.Literal.{Literal, text_of};
+ghost use Rattle.lexical_literal.specs.Groups.{has_groups};
+ghost use Rattle.lexical_literal.specs.Literal.{Literal, Reads, text_of};
 ghost use Rattle.lexical_literal.specs.Notation.{notation_of};
 ghost use Rattle.lexical_literal.specs.Parts.{literal_of};
+ghost use Rattle.lexical_literal.specs.Takes.{IsError, IsUngrouped, Refuses};
 ghost use Rattle.lexical_literal.specs.declared.tables.TheConstants.{ROWS};
 
-use crate::cause::{ReadError, Spot};
+use crate::cause::{Marks, ReadError, Spot};
+use crate::groups::{is_grouped, wrong_group};
 use crate::span::marks;
 use crate::syntax::Syntax;
 use crate::tables::{START, Tables, piece_number};
@@ -93,8 +96,8 @@ impl Reader {
 
     // Returns the lengths of the parts of the literal `text`, or why it is not one.
     #[inline(always)]
-    pub(crate) const fn find(&self, text: &[u8]) -> Result<[usize; 9], ReadError>
-        ensures { IsFound (notation_of self.now) text.now result }
+    pub(crate) fn find(&self, text: &[u8]) -> Result<[usize; 9], ReadError>
+        ensures { IsFound self.now text.now result }
     {
         match self.lengths(text) {
             Ok(counts) => Ok(counts),
@@ -102,31 +105,34 @@ impl Reader {
         }
     }
 
-    // Returns the longest front of `text` that is a literal, or why there is none.
+    // Returns the longest front of `text` that is a literal, or why there is none. Its groups are tested last.
     #[inline(always)]
     pub(crate) fn find_front(&self, text: &[u8]) -> Result<Found, ReadError>
-        ensures { IsFoundFront (notation_of self.now) text.now result }
+        ensures { IsFoundFront self.now text.now result }
     {
         match self.front(text) {
-            Ok(found) => Ok(found),
-            Err(stopped) => Err(self.refuse(text, stopped)),
+            Ok(found) => self.grouped(text, found),
+            Err(stopped) => Err(self.refuse_byte(text, stopped)),
         }
     }
 
     // Returns the lengths of the parts of the literal `text`, or where reading stopped if it is not one.
     #[inline(always)]
-    pub(crate) const fn lengths(&self, text: &[u8]) -> Result<[usize; 9], Scanned>
-        ensures { IsMeasured (notation_of self.now) text.now result }
+    pub(crate) fn lengths(&self, text: &[u8]) -> Result<[usize; 9], Scanned>
+        ensures { IsMeasured self.now text.now result }
     {
         let scanned = self.scan(text, false);
-        if scanned.valid_up_to == text.len() && self.is_complete(scanned.row) {
+        if scanned.valid_up_to == text.len()
+            && self.is_complete(scanned.row)
+            && self.has_groups(text, scanned.counts)
+        {
             Ok(scanned.counts)
         } else {
             Err(scanned)
         }
     }
 
-    // Returns the longest front of `text` that is a literal, or where reading stopped if there is none.
+    // Returns the longest front of `text` that is a literal, apart from its groups, or where reading stopped if there is none.
     #[inline(always)]
     pub(crate) fn front(&self, text: &[u8]) -> Result<Found, Scanned>
         ensures { IsMeasuredFront (notation_of self.now) text.now result }
@@ -139,17 +145,46 @@ impl Reader {
             let counts = scanned.counts;
             return Ok(Found { size, counts });
         }
-        match self.lengths(front_of(text, size)) {
-            Ok(counts) => Ok(Found { size, counts }),
-            Err(_) => Err(scanned),
+        let counts = self.scan(front_of(text, size), false).counts;
+        Ok(Found { size, counts })
+    }
+
+    // Returns the front `found` of `text`, or why its integer is not in groups.
+    #[inline(always)]
+    pub(crate) fn grouped(&self, text: &[u8], found: Found) -> Result<Found, ReadError>
+        requires { IsCountedFront (notation_of self.now) text.now found }
+        ensures { IsGrouped self.now text.now found result }
+    {
+        let front = front_of(text, found.size);
+        if self.has_groups(front, found.counts) {
+            Ok(found)
+        } else {
+            Err(self.ungrouped(front, found.counts))
+        }
+    }
+
+    // Returns whether the integer of the literal `text` is in groups, if the syntax requires it.
+    #[inline(always)]
+    fn has_groups(&self, text: &[u8], counts: [usize; 9]) -> bool
+        requires { HasParts self.now text.now counts }
+        ensures { (l : Literal) → Reads (notation_of self.now) l text.now → HasLengths l (cuts_of counts)
+            → result ≡ has_groups (notation_of self.now).separator self.now.conditions.integer_group_size l.integer }
+    {
+        let grammar = self.syntax.grammar();
+        match grammar.conditions.integer_group_size {
+            None => true,
+            Some(size) => {
+                let parts = cut(text, counts);
+                is_grouped(grammar, size, parts.integer)
+            }
         }
     }
 
     // Returns why `text`, which is not a literal, is none.
     #[cold]
-    pub(crate) const fn explain(&self, text: &[u8]) -> ReadError
-        requires { NoLiteral (notation_of self.now) text.now }
-        ensures { IsRefusal (notation_of self.now) text.now result.refusal }
+    pub(crate) fn explain(&self, text: &[u8]) -> ReadError
+        requires { Refuses self.now text.now }
+        ensures { IsError self.now text.now result.refusal }
     {
         let scanned = self.scan(text, false);
         self.refuse(text, scanned)
@@ -211,8 +246,52 @@ impl Reader {
 
     // Returns why `text` is not a literal.
     #[cold]
-    const fn refuse(&self, text: &[u8], scanned: Scanned) -> ReadError
-        requires { HasStopped (notation_of self.now) text.now scanned }
+    fn refuse(&self, text: &[u8], stopped: Scanned) -> ReadError
+        requires { HasStopped self.now text.now stopped }
+        ensures { IsError self.now text.now result.refusal }
+    {
+        if stopped.valid_up_to == text.len() && self.is_complete(stopped.row) {
+            self.ungrouped(text, stopped.counts)
+        } else {
+            self.refuse_byte(text, stopped)
+        }
+    }
+
+    // Returns that the integer of `text` is not in groups, and the first wrong group.
+    #[cold]
+    fn ungrouped(&self, text: &[u8], counts: [usize; 9]) -> ReadError
+        requires parts { HasParts self.now text.now counts }
+        requires refuses { Refuses self.now text.now }
+        ensures { IsUngrouped self.now text.now result.refusal }
+    {
+        let grammar = self.syntax.grammar();
+        let Some(size) = grammar.conditions.integer_group_size else {
+            unreachable!()
+        };
+        let parts = cut(text, counts);
+        let before = parts.sign.len() + parts.prefix.len();
+        let (start, end) = wrong_group(grammar, size, parts.integer);
+        ReadError {
+            spot: Spot {
+                grammar,
+                row: START,
+                byte: None,
+                tail: [0; 3],
+                marks: Marks {
+                    size: text.len(),
+                    exponent: 0,
+                    first: before + start,
+                    run: before + end,
+                },
+                is_ungrouped: true,
+            },
+        }
+    }
+
+    // Returns why the byte that follows is not allowed, or what is missing.
+    #[cold]
+    const fn refuse_byte(&self, text: &[u8], scanned: Scanned) -> ReadError
+        requires { IsRefusedAt (notation_of self.now) text.now scanned }
         ensures { IsRefusal (notation_of self.now) text.now result.refusal }
     {
         role_facts();
@@ -226,6 +305,7 @@ impl Reader {
                 byte,
                 tail: tail_at(text, size, byte),
                 marks: marks(grammar, text, size),
+                is_ungrouped: false,
             },
         }
     }

@@ -310,7 +310,7 @@ const fn is_negative(part: Part, plus: bool, role: Role) -> bool
 const fn admits(conditions: Conditions, read: Summary, plus: bool, zero: bool, role: Role) -> bool
     ensures { result ≡ admits (has conditions) read plus zero role }
 {
-    if conditions.is_none() {
+    if conditions.are_free() {
         return true;
     }
     some_admit(conditions, read, plus, zero, role)
@@ -407,8 +407,7 @@ pub(crate) const fn step(grammar: Grammar, read: Summary, class: Class) -> Optio
         Some(role)
             if !read.ended
                 && takes(grammar, read, plus, role)
-                && admits(grammar.conditions, read, plus, zero, role) =>
-        {
+                && admits(grammar.conditions, read, plus, zero, role) => {
             Some(Move {
                 summary: after(read, zero, role),
                 piece: piece_of(read.part, role),

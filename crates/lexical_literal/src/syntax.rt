@@ -1,6 +1,6 @@
 //! A lawful format with the bytes that a format does not define.
 
-ghost use Rattle.std.specs.Prelude.{◌≡◌, ◌||◌, not, IfErr, Some, None};
+ghost use Rattle.std.specs.Prelude.{◌≡◌, ◌&&◌, ◌||◌, not, IfErr, Some, None, is_some};
 ghost use Rattle.lexical_util.specs.Record.{raw};
 ghost use Rattle.std.specs.Result.{OkIff};
 ghost use Rattle.lexical_util.specs.NormalForm.{normal_form_of};
@@ -8,7 +8,7 @@ ghost use Rattle.lexical_util.specs.Options.{OptionsFit, IsOptionsError};
 ghost use Rattle.lexical_util.specs.declared.lawful.Rejected.TheVariants as rejected;
 ghost use Rattle.lexical_literal.specs.declared.syntax.Options.{Options};
 ghost use Rattle.lexical_literal.specs.Notation.{has, no_conditions, notation_of, IsOnlyRole};
-ghost use Rattle.lexical_literal.specs.Syntax.{IsSyntax, contradiction};
+ghost use Rattle.lexical_literal.specs.Syntax.{IsSyntax, contradiction, groups_error};
 
 use crate::steps::{byte_class, role_of};
 use lexical_util::format::{Format, FormatError, NumberFormat, Role};
@@ -34,6 +34,9 @@ pub struct Conditions {
     pub required_base_suffix: bool,
     /// The sign of a literal is not `-`. The sign of its exponent may be.
     pub no_negative_mantissa_sign: bool,
+    /// If there is a size, from 2 to 8, the integer of a literal has no digit separators, or has them between groups of as
+    /// many digits, counted from the right.
+    pub integer_group_size: Option<u8>,
 }
 
 impl Conditions {
@@ -42,6 +45,7 @@ impl Conditions {
         required_base_prefix: false,
         required_base_suffix: false,
         no_negative_mantissa_sign: false,
+        integer_group_size: None,
     };
 
     // Returns whether `condition` is one of them.
@@ -58,6 +62,14 @@ impl Conditions {
     /// Returns whether there are no conditions.
     #[must_use]
     pub const fn is_none(self) -> bool
+        ensures { result ≡ (not (has self Condition.BasePrefix || (has self Condition.BaseSuffix || has self Condition.NegativeSign))
+            && not (is_some self.integer_group_size)) }
+    {
+        self.are_free() && matches!(self.integer_group_size, None)
+    }
+
+    // Returns whether there are no conditions on what follows what has been read.
+    pub(crate) const fn are_free(self) -> bool
         ensures { result ≡ not (has self Condition.BasePrefix || (has self Condition.BaseSuffix || has self Condition.NegativeSign)) }
     {
         !(self.required_base_prefix | self.required_base_suffix | self.no_negative_mantissa_sign)
@@ -80,6 +92,10 @@ pub enum ConditionsError {
     NoBasePrefix,
     /// The base suffix is required, and the format has none.
     NoBaseSuffix,
+    /// The size of groups is not from 2 to 8.
+    GroupSize,
+    /// Groups are required, and no flag allows a separator between digits of the integer.
+    NoInternalSeparator,
 }
 
 // Any format, with any options and conditions. Without options, literals are integers alone.
@@ -243,6 +259,18 @@ const fn contradiction(grammar: Grammar, conditions: Conditions) -> Option<Condi
     } else if conditions.required_base_suffix && base_suffix(grammar.word) == 0 {
         Some(ConditionsError::NoBaseSuffix)
     } else {
-        None
+        groups_error(grammar, conditions.integer_group_size)
+    }
+}
+
+// Returns the error of a size of groups with the format of `grammar`.
+const fn groups_error(grammar: Grammar, size: Option<u8>) -> Option<ConditionsError>
+    ensures { result ≡ groups_error (raw grammar.word) size }
+{
+    match size {
+        None => None,
+        Some(size) if size < 2 || size > 8 => Some(ConditionsError::GroupSize),
+        Some(_) if grammar.view().integer_internal_digit_separator() => None,
+        Some(_) => Some(ConditionsError::NoInternalSeparator),
     }
 }

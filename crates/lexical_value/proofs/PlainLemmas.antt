@@ -1,7 +1,7 @@
 -- Digits that do not begin with 0 are a literal, also after a minus sign, if no flag requires a plus sign or an exponent.
-use Rattle.std.proofs.Common.{ℕ, ◌≡◌, ◌≢◌, Bool, true, false, not, ◌||◌, IsTrue, IsSome, List, [], ◌∷◌, ◌++◌, refl, sym, ap, ◌∙◌, arith, append-nil}
+use Rattle.std.proofs.Common.{ℕ, ◌≡◌, ◌≢◌, Bool, true, false, not, ◌||◌, ◌&&◌, is_some, IsTrue, IsSome, List, [], ◌∷◌, ◌++◌, refl, sym, ap, ◌∙◌, arith, append-nil}
 use Rattle.std.proofs.Common.{◌≤◌, length, slice_index_or, nat_lt, cond, subst, ℤ, Option, Some, None, IfSome, option_map}
-use Rattle.std.proofs.lemmas.Bool.{false≢true}
+use Rattle.std.proofs.lemmas.Bool.{and_parts, false≢true}
 use Rattle.std.specs.List.{AllByRecursion}
 use Rattle.std.specs.Option.{SomeIff}
 use Rattle.lexical_util.specs.Digits.{byte_value, digit_of}
@@ -43,13 +43,20 @@ pub none_set : (c : Condition) → has no_conditions c ≡ false
 none_set conditions.BasePrefix = refl
 none_set _ = refl
 
+no_size : (o : Option ℕ) → not (is_some o) ≡ true → None ≡ o
+no_size None is = refl
+no_size (Some size) is = absurd (false≢true is)
+
 -- If none is set, there are no conditions.
-pub no_more : (c : Conditions) → not (has c conditions.BasePrefix || (has c conditions.BaseSuffix || has c conditions.NegativeSign)) ≡ true → no_conditions ≡ c
-no_more c is =
+pub no_more : (c : Conditions) → (not (has c conditions.BasePrefix || (has c conditions.BaseSuffix || has c conditions.NegativeSign))
+    && not (is_some c.integer_group_size)) ≡ true → no_conditions ≡ c
+no_more c both =
+    let is = (and_parts _ (not (is_some c.integer_group_size)) both).0 in
+    let groups = no_size c.integer_group_size (and_parts _ (not (is_some c.integer_group_size)) both).1 in
     let prefix : false ≡ c.required_base_prefix = grind arith in
     let suffix : false ≡ c.required_base_suffix = grind arith in
     let sign : false ≡ c.no_negative_mantissa_sign = grind arith in
-    λ j. record { required_base_prefix = prefix j; required_base_suffix = suffix j; no_negative_mantissa_sign = sign j }
+    λ j. record { required_base_prefix = prefix j; required_base_suffix = suffix j; no_negative_mantissa_sign = sign j; integer_group_size = groups j }
 
 module _ (m : Notation) (no_sign : m.flag layout.required_mantissa_sign ≡ false) (no_exponent : m.flag layout.required_exponent_notation ≡ false)
     (none : (c : Condition) → m.condition c ≡ false) where

@@ -9,6 +9,7 @@ ghost use Rattle.lexical_util.specs.Roles as sets;
 ghost use Rattle.lexical_literal.specs.Literal.{Literal, Reads, is_none_or_one, is_plus};
 ghost use Rattle.lexical_literal.specs.Notation.{Notation, no_conditions, notation_of};
 ghost use Rattle.lexical_literal.specs.Parts.{literal_of};
+ghost use Rattle.lexical_literal.specs.Takes.{Takes};
 ghost use Rattle.lexical_number.specs.Binary.{format_of};
 ghost use Rattle.lexical_value.specs.Float.{nearest};
 ghost use Rattle.lexical_value.specs.Private.{HasValues, IsPlain, IsSpelled, TakesPlain};
@@ -41,7 +42,7 @@ struct Run<'a> {
 // the value. For some of these texts, and for all others, returns `None`.
 #[inline(always)]
 pub(crate) fn plain_float<F: Float>(syntax: Syntax, text: &[u8]) -> Option<F>
-    ensures { IfSome result (λ value. (l : Literal) × Reads (notation_of syntax) l text.now
+    ensures { IfSome result (λ value. (l : Literal) × Takes syntax l text.now
         × (F.value value ≡ nearest (format_of F.DOUBLE) (raw syntax.word) l)) }
 {
     let options = syntax.options()?;

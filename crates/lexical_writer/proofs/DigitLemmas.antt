@@ -1,5 +1,5 @@
 -- Digits and their characters, without leading zeros and in groups.
-use Rattle.std.proofs.Common.{ℕ, ◌≡◌, ◌+◌, ◌*◌, ◌<◌, ◌≤◌, ◌==◌, Bool, true, false, cond, nat_lt, List, [], ◌∷◌, ◌++◌, length, drop, get_or}
+use Rattle.std.proofs.Common.{ℕ, ◌&&◌, ◌≡◌, ◌+◌, ◌*◌, ◌<◌, ◌≤◌, ◌==◌, Bool, true, false, cond, nat_lt, List, [], ◌∷◌, ◌++◌, length, drop, get_or}
 use Rattle.std.proofs.Common.{◌-◌, ◌/◌, ◌%◌, ◌^◌, map, set, take, slice_get, Some, None, refl, sym, ap, ◌∙◌, arith, drop-cons, zero, suc}
 use Rattle.std.proofs.lemmas.Int.Digits.{all_below_base_digits_of, digits_of_step, first_digits_of, length-digits_of_step}
 use Rattle.std.proofs.lemmas.List.{append_assoc, drop-set, length-drop, length-map, map_push, take_all}
@@ -142,3 +142,27 @@ written_digits radix n start buffer two small within long is =
 pub source_below : (radix : ℕ) (source : Source) → 2 ≤ radix → AllBelowBase radix (values_of radix source)
 source_below radix (sources.Bytes bytes) two = digits_below radix bytes.now
 source_below radix (sources.Number n) two = all_below_base_digits_of radix n two
+
+-- Without groups, digits are written one after the other.
+pub grouped_plain : (separator : ℕ) (digits : List ℕ) → grouped separator 0 digits ≡ map character digits
+grouped_plain separator [] = refl
+grouped_plain separator (d ∷ digits) =
+    ap (λ more. character d ∷ more) (go (nat_lt 0 (length digits)) ∙ grouped_plain separator digits)
+  where
+    go : (test : Bool) → cond ((test && nat_lt 0 0) && (length digits % 0 == 0)) (separator ∷ []) [] ++ grouped separator 0 digits ≡ grouped separator 0 digits
+    go true = refl
+    go false = refl
+
+pub some_digits : (none : Bool) (radix n : ℕ) → 2 ≤ radix → 0 < n → or_zero none (digits_of radix n) ≡ digits_of radix n
+some_digits none radix n two some = go (digits_of radix n) (first_digits_of radix n two some)
+  where
+    go : (digits : List ℕ) → 0 < get_or digits 0 0 → or_zero none digits ≡ digits
+    go [] none = absurd (omega (arith, none))
+    go (d ∷ digits) some = refl
+
+pub written_text : (radix n start separator group : ℕ) (none : Bool) (buffer : List ℕ) → 2 ≤ radix → start ≤ 128 → length buffer ≡ 128
+    → drop start buffer ≡ map character (digits_of radix n) → group ≡ 0 → 0 < n
+    → take (128 - start) (drop start buffer) ≡ grouped separator group (or_zero none (digits_of radix n))
+written_text radix n start separator group none buffer two within long is plain some =
+    take_all (128 - start) (drop start buffer) (omega (arith, length-drop start buffer)) ∙ is ∙ sym (grouped_plain separator (digits_of radix n))
+    ∙ (λ i. grouped separator (sym plain i) (sym (some_digits none radix n two some) i))

@@ -101,11 +101,11 @@ none_refused false false true is = absurd (let apart : Some errors.Exponent ≡ 
 none_refused false false false is = (refl, refl, refl)
 
 -- Where a byte is required, it is there.
-none_lacks : (a b c : Bool) → (if a then Some contradictions.NoBasePrefix else (if b then Some contradictions.NoBaseSuffix
-    else (if c then Some contradictions.NoSign else None))) ≡ None → (a ≡ false) × (b ≡ false)
-none_lacks true b c is = absurd (let apart : Some contradictions.NoBasePrefix ≡ None = is in cc)
-none_lacks false true c is = absurd (let apart : Some contradictions.NoBaseSuffix ≡ None = is in cc)
-none_lacks false false c is = (refl, refl)
+none_lacks : (a b : Bool) → (if a then Some contradictions.NoBasePrefix else (if b then Some contradictions.NoBaseSuffix else None)) ≡ None
+    → (a ≡ false) × (b ≡ false)
+none_lacks true b is = absurd (let apart : Some contradictions.NoBasePrefix ≡ None = is in cc)
+none_lacks false true is = absurd (let apart : Some contradictions.NoBaseSuffix ≡ None = is in cc)
+none_lacks false false is = (refl, refl)
 
 prefix_required : (style required absent : Bool) (byte : ℕ) → (required && absent) ≡ false → required ≡ true
     → is_present (after_zero (only_if ((style || required) && not absent) byte)) ≡ true
@@ -331,7 +331,7 @@ module _ (g : Grammar) (style : Style) (amount : Amount) (is : IsSyntax g)
   -- The conditions are met.
   there : ((g.conditions.required_base_prefix && ((raw g.word).byte layout.base_prefix == 0)) ≡ false)
       × ((g.conditions.required_base_suffix && ((raw g.word).byte layout.base_suffix == 0)) ≡ false)
-  there = none_lacks _ _ _ is.conditions
+  there = none_lacks _ _ is.conditions
 
   conditions_met : (c : Condition) → IsTrue ((notation_of g).condition c) → IsTrue (condition c (laid_out g style amount))
   conditions_met conditions.BasePrefix set = prefix_required style.prefix _ _ _ there.0 set

@@ -10,7 +10,6 @@ use Rattle.lexical_util.specs.Record.{raw}
 use Rattle.lexical_util.specs.Roles as sets
 use Rattle.lexical_util.specs.Unfoldable.{Lawful}
 use Rattle.lexical_util.specs.declared.format_flags.Part.TheVariants as parts
-use Rattle.lexical_literal.specs.Additions.Summary.{needs_exponent}
 use Rattle.lexical_literal.specs.Literal.{is_present}
 use Rattle.lexical_literal.specs.Notation.{lacks_options, notation_of}
 use Rattle.lexical_literal.specs.Syntax.{IsSyntax}
@@ -20,7 +19,7 @@ use Rattle.lexical_number.specs.Numeral.{with_sign}
 use Rattle.lexical_value.specs.Integer.{IsInteger}
 use Rattle.lexical_value.specs.Value.{is_minus}
 use Rattle.lexical_writer.specs.Digits.{or_zero, values_of, without_zeros}
-use Rattle.lexical_writer.specs.Layout.{IsLaidOut, IsNotWritten, IsWhole, exponent_byte, group_of, has_zero, laid_out, literal_of, only_if, point_byte, refusal, sign_of, whole}
+use Rattle.lexical_writer.specs.Layout.{IsLaidOut, IsNotWritten, IsWhole, exponent_byte, group_of, has_zero, laid_out, literal_of, only_if, point_byte, refusal, sign_of, whole, needs_exponent}
 use Rattle.lexical_writer.specs.declared.layout.Amount.{Amount}
 use Rattle.lexical_writer.specs.declared.layout.Style.{Style}
 use Rattle.lexical_writer.specs.declared.layout.Layout.{Layout}
@@ -81,7 +80,7 @@ whole_error g z negative size value some style (Err error) is =
 module _ (g : Grammar) (style : Style) (negative : Bool) (size : ℕ) (is : IsSyntax g)
     (apart : (byte : ℕ) → byte_value byte < (raw g.word).byte layout.mantissa_radix → IsTrue (sets.used_separator (raw g.word) byte) → ⊥)
     (accepted : (word e p : ℕ) → Lawful word → OptionsFit word e p → OptionsHaveOneRole word e p)
-    (none : needs_exponent (notation_of g) ≡ false) where
+    (none : needs_exponent g ≡ false) where
   whole_value : refusal g (whole negative size) ≡ None → IsInteger (raw g.word) (laid_out g style (whole negative size)) (with_sign negative size)
   whole_value can = (
     not_float (no_parts ((raw g.word).flag layout.required_exponent_notation) (lacks_options g.options) ((raw g.word).flag layout.no_exponent_without_fraction)

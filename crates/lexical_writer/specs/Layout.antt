@@ -4,8 +4,7 @@ use Rattle.std.specs.Borrow.{Bor}
 use Rattle.lexical_util.specs.Layout as layout
 use Rattle.lexical_util.specs.Record.{Record, raw, effective_exponent_radix}
 use Rattle.lexical_literal.specs.Literal.{Literal, is_absent, is_present}
-use Rattle.lexical_literal.specs.Additions.Summary.{needs_exponent}
-use Rattle.lexical_literal.specs.Notation.{lacks_options, notation_of}
+use Rattle.lexical_literal.specs.Notation.{lacks_options}
 use Rattle.lexical_literal.specs.declared.syntax.Grammar.{Grammar}
 use Rattle.lexical_literal.specs.declared.syntax.Options.{Options}
 use Rattle.lexical_number.specs.Number.{digits_in}
@@ -75,9 +74,13 @@ is_negative (Some power) = power.negative
 abbrev pub group_of : Record → Style → ℕ
 group_of r style = if r.flag layout.integer_internal_digit_separator && not (r.byte layout.digit_separator == 0) then style.group else 0
 
+-- `needs_exponent g` is true if each literal of `g` has an exponent.
+abbrev pub needs_exponent : Grammar → Bool
+needs_exponent g = (raw g.word).flag layout.required_exponent_notation && not (lacks_options g.options)
+
 -- `has_exponent g amount` is true if `amount` has an exponent, or if each literal has one.
 abbrev pub has_exponent : Grammar → Amount → Bool
-has_exponent g amount = is_some amount.exponent || ((raw g.word).flag layout.required_exponent_notation && not (lacks_options g.options))
+has_exponent g amount = is_some amount.exponent || needs_exponent g
 
 -- `has_point g amount` is true if `amount` has a fraction, or if an exponent requires one.
 abbrev pub has_point : Grammar → Amount → Bool
@@ -135,6 +138,6 @@ pub record IsWhole (g : Grammar) (style : Style) (z : ℤ) (l : Literal) : Type 
 -- `IsNotWritten g z kind` holds if `kind` is why `g` has no integer with the value `z`: each literal has an exponent, or `z` is
 -- below 0 and no literal is.
 abbrev pub IsNotWritten : Grammar → ℤ → WriteError → Type 0
-IsNotWritten g z errors.Float = IsTrue (needs_exponent (notation_of g))
+IsNotWritten g z errors.Float = IsTrue (needs_exponent g)
 IsNotWritten g z errors.Negative = IsTrue g.conditions.no_negative_mantissa_sign × (size : ℕ) × (0 < size) × (with_sign true size ≡ z)
 IsNotWritten g z _ = ⊥

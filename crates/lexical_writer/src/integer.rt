@@ -2,11 +2,10 @@
 
 ghost use Rattle.std.specs.Prelude.{◌≡◌, IfErr, IfOk};
 ghost use Rattle.lexical_util.specs.Record.{raw};
-ghost use Rattle.lexical_literal.specs.Additions.Summary.{needs_exponent};
 ghost use Rattle.lexical_literal.specs.Literal.{IsLiteral};
 ghost use Rattle.lexical_literal.specs.Notation.{notation_of};
 ghost use Rattle.lexical_value.specs.Integer.{IsInteger};
-ghost use Rattle.lexical_writer.specs.Layout.{IsNotWritten, IsWhole, literal_of};
+ghost use Rattle.lexical_writer.specs.Layout.{IsNotWritten, IsWhole, literal_of, needs_exponent};
 
 use crate::layout::{Amount, Layout, Style, WriteError};
 use crate::run::Source;
@@ -50,7 +49,7 @@ pub fn format_integer<T: Integer>(
 
 // Returns whether each literal has an exponent.
 fn needs_exponent(syntax: &Syntax) -> bool
-    ensures { result ≡ needs_exponent (notation_of syntax.now) }
+    ensures { result ≡ needs_exponent syntax.now }
 {
     let required = syntax.format().view().required_exponent_notation();
     required && syntax.options().is_some()

@@ -340,7 +340,7 @@ impl<'a> Amount<'a> {
         let radix = syntax.format().view().exponent_radix();
         let source = match self.exponent {
             Some(power) => power.source,
-            None => Source::Number(0),
+            None => Source::Bytes(&[]),
         };
         plain_run(lean(source, radix), radix, has_exponent)
     }

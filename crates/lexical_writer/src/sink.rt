@@ -10,6 +10,10 @@ pub trait Sink {
     /// Takes one more byte.
     fn put(&mut self, byte: u8)
         ensures { (start : Self) → (text : List ℕ) → has start self.old text → has start self.new (text ++ byte ∷ []) };
+
+    /// Takes more bytes.
+    fn put_all(&mut self, bytes: &[u8])
+        ensures { (start : Self) → (text : List ℕ) → has start self.old text → has start self.new (text ++ bytes.now) };
 }
 
 // A buffer, and the number of bytes that it would have taken if it were long enough.
@@ -31,5 +35,13 @@ impl Sink for Window<'_> {
             self.bytes[self.length] = byte;
         }
         self.length = self.length.saturating_add(1);
+    }
+
+    fn put_all(&mut self, bytes: &[u8]) {
+        let end = self.length.saturating_add(bytes.len());
+        if end <= self.bytes.len() {
+            self.bytes[self.length..end].copy_from_slice(bytes);
+        }
+        self.length = end;
     }
 }

@@ -32,6 +32,12 @@ impl From<i128> for I128 {
     }
 }
 
+impl From<I128> for i128 {
+    fn from(value: I128) -> i128 {
+        i128::from(value.high) << 64 | i128::from(value.low)
+    }
+}
+
 /// Writes the value of a literal, if it has one of this type, and returns whether it has.
 fn write<'a, T, C: From<T>>(literal: &Literal<'a>, out: Out<C>) -> ValueStatus
 where

@@ -52,7 +52,8 @@ pub struct Marks {
 }
 
 // Where reading stopped: the row of what has been read, the byte that cannot follow, or `None` if bytes are missing, and the
-// bytes that follow it in its character, or 0 for each that does not.
+// bytes that follow it in its character, or 0 for each that does not. If the text is a literal whose integer is not in groups,
+// the first wrong group begins at `marks.first`, and ends at `marks.run`.
 #[derive(Debug, Clone, Copy, PartialEq, Eq, Hash)]
 pub struct Spot {
     pub(crate) grammar: Grammar,
@@ -60,6 +61,7 @@ pub struct Spot {
     pub(crate) byte: Option<u8>,
     pub(crate) tail: [u8; 3],
     pub(crate) marks: Marks,
+    pub(crate) is_ungrouped: bool,
 }
 
 // What an error answers.
@@ -136,9 +138,40 @@ impl ReadError {
 
     // Returns all answers. It finds the cause once.
     pub(crate) const fn explain(&self) -> Refusal {
-        let Spot { grammar, byte, marks, .. } = self.spot;
-        let Blame { kind, mask } = self.spot.blame();
-        let conditions = self.spot.stop().unmet();
+        if self.spot.is_ungrouped {
+            self.spot.ungrouped()
+        } else {
+            self.spot.refusal()
+        }
+    }
+}
+
+impl Spot {
+    // Returns the answers of a text whose integer is not in groups.
+    const fn ungrouped(self) -> Refusal {
+        let Marks { size, first, run, .. } = self.marks;
+        Refusal {
+            valid_up_to: size,
+            byte: self.byte,
+            kind: ReadErrorKind::Requirement,
+            mask: 0,
+            conditions: Conditions {
+                required_base_prefix: false,
+                required_base_suffix: false,
+                no_negative_mantissa_sign: false,
+                integer_group_size: self.grammar.conditions.integer_group_size,
+            },
+            start: first,
+            end: run,
+            code: Error::InvalidDigit(first),
+        }
+    }
+
+    // Returns the answers of a text with which no literal goes on.
+    const fn refusal(self) -> Refusal {
+        let Spot { grammar, byte, marks, .. } = self;
+        let Blame { kind, mask } = self.blame();
+        let conditions = self.stop().unmet();
         let number = mask.trailing_zeros();
         let unmet = first_unmet(mask, conditions);
         let (start, end) = span(grammar, marks, byte, kind, number, unmet);
@@ -153,9 +186,7 @@ impl ReadError {
             code: error(grammar, marks, kind, number, unmet, start),
         }
     }
-}
 
-impl Spot {
     // Returns the kind, and the mask of the flags that are to blame.
     const fn blame(self) -> Blame {
         let Blame { kind, mask } = self.stop().blame(self.byte);
@@ -190,6 +221,7 @@ const fn alone(condition: Condition) -> Conditions {
         required_base_prefix: matches!(condition, Condition::BasePrefix),
         required_base_suffix: matches!(condition, Condition::BaseSuffix),
         no_negative_mantissa_sign: matches!(condition, Condition::NegativeSign),
+        integer_group_size: None,
     }
 }
 
@@ -287,7 +319,7 @@ impl Stop {
         if alone != 0 {
             return alone;
         }
-        if self.unmet().is_none() {
+        if self.unmet().are_free() {
             binding & ZEROS
         } else {
             0
@@ -297,7 +329,7 @@ impl Stop {
     // Returns the conditions to blame for a requirement: those that refuse alone.
     const fn unmet(self) -> Conditions {
         let set = self.grammar.conditions;
-        if set.is_none() {
+        if set.are_free() {
             return Conditions::NONE;
         }
         if !self.allows(self.bare()) {
@@ -307,6 +339,7 @@ impl Stop {
             required_base_prefix: self.is_unmet(Condition::BasePrefix),
             required_base_suffix: self.is_unmet(Condition::BaseSuffix),
             no_negative_mantissa_sign: self.is_unmet(Condition::NegativeSign),
+            integer_group_size: None,
         }
     }
 

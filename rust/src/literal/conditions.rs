@@ -32,6 +32,14 @@ impl Conditions {
         self
     }
 
+    /// Requires groups of as many integer digits, from 2 to 8, counted from the right, if there are separators. With 3, a
+    /// reader accepts `1234` and `1,234`, and refuses `12,34`.
+    #[must_use]
+    pub const fn integer_group_size(mut self, size: Option<u8>) -> Self {
+        self.integer_group_size = size;
+        self
+    }
+
     /// Returns the values in the order of [`NAMES`][Self::NAMES], where 0 stands for no condition.
     pub(crate) const fn values(self) -> [u8; Self::NAMES.len()] {
         [self.required_base_prefix as u8, self.required_base_suffix as u8, self.no_negative_mantissa_sign as u8]
@@ -91,6 +99,10 @@ impl ConditionsError {
         ShortText::of(match self {
             ConditionsError::NoBasePrefix => "required_base_prefix is set, and the format has no base prefix",
             ConditionsError::NoBaseSuffix => "required_base_suffix is set, and the format has no base suffix",
+            ConditionsError::GroupSize => "integer_group_size is not from 2 to 8",
+            ConditionsError::NoInternalSeparator => {
+                "integer_group_size is set, and the format has no integer_internal_digit_separator"
+            }
         })
     }
 
@@ -99,6 +111,7 @@ impl ConditionsError {
         match self {
             ConditionsError::NoBasePrefix => 0,
             ConditionsError::NoBaseSuffix => 1,
+            ConditionsError::GroupSize | ConditionsError::NoInternalSeparator => 3,
         }
     }
 }
@@ -118,6 +131,7 @@ impl From<ConditionsError> for FormatError {
         let code = match error {
             ConditionsError::NoBasePrefix => Error::InvalidBasePrefix,
             ConditionsError::NoBaseSuffix => Error::InvalidBaseSuffix,
+            ConditionsError::GroupSize | ConditionsError::NoInternalSeparator => Error::InvalidDigitSeparator,
         };
         FormatError::new(code, Rejected::Conditions(error))
     }

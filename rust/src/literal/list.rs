@@ -60,7 +60,7 @@ impl<'a> ReaderList<'a> {
     }
 
     // Returns the longest front of `text` that is a literal of a form, with the index of the form, the first of equals, or
-    // why there is none.
+    // why there is none. Its groups are tested last.
     pub(crate) const fn find_front(&self, text: &[u8]) -> Result<(usize, Found), FormError> {
         let mut furthest = Reach { form: 0, size: 0 };
         let mut longest = None;
@@ -73,8 +73,16 @@ impl<'a> ReaderList<'a> {
             form += 1;
         }
         match longest {
-            Some(found) => Ok(found),
+            Some((form, found)) => self.grouped(text, form, found),
             None => Err(self.refuse(text, furthest.form)),
+        }
+    }
+
+    // Returns the front `found` of a form, or why its integer is not in groups.
+    const fn grouped(&self, text: &[u8], form: usize, found: Found) -> Result<(usize, Found), FormError> {
+        match self.readers()[form].grouped(text, found) {
+            Ok(found) => Ok((form, found)),
+            Err(error) => Err(FormError { form, error }),
         }
     }
 

@@ -2,7 +2,8 @@
 
 //! How literals are found, and the lengths of their parts.
 
-use crate::literal::cause::{ReadError, Spot};
+use crate::literal::cause::{Marks, ReadError, Spot};
+use crate::literal::groups::{is_grouped, wrong_group};
 use crate::literal::span::marks;
 use crate::literal::syntax::Syntax;
 use crate::literal::tables::{piece_number, Tables, START};
@@ -67,12 +68,12 @@ impl Reader {
         }
     }
 
-    // Returns the longest front of `text` that is a literal, or why there is none.
+    // Returns the longest front of `text` that is a literal, or why there is none. Its groups are tested last.
     #[inline(always)]
     pub(crate) const fn find_front(&self, text: &[u8]) -> Result<Found, ReadError> {
         match self.front(text) {
-            Ok(found) => Ok(found),
-            Err(stopped) => Err(self.refuse(text, stopped)),
+            Ok(found) => self.grouped(text, found),
+            Err(stopped) => Err(self.refuse_byte(text, stopped)),
         }
     }
 
@@ -80,14 +81,14 @@ impl Reader {
     #[inline(always)]
     pub(crate) const fn lengths(&self, text: &[u8]) -> Result<[usize; 9], Scanned> {
         let scanned = self.scan(text, false);
-        if scanned.valid_up_to == text.len() && self.is_complete(scanned.row) {
+        if scanned.valid_up_to == text.len() && self.is_complete(scanned.row) && self.has_groups(text, scanned.counts) {
             Ok(scanned.counts)
         } else {
             Err(scanned)
         }
     }
 
-    // Returns the longest front of `text` that is a literal, or where reading stopped if there is none.
+    // Returns the longest front of `text` that is a literal, apart from its groups, or where reading stopped if there is none.
     #[inline(always)]
     pub(crate) const fn front(&self, text: &[u8]) -> Result<Found, Scanned> {
         let scanned = self.scan(text, true);
@@ -98,9 +99,31 @@ impl Reader {
             let counts = scanned.counts;
             return Ok(Found { size, counts });
         }
-        match self.lengths(front_of(text, size)) {
-            Ok(counts) => Ok(Found { size, counts }),
-            Err(_) => Err(scanned),
+        let counts = self.scan(front_of(text, size), false).counts;
+        Ok(Found { size, counts })
+    }
+
+    // Returns the front `found` of `text`, or why its integer is not in groups.
+    #[inline(always)]
+    pub(crate) const fn grouped(&self, text: &[u8], found: Found) -> Result<Found, ReadError> {
+        let front = front_of(text, found.size);
+        if self.has_groups(front, found.counts) {
+            Ok(found)
+        } else {
+            Err(self.ungrouped(front, found.counts))
+        }
+    }
+
+    // Returns whether the integer of the literal `text` is in groups, if the syntax requires it.
+    #[inline(always)]
+    const fn has_groups(&self, text: &[u8], counts: [usize; 9]) -> bool {
+        let grammar = self.syntax.grammar();
+        match grammar.conditions.integer_group_size {
+            None => true,
+            Some(size) => {
+                let parts = cut(text, counts);
+                is_grouped(grammar, size, parts.integer)
+            }
         }
     }
 
@@ -148,7 +171,37 @@ impl Reader {
 
     // Returns why `text` is not a literal.
     #[cold]
-    const fn refuse(&self, text: &[u8], scanned: Scanned) -> ReadError {
+    const fn refuse(&self, text: &[u8], stopped: Scanned) -> ReadError {
+        if stopped.valid_up_to == text.len() && self.is_complete(stopped.row) {
+            self.ungrouped(text, stopped.counts)
+        } else {
+            self.refuse_byte(text, stopped)
+        }
+    }
+
+    // Returns that the integer of `text` is not in groups, and the first wrong group.
+    #[cold]
+    const fn ungrouped(&self, text: &[u8], counts: [usize; 9]) -> ReadError {
+        let grammar = self.syntax.grammar();
+        let Some(size) = grammar.conditions.integer_group_size else { unreachable!() };
+        let parts = cut(text, counts);
+        let before = parts.sign.len() + parts.prefix.len();
+        let (start, end) = wrong_group(grammar, size, parts.integer);
+        ReadError {
+            spot: Spot {
+                grammar,
+                row: START,
+                byte: None,
+                tail: [0; 3],
+                marks: Marks { size: text.len(), exponent: 0, first: before + start, run: before + end },
+                is_ungrouped: true,
+            },
+        }
+    }
+
+    // Returns why the byte that follows is not allowed, or what is missing.
+    #[cold]
+    const fn refuse_byte(&self, text: &[u8], scanned: Scanned) -> ReadError {
         let grammar = self.syntax.grammar();
         let size = scanned.valid_up_to;
         let byte = byte_at(text, size);
@@ -159,6 +212,7 @@ impl Reader {
                 byte,
                 tail: tail_at(text, size, byte),
                 marks: marks(grammar, text, size),
+                is_ungrouped: false,
             },
         }
     }

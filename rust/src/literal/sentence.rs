@@ -78,6 +78,10 @@ impl ReadError {
         if let Some(condition) = first_unmet(mask, conditions) {
             return self.unmet(condition);
         }
+        if let Some(size) = conditions.integer_group_size {
+            let text = ShortText::of("expected groups of ").decimal(size as usize);
+            return text.and(" digits, which integer_group_size requires");
+        }
         match kind {
             ReadErrorKind::Requirement | ReadErrorKind::Case => requirement(mask),
             ReadErrorKind::Separator(part, place) => {

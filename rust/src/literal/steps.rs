@@ -259,7 +259,7 @@ const fn is_negative(part: Part, plus: bool, role: Role) -> bool {
 // Returns whether the conditions let a byte with the role `role` follow.
 #[inline(always)]
 const fn admits(conditions: Conditions, read: Summary, plus: bool, zero: bool, role: Role) -> bool {
-    if conditions.is_none() {
+    if conditions.are_free() {
         return true;
     }
     some_admit(conditions, read, plus, zero, role)

@@ -25,12 +25,19 @@ pub struct Conditions {
     pub required_base_suffix: bool,
     /// The sign of a literal is not `-`. The sign of its exponent may be.
     pub no_negative_mantissa_sign: bool,
+    /// If there is a size, from 2 to 8, the integer of a literal has no digit separators, or has them between groups of as
+    /// many digits, counted from the right.
+    pub integer_group_size: Option<u8>,
 }
 
 impl Conditions {
     /// No conditions.
-    pub const NONE: Conditions =
-        Conditions { required_base_prefix: false, required_base_suffix: false, no_negative_mantissa_sign: false };
+    pub const NONE: Conditions = Conditions {
+        required_base_prefix: false,
+        required_base_suffix: false,
+        no_negative_mantissa_sign: false,
+        integer_group_size: None,
+    };
 
     // Returns whether `condition` is one of them.
     pub(crate) const fn has(self, condition: Condition) -> bool {
@@ -44,6 +51,11 @@ impl Conditions {
     /// Returns whether there are no conditions.
     #[must_use]
     pub const fn is_none(self) -> bool {
+        self.are_free() && matches!(self.integer_group_size, None)
+    }
+
+    // Returns whether there are no conditions on what follows what has been read.
+    pub(crate) const fn are_free(self) -> bool {
         !(self.required_base_prefix | self.required_base_suffix | self.no_negative_mantissa_sign)
     }
 }
@@ -65,6 +77,10 @@ pub enum ConditionsError {
     NoBasePrefix,
     /// The base suffix is required, and the format has none.
     NoBaseSuffix,
+    /// The size of groups is not from 2 to 8.
+    GroupSize,
+    /// Groups are required, and no flag allows a separator between digits of the integer.
+    NoInternalSeparator,
 }
 
 // Any format, with any options and conditions. Without options, literals are integers alone.
@@ -169,6 +185,16 @@ const fn contradiction(grammar: Grammar, conditions: Conditions) -> Option<Condi
     } else if conditions.required_base_suffix && base_suffix(grammar.word) == 0 {
         Some(ConditionsError::NoBaseSuffix)
     } else {
-        None
+        groups_error(grammar, conditions.integer_group_size)
+    }
+}
+
+// Returns the error of a size of groups with the format of `grammar`.
+const fn groups_error(grammar: Grammar, size: Option<u8>) -> Option<ConditionsError> {
+    match size {
+        None => None,
+        Some(size) if size < 2 || size > 8 => Some(ConditionsError::GroupSize),
+        Some(_) if grammar.view().integer_internal_digit_separator() => None,
+        Some(_) => Some(ConditionsError::NoInternalSeparator),
     }
 }

@@ -9,6 +9,7 @@ use crate::number::integer::Integer;
 
 mod digits;
 mod integer;
+#[allow(clippy::redundant_pattern_matching, reason = "as it is proved")]
 mod layout;
 #[allow(clippy::module_inception, clippy::needless_lifetimes, reason = "as it is proved")]
 mod literal;
@@ -180,6 +181,10 @@ impl Sink for Printer<'_, '_> {
         if self.result.is_ok() {
             self.result = self.f.write_char(byte.into());
         }
+    }
+
+    fn put_all(&mut self, bytes: &[u8]) {
+        bytes.iter().for_each(|byte| self.put(*byte));
     }
 }
 

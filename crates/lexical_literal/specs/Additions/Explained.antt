@@ -1,6 +1,7 @@
 -- What an error answers, computed from where reading stopped.
 use Rattle.std.specs.Prelude.{ℕ, ◌+◌, ◌&&◌, ◌||◌, not, nat_lt, if◌then◌else◌, Bool, false, Option, Some, None, List, get_or}
 use Rattle.std.specs.List.{list_any}
+use Rattle.lexical_util.specs.declared.error.Error.TheVariants as errors
 use Rattle.lexical_util.specs.Layout.{Flag, flags}
 use Rattle.lexical_util.specs.Record.{word_of}
 use Rattle.lexical_util.specs.Roles.{other_case}
@@ -10,7 +11,7 @@ use Rattle.lexical_literal.specs.Additions.Summary.{byte_class}
 use Rattle.lexical_literal.specs.Additions.Tables.{summary_at}
 use Rattle.lexical_literal.specs.Cause.{Explained, adding, bare, binds, case_set, error_of, first_unmet, is_one_of, leading_zero_flags, lowest}
 use Rattle.lexical_literal.specs.Cause.{requiring, span_of}
-use Rattle.lexical_literal.specs.Notation.{Notation, notation_of}
+use Rattle.lexical_literal.specs.Notation.{Notation, no_conditions, notation_of}
 use Rattle.lexical_literal.specs.declared.cause.ReadErrorKind.{ReadErrorKind}
 use Rattle.lexical_literal.specs.declared.cause.ReadErrorKind.TheVariants as causes
 use Rattle.lexical_literal.specs.declared.cause.Refusal.{Refusal}
@@ -43,6 +44,7 @@ conditions_of C = record {
   required_base_prefix = C conditions.BasePrefix;
   required_base_suffix = C conditions.BaseSuffix;
   no_negative_mantissa_sign = C conditions.NegativeSign;
+  integer_group_size = None;
 }
 
 -- `requirements m s next f` is true if the flag `f` is to blame for a requirement.
@@ -97,7 +99,20 @@ answers m spot b unmet f c = record {
   code = error_of m spot.marks b.kind f c (span_of m spot.marks spot.byte b.kind f c).0;
 }
 
--- `refusal_of m spot` is what an error answers that was made at `spot`.
+-- `ungrouped_of spot` is what an error answers that was made at `spot` since the integer is not in groups.
+abbrev pub ungrouped_of : Spot → Refusal
+ungrouped_of spot = record {
+  valid_up_to = spot.marks.size;
+  byte = spot.byte;
+  kind = causes.Requirement;
+  mask = 0;
+  conditions = record no_conditions { integer_group_size = spot.grammar.conditions.integer_group_size };
+  start = spot.marks.first;
+  end = spot.marks.run;
+  code = errors.InvalidDigit spot.marks.first;
+}
+
+-- `refusal_of m spot` is what an error answers that was made at `spot` since no literal goes on there.
 abbrev pub refusal_of : Notation → Spot → Refusal
 refusal_of m spot =
     let b = blame m (summary_at spot.row) spot.byte in
@@ -105,9 +120,12 @@ refusal_of m spot =
     let conditions = conditions_of (unmet m (summary_at spot.row) (class_of_next m spot.byte)) in
     answers m spot b conditions (lowest mask) (first_unmet mask conditions)
 
--- `explained spot` is the error that was made at `spot`.
+-- `answers_of spot` is what an error answers that was made at `spot`, and `explained spot` is this error.
+abbrev pub answers_of : Spot → Refusal
+answers_of spot = if spot.is_ungrouped then ungrouped_of spot else refusal_of (notation_of spot.grammar) spot
+
 abbrev pub explained : Spot → Explained
-explained spot = record { refusal = refusal_of (notation_of spot.grammar) spot; spot = spot }
+explained spot = record { refusal = record (answers_of spot) { valid_up_to = spot.marks.size; byte = spot.byte }; spot = spot }
 
 -- `tail_size byte` is the number of bytes that follow `byte` in its character, if it begins one in UTF-8.
 abbrev pub tail_size : Option ℕ → ℕ

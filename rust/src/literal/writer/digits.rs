@@ -99,16 +99,24 @@ fn put_or_zero<S: Sink>(sink: &mut S, bytes: &[u8], count: usize, run: &Run) {
     }
 }
 
+// Writes the digits of a number in groups or, if it is 0, a 0 if the run has one.
+fn put_whole<S: Sink>(sink: &mut S, number: u128, run: &Run) {
+    let mut buffer = [0; 128];
+    let start = put_number(&mut buffer, number, run.radix);
+    if run.group == 0 && number > 0 {
+        sink.put_all(&buffer[start..]);
+    } else {
+        put_or_zero(sink, &buffer[start..], 128 - start, run);
+    }
+}
+
 impl Run<'_> {
     // Writes the digits, or a 0 for absent ones.
     pub(crate) fn put<S: Sink>(&self, sink: &mut S) {
         match self.source {
+            Source::Bytes([]) if !self.zero => (),
             Source::Bytes(bytes) => put_or_zero(sink, bytes, count(bytes, self.radix), self),
-            Source::Number(number) => {
-                let mut buffer = [0; 128];
-                let start = put_number(&mut buffer, number, self.radix);
-                put_or_zero(sink, &buffer[start..], 128 - start, self);
-            }
+            Source::Number(number) => put_whole(sink, number, self),
         }
     }
 }

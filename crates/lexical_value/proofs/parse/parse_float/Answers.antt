@@ -1,8 +1,8 @@
 -- The syntax is that of the reader.
 use Rattle.std.proofs.Common.{◌≡◌, ◌||◌, ap, ◌∙◌, subst, false}
 use Rattle.lexical_util.specs.Record.{raw}
-use Rattle.lexical_literal.specs.Literal.{Literal, Reads}
-use Rattle.lexical_literal.specs.Notation.{notation_of}
+use Rattle.lexical_literal.specs.Literal.{Literal}
+use Rattle.lexical_literal.specs.Takes.{Takes}
 use Rattle.lexical_literal.specs.Parts.{literal_of}
 use Rattle.lexical_number.specs.Binary.{format_of}
 use Rattle.lexical_value.specs.Float.{is_binary, is_decimal, nearest}
@@ -11,7 +11,7 @@ use Rattle.lexical_value.proofs.parse.parse_float.Goals as goal
 
 pub returns-in-Some : goal.returns-in-Some
 returns-in-Some g c =
-    subst (λ syntax. (l : Literal) × Reads (notation_of syntax) l c.args.text.now
+    subst (λ syntax. (l : Literal) × Takes syntax l c.args.text.now
     × (g.F.Float.value c.in-Some.value ≡ nearest (format_of g.F.Float.DOUBLE) (raw syntax.word) l)) c.syntax-syntax.ensures c.in-Some.ensures
 
 pub returns-in-Ok-to_float : goal.returns-in-Ok-to_float

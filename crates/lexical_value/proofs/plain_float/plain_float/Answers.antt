@@ -1,10 +1,11 @@
 -- The size is that of the literal, or std reads the literal.
-use Rattle.std.proofs.Common.{◌≡◌, ◌||◌, not, ap, ◌∙◌, refl, sym, subst, Some, IfSome}
+use Rattle.std.proofs.Common.{◌≡◌, ◌||◌, ◌&&◌, not, is_some, ap, ◌∙◌, refl, sym, subst, Some, IfSome}
 use lib.Ieee.{neg, round}
 use Rattle.core.proofs.dec2flt.Patterns.{neg-round}
 use Rattle.lexical_util.specs.Record.{raw}
-use Rattle.lexical_literal.specs.Literal.{Literal, Reads}
-use Rattle.lexical_literal.specs.Notation.{has, no_conditions, notation_of}
+use Rattle.lexical_literal.specs.Literal.{Literal}
+use Rattle.lexical_literal.specs.Notation.{has, no_conditions}
+use Rattle.lexical_literal.specs.Takes.{Takes}
 use Rattle.lexical_literal.specs.Parts.{literal_of}
 use Rattle.lexical_literal.specs.declared.syntax.Condition.TheVariants as conditions
 use Rattle.lexical_literal.specs.declared.syntax.Conditions.{Conditions}
@@ -21,8 +22,8 @@ pub returns-after-is_minus : goal.returns-after-is_minus
 returns-after-is_minus g c =
     let f = format_of g.F.Float.DOUBLE in
     let l = literal_of c.in_ok-plain.plain.parts in
-    let none = no_more c.args.syntax.conditions (ap (λ (k : Conditions). not (has k conditions.BasePrefix || (has k conditions.BaseSuffix || has k conditions.NegativeSign)))
-    (sym c.conditions.ensures) ∙ sym c.is_none.ensures ∙ c.if-not-is_none.false) in
+    let none = no_more c.args.syntax.conditions (ap (λ (k : Conditions). not (has k conditions.BasePrefix || (has k conditions.BaseSuffix || has k conditions.NegativeSign))
+    && not (is_some k.integer_group_size)) (sym c.conditions.ensures) ∙ sym c.is_none.ensures ∙ c.if-not-is_none.false) in
     let own : Grammar = record { word = c.view-format.result; options = Some c.in_ok-options.options; conditions = no_conditions } in
     let same : own ≡ c.args.syntax =
     (λ i. record { word = (c.view-format.ensures.word ∙ c.format.ensures.word) i; options = (sym c.in_ok-options.was ∙ c.options.ensures) i; conditions = none i }) in
@@ -38,7 +39,7 @@ returns-after-is_minus g c =
       | else-is_minus w ↦ ap g.F.Float.value w.result-is ∙ c.in-Some.ensures _ decimal ∙ ap (λ s. round f s num den) (sym (sign ∙ w.if-is_minus.false))
     ] in (
       l,
-      subst (λ syntax. Reads (notation_of syntax) l c.args.text.now) same c.in_ok-plain.ensures.reads,
+      subst (λ syntax. Takes syntax l c.args.text.now) same (record { reads = c.in_ok-plain.ensures.reads; groups = refl }),
       subst (λ syntax. g.F.Float.value c.if-is_minus.result ≡ nearest f (raw syntax.word) l) same value,
     )
 
@@ -46,13 +47,13 @@ pub returns-in-None : goal.returns-in-None
 returns-in-None g c =
     let f = format_of g.F.Float.DOUBLE in
     let l = literal_of c.in_ok-plain.plain.parts in
-    let none = no_more c.args.syntax.conditions (ap (λ (k : Conditions). not (has k conditions.BasePrefix || (has k conditions.BaseSuffix || has k conditions.NegativeSign)))
-    (sym c.conditions.ensures) ∙ sym c.is_none.ensures ∙ c.if-not-is_none.false) in
+    let none = no_more c.args.syntax.conditions (ap (λ (k : Conditions). not (has k conditions.BasePrefix || (has k conditions.BaseSuffix || has k conditions.NegativeSign))
+    && not (is_some k.integer_group_size)) (sym c.conditions.ensures) ∙ sym c.is_none.ensures ∙ c.if-not-is_none.false) in
     let own : Grammar = record { word = c.view-format.result; options = Some c.in_ok-options.options; conditions = no_conditions } in
     let same : own ≡ c.args.syntax =
     (λ i. record { word = (c.view-format.ensures.word ∙ c.format.ensures.word) i; options = (sym c.in_ok-options.was ∙ c.options.ensures) i; conditions = none i }) in
     let decimal = c.if-not-takes_plain.ensures refl in
-    subst (λ syntax. IfSome c.written.result (λ value. (l : Literal) × Reads (notation_of syntax) l c.args.text.now
+    subst (λ syntax. IfSome c.written.result (λ value. (l : Literal) × Takes syntax l c.args.text.now
     × (g.F.Float.value value ≡ nearest f (raw syntax.word) l))) same
-    (with_literal g.F.Float.value (λ x. Reads (notation_of own) x c.args.text.now) (λ x. nearest f (raw c.view-format.result) x) l c.written.result
-    c.in_ok-plain.ensures.reads (c.written.ensures _ decimal))
+    (with_literal g.F.Float.value (λ x. Takes own x c.args.text.now) (λ x. nearest f (raw c.view-format.result) x) l c.written.result
+    (record { reads = c.in_ok-plain.ensures.reads; groups = refl }) (c.written.ensures _ decimal))

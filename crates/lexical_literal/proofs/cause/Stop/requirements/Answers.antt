@@ -58,20 +58,20 @@ returns-then-alone-ne0 c f =
     (any_flag _ (bit_and A B) each (λ some. some_flag (bit_and A B) some (omega (arith, and_le_l A B, c.refusing.type_inv))
     (λ k is. c.binding-binding.ensures.flags k (of_mask A B k is))) c.if-alone-ne0.true) refl)
 
-pub returns-then-is_none : goal.returns-then-is_none
-returns-then-is_none c f =
+pub returns-then-are_free : goal.returns-then-are_free
+returns-then-are_free c f =
     let A = c.refusing.result in
     let B = c.binding-binding.result in
     let each = each_alone c.args.self A B c.refusing.ensures c.binding-binding.ensures.each in
-    let none = (is_met _ _ (met_of c.args.self _ _ c.unmet.ensures c.is_none.ensures)).0 c.if-is_none.true in
+    let none = (is_met _ _ (met_of c.args.self _ _ c.unmet.ensures c.are_free.ensures)).0 c.if-are_free.true in
     flag_and f B ZEROS ∙ (λ j. c.binding-binding.ensures.each f j && zeros_mask f j)
     ∙ sym (by_test c.args.self A B c.refusing.ensures c.binding-binding.ensures.each false false f (no_flag _ (bit_and A B) each c.if-alone-ne0.false) none)
 
-pub returns-else-is_none : goal.returns-else-is_none
-returns-else-is_none c f =
+pub returns-else-are_free : goal.returns-else-are_free
+returns-else-are_free c f =
     let A = c.refusing.result in
     let B = c.binding-binding.result in
     let each = each_alone c.args.self A B c.refusing.ensures c.binding-binding.ensures.each in
-    let some = (is_met _ _ (met_of c.args.self _ _ c.unmet.ensures c.is_none.ensures)).1 c.if-is_none.false in
+    let some = (is_met _ _ (met_of c.args.self _ _ c.unmet.ensures c.are_free.ensures)).1 c.if-are_free.false in
     ap (λ n. (raw n).flag f) (sym c.if-alone-ne0.false) ∙ each f
     ∙ sym (by_test c.args.self A B c.refusing.ensures c.binding-binding.ensures.each false true f (no_flag _ (bit_and A B) each c.if-alone-ne0.false) some)

@@ -1,8 +1,7 @@
-use Rattle.std.proofs.Common.{◌≡◌, Bool, true, false, not, ◌&&◌, ◌||◌, sym, ap, ◌∙◌, arith}
+use Rattle.std.proofs.Common.{◌≡◌, Bool, None, true, false, not, ◌&&◌, ◌||◌, sym, ap, ◌∙◌, arith}
 use Rattle.lexical_literal.specs.Additions.Causes.{allows}
-use Rattle.lexical_literal.specs.Additions.Explained.{conditions_of, unmet}
 use Rattle.lexical_literal.specs.Cause.{bare, requiring}
-use Rattle.lexical_literal.specs.Notation.{Notation, notation_of}
+use Rattle.lexical_literal.specs.Notation.{notation_of}
 use Rattle.lexical_literal.specs.declared.cause.Stop.{Stop}
 use Rattle.lexical_literal.specs.declared.syntax.Condition.{Condition}
 use Rattle.lexical_literal.specs.declared.syntax.Condition.TheVariants as conditions
@@ -20,14 +19,15 @@ module _ (stop : Stop) where
   none : (free : Bool) (c : Condition) → false ≡ by_tests free false c
   none free c = grind arith
 
-pub returns-then-is_none : goal.returns-then-is_none
-returns-then-is_none c =
-    let is = none_set _ _ _ (sym c.is_none.ensures ∙ c.if-is_none.true) in
+pub returns-then-are_free : goal.returns-then-are_free
+returns-then-are_free c =
+    let is = none_set _ _ _ (sym c.are_free.ensures ∙ c.if-are_free.true) in
     let free = allows (bare (notation_of c.args.self.grammar)) c.args.self.read c.args.self.next in
     λ j. record {
       required_base_prefix = by_tests c.args.self (sym is.0 j) free conditions.BasePrefix;
       required_base_suffix = by_tests c.args.self (sym is.1 j) free conditions.BaseSuffix;
       no_negative_mantissa_sign = by_tests c.args.self (sym is.2 j) free conditions.NegativeSign;
+      integer_group_size = None;
     }
 
 pub returns-then-not-allows : goal.returns-then-not-allows
@@ -39,6 +39,7 @@ returns-then-not-allows c =
       required_base_prefix = each conditions.BasePrefix j;
       required_base_suffix = each conditions.BaseSuffix j;
       no_negative_mantissa_sign = each conditions.NegativeSign j;
+      integer_group_size = None;
     }
 
 pub returns : goal.returns
@@ -50,4 +51,5 @@ returns c =
       required_base_prefix = (c.is_unmet.ensures ∙ same conditions.BasePrefix) j;
       required_base_suffix = (c.is_unmet-2.ensures ∙ same conditions.BaseSuffix) j;
       no_negative_mantissa_sign = (c.is_unmet-3.ensures ∙ same conditions.NegativeSign) j;
+      integer_group_size = None;
     }

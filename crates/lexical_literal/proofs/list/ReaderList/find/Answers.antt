@@ -26,7 +26,7 @@ loop-form-preserved c =
           c.loop-form.invariant.none;
       best = subst (IsBest forms c.args.text.now (c.loop-form.form + 1)) (sym c.further-furthest.ensures)
           (best_more forms c.args.text.now c.loop-form.form c.index-self-form.result c.loop-form-test.true c.in-Err.stopped.valid_up_to
-          c.in-Err.ensures.stopped.is.error c.loop-form.furthest c.loop-form.invariant.best);
+          c.in-Err.ensures.valid_up_to c.loop-form.furthest c.loop-form.invariant.best);
     }
 
 pub refuse-requires-clause-within : goal.refuse-requires-clause-within

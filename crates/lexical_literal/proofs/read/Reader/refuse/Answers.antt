@@ -1,32 +1,28 @@
--- What has been read decides what may follow, and so why what follows is refused.
-use Rattle.std.proofs.Common.{◌≡◌, false, slice_get, subst, take}
-use Rattle.lexical_literal.specs.Additions.Causes.{IsReadOf, allows, class_of_next}
-use Rattle.lexical_literal.specs.Additions.Longest.{IsScanned}
-use Rattle.lexical_literal.specs.Additions.Summary.{start}
-use Rattle.lexical_literal.specs.Additions.Tables.{summary_at}
-use Rattle.lexical_literal.specs.Cause.{marks_of}
-use Rattle.lexical_literal.specs.Notation.{notation_of}
-use Rattle.lexical_literal.proofs.BlameLemmas.{refusal_at}
-use Rattle.lexical_literal.proofs.PartOfLemmas.{ends_in}
-use Rattle.lexical_literal.proofs.RefusalLemmas.{decided}
-use Rattle.lexical_literal.proofs.RoleLemmas.{ready}
+-- A complete literal is refused for its groups alone.
+use Rattle.std.proofs.Common.{inl, inr, sym, ◌∙◌}
+use Rattle.std.proofs.lemmas.Bool.{false≢true}
+use Rattle.lexical_literal.proofs.LongestLemmas.{none_whole, whole_counted, whole_literal}
 use Rattle.lexical_literal.proofs.read.Reader.refuse.Goals as goal
+use Rattle.lexical_literal.proofs.read.Reader.refuse.Goals.{else-stopped-text-via-then-stopped-text+else-is_complete, else-stopped-text-via-else-stopped-text}
 
-pub returns : goal.returns
-returns c =
-    let g = c.self.inside.syntax in
-    let m = notation_of g in
-    let size = c.args.scanned.valid_up_to in
-    let front = take size c.args.text.now in
-    let s = summary_at c.args.scanned.row in
-    let scanned : IsScanned m c.requires.seeks c.args.text.now c.args.scanned = rw c.self.view_is c.requires.is in
-    let refused : allows m s (class_of_next m (slice_get c.args.text.now size)) ≡ false = rw c.self.view_is c.requires.refused in
-    let is_ready = ready c.role_facts.ensures.disjoint c.role_facts.ensures.five c.role_facts.ensures.lawful g c.self.invariant.0 in
-    let is_read : IsReadOf m s front = record {
-      decides = λ next A D weaker. decided m A D is_ready weaker front s scanned.read next;
-      part = ends_in m is_ready.roles start front s scanned.read;
-    } in
-    let same = c.grammar-grammar.ensures.value in
-    let is_marks = subst (λ h. c.marks.result ≡ marks_of (notation_of h) front) same c.marks.ensures in
-    rw (same, ← c.self.view_is) (refusal_at g c.args.text.now c.args.scanned.row c.tail_at.result c.marks.result size
-    scanned.error.within scanned.error is_read refused c.byte_at-byte.result c.byte_at-byte.ensures is_marks)
+pub ungrouped-requires-clause-parts : goal.ungrouped-requires-clause-parts
+ungrouped-requires-clause-parts c = elim c.requires [
+  | inl refused ↦ let l = whole_literal _ _ _ _ refused.is c.if-stopped-text.true (sym c.is_complete.ensures ∙ c.if-is_complete.true) in
+      (l.0, l.1, whole_counted _ _ _ _ refused.is l.0 l.1)
+  | inr ungrouped ↦ let l = whole_literal _ _ _ _ ungrouped.is ungrouped.all ungrouped.complete in (l.0, l.1, whole_counted _ _ _ _ ungrouped.is l.0 l.1)
+]
+
+pub ungrouped-requires-clause-refuses : goal.ungrouped-requires-clause-refuses
+ungrouped-requires-clause-refuses c = elim c.requires [
+  | inl refused ↦ λ k takes. none_whole _ _ _ _ refused.is refused.refused k takes.reads
+  | inr ungrouped ↦ ungrouped.refuses
+]
+
+pub refuse_byte-requires : goal.refuse_byte-requires
+refuse_byte-requires c = elim c.requires [
+  | inl refused ↦ refused
+  | inr ungrouped ↦ absurd (elim c.else-stopped-text.branch [
+    | else-stopped-text-via-then-stopped-text+else-is_complete w ↦ false≢true (sym w.if-is_complete.false ∙ w.is_complete.ensures ∙ ungrouped.complete)
+    | else-stopped-text-via-else-stopped-text w ↦ w.if-stopped-text.false ungrouped.all
+  ])
+]

@@ -3,11 +3,11 @@ use Rattle.std.proofs.Common.{◌∙◌}
 use Rattle.lexical_literal.specs.Additions.Explained.{conditions_of, unmet}
 use Rattle.lexical_literal.specs.Cause.{error_of, first_unmet, lowest, span_of}
 use Rattle.lexical_literal.specs.Notation.{notation_of}
-use Rattle.lexical_literal.proofs.cause.ReadError.explain.Goals as goal
+use Rattle.lexical_literal.proofs.cause.Spot.refusal.Goals as goal
 
 pub returns : goal.returns
 returns c =
-    let spot = c.self.inside.spot in
+    let spot = c.args.self in
     let m = notation_of spot.grammar in
     let kind = c.blame-kind.ensures.kind in
     let mask = c.blame-kind.ensures.mask in
@@ -16,7 +16,7 @@ returns c =
     let first = c.first_unmet-unmet.ensures ∙ (λ j. first_unmet (mask j) (conditions j)) in
     let span = c.span-start.ensures ∙ (λ j. span_of m spot.marks spot.byte (kind j) (lowest (mask j)) (first j)) in
     let code = c.error.ensures ∙ (λ j. error_of m spot.marks (kind j) (lowest (mask j)) (first j) (span j).0) in
-    rw (← c.self.view_is) (λ j. record {
+    λ j. record {
       valid_up_to = spot.marks.size;
       byte = spot.byte;
       kind = kind j;
@@ -25,4 +25,4 @@ returns c =
       start = (span j).0;
       end = (span j).1;
       code = code j;
-    })
+    }

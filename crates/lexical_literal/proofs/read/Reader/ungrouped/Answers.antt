@@ -1,0 +1,47 @@
+-- The parts are those of the literal, which is not in groups.
+use Rattle.std.proofs.Common.{◌≡◌, ◌+◌, false, length, refl, sym, ap, subst, ◌∙◌}
+use Rattle.lexical_literal.specs.Groups.{IsFirstWrongGroup, is_grouped}
+use Rattle.lexical_literal.specs.Literal.{Literal}
+use Rattle.lexical_literal.specs.Notation.{notation_of}
+use Rattle.lexical_literal.specs.Parts.{literal_of}
+use Rattle.lexical_literal.specs.declared.syntax.Grammar.{Grammar}
+use Rattle.lexical_literal.proofs.GroupLemmas.{not_grouped}
+use Rattle.lexical_literal.proofs.read.Reader.ungrouped.Goals as goal
+
+pub wrong_group-start-requires : goal.wrong_group-start-requires
+wrong_group-start-requires c =
+    let l = c.requires.parts in
+    let same = c.grammar-grammar.ensures.value ∙ c.self.view_is in
+    let required = sym (ap (λ (g : Grammar). g.conditions.integer_group_size) same) ∙ c.in-Some.is in
+    let parts : literal_of c.cut-parts.result ≡ l.0 = c.cut-parts.ensures l.0 l.1.whole l.2 in
+    subst (λ (g : Grammar). is_grouped (notation_of g).separator c.in-Some.size c.cut-parts.result.integer.now ≡ false) (sym same)
+    (subst (λ (k : Literal). is_grouped (notation_of c.args.self.now).separator c.in-Some.size k.integer ≡ false) (sym parts)
+    (not_grouped c.args.self.now c.args.text.now l.0 l.1 c.requires.refuses c.in-Some.size required))
+
+pub returns : goal.returns
+returns c =
+    let l = c.requires.parts in
+    let same = c.grammar-grammar.ensures.value ∙ c.self.view_is in
+    let size = c.in-Some.size in
+    let required = sym (ap (λ (g : Grammar). g.conditions.integer_group_size) same) ∙ c.in-Some.is in
+    let parts : literal_of c.cut-parts.result ≡ l.0 = c.cut-parts.ensures l.0 l.1.whole l.2 in
+    record {
+      literal = l.0;
+      reads = l.1;
+      size = size;
+      required = required;
+      ungrouped = not_grouped c.args.self.now c.args.text.now l.0 l.1 c.requires.refuses size required;
+      start = c.wrong_group-start.result.0;
+      end = c.wrong_group-start.result.1;
+      group = subst (λ (g : Grammar). IsFirstWrongGroup (notation_of g).separator size l.0.integer c.wrong_group-start.result.0 c.wrong_group-start.result.1) same
+          (subst (λ (k : Literal). IsFirstWrongGroup (notation_of c.grammar-grammar.result).separator size k.integer c.wrong_group-start.result.0 c.wrong_group-start.result.1)
+          parts c.wrong_group-start.ensures);
+      valid_up_to = refl;
+      byte = refl;
+      kind = refl;
+      mask = refl;
+      conditions = λ j. record { required_base_prefix = false; required_base_suffix = false; no_negative_mantissa_sign = false; integer_group_size = c.in-Some.is j };
+      error_start = ap (λ (k : Literal). length k.sign + length k.prefix + c.wrong_group-start.result.0) parts;
+      error_end = ap (λ (k : Literal). length k.sign + length k.prefix + c.wrong_group-start.result.1) parts;
+      code = refl;
+    }
