@@ -174,8 +174,7 @@ fn a_tie_is_even_and_any_digit_behind_it_breaks_it() {
 #[test]
 fn powers_of_two_are_exact_numbers() {
     let c = &Language::C.readers().as_slice()[4];
-    for (text, wanted) in [("0x1.8p3", 12.0), ("0x.8p0", 0.5), ("0xAp-1", 5.0), ("0x1p-1074", 5e-324)]
-    {
+    for (text, wanted) in [("0x1.8p3", 12.0), ("0x.8p0", 0.5), ("0xAp-1", 5.0), ("0x1p-1074", 5e-324)] {
         check(c, text, wanted, wanted as f32);
     }
     let mut random = Random(3);

@@ -68,7 +68,10 @@ fn literals_are_written_in_other_languages() {
                         "written".to_string()
                     }
                     Err(error) => {
-                        assert!(is_reason(error, &literal, &source, &form.syntax), "{language} {text:?} in {target}: {error:?}");
+                        assert!(
+                            is_reason(error, &literal, &source, &form.syntax),
+                            "{language} {text:?} in {target}: {error:?}"
+                        );
                         format!("{error:?}")
                     }
                 };
@@ -131,7 +134,10 @@ fn flags_add_what_they_require() {
     assert_eq!(convert(".5", none.required_integer_digits(true)).unwrap(), "0.5");
     assert_eq!(convert("007.500", none.no_float_leading_zeros(true)).unwrap(), "7.500");
     assert_eq!(convert("1e5", none.no_exponent_without_fraction(true)).unwrap(), "1.e5");
-    assert_eq!(convert("1e5", none.no_exponent_without_fraction(true).required_fraction_digits(true)).unwrap(), "1.0e5");
+    assert_eq!(
+        convert("1e5", none.no_exponent_without_fraction(true).required_fraction_digits(true)).unwrap(),
+        "1.0e5"
+    );
     assert_eq!(convert("1.", none.required_fraction_digits(true)).unwrap(), "1.0");
     assert_eq!(convert("5", none.required_exponent_notation(true)).unwrap(), "5e0");
     assert_eq!(convert("+5e+06", none.required_mantissa_sign(true)).unwrap(), "+5e6");
@@ -152,7 +158,10 @@ fn texts_are_printed_and_written() {
     let toml = Language::TOML.forms()[0].syntax;
     let text = toml.format_integer(-1_234_567, Style::PLAIN.group(3)).unwrap();
     assert_eq!(text.as_str(), Some("-1_234_567"));
-    assert_eq!(format!("{text:>12}|{text:*^14.2}|{text:11}|{text:?}"), "  -1_234_567|**-1_234_567**|-1_234_567 |\"-1_234_567\"");
+    assert_eq!(
+        format!("{text:>12}|{text:*^14.2}|{text:11}|{text:?}"),
+        "  -1_234_567|**-1_234_567**|-1_234_567 |\"-1_234_567\""
+    );
     let mut buffer = [0; 10];
     assert_eq!(text.write_into(&mut buffer[..9]), Err(WriteError::Buffer(10)));
     assert_eq!(text.write_into(&mut buffer), Ok("-1_234_567"));
