@@ -17,7 +17,8 @@ use Rattle.lexical_util.specs.Unfoldable.{cased, Lawful, Holds}
 use Rattle.lexical_util.specs.declared.format_flags.Part.{Part}
 use Rattle.lexical_util.specs.declared.format_flags.Part.TheVariants as parts
 use Rattle.lexical_base.proofs.ValueLemmas.{byte_value-digit_character}
-use Rattle.lexical_literal.specs.Literal.{IsLiteral, IsSpelled, condition, has_leading_zero, is_absent, is_none_or_one, is_none_or_prefix, is_plus, is_present, requirement, text_of}
+use Rattle.lexical_literal.specs.Literal.{IsLiteral, IsSpelled, condition, has_leading_zero, is_absent, is_none_or_one, is_none_or_prefix, is_plus}
+use Rattle.lexical_literal.specs.Literal.{is_present, requirement, text_of}
 use Rattle.lexical_literal.specs.Notation.{lacks_options, notation_of, point_of, exponent_character_of, radix_of}
 use Rattle.lexical_literal.specs.Syntax.{IsSyntax, FitIfAny, contradicts, is_group_size}
 use Rattle.lexical_literal.specs.Takes.{AreGroups, Takes}
@@ -230,7 +231,8 @@ module _ (g : Grammar) (style : Style) (amount : Amount) (is : IsSyntax g)
 
   -- Where there are groups, the separator is allowed between digits, and is not a digit.
   pub between : 0 < group_of (raw g.word) g.conditions style → ((notation_of g).separator ((raw g.word).byte layout.digit_separator) ≡ true)
-      × ((raw g.word).flag layout.integer_internal_digit_separator ≡ true) × ((notation_of g).digit parts.Integer ((raw g.word).byte layout.digit_separator) ≡ false)
+      × ((raw g.word).flag layout.integer_internal_digit_separator ≡ true) × ((notation_of g).digit parts.Integer
+      ((raw g.word).byte layout.digit_separator) ≡ false)
   between some =
       let separator = (raw g.word).byte layout.digit_separator in
       let has = some_group ((raw g.word).flag layout.integer_internal_digit_separator) (separator == 0) _ some in
@@ -277,7 +279,8 @@ module _ (g : Grammar) (style : Style) (amount : Amount) (is : IsSyntax g)
           → (is_present (laid_out g style amount).integer || is_present (laid_out g style amount).fraction) ≡ true
       go true there = or_left _ _ there
       go false there =
-          or_right _ _ (fraction_there (either (is_present (laid_out g style amount).integer) (is_present (fraction_digits radix amount.fraction)) integer_or there))
+          or_right _ _ (fraction_there (either (is_present (laid_out g style amount).integer) (is_present
+          (fraction_digits radix amount.fraction)) integer_or there))
 
   allowed : ((amount.negative && g.conditions.no_negative_mantissa_sign) ≡ false) × ((lacks_options g.options && is_some amount.fraction) ≡ false)
       × (((lacks_options g.options || (raw g.word).flag layout.no_exponent_notation) && is_some amount.exponent) ≡ false)
@@ -285,11 +288,13 @@ module _ (g : Grammar) (style : Style) (amount : Amount) (is : IsSyntax g)
 
   -- No exponent is written where none is allowed, or where literals are integers.
   no_exponent : (lacks_options g.options || (raw g.word).flag layout.no_exponent_notation) ≡ true → has_exponent g amount ≡ false
-  no_exponent none = exponent_none (lacks_options g.options) ((raw g.word).flag layout.no_exponent_notation) _ (is_some amount.exponent) (agree g.word is.lawful).0
+  no_exponent none = exponent_none (lacks_options g.options) ((raw g.word).flag layout.no_exponent_notation) _ (is_some amount.exponent)
+      (agree g.word is.lawful).0
       allowed.2 none
 
   no_lead : has_leading_zero ((notation_of g).digit parts.Integer) (laid_out g style amount).integer ≡ false
-  no_lead = no_leading_zero (notation_of g) parts.Integer radix _ (group_of (raw g.word) g.conditions style) (radixes g.word is.lawful parts.Integer).1 (digit parts.Integer) between
+  no_lead = no_leading_zero (notation_of g) parts.Integer radix _ (group_of (raw g.word) g.conditions style) (radixes g.word is.lawful parts.Integer).1
+      (digit parts.Integer) between
       (has_zero (raw g.word) amount) (values_of radix amount.integer) integer_below
 
   met : (f : Flag) → IsTrue ((notation_of g).flag f) → IsTrue (requirement f (notation_of g) (laid_out g style amount))
@@ -356,18 +361,22 @@ module _ (g : Grammar) (style : Style) (amount : Amount) (is : IsSyntax g)
   spelled = record {
     sign = one_sign amount.negative _;
     prefix = prefix_there _ (but_not (style.prefix || g.conditions.required_base_prefix) ((raw g.word).byte layout.base_prefix == 0));
-    integer = grouped_run (notation_of g) parts.Integer radix _ (group_of (raw g.word) g.conditions style) (radixes g.word is.lawful parts.Integer).1 (digit parts.Integer) between
+    integer = grouped_run (notation_of g) parts.Integer radix _ (group_of (raw g.word) g.conditions style) (radixes g.word is.lawful parts.Integer).1
+        (digit parts.Integer) between
         _ (zero_below radix (has_zero (raw g.word) amount) _ (some_radix parts.Integer) (lean_below radix _ integer_below));
     point = point_there g.options is.fit (has_point g amount) no_point;
-    fraction = grouped_run (notation_of g) parts.Fraction radix 0 0 (radixes g.word is.lawful parts.Fraction).1 (digit parts.Fraction) (λ some. absurd (omega (arith, some)))
+    fraction = grouped_run (notation_of g) parts.Fraction radix 0 0 (radixes g.word is.lawful parts.Fraction).1 (digit parts.Fraction) (λ some. absurd
+        (omega (arith, some)))
         _ (zero_below radix _ _ (some_radix parts.Fraction) fraction_below);
     exponent_character = character_there g.options is.fit (has_exponent g amount) (λ lacks. no_exponent (or_left _ _ lacks));
     exponent_sign = sign_if (has_exponent g amount) (is_negative amount.exponent) _;
-    exponent = grouped_run (notation_of g) parts.Exponent (effective_exponent_radix (raw g.word)) 0 0 (radixes g.word is.lawful parts.Exponent).1 (digit parts.Exponent)
+    exponent = grouped_run (notation_of g) parts.Exponent (effective_exponent_radix (raw g.word)) 0 0 (radixes g.word is.lawful parts.Exponent).1
+        (digit parts.Exponent)
         (λ some. absurd (omega (arith, some)))
         _ (zero_below _ (has_exponent g amount) _ (some_radix parts.Exponent) (lean_below _ _ power_below));
     suffix = suffix_there _ (but_not (style.suffix || g.conditions.required_base_suffix) ((raw g.word).byte layout.base_suffix == 0));
-    after_point = λ absent. no_fraction amount.fraction (has_exponent g amount && (raw g.word).flag layout.no_exponent_without_fraction) (point_byte g.options) _ radix absent;
+    after_point = λ absent. no_fraction amount.fraction (has_exponent g amount && (raw g.word).flag layout.no_exponent_without_fraction)
+        (point_byte g.options) _ radix absent;
     after_character = λ absent. no_power amount.exponent _ (exponent_byte g.options) _ _ absent;
     some_number = floats (is_present (laid_out g style amount).integer) amount.fraction _ (point_byte g.options) _ radix integer_or;
     requirements = met;

@@ -1,5 +1,6 @@
 -- Digits in groups of the size that a condition requires.
-use Rattle.std.proofs.Common.{ℕ, ◌≡◌, ◌+◌, ◌-◌, ◌/◌, ◌%◌, ◌<◌, ◌≤◌, ◌==◌, ◌&&◌, ◌||◌, not, Bool, true, false, cond, if◌then◌else◌, nat_le, nat_lt, List, [], ◌∷◌, ◌++◌, length, Option, Some, None, unwrap_or, zero, suc, refl, ap, ◌∙◌, arith}
+use Rattle.std.proofs.Common.{ℕ, ◌≡◌, ◌+◌, ◌-◌, ◌/◌, ◌%◌, ◌<◌, ◌≤◌, ◌==◌, ◌&&◌, ◌||◌, not, Bool, true, false, cond, if◌then◌else◌, nat_le, nat_lt}
+use Rattle.std.proofs.Common.{List, [], ◌∷◌, ◌++◌, length, Option, Some, None, unwrap_or, zero, suc, refl, ap, ◌∙◌, arith}
 use Rattle.std.proofs.lemmas.Bool.{and_parts, eq-eqb, leb-true, or_left, or_right}
 use Rattle.std.proofs.lemmas.Bool.Decides.{nat_tests}
 use Rattle.std.specs.Bool.{beq}
@@ -20,25 +21,74 @@ record IsSize (s : ℕ) : Type 0 where
   some : 0 < s
 
 two : IsSize 2
-two = record { next = λ k a b. omega arith; same = λ k a b. omega arith; whole = λ k a b. omega arith; inside = λ k. omega arith; none = omega arith; some = omega arith }
+two = record {
+  next = λ k a b. omega arith;
+  same = λ k a b. omega arith;
+  whole = λ k a b. omega arith;
+  inside = λ k. omega arith;
+  none = omega arith;
+  some = omega arith;
+}
 
 three : IsSize 3
-three = record { next = λ k a b. omega arith; same = λ k a b. omega arith; whole = λ k a b. omega arith; inside = λ k. omega arith; none = omega arith; some = omega arith }
+three = record {
+  next = λ k a b. omega arith;
+  same = λ k a b. omega arith;
+  whole = λ k a b. omega arith;
+  inside = λ k. omega arith;
+  none = omega arith;
+  some = omega arith;
+}
 
 four : IsSize 4
-four = record { next = λ k a b. omega arith; same = λ k a b. omega arith; whole = λ k a b. omega arith; inside = λ k. omega arith; none = omega arith; some = omega arith }
+four = record {
+  next = λ k a b. omega arith;
+  same = λ k a b. omega arith;
+  whole = λ k a b. omega arith;
+  inside = λ k. omega arith;
+  none = omega arith;
+  some = omega arith;
+}
 
 five : IsSize 5
-five = record { next = λ k a b. omega arith; same = λ k a b. omega arith; whole = λ k a b. omega arith; inside = λ k. omega arith; none = omega arith; some = omega arith }
+five = record {
+  next = λ k a b. omega arith;
+  same = λ k a b. omega arith;
+  whole = λ k a b. omega arith;
+  inside = λ k. omega arith;
+  none = omega arith;
+  some = omega arith;
+}
 
 six : IsSize 6
-six = record { next = λ k a b. omega arith; same = λ k a b. omega arith; whole = λ k a b. omega arith; inside = λ k. omega arith; none = omega arith; some = omega arith }
+six = record {
+  next = λ k a b. omega arith;
+  same = λ k a b. omega arith;
+  whole = λ k a b. omega arith;
+  inside = λ k. omega arith;
+  none = omega arith;
+  some = omega arith;
+}
 
 seven : IsSize 7
-seven = record { next = λ k a b. omega arith; same = λ k a b. omega arith; whole = λ k a b. omega arith; inside = λ k. omega arith; none = omega arith; some = omega arith }
+seven = record {
+  next = λ k a b. omega arith;
+  same = λ k a b. omega arith;
+  whole = λ k a b. omega arith;
+  inside = λ k. omega arith;
+  none = omega arith;
+  some = omega arith;
+}
 
 eight : IsSize 8
-eight = record { next = λ k a b. omega arith; same = λ k a b. omega arith; whole = λ k a b. omega arith; inside = λ k. omega arith; none = omega arith; some = omega arith }
+eight = record {
+  next = λ k a b. omega arith;
+  same = λ k a b. omega arith;
+  whole = λ k a b. omega arith;
+  inside = λ k. omega arith;
+  none = omega arith;
+  some = omega arith;
+}
 
 by_size : (s : ℕ) → 2 ≤ s → s ≤ 8 → IsSize s
 by_size zero low high = absurd (omega (arith, low))

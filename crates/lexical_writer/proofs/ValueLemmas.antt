@@ -1,5 +1,6 @@
 -- The value of what is laid out.
-use Rattle.std.proofs.Common.{ℕ, ℤ, ◌≡◌, ◌<◌, Bool, true, false, cond, if◌then◌else◌, not, ◌&&◌, ◌||◌, nat_lt, IsTrue, IsFalse, Some, None, Result, Ok, Err, IfOk, IfErr, option_to_list, refl, subst, sym, ap, ◌∙◌, arith}
+use Rattle.std.proofs.Common.{ℕ, ℤ, ◌≡◌, ◌<◌, Bool, true, false, cond, if◌then◌else◌, not, ◌&&◌, ◌||◌, nat_lt, IsTrue, IsFalse, Some, None, Result}
+use Rattle.std.proofs.Common.{Ok, Err, IfOk, IfErr, option_to_list, refl, subst, sym, ap, ◌∙◌, arith}
 use Rattle.std.proofs.lemmas.Bool.{and_parts}
 use Rattle.std.proofs.lemmas.Int.Digits.{number_digits_of}
 use Rattle.std.specs.Int.Digits.{number_from_digits}
@@ -19,7 +20,8 @@ use Rattle.lexical_number.specs.Numeral.{with_sign}
 use Rattle.lexical_value.specs.Integer.{IsInteger}
 use Rattle.lexical_value.specs.Value.{is_minus}
 use Rattle.lexical_writer.specs.Digits.{or_zero, values_of, without_zeros}
-use Rattle.lexical_writer.specs.Layout.{IsLaidOut, IsNotWritten, IsWhole, exponent_byte, group_of, has_zero, laid_out, literal_of, only_if, point_byte, refusal, sign_of, whole, needs_exponent}
+use Rattle.lexical_writer.specs.Layout.{IsLaidOut, IsNotWritten, IsWhole, exponent_byte, group_of, has_zero, laid_out, literal_of, only_if}
+use Rattle.lexical_writer.specs.Layout.{point_byte, refusal, sign_of, whole, needs_exponent}
 use Rattle.lexical_writer.specs.declared.layout.Amount.{Amount}
 use Rattle.lexical_writer.specs.declared.layout.Style.{Style}
 use Rattle.lexical_writer.specs.declared.layout.Layout.{Layout}

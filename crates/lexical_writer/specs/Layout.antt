@@ -1,5 +1,6 @@
 -- How a number is laid out as a literal.
-use Rattle.std.specs.Prelude.{ℕ, ◌≡◌, ◌<◌, ℤ, ◌==◌, ◌&&◌, ◌||◌, not, Bool, true, false, if◌then◌else◌, List, [], ◌∷◌, Option, Some, None, Result, Ok, Err, is_some, option_to_list, unwrap_or, IsTrue}
+use Rattle.std.specs.Prelude.{ℕ, ◌≡◌, ◌<◌, ℤ, ◌==◌, ◌&&◌, ◌||◌, not, Bool, true, false, if◌then◌else◌, List, [], ◌∷◌, Option, Some, None, Result, Ok}
+use Rattle.std.specs.Prelude.{Err, is_some, option_to_list, unwrap_or, IsTrue}
 use Rattle.std.specs.Borrow.{Bor}
 use Rattle.lexical_util.specs.Layout as layout
 use Rattle.lexical_util.specs.Record.{Record, raw, effective_exponent_radix}
@@ -104,14 +105,16 @@ laid_out g style amount =
     record {
       sign = option_to_list (sign_of amount.negative (r.flag layout.required_mantissa_sign));
       prefix = after_zero (only_if ((style.prefix || g.conditions.required_base_prefix) && not (r.byte layout.base_prefix == 0)) (r.byte layout.base_prefix));
-      integer = grouped (r.byte layout.digit_separator) (group_of r g.conditions style) (or_zero (has_zero r amount) (without_zeros (values_of radix amount.integer)));
+      integer = grouped (r.byte layout.digit_separator) (group_of r g.conditions style) (or_zero (has_zero r amount) (without_zeros
+          (values_of radix amount.integer)));
       point = option_to_list (only_if (has_point g amount) (point_byte g.options));
       fraction = grouped 0 0 (or_zero (has_point g amount && r.flag layout.required_fraction_digits) (fraction_digits radix amount.fraction));
       exponent_character = option_to_list (only_if (has_exponent g amount) (exponent_byte g.options));
       exponent_sign =
           if has_exponent g amount then option_to_list (sign_of (is_negative amount.exponent) (r.flag layout.required_exponent_sign)) else [];
       exponent = grouped 0 0 (or_zero (has_exponent g amount) (without_zeros (power_digits (effective_exponent_radix r) amount.exponent)));
-      suffix = option_to_list (only_if ((style.suffix || g.conditions.required_base_suffix) && not (r.byte layout.base_suffix == 0)) (r.byte layout.base_suffix));
+      suffix = option_to_list (only_if ((style.suffix || g.conditions.required_base_suffix) && not (r.byte layout.base_suffix == 0))
+          (r.byte layout.base_suffix));
     }
 
 -- `refusal g amount` is why `amount` cannot be written as a literal of `g`, or `None` if it can.
