@@ -62,8 +62,7 @@ class Library {
             const fields = [...own, ...this.namesOf(BigInt(mask))];
             return { ...it, mask: BigInt(mask), fields, repairs: repairs.map(withWord) };
         };
-        const [reasons, all, notes] = ["reasons", "options", "notes"].map((name) => answer[name].map(named));
-        const options = state.exponent || state.point ? all : [];
+        const [reasons, options, notes] = ["reasons", "options", "notes"].map((name) => answer[name].map(named));
         if (answer.contradiction) {
             const { name, mask } = this.conditions.find(({ name }) => answer.contradiction.startsWith(name));
             const repairs = [{ ...state, conditions: state.conditions & ~mask }];

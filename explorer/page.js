@@ -288,8 +288,10 @@ class Page {
     }
 
     showAll() {
-        const { word } = this.state;
+        const { word, exponent, point } = this.state;
         this.shown = this.library.explain(this.state);
+        const { options, contradiction } = this.shown;
+        if (!exponent && !point) this.shown.options = options.filter(({ text }) => text === contradiction);
         const isKept = isRefused(find("word")) && this.told === word;
         if (document.activeElement !== find("word") && !isKept) this.showWord();
         find("undo").disabled = !this.past.length;

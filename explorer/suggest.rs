@@ -129,7 +129,8 @@ pub fn read(reader: &Reader, text: &[u8]) -> Result<(), ReadError> {
 /// Returns the conditions of a byte.
 pub fn conditions_of(bits: u8) -> Conditions {
     let [prefix, suffix, sign] = [1, 2, 4].map(|bit| bits & bit != 0);
-    let flags = Conditions::NONE.required_base_prefix(prefix).required_base_suffix(suffix).no_negative_mantissa_sign(sign);
+    let flags =
+        Conditions::NONE.required_base_prefix(prefix).required_base_suffix(suffix).no_negative_mantissa_sign(sign);
     flags.integer_group_size(Some(bits >> 4).filter(|&size| size > 0))
 }
 

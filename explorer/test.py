@@ -359,6 +359,11 @@ class Walk(unittest.TestCase):
         self.assertEqual(self.text("#verdict"), "A condition does not fit")
         self.click(".reason .use", "required_base_prefix=false")
         self.assertEqual((self.text("#verdict"), self.find("#required_base_prefix").is_selected()), ("Lawful", False))
+        self.load("#word=0x0A0A0A000000002C000000010000000C&numbers=1,234%0A!12,34")
+        self.click("#read .use", "set integer_group_size=3")
+        self.assertEqual((self.text("#count"), self.value("#integer_group_size")), ("2 of 2 as expected", "3"))
+        self.click("#tab-settings")
+        self.assertIn("integer_group_size=3", self.text("#code"))
 
     def test_groups_of_separator_flags_and_a_note(self):
         self.type("#digit_separator", "_")
