@@ -45,6 +45,9 @@ def suffix(pattern):
 
 RANGE = Cause("-", r".*[dDeEpP]\+?\d{3,}|.{10,}", "a number that the tool has no type for")
 
+CELLS = [Cause("+", pattern, f"{what}, which no spreadsheet writes so") for pattern, what in (
+    (r"\+.*", "a plus sign"), (r".*[eE].*", "an exponent"), (r"-?0[0-9.,].*", "a leading zero"), (r"-?[.,].*|.*[.,]", "a point without digits"))]
+
 # A language: its name, its tool, the alphabet of the short texts, the separator of the seeds, and what other random texts are
 # near to.
 Language = collections.namedtuple("Language", "name tool alphabet separator seeds announced")
@@ -55,8 +58,8 @@ LANGUAGES = [
         Cause("-", r"[0-9_]+[eE]-.*", "a negative exponent of an integer")]),
     Language("C", "gcc", "018.'exp-b", "'", "1u 1UL 1.0f 0x1p3L 10wb", [
         suffix("([uU]|ll?|LL?|wb|WB)+|[fFlL]|[dD][fFdDlL]"), Cause("+", r"[\d']+[fF]", "a float by its suffix alone"), RANGE]),
-    Language("CSV_DE", "calc 1031", "0125.,-e", ".", "1.234,50 1.234.567,25 12.34 0,50", []),
-    Language("CSV_EN", "calc 1033", "0125.,-e", ",", "1,234.50 1,234,567.25 12,34 0.50", []),
+    Language("CSV_DE", "calc 1031", "0125.,-e", ".", "1.234,50 1.234.567,25 12.34 0,50 1.2345,0", CELLS),
+    Language("CSV_EN", "calc 1033", "0125.,-e", ",", "1,234.50 1,234,567.25 12,34 0.50 1,2345.0", CELLS),
     Language("C_PLUS_PLUS", "g++", "018.'exp-b", "'", "1u 1UL 1.0f 0x1p3L", [suffix("([uU]|ll?|LL?)+|[fFlL]"), RANGE]),
     Language("C_SHARP", "mcs", "018._exf-+b", "_", "1m 1f 1UL", [
         suffix("[uUlL]+|[fFdDmM]"), *(Cause(mark, ".*_.*", "a fault of mcs with separators") for mark in "+-="), RANGE]),

@@ -2,9 +2,10 @@
 
 use peltzivar::format::{CASE_SENSITIVE_SPECIAL, DIGIT_SEPARATOR_FLAG_MASK, NO_SPECIAL};
 use peltzivar::literal::{
-    Language, Literal, Number, ReadError, ReadErrorKind, Reader, Readers, Sign, Special, Specials, Spelling, Syntax,
+    Conditions, Language, Literal, Number, ReadError, ReadErrorKind, Reader, Readers, Sign, Special, Specials,
+    Spelling, Syntax,
 };
-use peltzivar::{Edit, FlagSetter, Format, NumberFormatBuilder, Part, Settings};
+use peltzivar::{Edit, FlagSetter, Format, NumberFormatBuilder, Part};
 
 const FORMAT: &str = include_str!("../../docs/FORMAT.md");
 const EXPLANATIONS: &str = include_str!("../../docs/EXPLANATIONS.md");
@@ -144,15 +145,21 @@ fn flags_accept_and_reject_the_texts_of_the_page() {
 /// Each condition, by the texts in its row: all are literals without it.
 #[test]
 fn conditions_accept_and_reject_the_texts_of_the_page() {
-    let reader = |settings: &[&str]| Reader::new(Settings::read(settings).unwrap().build_syntax().unwrap());
     for row in table(FORMAT, "Conditions") {
-        let [condition, _, with, accepted, rejected, _] = row[..] else { panic!("{row:?}") };
-        let with = Vec::from_iter(with.split_whitespace());
-        let (plain, set) = (reader(&with), reader(&[with, vec![condition]].concat()));
+        let [setting, _, with, accepted, rejected, _] = row[..] else { panic!("{row:?}") };
+        let conditions = match setting {
+            "required_base_prefix=true" => Conditions::NONE.required_base_prefix(true),
+            "required_base_suffix=true" => Conditions::NONE.required_base_suffix(true),
+            "no_negative_mantissa_sign=true" => Conditions::NONE.no_negative_mantissa_sign(true),
+            "integer_group_size=3" => Conditions::NONE.integer_group_size(Some(3)),
+            _ => panic!("{setting}"),
+        };
+        let syntax = syntax(word(with));
+        let readers = [Reader::new(syntax), Reader::new(syntax.with(conditions).unwrap())];
         let texts = texts(accepted).map(|text| (text, true)).chain(texts(rejected).map(|text| (text, false)));
         for (text, is_accepted) in texts {
-            let results = [&plain, &set].map(|reader| read(reader, text.as_bytes()).is_ok());
-            assert_eq!(results, [true, is_accepted], "{condition}: {text}");
+            let results = [0, 1].map(|index| read(&readers[index], text.as_bytes()).is_ok());
+            assert_eq!(results, [true, is_accepted], "{setting}: {text}");
         }
     }
 }
@@ -251,7 +258,7 @@ type Row = (Language, &'static str, bool, Option<f64>);
 /// Returns the rows of literals.txt, and what the tools of languages answered.
 fn rows() -> impl Iterator<Item = Row> {
     let tables = [include_str!("literals.txt"), include_str!("known/languages.txt")];
-    let rows = tables.into_iter().flat_map(str::lines).filter(|row| !row.is_empty() && !row.starts_with("# "));
+    let rows = tables.into_iter().flat_map(str::lines).filter(|row| !row.is_empty() && !row.starts_with('#'));
     rows.map(|row| {
         let cells = Vec::from_iter(row.split_whitespace());
         let &[name, mark, text, ..] = &cells[..] else { panic!("{row}") };
@@ -284,6 +291,7 @@ fn languages_answer_as_their_grammars_and_tools_do() {
 /// without a setting, consecutive separators have a row.
 #[test]
 fn each_setting_of_a_language_has_a_row() {
+    let mut missing = vec![];
     for language in Language::ALL {
         let rows = Vec::from_iter(rows().filter(|row| row.0 == *language));
         let own = language.specials();
@@ -307,7 +315,8 @@ fn each_setting_of_a_language_has_a_row() {
                 let options = syntax.exponent().zip(syntax.point());
                 let with_options = options.map(|(exponent, point)| Syntax::new_or_panic(format, exponent, point));
                 let Ok(without) = with_options.unwrap_or(Syntax::integers(format)).with(conditions) else { continue };
-                assert!(has_row(without) || without == syntax, "no row of {language} needs {edit} of {}", form.name);
+                let is_needed = without == syntax || has_row(without);
+                missing.extend((!is_needed).then(|| format!("{language}, {}: {edit}", form.name)));
             }
             for other in [
                 conditions.required_base_prefix(false),
@@ -315,10 +324,11 @@ fn each_setting_of_a_language_has_a_row() {
                 conditions.no_negative_mantissa_sign(false),
             ] {
                 let is_needed = other == conditions || has_row(syntax.with_or_panic(other));
-                assert!(is_needed, "no row of {language} needs {conditions:?} of {}", form.name);
+                missing.extend((!is_needed).then(|| format!("{language}, {}: {conditions:?}", form.name)));
             }
         }
     }
+    assert!(missing.is_empty(), "no row needs these settings: {missing:#?}");
 }
 
 /// The digits before the exponent character `p` are multiplied by a power of 2, and others by a power of 10.
@@ -331,7 +341,7 @@ fn exponents_of_languages_have_the_bases_of_their_grammars() {
     }
 }
 
-/// Each text of up to five bytes that have a role, or none, in some language, and the pieces of long ones: no call panics,
+/// Each text of up to four bytes that have a role, or none, in some language, and the pieces of long ones: no call panics,
 /// and a text is a literal if the longest one that it begins with is the text.
 #[test]
 fn any_bytes_are_read() {
@@ -348,7 +358,7 @@ fn any_bytes_are_read() {
     };
     let bytes = b"-0x_.eph\0\xFF";
     let mut texts = vec![vec![]];
-    for _ in 0..5 {
+    for _ in 0..4 {
         let longer = texts.iter().flat_map(|text| bytes.map(|byte| [text.as_slice(), &[byte]].concat()));
         texts = longer.chain([vec![]]).collect();
     }

@@ -65,7 +65,7 @@ def plain(words):
     while at < len(words):
         word, ahead = words[at], words[at : at + 8]
         if word == "ghost" or ahead[:2] == ["pub", "ghost"] or (word == "use" and ahead[-2:] == [":", "Model"]):
-            at = until(words, at, ";") + 1
+            at = until(words, at, ";", ",") + 1
         elif ahead[:3] == ["#", "[", "tactic"] or ahead[:4] == ["#", "!", "[", "tactic"]:
             at = close(words, at + ahead.index("["))
         elif word == "impl" and ["Model", "for"] in (ahead[1:3], ahead[5:7]):

@@ -23,13 +23,13 @@ def cargo(*arguments):
 
 
 def languages():
-    """Yields the row of each language: its word, its exponent character, and its texts."""
+    """Yields the row of each language with one form and no conditions: its word, its exponent character, and its texts."""
     lines = [line.split() for line in (TOP / "rust/tests/literals.txt").read_text().splitlines() if line[:1] not in ("", "#")]
-    # The languages of the crate come after those of the example.
-    printed = re.findall(r"^([A-Z_]+) \w+ it: (\w+)(?: (\d+) \d+)?$", cargo("--example", "languages"), re.M)
-    for name, (word, exponent) in {name: syntax for name, *syntax in printed}.items():
-        texts = {text: mark in ("+", "-!") for language, mark, text, *_ in lines if language == name}
-        yield word, exponent and chr(int(exponent)), texts
+    forms = re.findall(r"^([A-Z_]+)\t.*?\t(.*?)\t", cargo("--example", "languages"), re.M)
+    names = [name for name, _ in forms]
+    for name, syntax in forms:
+        if names.count(name) == 1 and (found := re.fullmatch(r"(\w+) (\d+) 46", syntax)):
+            yield found[1], chr(int(found[2])), {text: mark in ("+", "-!") for language, mark, text, *_ in lines if language == name}
 
 
 def flags():

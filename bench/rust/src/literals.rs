@@ -64,9 +64,9 @@ impl Literals {
             accepted: texts(random, 100_000, literal, |_, _| true),
             integers: texts(random, 100_000, |random, _| integer(random, None), |_, _| true),
             grouped: vec![Group::new(Language::TOML, (0..100_000).map(|_| integer(random, Some('_'))))],
-            prefixed: vec![Group::of(
+            prefixed: vec![Group::of_form(
                 Language::RUST,
-                "hexadecimal",
+                2,
                 (0..100_000).map(|_| format!("0x{:X}", random.below(1 << 36))),
             )],
             exponents: vec![Group::new(
@@ -74,19 +74,24 @@ impl Literals {
                 (0..100_000).map(|_| format!("1.{}e{}", fixed(random, 16), random.below(600) as i64 - 300)),
             )],
             fractions: vec![Group::new(Language::JSON, (0..100_000).map(|_| format!("0.{}", fixed(random, 17))))],
-            hexadecimal: vec![Group::of(
+            hexadecimal: vec![Group::of_form(
                 Language::C,
-                "hexadecimal float",
+                4,
                 (0..100_000).map(|_| format!("0x1.{}p{}", fixed(random, 13), random.below(100))),
             )],
             hundred: vec![Group::new(Language::TOML, (0..100).map(|_| literal(random, Language::TOML)))],
-            forms: vec![
-                of_c(random, "decimal", |it| format!("{}.{}", it % 1000, it / 1000)),
-                of_c(random, "octal", |it| format!("0{it:o}")),
-                of_c(random, "hexadecimal", |it| format!("0x{it:X}")),
-                of_c(random, "binary", |it| format!("0b{:b}", it % 4096)),
-                of_c(random, "hexadecimal float", |it| format!("0x1.{it:x}p{}", it % 100)),
-            ],
+            forms: (0..5)
+                .map(|form| {
+                    let text = |number: u64| match form {
+                        0 => format!("{}.{}", number % 1000, number / 1000),
+                        1 => format!("0{number:o}"),
+                        2 => format!("0x{number:X}"),
+                        3 => format!("0b{:b}", number % 4096),
+                        _ => format!("0x1.{number:x}p{}", number % 100),
+                    };
+                    Group::of_form(Language::C, form, (0..20_000).map(|_| text(1 + random.below(1 << 24))))
+                })
+                .collect(),
             #[cfg(regex)]
             mixed,
         }
@@ -94,14 +99,12 @@ impl Literals {
 }
 
 impl Group {
-    /// Returns texts of a form of a language.
-    fn of(language: Language, form: &str, texts: impl IntoIterator<Item = String>) -> Group {
-        let index = language.forms().iter().position(|it| it.name == form).expect(form);
-        Group { language, reader: &language.readers().as_slice()[index], texts: texts.into_iter().collect() }
+    fn new(language: Language, texts: impl IntoIterator<Item = String>) -> Group {
+        Group::of_form(language, 0, texts)
     }
 
-    fn new(language: Language, texts: impl IntoIterator<Item = String>) -> Group {
-        Group { language, reader: &language.readers().as_slice()[0], texts: texts.into_iter().collect() }
+    fn of_form(language: Language, form: usize, texts: impl IntoIterator<Item = String>) -> Group {
+        Group { language, reader: &language.readers().as_slice()[form], texts: texts.into_iter().collect() }
     }
 }
 
@@ -115,11 +118,6 @@ fn accepts(language: Language, text: &str) -> bool {
 
 fn is_refused(language: Language, text: &str) -> bool {
     !accepts(language, text)
-}
-
-/// Returns texts of a form of C.
-fn of_c(random: &mut Random, form: &str, text: impl Fn(u64) -> String) -> Group {
-    Group::of(Language::C, form, (0..20_000).map(|_| text(1 + random.below(1 << 24))))
 }
 
 /// Returns `count` texts of each of three languages.
@@ -136,7 +134,7 @@ fn texts(
     LANGUAGES.into_iter().map(&mut of).collect()
 }
 
-/// Returns the rows of literals.txt that a language and `parse::<f64>` accept.
+/// Returns the rows of literals.txt that the first form of a language and `parse::<f64>` accept.
 fn rows_of(language: Language) -> Vec<(Language, &'static str)> {
     let rows = ROWS.lines().map(|line| line.split_whitespace().collect::<Vec<_>>());
     let own = rows.filter(|row| row.first() == Some(&language.name())).map(|row| row[2]);
@@ -168,16 +166,16 @@ fn integer(random: &mut Random, separator: Option<char>) -> String {
 
 /// A literal of JSON, TOML or C. Half have a fraction, a third has an exponent, and in TOML and C, a quarter has separators.
 fn literal(random: &mut Random, language: Language) -> String {
-    let signs: &[&str] = match language.name() {
-        "TOML" => &["-", "", "+"],
-        "JSON" => &["-", "", ""],
-        _ => &[""],
+    let signs = match language {
+        Language::TOML => ["-", "", "+"],
+        Language::JSON => ["-", "", ""],
+        _ => [""; 3],
     };
     let own = if language == Language::JSON { None } else { Some(if language == Language::TOML { '_' } else { '\'' }) };
     let separator = own.filter(|_| random.one_in(4));
     let integer = digits(random, 9, separator);
     let zeros = integer.bytes().take_while(|it| !(b'1'..=b'9').contains(it)).count();
-    let mut text = format!("{}{}", random.pick(signs), if zeros < integer.len() { &integer[zeros..] } else { "0" });
+    let mut text = format!("{}{}", random.pick(&signs), if zeros < integer.len() { &integer[zeros..] } else { "0" });
     if random.one_in(2) {
         text = text + "." + &digits(random, 8, separator);
     }

@@ -32,6 +32,11 @@ const fn unsigned(syntax: Syntax) -> Syntax {
     syntax.with_or_panic(syntax.conditions().no_negative_mantissa_sign(true))
 }
 
+/// Returns the same syntax with groups of three digits: `1,234` is accepted, and `12,34` rejected.
+const fn grouped(syntax: Syntax) -> Syntax {
+    syntax.with_or_panic(syntax.conditions().integer_group_size(Some(3)))
+}
+
 /// Returns the syntax of decimal floats and integers: `10` and `1.5e3`.
 const fn decimal(builder: NumberFormatBuilder) -> Syntax {
     unsigned(numbers(b'e', b'.', builder))
@@ -128,11 +133,11 @@ languages! {
     };
 
     /// Numbers in CSV, as German spreadsheets write cells of the format `#.##0,00` (RFC 4180): `1.234,50`.
-    CSV_DE = { "decimal": numbers(b'e', b',', SPREADSHEET.digit_separator(NonZeroU8::new(b'.'))) };
+    CSV_DE = { "decimal": grouped(numbers(b'e', b',', SPREADSHEET.digit_separator(NonZeroU8::new(b'.')))) };
 
     /// Numbers in CSV, as English spreadsheets write cells of the format `#,##0.00`, in quotes (RFC 4180): `"1,234.50"`. A
     /// format cannot accept the minus sign U+2212 of Gnumeric: replace it by `-`.
-    CSV_EN = { "decimal": numbers(b'e', b'.', SPREADSHEET.digit_separator(NonZeroU8::new(b','))) };
+    CSV_EN = { "decimal": grouped(numbers(b'e', b'.', SPREADSHEET.digit_separator(NonZeroU8::new(b',')))) };
 
     /// C++'s integer and floating literals (C++17, 5.13.2 and 5.13.4). A format cannot accept `1u`, `1L`, `1.0f` and suffixes
     /// of users.
