@@ -166,9 +166,9 @@ fn integer(random: &mut Random, separator: Option<char>) -> String {
 
 /// A literal of JSON, TOML or C. Half have a fraction, a third has an exponent, and in TOML and C, a quarter has separators.
 fn literal(random: &mut Random, language: Language) -> String {
-    let signs = match language {
-        Language::TOML => ["-", "", "+"],
-        Language::JSON => ["-", "", ""],
+    let signs = match language.name() {
+        "TOML" => ["-", "", "+"],
+        "JSON" => ["-", "", ""],
         _ => [""; 3],
     };
     let own = if language == Language::JSON { None } else { Some(if language == Language::TOML { '_' } else { '\'' }) };
