@@ -3,41 +3,8 @@
 
 use crate::measure::Row;
 use crate::random::Random;
-use peltzivar::literal::{Conditions, Language, Reader, Readers, Syntax};
-use peltzivar::NumberFormatBuilder;
+use peltzivar::literal::{Language, Reader};
 use std::hint::black_box;
-use std::num::NonZeroU8;
-
-/// The forms of numbers of a language, such as `1.5`, `0x1F`, `0b1`, `0o7` and `0x1.8p3`.
-static FORMS: Readers = {
-    const UNSIGNED: Conditions = Conditions::NONE.no_negative_mantissa_sign(true);
-    const PLAIN: NumberFormatBuilder = NumberFormatBuilder::new().no_positive_mantissa_sign(true);
-    const fn numbers(builder: NumberFormatBuilder, exponent: u8) -> Syntax {
-        Syntax::new_or_panic(builder.build_format_or_panic(), exponent, b'.')
-    }
-    const fn prefixed(radix: u8, prefix: u8) -> NumberFormatBuilder {
-        PLAIN.mantissa_radix(radix).base_prefix(NonZeroU8::new(prefix))
-    }
-    const fn integers(radix: u8, prefix: u8) -> Reader {
-        let syntax = Syntax::integers(prefixed(radix, prefix).build_format_or_panic());
-        Reader::new(syntax.with_or_panic(UNSIGNED.required_base_prefix(true)))
-    }
-    const HEXADECIMAL: NumberFormatBuilder = prefixed(16, b'x')
-        .exponent_base(NonZeroU8::new(2))
-        .exponent_radix(NonZeroU8::new(10))
-        .required_exponent_notation(true);
-    Readers::new_or_panic(
-        const {
-            &[
-                Reader::new(numbers(PLAIN.no_integer_leading_zeros(true), b'e').with_or_panic(UNSIGNED)),
-                integers(16, b'x'),
-                integers(2, b'b'),
-                integers(8, b'o'),
-                Reader::new(numbers(HEXADECIMAL, b'p').with_or_panic(UNSIGNED.required_base_prefix(true))),
-            ]
-        },
-    )
-};
 
 /// Texts of a language.
 struct Group {
@@ -71,7 +38,7 @@ pub struct Literals {
     hexadecimal: Texts,
     /// A hundred texts.
     hundred: Texts,
-    /// Numbers of five forms, as many of each, beside the reader of their form.
+    /// As many numbers of each of the five forms of C.
     forms: Texts,
 }
 
@@ -115,15 +82,14 @@ impl Literals {
             hundred: vec![Group::new(Language::TOML, (0..100).map(|_| literal(random, Language::TOML)))],
             forms: (0..5)
                 .map(|form| {
-                    let text = |random: &mut Random| match form {
-                        0 => format!("{}.{}", random.below(1000), random.below(1000)),
-                        1 => format!("0x{:X}", random.below(1 << 32)),
-                        2 => format!("0b{:b}", random.below(1 << 12)),
-                        3 => format!("0o{:o}", random.below(1 << 24)),
-                        _ => format!("0x1.{}p{}", fixed(random, 6), random.below(100)),
+                    let text = |number: u64| match form {
+                        0 => format!("{}.{}", number % 1000, number / 1000),
+                        1 => format!("0{number:o}"),
+                        2 => format!("0x{number:X}"),
+                        3 => format!("0b{:b}", number % 4096),
+                        _ => format!("0x1.{number:x}p{}", number % 100),
                     };
-                    let texts = (0..20_000).map(|_| text(random)).collect();
-                    Group { language: Language::TOML, reader: &FORMS.as_slice()[form], texts }
+                    Group::of_form(Language::C, form, (0..20_000).map(|_| text(1 + random.below(1 << 24))))
                 })
                 .collect(),
             #[cfg(regex)]
@@ -200,9 +166,9 @@ fn integer(random: &mut Random, separator: Option<char>) -> String {
 
 /// A literal of JSON, TOML or C. Half have a fraction, a third has an exponent, and in TOML and C, a quarter has separators.
 fn literal(random: &mut Random, language: Language) -> String {
-    let signs = match language {
-        Language::TOML => ["-", "", "+"],
-        Language::JSON => ["-", "", ""],
+    let signs = match language.name() {
+        "TOML" => ["-", "", "+"],
+        "JSON" => ["-", "", ""],
         _ => [""; 3],
     };
     let own = if language == Language::JSON { None } else { Some(if language == Language::TOML { '_' } else { '\'' }) };
@@ -246,8 +212,9 @@ fn reader(group: &Group) -> impl Fn(&str) -> bool + use<> {
     move |text| black_box(reader.read(text.as_bytes())).is_ok()
 }
 
-fn listed(_: &Group) -> impl Fn(&str) -> bool + use<> {
-    |text| black_box(FORMS.read(text.as_bytes())).is_ok()
+fn listed(group: &Group) -> impl Fn(&str) -> bool + use<> {
+    let readers = group.language.readers();
+    move |text| black_box(readers.read(text.as_bytes())).is_ok()
 }
 
 fn refuses(group: &Group) -> impl Fn(&str) -> bool + use<> {
@@ -330,7 +297,7 @@ pub fn rows(texts: &Literals) -> Vec<Row<'_>> {
         "Reader::read, literals.txt, over parse", rows.reader, rows.parse;
         "Reader::read, one shape, over parse", shape.reader, shape.parse;
         "Reader::new, over 100 Reader::read", hundred.new, hundred.reader;
-        "Readers::read, 5 forms, over Reader::read", forms.listed, forms.reader;
+        "Readers::read, 5 forms of C, over Reader::read", forms.listed, forms.reader;
         "Reader::read, byte inserted, over accepted", inserted.refuses, accepted.reader;
         "Reader::read, byte appended, over accepted", appended.refuses, accepted.reader;
         "Reader::read and text, inserted, over accepted", inserted.prints, accepted.reader;
