@@ -45,8 +45,16 @@ def suffix(pattern):
 
 RANGE = Cause("-", r".*[dDeEpP]\+?\d{3,}|.{10,}", "a number that the tool has no type for")
 
-CELLS = [Cause("+", pattern, f"{what}, which no spreadsheet writes so") for pattern, what in (
-    (r"\+.*", "a plus sign"), (r".*[eE].*", "an exponent"), (r"-?0[0-9.,].*", "a leading zero"), (r"-?[.,].*|.*[.,]", "a point without digits"))]
+CELLS = [
+    Cause("+", pattern, f"{what}, which no spreadsheet writes so")
+    for pattern, what in (
+        (r"\+.*", "a plus sign"),
+        (r".*[eE].*", "an exponent"),
+        (r"-?0[0-9.,].*", "a leading zero"),
+        (r"-?[.,].*|.*[.,]", "a point without digits"),
+        (r"-?\d{4,}[.,]\d{3}.*", "a first group of four digits"),
+    )
+]
 
 # A language: its name, its tool, the alphabet of the short texts, the separator of the seeds, and what other random texts are
 # near to.

@@ -286,9 +286,9 @@ fn languages_answer_as_their_grammars_and_tools_do() {
     }
 }
 
-/// For each setting with which a form differs from a new builder, and for each condition, a row changes without it. The
-/// exponent base changes values alone, and the first form decides what special values are. Where a format is not lawful
-/// without a setting, consecutive separators have a row.
+/// For each setting with which the first form differs from a new builder, and for each condition, a row changes without it.
+/// The exponent base changes values alone. Where a format is not lawful without a setting, consecutive separators have a
+/// row. What other forms accept can often be seen in values alone.
 #[test]
 fn each_setting_of_a_language_has_a_row() {
     let mut missing = vec![];
@@ -296,36 +296,25 @@ fn each_setting_of_a_language_has_a_row() {
         let rows = Vec::from_iter(rows().filter(|row| row.0 == *language));
         let own = language.specials();
         let specials = if own == Specials::default() { SPECIALS } else { own };
-        for (index, form) in language.forms().iter().enumerate() {
-            let has_row = |without: Syntax| {
-                let mut forms = language.readers().as_slice().to_vec();
-                forms[index] = Reader::new(without);
-                let readers = Readers::new(&forms).unwrap().with_specials(specials);
-                rows.iter().any(|(_, text, is_accepted, _)| readers.read(text.as_bytes()).is_ok() != *is_accepted)
-            };
-            let (syntax, conditions) = (form.syntax, form.syntax.conditions());
-            let is_seen = |edit: &Edit| match edit {
-                Edit::ExponentBase(_) => false,
-                Edit::Flag(flag, _) => index == 0 || *flag != FlagSetter::NoSpecial,
-                _ => true,
-            };
-            for edit in syntax.format().edits().filter(is_seen) {
-                let others: NumberFormatBuilder = syntax.format().edits().filter(|it| *it != edit).collect();
-                let Ok(format) = others.build_format() else { continue };
-                let options = syntax.exponent().zip(syntax.point());
-                let with_options = options.map(|(exponent, point)| Syntax::new_or_panic(format, exponent, point));
-                let Ok(without) = with_options.unwrap_or(Syntax::integers(format)).with(conditions) else { continue };
-                let is_needed = without == syntax || has_row(without);
-                missing.extend((!is_needed).then(|| format!("{language}, {}: {edit}", form.name)));
-            }
-            for other in [
-                conditions.required_base_prefix(false),
-                conditions.required_base_suffix(false),
-                conditions.no_negative_mantissa_sign(false),
-            ] {
-                let is_needed = other == conditions || has_row(syntax.with_or_panic(other));
-                missing.extend((!is_needed).then(|| format!("{language}, {}: {conditions:?}", form.name)));
-            }
+        let (syntax, conditions) = (language.forms()[0].syntax, language.forms()[0].syntax.conditions());
+        let has_row = |without: Syntax| {
+            let mut forms = language.readers().as_slice().to_vec();
+            forms[0] = Reader::new(without);
+            let readers = Readers::new(&forms).unwrap().with_specials(specials);
+            rows.iter().any(|(_, text, is_accepted, _)| readers.read(text.as_bytes()).is_ok() != *is_accepted)
+        };
+        for edit in syntax.format().edits().filter(|edit| !matches!(edit, Edit::ExponentBase(_))) {
+            let others: NumberFormatBuilder = syntax.format().edits().filter(|it| *it != edit).collect();
+            let Ok(format) = others.build_format() else { continue };
+            let options = syntax.exponent().zip(syntax.point());
+            let with_options = options.map(|(exponent, point)| Syntax::new_or_panic(format, exponent, point));
+            let Ok(without) = with_options.unwrap_or(Syntax::integers(format)).with(conditions) else { continue };
+            let is_needed = without == syntax || has_row(without);
+            missing.extend((!is_needed).then(|| format!("{language}: {edit}")));
+        }
+        for other in [conditions.no_negative_mantissa_sign(false), conditions.integer_group_size(None)] {
+            let is_needed = other == conditions || has_row(syntax.with_or_panic(other));
+            missing.extend((!is_needed).then(|| format!("{language}: {conditions:?}")));
         }
     }
     assert!(missing.is_empty(), "no row needs these settings: {missing:#?}");
