@@ -1,13 +1,11 @@
 //! How literals are found, and the lengths of their parts.
 
 ghost use Rattle.std.specs.Prelude.{◌≡◌, ◌++◌, ◌∷◌, ◌&&◌, ◌<◌, ◌≤◌, Bool, ℕ, List, [], false, length, slice_get, take};
-ghost use Rattle.lexical_literal.specs.Additions.Causes.{allows, class_of_next};
 ghost use Rattle.lexical_literal.specs.Additions.Explained.{tail_byte, tail_size};
-ghost use Rattle.lexical_literal.specs.Additions.Longest.{IsFound, IsFoundFront, IsScanned};
+ghost use Rattle.lexical_literal.specs.Additions.Longest.{IsFound, IsFoundFront, IsScanned, IsStopped};
 ghost use Rattle.lexical_literal.specs.Additions.Summary.{HasLengths, is_complete};
 ghost use Rattle.lexical_literal.specs.Additions.Tables.{cuts_of, summary_at};
 ghost use Rattle.lexical_literal.specs.Cause.{IsRefusal};
-ghost use Rattle.lexical_literal.specs.Front.{NoLiteral};
 ghost use Rattle.lexical_literal.specs.Literal.{Literal, text_of};
 ghost use Rattle.lexical_literal.specs.Notation.{notation_of};
 ghost use Rattle.lexical_literal.specs.Parts.{literal_of};
@@ -92,27 +90,27 @@ impl Reader {
         self.syntax
     }
 
-    // Returns the lengths of the parts of the literal `text`, or why it is not one.
+    // Returns the lengths of the parts of the literal `text`, or where reading stopped if it is not one.
     #[inline(always)]
-    pub(crate) const fn find(&self, text: &[u8]) -> Result<[usize; 9], ReadError>
+    pub(crate) const fn find(&self, text: &[u8]) -> Result<[usize; 9], Stopped>
         ensures { IsFound (notation_of self.now) text.now result }
     {
         let scanned = self.scan(text, false);
         if scanned.valid_up_to == text.len() && self.is_complete(scanned.row) {
             Ok(scanned.counts)
         } else {
-            Err(self.refuse(text, scanned))
+            Err(scanned.stopped())
         }
     }
 
-    // Returns the longest front of `text` that is a literal, or why there is none.
+    // Returns the longest front of `text` that is a literal, or where reading stopped if there is none.
     #[inline(always)]
-    pub(crate) fn find_front(&self, text: &[u8]) -> Result<Found, ReadError>
+    pub(crate) fn find_front(&self, text: &[u8]) -> Result<Found, Stopped>
         ensures { IsFoundFront (notation_of self.now) text.now result }
     {
         let scanned = self.scan(text, true);
         let Some(size) = scanned.literal else {
-            return Err(self.refuse(text, scanned));
+            return Err(scanned.stopped());
         };
         if size == scanned.valid_up_to {
             let counts = scanned.counts;
@@ -120,7 +118,7 @@ impl Reader {
         }
         match self.find(front_of(text, size)) {
             Ok(counts) => Ok(Found { size, counts }),
-            Err(error) => Err(error),
+            Err(stopped) => Err(stopped),
         }
     }
 
@@ -179,28 +177,32 @@ impl Reader {
     }
 
     // Returns why `text` is not a literal.
-    #[cold]
-    const fn refuse(&self, text: &[u8], scanned: Scanned) -> ReadError
-        requires scanned { (seeks : Bool) × IsScanned (notation_of self.now) seeks text.now scanned }
-        requires refused { allows (notation_of self.now) (summary_at scanned.row)
-            (class_of_next (notation_of self.now) (slice_get text.now scanned.valid_up_to)) ≡ false }
-        ensures refusal { IsRefusal (notation_of self.now) text.now result.refusal }
-        ensures none { NoLiteral (notation_of self.now) text.now }
+    #[inline(always)]
+    pub(crate) const fn refuse(&self, text: &[u8], stopped: Stopped) -> ReadError
+        requires { IsStopped (notation_of self.now) text.now stopped }
+        ensures { IsRefusal (notation_of self.now) text.now result.refusal }
     {
         role_facts();
         let grammar = self.syntax.grammar();
-        let size = scanned.valid_up_to;
-        let byte = byte_at(text, size);
+        let Stopped { valid_up_to, row } = stopped;
+        let byte = byte_at(text, valid_up_to);
         ReadError {
             spot: Spot {
                 grammar,
-                row: scanned.row,
+                row,
                 byte,
-                tail: tail_at(text, size, byte),
-                marks: marks(grammar, text, size),
+                tail: tail_at(text, valid_up_to, byte),
+                marks: marks(grammar, text, valid_up_to),
             },
         }
     }
+}
+
+// The length of the longest front of a text that some literal begins with, and its row.
+#[derive(Clone, Copy)]
+pub(crate) struct Stopped {
+    pub(crate) valid_up_to: usize,
+    pub(crate) row: u8,
 }
 
 // The length of the longest front of a text that some literal begins with, its row, the length of the longest front that is
@@ -211,6 +213,20 @@ struct Scanned {
     row: u8,
     literal: Option<usize>,
     counts: [usize; 9],
+}
+
+impl Scanned {
+    // Returns where reading stopped.
+    #[inline(always)]
+    const fn stopped(self) -> Stopped
+        ensures size { result.valid_up_to ≡ self.valid_up_to }
+        ensures row { result.row ≡ self.row }
+    {
+        Stopped {
+            valid_up_to: self.valid_up_to,
+            row: self.row,
+        }
+    }
 }
 
 // Returns the byte behind the first `size`, if there is one.

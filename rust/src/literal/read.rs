@@ -58,23 +58,23 @@ impl Reader {
         self.syntax
     }
 
-    // Returns the lengths of the parts of the literal `text`, or why it is not one.
+    // Returns the lengths of the parts of the literal `text`, or where reading stopped if it is not one.
     #[inline(always)]
-    pub(crate) const fn find(&self, text: &[u8]) -> Result<[usize; 9], ReadError> {
+    pub(crate) const fn find(&self, text: &[u8]) -> Result<[usize; 9], Stopped> {
         let scanned = self.scan(text, false);
         if scanned.valid_up_to == text.len() && self.is_complete(scanned.row) {
             Ok(scanned.counts)
         } else {
-            Err(self.refuse(text, scanned))
+            Err(scanned.stopped())
         }
     }
 
-    // Returns the longest front of `text` that is a literal, or why there is none.
+    // Returns the longest front of `text` that is a literal, or where reading stopped if there is none.
     #[inline(always)]
-    pub(crate) const fn find_front(&self, text: &[u8]) -> Result<Found, ReadError> {
+    pub(crate) const fn find_front(&self, text: &[u8]) -> Result<Found, Stopped> {
         let scanned = self.scan(text, true);
         let Some(size) = scanned.literal else {
-            return Err(self.refuse(text, scanned));
+            return Err(scanned.stopped());
         };
         if size == scanned.valid_up_to {
             let counts = scanned.counts;
@@ -82,7 +82,7 @@ impl Reader {
         }
         match self.find(front_of(text, size)) {
             Ok(counts) => Ok(Found { size, counts }),
-            Err(error) => Err(error),
+            Err(stopped) => Err(stopped),
         }
     }
 
@@ -122,21 +122,28 @@ impl Reader {
     }
 
     // Returns why `text` is not a literal.
-    #[cold]
-    const fn refuse(&self, text: &[u8], scanned: Scanned) -> ReadError {
+    #[inline(always)]
+    pub(crate) const fn refuse(&self, text: &[u8], stopped: Stopped) -> ReadError {
         let grammar = self.syntax.grammar();
-        let size = scanned.valid_up_to;
-        let byte = byte_at(text, size);
+        let Stopped { valid_up_to, row } = stopped;
+        let byte = byte_at(text, valid_up_to);
         ReadError {
             spot: Spot {
                 grammar,
-                row: scanned.row,
+                row,
                 byte,
-                tail: tail_at(text, size, byte),
-                marks: marks(grammar, text, size),
+                tail: tail_at(text, valid_up_to, byte),
+                marks: marks(grammar, text, valid_up_to),
             },
         }
     }
+}
+
+// The length of the longest front of a text that some literal begins with, and its row.
+#[derive(Clone, Copy)]
+pub(crate) struct Stopped {
+    pub(crate) valid_up_to: usize,
+    pub(crate) row: u8,
 }
 
 // The length of the longest front of a text that some literal begins with, its row, the length of the longest front that is
@@ -147,6 +154,14 @@ struct Scanned {
     row: u8,
     literal: Option<usize>,
     counts: [usize; 9],
+}
+
+impl Scanned {
+    // Returns where reading stopped.
+    #[inline(always)]
+    const fn stopped(self) -> Stopped {
+        Stopped { valid_up_to: self.valid_up_to, row: self.row }
+    }
 }
 
 // Returns the byte behind the first `size`, if there is one.

@@ -4,13 +4,13 @@ use Rattle.std.specs.Prelude.{◌≡◌, ◌<◌, ◌≤◌}
 use Rattle.std.specs.Option.{ForSome}
 use Rattle.lexical_literal.specs.Notation.{Notation}
 use Rattle.lexical_literal.specs.Literal.{Literal, Reads}
-use Rattle.lexical_literal.specs.Cause.{Explained, IsRefusal}
 use Rattle.lexical_literal.specs.Front.{IsValidUpTo, NoLiteral, ReadsFront}
 use Rattle.lexical_literal.specs.Additions.Causes.{allows, class_of_next}
 use Rattle.lexical_literal.specs.Additions.Summary.{HasLengths, is_complete, scan, start}
 use Rattle.lexical_literal.specs.Additions.Tables.{cuts_of, summary_at}
 use Rattle.lexical_literal.specs.declared.read.Found.{Found}
 use Rattle.lexical_literal.specs.declared.read.Scanned.{Scanned}
+use Rattle.lexical_literal.specs.declared.read.Stopped.{Stopped}
 use Rattle.lexical_literal.specs.declared.tables.TheConstants.{ROWS}
 
 -- `IsLongest m text bound longest` holds if `longest` is the length of the longest front of `text` that is a literal and has
@@ -33,16 +33,25 @@ pub record IsScanned (m : Notation) (seeks : Bool) (text : List ℕ) (scanned : 
   pub longest : IsTrue seeks → IsLongest m text (length text) scanned.literal
   pub counted : (l : Literal) → Reads m l (take scanned.valid_up_to text) → HasLengths l (cuts_of scanned.counts)
 
--- `IsFound m text result` holds if `result` has the lengths of the parts of the literal `text`, or is the error of a text
--- that is not a literal.
-pub record IsFound (m : Notation) (text : List ℕ) (result : Result (List ℕ) Explained) : Type 0 where
+-- `IsStopped m text stopped` holds if `stopped` has the length of the longest front of `text` that some literal begins with,
+-- and its summary, which does not allow what follows, so that `text` is not a literal.
+pub record IsStopped (m : Notation) (text : List ℕ) (stopped : Stopped) : Type 0 where
+  pub error : IsValidUpTo m text stopped.valid_up_to
+  pub row : stopped.row < ROWS
+  pub read : scan m (Some start) (take stopped.valid_up_to text) ≡ Some (summary_at stopped.row)
+  pub refused : allows m (summary_at stopped.row) (class_of_next m (slice_get text stopped.valid_up_to)) ≡ false
+  pub none : NoLiteral m text
+
+-- `IsFound m text result` holds if `result` has the lengths of the parts of the literal `text`, or where reading stopped in
+-- a text that is not a literal.
+pub record IsFound (m : Notation) (text : List ℕ) (result : Result (List ℕ) Stopped) : Type 0 where
   pub found : IfOk result (λ counts. (l : Literal) × Reads m l text)
   pub counted : (l : Literal) → Reads m l text → IsOkAnd result (λ counts. HasLengths l (cuts_of counts))
-  pub error : IfErr result (λ error. IsRefusal m text error.refusal)
+  pub error : IfErr result (λ stopped. IsStopped m text stopped)
 
 -- `IsFoundFront m text result` holds if `result` has the length of the longest front of `text` that is a literal and the
--- lengths of its parts, or is the error of a text of which no front is a literal.
-pub record IsFoundFront (m : Notation) (text : List ℕ) (result : Result Found Explained) : Type 0 where
+-- lengths of its parts, or where reading stopped in a text of which no front is a literal.
+pub record IsFoundFront (m : Notation) (text : List ℕ) (result : Result Found Stopped) : Type 0 where
   pub found : IfOk result (λ found. (l : Literal) × ReadsFront m l text found.size × HasLengths l (cuts_of found.counts))
   pub none : IsErr result → (size : ℕ) → size ≤ length text → NoLiteral m (take size text)
-  pub error : IfErr result (λ error. IsRefusal m text error.refusal)
+  pub error : IfErr result (λ stopped. IsStopped m text stopped)

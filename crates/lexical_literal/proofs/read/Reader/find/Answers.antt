@@ -1,10 +1,7 @@
 -- The lengths that were counted are those of the parts.
 use Rattle.std.proofs.Common.{sym, ◌∙◌, arith}
-use Rattle.lexical_literal.proofs.LongestLemmas.{whole_literal, whole_counted, refused_there}
+use Rattle.lexical_literal.proofs.LongestLemmas.{whole_literal, whole_counted, stopped_there}
 use Rattle.lexical_literal.proofs.read.Reader.find.Goals as goal
-
-pub refuse-requires-clause-refused : goal.refuse-requires-clause-refused
-refuse-requires-clause-refused c = refused_there _ _ _ _ c.scan-scanned.ensures (λ all. let branch = c.else-scanned-text.branch in grind arith)
 
 pub returns-then-is_complete : goal.returns-then-is_complete
 returns-then-is_complete c =
@@ -16,8 +13,7 @@ returns-then-is_complete c =
     }
 
 pub returns-else-scanned-text : goal.returns-else-scanned-text
-returns-else-scanned-text c = record {
-  found = tt;
-  counted = λ l reads. absurd (c.refuse.ensures.none l reads);
-  error = c.refuse.ensures.refusal;
-}
+returns-else-scanned-text c =
+    let stopped = stopped_there _ _ _ _ c.scan-scanned.ensures c.stopped.result c.stopped.ensures.size c.stopped.ensures.row
+    (λ all. let branch = c.else-scanned-text.branch in grind arith) in
+    record { found = tt; counted = λ l reads. absurd (stopped.none l reads); error = stopped }

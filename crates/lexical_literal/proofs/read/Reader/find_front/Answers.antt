@@ -1,12 +1,7 @@
 -- The longest front that is a literal, and the lengths of its parts.
 use Rattle.std.proofs.lemmas.Bool.{false≢true}
-use Rattle.lexical_literal.proofs.LongestLemmas.{front_literal, front_counted, no_front, not_whole, refused_there}
+use Rattle.lexical_literal.proofs.LongestLemmas.{front_literal, front_counted, no_front, not_whole, stopped_there}
 use Rattle.lexical_literal.proofs.read.Reader.find_front.Goals as goal
-
-pub refuse-requires-clause-refused : goal.refuse-requires-clause-refused
-refuse-requires-clause-refused c =
-    let is = c.scan-scanned.ensures in
-    refused_there _ _ _ _ is (not_whole _ _ _ is c.in_default.not-Some)
 
 pub returns-then-size-scanned : goal.returns-then-size-scanned
 returns-then-size-scanned c =
@@ -33,8 +28,10 @@ returns-in-Err c =
     absurd (c.in-Err.ensures.counted l.0 (rw (c.front_of.ensures) l.1.reads))
 
 pub returns-in_default : goal.returns-in_default
-returns-in_default c = record {
-  found = tt;
-  none = λ err. no_front _ _ _ c.scan-scanned.ensures c.in_default.not-Some;
-  error = c.refuse.ensures.refusal;
-}
+returns-in_default c =
+    let is = c.scan-scanned.ensures in
+    record {
+      found = tt;
+      none = λ err. no_front _ _ _ is c.in_default.not-Some;
+      error = stopped_there _ _ _ _ is c.stopped.result c.stopped.ensures.size c.stopped.ensures.row (not_whole _ _ _ is c.in_default.not-Some);
+    }

@@ -1,36 +1,31 @@
 -- What has been read decides what may follow, and so why what follows is refused.
-use Rattle.std.proofs.Common.{◌≡◌, false, slice_get, subst, take}
-use Rattle.lexical_literal.specs.Additions.Causes.{IsReadOf, allows, class_of_next}
-use Rattle.lexical_literal.specs.Additions.Longest.{IsScanned}
+use Rattle.std.proofs.Common.{◌≡◌, subst, take}
+use Rattle.lexical_literal.specs.Additions.Causes.{IsReadOf}
+use Rattle.lexical_literal.specs.Additions.Longest.{IsStopped}
 use Rattle.lexical_literal.specs.Additions.Summary.{start}
 use Rattle.lexical_literal.specs.Additions.Tables.{summary_at}
 use Rattle.lexical_literal.specs.Cause.{marks_of}
 use Rattle.lexical_literal.specs.Notation.{notation_of}
 use Rattle.lexical_literal.proofs.BlameLemmas.{refusal_at}
-use Rattle.lexical_literal.proofs.LongestLemmas.{none_whole}
 use Rattle.lexical_literal.proofs.PartOfLemmas.{ends_in}
 use Rattle.lexical_literal.proofs.RefusalLemmas.{decided}
 use Rattle.lexical_literal.proofs.RoleLemmas.{ready}
 use Rattle.lexical_literal.proofs.read.Reader.refuse.Goals as goal
 
-pub returns-clause-refusal : goal.returns-clause-refusal
-returns-clause-refusal c =
+pub returns : goal.returns
+returns c =
     let g = c.self.inside.syntax in
     let m = notation_of g in
-    let size = c.args.scanned.valid_up_to in
+    let size = c.args.stopped.valid_up_to in
     let front = take size c.args.text.now in
-    let s = summary_at c.args.scanned.row in
-    let scanned : IsScanned m c.requires.scanned.0 c.args.text.now c.args.scanned = rw c.self.view_is c.requires.scanned.1 in
-    let refused : allows m s (class_of_next m (slice_get c.args.text.now size)) ≡ false = rw c.self.view_is c.requires.refused in
+    let s = summary_at c.args.stopped.row in
+    let stopped : IsStopped m c.args.text.now c.args.stopped = rw c.self.view_is c.requires in
     let is_ready = ready c.role_facts.ensures.disjoint c.role_facts.ensures.five c.role_facts.ensures.lawful g c.self.invariant.0 in
     let is_read : IsReadOf m s front = record {
-      decides = λ next A weaker. decided m A is_ready weaker front s scanned.read next;
-      part = ends_in m is_ready.roles start front s scanned.read;
+      decides = λ next A weaker. decided m A is_ready weaker front s stopped.read next;
+      part = ends_in m is_ready.roles start front s stopped.read;
     } in
     let same = c.grammar-grammar.ensures.value in
     let is_marks = subst (λ h. c.marks.result ≡ marks_of (notation_of h) front) same c.marks.ensures in
-    rw (same, ← c.self.view_is) (refusal_at g c.args.text.now c.args.scanned.row c.tail_at.result c.marks.result size
-    scanned.error.within scanned.error is_read refused c.byte_at-byte.result c.byte_at-byte.ensures is_marks)
-
-pub returns-clause-none : goal.returns-clause-none
-returns-clause-none c = none_whole _ _ _ _ c.requires.scanned.1 c.requires.refused
+    rw (same, ← c.self.view_is) (refusal_at g c.args.text.now c.args.stopped.row c.tail_at.result c.marks.result size
+    stopped.error.within stopped.error is_read stopped.refused c.byte_at-byte.result c.byte_at-byte.ensures is_marks)
