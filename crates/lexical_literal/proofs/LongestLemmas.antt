@@ -15,7 +15,6 @@ use Rattle.lexical_literal.specs.Additions.Longest.{IsLongest, IsScanned, IsStop
 use Rattle.lexical_literal.specs.Additions.Causes.{allows, class_of_next}
 use Rattle.lexical_literal.specs.Additions.Tables as tables
 use Rattle.lexical_literal.specs.declared.read.Scanned.{Scanned}
-use Rattle.lexical_literal.specs.declared.read.Stopped.{Stopped}
 use Rattle.lexical_literal.specs.declared.steps.Piece.{Piece}
 use Rattle.lexical_literal.specs.declared.steps.Summary.{Summary}
 use Rattle.lexical_literal.specs.declared.tables.TheConstants.{ROWS}
@@ -90,7 +89,7 @@ module _ (m : Notation) (text : List ℕ) where
     allows_end long = ap (λ next. allows m (tables.summary_at scanned.row) (class_of_next m next)) (slice_get_past text scanned.valid_up_to long)
 
     -- A front that is not all of the text, or not a literal, does not allow what follows.
-    pub refused_there : (scanned.valid_up_to ≡ length text → is_complete m (tables.summary_at scanned.row) ≡ false)
+    refused_there : (scanned.valid_up_to ≡ length text → is_complete m (tables.summary_at scanned.row) ≡ false)
         → allows m (tables.summary_at scanned.row) (class_of_next m (slice_get text scanned.valid_up_to)) ≡ false
     refused_there partial = elim (cases_lt scanned.valid_up_to (length text)) [
       | inl short ↦ is.refused short
@@ -98,15 +97,18 @@ module _ (m : Notation) (text : List ℕ) where
     ]
 
     -- If the front does not allow what follows, then the text is not a literal.
-    pub none_whole : allows m (tables.summary_at scanned.row) (class_of_next m (slice_get text scanned.valid_up_to)) ≡ false → NoLiteral m text
+    none_whole : allows m (tables.summary_at scanned.row) (class_of_next m (slice_get text scanned.valid_up_to)) ≡ false → NoLiteral m text
     none_whole refused l reads = is.incomplete (sym (allows_end (all_right l reads)) ∙ refused) l (whole_front l reads)
 
     -- Where reading stopped, what follows is refused.
-    pub stopped_there : (stopped : Stopped) → stopped.valid_up_to ≡ scanned.valid_up_to → stopped.row ≡ scanned.row
-        → (scanned.valid_up_to ≡ length text → is_complete m (tables.summary_at scanned.row) ≡ false) → IsStopped m text stopped
-    stopped_there stopped size row partial = subst (λ s. IsStopped m text s) {x = record { valid_up_to = scanned.valid_up_to; row = scanned.row }} {y = stopped}
-      (λ i. record { valid_up_to = sym size i; row = sym row i })
-      (record { error = is.error; row = is.row; read = is.read; refused = refused_there partial; none = none_whole (refused_there partial) })
+    pub stopped_there : (scanned.valid_up_to ≡ length text → is_complete m (tables.summary_at scanned.row) ≡ false) → IsStopped m text scanned
+    stopped_there partial = record {
+      error = is.error;
+      row = is.row;
+      read = is.read;
+      refused = refused_there partial;
+      none = none_whole (refused_there partial);
+    }
 
   module _ (scanned : Scanned) (is : IsScanned m true text scanned) where
     -- The longest front that is a literal, and its parts, which have been counted if it is all that was read.

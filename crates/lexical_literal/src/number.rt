@@ -26,7 +26,7 @@ impl Reader {
     {
         match self.find(text) {
             Ok(counts) => Ok(cut(text, counts)),
-            Err(stopped) => Err(self.refuse(text, stopped)),
+            Err(scanned) => Err(self.refuse(text, scanned)),
         }
     }
 
@@ -45,7 +45,7 @@ impl Reader {
                 let parts = cut(front_of(text, size), counts);
                 Ok(Front { parts, size })
             }
-            Err(stopped) => Err(self.refuse(text, stopped)),
+            Err(scanned) => Err(self.refuse(text, scanned)),
         }
     }
 }

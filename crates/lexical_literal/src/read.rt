@@ -92,25 +92,25 @@ impl Reader {
 
     // Returns the lengths of the parts of the literal `text`, or where reading stopped if it is not one.
     #[inline(always)]
-    pub(crate) const fn find(&self, text: &[u8]) -> Result<[usize; 9], Stopped>
+    pub(crate) const fn find(&self, text: &[u8]) -> Result<[usize; 9], Scanned>
         ensures { IsFound (notation_of self.now) text.now result }
     {
         let scanned = self.scan(text, false);
         if scanned.valid_up_to == text.len() && self.is_complete(scanned.row) {
             Ok(scanned.counts)
         } else {
-            Err(scanned.stopped())
+            Err(scanned)
         }
     }
 
     // Returns the longest front of `text` that is a literal, or where reading stopped if there is none.
     #[inline(always)]
-    pub(crate) fn find_front(&self, text: &[u8]) -> Result<Found, Stopped>
+    pub(crate) fn find_front(&self, text: &[u8]) -> Result<Found, Scanned>
         ensures { IsFoundFront (notation_of self.now) text.now result }
     {
         let scanned = self.scan(text, true);
         let Some(size) = scanned.literal else {
-            return Err(scanned.stopped());
+            return Err(scanned);
         };
         if size == scanned.valid_up_to {
             let counts = scanned.counts;
@@ -118,7 +118,7 @@ impl Reader {
         }
         match self.find(front_of(text, size)) {
             Ok(counts) => Ok(Found { size, counts }),
-            Err(stopped) => Err(stopped),
+            Err(scanned) => Err(scanned),
         }
     }
 
@@ -178,55 +178,34 @@ impl Reader {
 
     // Returns why `text` is not a literal.
     #[inline(always)]
-    pub(crate) const fn refuse(&self, text: &[u8], stopped: Stopped) -> ReadError
-        requires { IsStopped (notation_of self.now) text.now stopped }
+    pub(crate) const fn refuse(&self, text: &[u8], scanned: Scanned) -> ReadError
+        requires { IsStopped (notation_of self.now) text.now scanned }
         ensures { IsRefusal (notation_of self.now) text.now result.refusal }
     {
         role_facts();
         let grammar = self.syntax.grammar();
-        let Stopped { valid_up_to, row } = stopped;
-        let byte = byte_at(text, valid_up_to);
+        let size = scanned.valid_up_to;
+        let byte = byte_at(text, size);
         ReadError {
             spot: Spot {
                 grammar,
-                row,
+                row: scanned.row,
                 byte,
-                tail: tail_at(text, valid_up_to, byte),
-                marks: marks(grammar, text, valid_up_to),
+                tail: tail_at(text, size, byte),
+                marks: marks(grammar, text, size),
             },
         }
     }
 }
 
-// The length of the longest front of a text that some literal begins with, and its row.
-#[derive(Clone, Copy)]
-pub(crate) struct Stopped {
-    pub(crate) valid_up_to: usize,
-    pub(crate) row: u8,
-}
-
 // The length of the longest front of a text that some literal begins with, its row, the length of the longest front that is
 // a literal, if it was sought, and the lengths of the parts of what has been read.
 #[derive(Clone, Copy)]
-struct Scanned {
+pub(crate) struct Scanned {
     valid_up_to: usize,
     row: u8,
     literal: Option<usize>,
     counts: [usize; 9],
-}
-
-impl Scanned {
-    // Returns where reading stopped.
-    #[inline(always)]
-    const fn stopped(self) -> Stopped
-        ensures size { result.valid_up_to ≡ self.valid_up_to }
-        ensures row { result.row ≡ self.row }
-    {
-        Stopped {
-            valid_up_to: self.valid_up_to,
-            row: self.row,
-        }
-    }
 }
 
 // Returns the byte behind the first `size`, if there is one.

@@ -5,7 +5,7 @@ use core::{iter::FusedIterator, slice};
 
 use crate::digit::char_to_valid_digit_const;
 use crate::format_flags::Part;
-use crate::literal::read::{cut, Found, Parts, Stopped};
+use crate::literal::read::{cut, Found, Parts, Scanned};
 use crate::literal::{ReadError, Reader, Syntax};
 use crate::view::FormatView;
 
@@ -39,15 +39,14 @@ impl Reader {
         let view = self.syntax.format().view();
         match self.find(text) {
             Ok(counts) => Ok(Literal { text, counts, view }),
-            Err(stopped) => self.refused(text, stopped),
+            Err(scanned) => self.refused(text, scanned),
         }
     }
 
-    /// Returns the error of a text. Where `T` is what the caller returns, the error is made where the caller has to return
-    /// it, and accepted texts take less time.
+    /// Returns the error of a text, which is not copied, since this has the type of the caller.
     #[cold]
-    const fn refused<T: Copy>(&self, text: &[u8], stopped: Stopped) -> Result<T, ReadError> {
-        Err(self.refuse(text, stopped))
+    const fn refused<T: Copy>(&self, text: &[u8], scanned: Scanned) -> Result<T, ReadError> {
+        Err(self.refuse(text, scanned))
     }
 
     /// Returns the longest literal that `text` begins with, and the rest of `text`, which may be anything. It looks at
@@ -81,7 +80,7 @@ impl Reader {
                 let (text, rest) = text.split_at(size);
                 Ok((Literal { text, counts, view }, rest))
             }
-            Err(stopped) => self.refused(text, stopped),
+            Err(scanned) => self.refused(text, scanned),
         }
     }
 }

@@ -10,7 +10,6 @@ use Rattle.lexical_literal.specs.Additions.Summary.{HasLengths, is_complete, sca
 use Rattle.lexical_literal.specs.Additions.Tables.{cuts_of, summary_at}
 use Rattle.lexical_literal.specs.declared.read.Found.{Found}
 use Rattle.lexical_literal.specs.declared.read.Scanned.{Scanned}
-use Rattle.lexical_literal.specs.declared.read.Stopped.{Stopped}
 use Rattle.lexical_literal.specs.declared.tables.TheConstants.{ROWS}
 
 -- `IsLongest m text bound longest` holds if `longest` is the length of the longest front of `text` that is a literal and has
@@ -33,25 +32,25 @@ pub record IsScanned (m : Notation) (seeks : Bool) (text : List ℕ) (scanned : 
   pub longest : IsTrue seeks → IsLongest m text (length text) scanned.literal
   pub counted : (l : Literal) → Reads m l (take scanned.valid_up_to text) → HasLengths l (cuts_of scanned.counts)
 
--- `IsStopped m text stopped` holds if `stopped` has the length of the longest front of `text` that some literal begins with,
+-- `IsStopped m text scanned` holds if `scanned` has the length of the longest front of `text` that some literal begins with,
 -- and its summary, which does not allow what follows, so that `text` is not a literal.
-pub record IsStopped (m : Notation) (text : List ℕ) (stopped : Stopped) : Type 0 where
-  pub error : IsValidUpTo m text stopped.valid_up_to
-  pub row : stopped.row < ROWS
-  pub read : scan m (Some start) (take stopped.valid_up_to text) ≡ Some (summary_at stopped.row)
-  pub refused : allows m (summary_at stopped.row) (class_of_next m (slice_get text stopped.valid_up_to)) ≡ false
+pub record IsStopped (m : Notation) (text : List ℕ) (scanned : Scanned) : Type 0 where
+  pub error : IsValidUpTo m text scanned.valid_up_to
+  pub row : scanned.row < ROWS
+  pub read : scan m (Some start) (take scanned.valid_up_to text) ≡ Some (summary_at scanned.row)
+  pub refused : allows m (summary_at scanned.row) (class_of_next m (slice_get text scanned.valid_up_to)) ≡ false
   pub none : NoLiteral m text
 
 -- `IsFound m text result` holds if `result` has the lengths of the parts of the literal `text`, or where reading stopped in
 -- a text that is not a literal.
-pub record IsFound (m : Notation) (text : List ℕ) (result : Result (List ℕ) Stopped) : Type 0 where
+pub record IsFound (m : Notation) (text : List ℕ) (result : Result (List ℕ) Scanned) : Type 0 where
   pub found : IfOk result (λ counts. (l : Literal) × Reads m l text)
   pub counted : (l : Literal) → Reads m l text → IsOkAnd result (λ counts. HasLengths l (cuts_of counts))
-  pub error : IfErr result (λ stopped. IsStopped m text stopped)
+  pub error : IfErr result (λ scanned. IsStopped m text scanned)
 
 -- `IsFoundFront m text result` holds if `result` has the length of the longest front of `text` that is a literal and the
 -- lengths of its parts, or where reading stopped in a text of which no front is a literal.
-pub record IsFoundFront (m : Notation) (text : List ℕ) (result : Result Found Stopped) : Type 0 where
+pub record IsFoundFront (m : Notation) (text : List ℕ) (result : Result Found Scanned) : Type 0 where
   pub found : IfOk result (λ found. (l : Literal) × ReadsFront m l text found.size × HasLengths l (cuts_of found.counts))
   pub none : IsErr result → (size : ℕ) → size ≤ length text → NoLiteral m (take size text)
-  pub error : IfErr result (λ stopped. IsStopped m text stopped)
+  pub error : IfErr result (λ scanned. IsStopped m text scanned)

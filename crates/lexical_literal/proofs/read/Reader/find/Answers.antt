@@ -14,6 +14,6 @@ returns-then-is_complete c =
 
 pub returns-else-scanned-text : goal.returns-else-scanned-text
 returns-else-scanned-text c =
-    let stopped = stopped_there _ _ _ _ c.scan-scanned.ensures c.stopped.result c.stopped.ensures.size c.stopped.ensures.row
+    let stopped = stopped_there _ _ _ _ c.scan-scanned.ensures
     (λ all. let branch = c.else-scanned-text.branch in grind arith) in
     record { found = tt; counted = λ l reads. absurd (stopped.none l reads); error = stopped }

@@ -33,5 +33,5 @@ returns-in_default c =
     record {
       found = tt;
       none = λ err. no_front _ _ _ is c.in_default.not-Some;
-      error = stopped_there _ _ _ _ is c.stopped.result c.stopped.ensures.size c.stopped.ensures.row (not_whole _ _ _ is c.in_default.not-Some);
+      error = stopped_there _ _ _ _ is (not_whole _ _ _ is c.in_default.not-Some);
     }

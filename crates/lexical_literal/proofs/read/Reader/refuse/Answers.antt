@@ -16,10 +16,10 @@ pub returns : goal.returns
 returns c =
     let g = c.self.inside.syntax in
     let m = notation_of g in
-    let size = c.args.stopped.valid_up_to in
+    let size = c.args.scanned.valid_up_to in
     let front = take size c.args.text.now in
-    let s = summary_at c.args.stopped.row in
-    let stopped : IsStopped m c.args.text.now c.args.stopped = rw c.self.view_is c.requires in
+    let s = summary_at c.args.scanned.row in
+    let stopped : IsStopped m c.args.text.now c.args.scanned = rw c.self.view_is c.requires in
     let is_ready = ready c.role_facts.ensures.disjoint c.role_facts.ensures.five c.role_facts.ensures.lawful g c.self.invariant.0 in
     let is_read : IsReadOf m s front = record {
       decides = λ next A weaker. decided m A is_ready weaker front s stopped.read next;
@@ -27,5 +27,5 @@ returns c =
     } in
     let same = c.grammar-grammar.ensures.value in
     let is_marks = subst (λ h. c.marks.result ≡ marks_of (notation_of h) front) same c.marks.ensures in
-    rw (same, ← c.self.view_is) (refusal_at g c.args.text.now c.args.stopped.row c.tail_at.result c.marks.result size
+    rw (same, ← c.self.view_is) (refusal_at g c.args.text.now c.args.scanned.row c.tail_at.result c.marks.result size
     stopped.error.within stopped.error is_read stopped.refused c.byte_at-byte.result c.byte_at-byte.ensures is_marks)
