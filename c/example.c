@@ -1,46 +1,50 @@
-/* Reads texts as numbers. The arguments are settings of the form NAME=VALUE, and then texts:
+/* Prints the value of each line of a file that is a number, and why others are not. The arguments are settings:
  *     cc -Wall -Wextra -Werror example.c libpeltzivar_c.a -o example
- *     ./example radix=16 exponent=112 digit_separator=95 internal_digit_separator=true 1_F _F 1.8p3 */
+ *     ./example digit_separator=46 internal_digit_separator=true point=44 < prices.txt */
 #include "peltzivar.h"
+#include <inttypes.h>
 #include <stdio.h>
 #include <string.h>
 
-/* Computes the value of a literal without its sign. Returns false if it is a float, or too large. */
-static bool value_of(peltzivar_word format, const char *text, const peltzivar_literal *literal, uint64_t *value) {
-    const uint8_t radix = peltzivar_fields_of(format).mantissa_radix;
-    *value = 0;
-    for (size_t i = literal->integer.start; i < literal->integer.end; i++) {
-        const uint32_t digit = peltzivar_mantissa_digit(format, (uint8_t)text[i]);
-        if (digit == PELTZIVAR_NO_DIGIT) continue; /* A separator has no value. */
-        if (*value > (UINT64_MAX - digit) / radix) return false;
-        *value = *value * radix + digit;
+/* Prints an integer that an int64_t can have, or a float, and otherwise why there is no such value. */
+static void print_value(const peltzivar_literal *literal) {
+    int64_t integer;
+    double number;
+    peltzivar_value_status status = peltzivar_to_i64(literal, &integer);
+    if (status == PELTZIVAR_VALUE_OK) {
+        printf("%" PRId64 "\n", integer);
+        return;
     }
-    return !literal->is_float;
+    if (status == PELTZIVAR_VALUE_FLOAT) status = peltzivar_to_f64(literal, &number);
+    if (status == PELTZIVAR_VALUE_OK) printf("%.17g\n", number);
+    else puts(peltzivar_value_description(status));
 }
 
 int main(int argc, char **argv) {
-    char lines[4096] = "", message[PELTZIVAR_TEXT_SIZE];
-    int next = 1;
-    for (; next < argc && strchr(argv[next], '='); next++) {
-        if (strlen(lines) + strlen(argv[next]) + 2 > sizeof lines) return 2;
-        strcat(strcat(lines, argv[next]), "\n");
+    char settings[4096] = "", line[4096], message[PELTZIVAR_TEXT_SIZE];
+    for (int i = 1; i < argc; i++) {
+        if (strlen(settings) + strlen(argv[i]) + 2 > sizeof settings) return puts("the settings are too long"), 2;
+        strcat(strcat(settings, argv[i]), "\n");
     }
     peltzivar_syntax syntax;
-    const size_t len = strlen(lines), problems = peltzivar_read_settings(lines, len, &syntax);
-    for (size_t i = 0; peltzivar_settings_text(lines, len, i, message, sizeof message); i++) puts(message);
     peltzivar_reader reader;
+    const size_t len = strlen(settings), problems = peltzivar_read_settings(settings, len, &syntax);
+    for (size_t i = 0; peltzivar_settings_text(settings, len, i, message, sizeof message); i++) puts(message);
     if (problems || peltzivar_reader_init(&reader, &syntax)) return 1;
-    for (; next < argc; next++) {
-        const char *const text = argv[next];
+
+    for (int number = 1; fgets(line, sizeof line, stdin); number++) {
+        size_t size = strlen(line);
+        if (size == sizeof line - 1 && line[size - 1] != '\n') return printf("line %d is too long\n", number), 2;
+        if (size && line[size - 1] == '\n') size--;
+        if (size && line[size - 1] == '\r') size--;
         peltzivar_literal literal;
         peltzivar_read_error error;
-        uint64_t value;
-        if (!peltzivar_read(&reader, text, strlen(text), &literal, &error)) {
+        if (peltzivar_read(&reader, line, size, &literal, &error)) {
+            print_value(&literal);
+        } else {
             peltzivar_read_error_text(&error, message, sizeof message);
-            printf("%s: %s\n", text, message);
-        } else if (value_of(syntax.format, text, &literal, &value)) {
-            printf("%s is %.*s%llu\n", text, (int)literal.sign.end, text, (unsigned long long)value);
-        } else printf("%s is a float, or too large\n", text);
+            printf("line %d, column %zu: %s\n", number, error.valid_up_to + 1, message);
+        }
     }
     return 0;
 }

@@ -1,10 +1,10 @@
-"""Reads texts as numbers. The arguments are settings of the form NAME=VALUE, and then texts.
+"""Prints the values of texts that are numbers. The arguments are settings of the form NAME=VALUE, and then texts.
 
-python3 example.py radix=16 base_prefix=120 exponent=112 exponent_radix=10 0x1F 0x1.8p3 0x1_F
+python3 example.py radix=16 base_prefix=120 exponent=112 exponent_base=2 exponent_radix=10 0x1F 0x1.8p3 0x1_F
 """
 import sys
 
-from peltzivar import LiteralError, Part, SettingsError, Syntax
+from peltzivar import LiteralError, SettingsError, Syntax
 
 
 def main(arguments: list[str]) -> int:
@@ -18,14 +18,9 @@ def main(arguments: list[str]) -> int:
     print(syntax.format, *Syntax.notes_of(*settings), sep="\n")
     for text in arguments[len(settings) :]:
         try:
-            literal = syntax.read(text)
+            print(text, "is", syntax.read(text).value)
         except LiteralError as error:
             print(f"{text}: {error}")
-        else:
-            if literal.is_float:
-                print(text, "is a float with the digits", *map(literal.digits, Part))
-            else:
-                print(text, "is", int(literal.sign + literal.digits(Part.INTEGER), syntax.format.mantissa_radix))
     return 0
 
 

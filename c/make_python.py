@@ -13,11 +13,11 @@ import textwrap
 HERE = pathlib.Path(__file__).resolve().parent
 HEADER = HERE.joinpath("peltzivar.h").read_text()
 SETTERS = HERE.parent.joinpath("rust/src/format_builder/setters.rs").read_text()
-LANGUAGES = HERE.parent.joinpath("rust/src/literal/language.rs").read_text()
+LANGUAGES = HERE.parent.joinpath("rust/src/literal/language/tables.rs").read_text()
 CODE = " ".join(re.sub(r"/\*.*?\*/|^#.*?$", "", HEADER, flags=re.S | re.M).split())
 STRUCTS = {name: f"_{name[10:].title().replace('_', '')}" for name in re.findall(r"} (peltzivar_\w+);", CODE)}
 SET = [(name.lower(), int(bit)) for name, bit in re.findall(r"\bPELTZIVAR_SET_(\w+) = (\d+)", HEADER)]
-TYPES = {"bool": "c_bool", "size_t": "c_size_t", **STRUCTS}
+TYPES = {"bool": "c_bool", "size_t": "c_size_t", "int64_t": "c_int64", "double": "c_double", "float": "c_float", **STRUCTS}
 TYPES |= {f"uint{bits}_t": f"c_uint{bits}" for bits in (8, 32, 64)}
 TYPES |= {name: TYPES[kind] for kind, name in re.findall(r"typedef (\w+) (\w+);", CODE)}
 
@@ -65,7 +65,7 @@ def constants():
     for row in (
         ("Setter", r"SET_(\w+)", "The setters. A member has the name of the setter in uppercase."),
         ("Rule", r"RULE_(\w+)", f"The rules, in the order in which they are checked. {RULE}", *CONDITION),
-        ("Error", r"((?!SET_|RULE_|PART_|ROLE_|KIND_|SPELLING_)\w+)", f"The errors, and success. {ERROR}", *DESCRIPTION),
+        ("Error", r"((?!SET_|RULE_|PART_|ROLE_|KIND_|SPELLING_|VALUE_|CONDITION_|WRITE_)\w+)", f"The errors, and success. {ERROR}", *DESCRIPTION),
         ("Part", r"PART_(\w+)", "The parts of a number that can have digit separators."),
         ("Role", r"ROLE_((?!NONE)\w+)", "The roles of a byte in a number."),
         ("ReadErrorKind", r"KIND_(\w+)", "The kinds of causes why a text is not a literal."),
@@ -105,16 +105,33 @@ def parameters():
         yield f"{name}: {kind} = _KEPT,"
 
 
+def conditions():
+    """Returns the lines."""
+    syntax = re.search(r"uint8_t exponent, decimal_point; ([^{}]*) } peltzivar_syntax;", CODE)[1]
+    for kind, names in re.findall(r"(\w+) ([\w, ]+);", syntax):
+        value = "bool = False" if kind == "bool" else "Optional[int] = None"
+        yield from (f"{name}: {value}" for name in names.split(", "))
+
+
+def settings():
+    """Returns the lines. Options and conditions are no fields."""
+    yield from parameters()
+    yield from (f"{name}: Optional[Byte] = _KEPT," for name in ("exponent", "point"))
+    yield from (re.sub("= .*", "= _KEPT,", it) for it in conditions())
+
+
 def languages():
     """Returns the lines."""
-    documented = re.findall(r"((?:^ +///.*\n)+) +(\w+) = \w+\(", LANGUAGES, re.M)
+    # Text behind `languages!`: the documentation, the name and the forms of each, in turn.
+    _, *parts = re.split(r"((?:^ +///.*\n)+) +(\w+) = \{", LANGUAGES, flags=re.M)
+    documented = [*zip(parts[::3], parts[1::3], parts[2::3])]
     yield '"""How a language, or a file, writes numbers. `languages` is another name of this class.'
-    yield from ("", "`read(text)` returns a `Literal` of `syntax`, or a `Special` with a spelling of `specials`.")
-    yield from ("", "No format rejects `-`, or requires a prefix, a suffix or a decimal point. So `C_FLOAT` reads `1`.")
-    for text, name in documented:
+    yield from ("", "`read(text)` returns a `Literal` of a syntax of `forms`, or a `Special` with a spelling of `specials`.")
+    for text, name, forms in documented:
         about = " ".join(text.replace("///", " ").replace("×", "*").split())
-        yield from ("", *textwrap.wrap(f"{name}: {about}", 115, subsequent_indent="    "))
-    yield from ('"""', "", *(f'{name} = "{name}"' for _, name in documented))
+        names = "; ".join(re.findall(r'"([^"]+)":', forms))
+        yield from ("", *textwrap.wrap(f"{name}: {about} Forms: {names}.", 115, subsequent_indent="    "))
+    yield from ('"""', "", *(f'{name} = "{name}"' for _, name, _ in documented))
 
 
 def made(text):

@@ -1,17 +1,29 @@
-/* This header declares functions that build, read, check and edit number formats.
+/* This header declares functions that read numbers in the format of a language, a file or your own, with their values.
+ * It also builds, checks and edits formats.
  *
  *     #include <peltzivar.h>
  *     #include <stdio.h>
+ *     #include <string.h>
  *     int main(void) {
- *         const peltzivar_edit edits[] = {{PELTZIVAR_SET_MANTISSA_RADIX, 16}, {PELTZIVAR_SET_BASE_PREFIX, 'b'}};
- *         peltzivar_word format;
- *         char text[PELTZIVAR_TEXT_SIZE];
- *         if (!peltzivar_build(edits, 2, &format)) return 2;
- *         for (size_t i = 0; peltzivar_reason_text(format, i, text, sizeof text); i++) puts(text);
- *         return peltzivar_check(format) != PELTZIVAR_SUCCESS;
+ *         const char settings[] = "digit_separator='.'\ninternal_digit_separator=true\npoint=','";
+ *         const char number[] = "1.234,50";
+ *         peltzivar_syntax syntax;
+ *         peltzivar_reader reader;
+ *         peltzivar_literal literal;
+ *         peltzivar_read_error error;
+ *         char message[PELTZIVAR_TEXT_SIZE];
+ *         double value;
+ *         if (peltzivar_read_settings(settings, strlen(settings), &syntax)) return 2;
+ *         if (peltzivar_reader_init(&reader, &syntax)) return 2;
+ *         if (!peltzivar_read(&reader, number, strlen(number), &literal, &error)) {
+ *             peltzivar_read_error_text(&error, message, sizeof message);
+ *             return puts(message), 1;
+ *         }
+ *         if (peltzivar_to_f64(&literal, &value) == PELTZIVAR_VALUE_OK) printf("%.2f\n", value);
+ *         return 0;
  *     }
  *
- * This program prints "the base prefix 'b' is a digit in radix 16", and its status is 1.
+ * This program prints 1234.50. The functions that it calls come first below, in this order.
  *
  * A number format states how numbers may be written: their radix, prefix, signs and digit separators. A format is a
  * 128-bit word with flags and six bytes, the fields of the word. All other bits are reserved. A byte other than the
@@ -22,7 +34,14 @@
  * satisfies all rules below. FORMAT.md, which is installed in share/doc/peltzivar, describes each byte and rule, and
  * each flag with texts that it accepts and rejects.
  *
- * If a call succeeds, a peltzivar_error is 0 (PELTZIVAR_SUCCESS), a bool is true, and peltzivar_read_settings returns 0.
+ * If a call succeeds, a peltzivar_error is 0 (PELTZIVAR_SUCCESS), a peltzivar_value_status is 0 (PELTZIVAR_VALUE_OK), so
+ * is a peltzivar_write_status, a bool is true, and peltzivar_read_settings returns 0. No function depends on the locale.
+ *
+ * Each function that ends in _text, and peltzivar_source, write a null-terminated ASCII string to a buffer of len
+ * bytes, as snprintf does. If the string and its null terminator do not fit, they write only the beginning of the
+ * string and a null terminator. If len is 0, they write nothing. They always return the length of the whole string, not
+ * counting the null terminator. A function that returns a const char * returns a null-terminated ASCII string that
+ * lasts as long as the program. A string is empty if nothing has the number or index that is passed.
  *
  * An argument that is a word, an edit, a syntax, a number or a byte may have any value. A pointer that is passed with a
  * length must point to an array of at least that many elements, but it may be null if the length is 0. An input array
@@ -31,8 +50,10 @@
  * be initialised. This includes *fields in peltzivar_edit_fields, since *fields is both input and output. Memory that
  * is only output need not be initialised. Memory that a function writes to must not overlap memory to which another
  * argument points.
- * No function allocates memory, retains a pointer or sets errno. Several threads may call these functions at the same
- * time, provided that no call writes memory that another call reads or writes.
+ *
+ * No function allocates memory or sets errno. None keeps a pointer, except that a literal points to its text. Several
+ * threads may call these functions at the same time, provided that no call writes memory that another call reads or
+ * writes.
  *
  * From 1.0 on, functions, structures, numbers and documented results do not change until 2.0, but others may be added.
  * The section `Until 2.0` of CHANGELOG.md in the repository lists what this promise leaves out, such as the wording of
@@ -62,21 +83,312 @@
 extern "C" {
 #endif
 
+/* The numbers of setters (PELTZIVAR_SET_*) and of errors, at the end of this header, and that of no setter. */
+typedef uint8_t peltzivar_setter;
+typedef uint32_t peltzivar_error;
+#define PELTZIVAR_NO_SETTER 255
+
+/* The number of fields, and the sizes of buffers for any string of peltzivar_source, and of any other function. */
+#define PELTZIVAR_FIELD_COUNT 37
+#define PELTZIVAR_SOURCE_SIZE 2048
+#define PELTZIVAR_TEXT_SIZE 256
+
+/* Returns the version of the library in the form of PELTZIVAR_VERSION_NUMBER. */
+uint32_t peltzivar_version(void);
+
 /* A word: bits 0 to 63 are in `low`, and bits 64 to 127 are in `high`. */
 typedef struct {
     uint64_t low, high;
 } peltzivar_word;
 
-/* The fields of a format in unpacked form. `flags` has each flag at its bit of a word. The other bits of `flags` are
- * ignored on input and are 0 on output. */
+/* SETTINGS
+ *
+ * A syntax is a lawful word with an exponent character and a decimal point, or with 0 for both. Then numbers are
+ * integers. The other members are conditions: that a number has the base prefix or the base suffix, and that its sign
+ * is not `-`. Without initialisers, they are false. */
 typedef struct {
-    uint64_t flags;
-    uint8_t digit_separator, base_prefix, base_suffix, mantissa_radix, exponent_base, exponent_radix;
-} peltzivar_fields;
+    peltzivar_word format;
+    uint8_t exponent, decimal_point;
+    bool required_base_prefix, required_base_suffix, no_negative_mantissa_sign;
+} peltzivar_syntax;
 
-/* The numbers of setters (PELTZIVAR_SET_*) and of errors (see the end of this header). */
-typedef uint8_t peltzivar_setter;
-typedef uint32_t peltzivar_error;
+/* Settings build a syntax. A text, such as a file, has one setting a line, NAME=VALUE, of a field, a group, an option
+ * or a condition. SETTINGS.md has a table of them. Lines end with \n. A byte order mark at the start of the text is
+ * skipped, and so are lines that are blank or begin with `#`. No comment can follow a setting. A setting overrides
+ * those before it. Fields without a setting have the values of PELTZIVAR_NEW_FIELDS, the exponent character is `e`,
+ * and the decimal point is `.`. In a mantissa or exponent radix above 14, `e` is a digit, so `exponent` must be set.
+ * If both options are `none`, numbers are integers. One alone cannot be `none`: for numbers with a point but no
+ * exponent, set no_exponent_notation, and an `exponent` that is not a digit, such as '~'. */
+
+/* Reads the settings of a text of len bytes, and writes the syntax that they build to *out. Returns the number of
+ * problems: first the lines that are refused, and then the reasons why the others do not build a lawful word or, if
+ * they do, why the options or conditions do not fit it. Reasons and notes on a field or option are left out if its
+ * last line is refused. If there is a problem, leaves *out unchanged. */
+PELTZIVAR_MUST_USE size_t peltzivar_read_settings(const char *text, size_t len, peltzivar_syntax *out);
+
+/* Writes a problem as a sentence, such as "unknown setting `base_suffx`; did you mean `base_suffix`?". The problems
+ * have the indices from 0 on. Behind them are the notes: on the first 32 settings that later ones override completely,
+ * and then on fields that have no effect. Each call reads the whole text. The buffer `to` has to_len bytes. */
+size_t peltzivar_settings_text(const char *text, size_t len, size_t index, char *to, size_t to_len);
+
+/* Returns the number of lines that cause the problem or note with an index. Writes their indices, in ascending
+ * order, to the array `to` of to_len elements, as far as they fit. The first line has the index 0, and a default
+ * has no line. */
+size_t peltzivar_settings_lines(const char *text, size_t len, size_t index, size_t *to, size_t to_len);
+
+/* READERS
+ *
+ * A reader reads the literals of a syntax, which are the texts that are its numbers. FORMAT.md defines them.
+ * peltzivar_reader_init makes a reader once, for any number of texts. `syntax` is its syntax, with the normal form of
+ * the word. Readers, literals and errors can be copied. Do not change one, or pass it to another build of the library.
+ * Calls refuse memory whose `magic` they did not write, such as zeros. */
+#ifdef __GNUC__
+#define PELTZIVAR_ALIGNED __attribute__((aligned(16)))
+#elif defined(__cplusplus)
+#define PELTZIVAR_ALIGNED alignas(16)
+#else
+#define PELTZIVAR_ALIGNED _Alignas(16)
+#endif
+typedef struct {
+    PELTZIVAR_ALIGNED uint64_t magic;
+    peltzivar_syntax syntax;
+    uint64_t tables[508];
+} peltzivar_reader;
+
+/* Writes the reader of a syntax to *reader and returns PELTZIVAR_SUCCESS if the word is lawful, if the options fit its
+ * normal form or are both 0, and if the format does not contradict the conditions. Otherwise, leaves *reader unchanged
+ * and returns the error of the first rule that the word breaks, the error that peltzivar_check_options returns for the
+ * normal form, or the format error of the field that contradicts a condition. It takes as long as reading some 400
+ * texts. */
+PELTZIVAR_MUST_USE peltzivar_error peltzivar_reader_init(peltzivar_reader *reader, const peltzivar_syntax *syntax);
+
+/* Writes why peltzivar_reader_init refuses a syntax as a sentence, such as "the exponent character 'e' is a digit in
+ * radix 16". If it accepts the syntax, writes an empty string. */
+size_t peltzivar_syntax_error_text(const peltzivar_syntax *syntax, char *text, size_t len);
+
+/* LITERALS */
+
+/* The bytes of a text from the index `start` to below the index `end`. */
+typedef struct {
+    size_t start, end;
+} peltzivar_span;
+
+/* A literal: its text, which must last as long as the literal is used, and its parts, in the order of the text.
+ * An absent part is empty. The prefix includes the zero before it. The three parts with digits include digit
+ * separators, for which peltzivar_mantissa_digit and peltzivar_exponent_digit return PELTZIVAR_NO_DIGIT. `size`
+ * is the length of the text. A float has a point or an exponent character, or both. `form` is the form of a
+ * language, and otherwise 0. */
+typedef struct {
+    PELTZIVAR_ALIGNED uint64_t magic;
+    const char *text;
+    peltzivar_span sign, prefix, integer, point, fraction, exponent_character, exponent_sign, exponent, suffix;
+    size_t size;
+    bool is_float;
+    uint8_t form;
+    uint64_t counts[14];
+} peltzivar_literal;
+
+/* Where reading stopped. The first `valid_up_to` bytes are the longest beginning of the text that some literal begins
+ * with. If these are all of its bytes, bytes are missing, and a longer text may be a literal. `form` is the form of a
+ * language for which this beginning is the longest, the first of equals, and otherwise 0. */
+typedef struct {
+    PELTZIVAR_ALIGNED uint64_t magic;
+    size_t valid_up_to, form;
+    uint64_t stop[13];
+} peltzivar_read_error;
+
+/* Reads a text of len bytes. If it is a literal, writes its parts to *literal and returns true. Otherwise, writes where
+ * reading stopped to *error and returns false. Also refuses a reader that is null or that no call has made, and a text
+ * of more than PTRDIFF_MAX bytes. Then `valid_up_to` is 0. */
+PELTZIVAR_MUST_USE bool peltzivar_read(const peltzivar_reader *reader, const char *text, size_t len,
+    peltzivar_literal *literal, peltzivar_read_error *error);
+
+/* Does the same for the longest beginning of the text that is a literal. What follows it may be anything. If there is
+ * none, *error is that of peltzivar_read. Reads no byte behind the first that cannot follow or, if it begins a
+ * character of UTF-8, behind this character. */
+PELTZIVAR_MUST_USE bool peltzivar_read_prefix(const peltzivar_reader *reader, const char *text, size_t len,
+    peltzivar_literal *literal, peltzivar_read_error *error);
+
+/* VALUES
+ *
+ * Each call writes the exact value of a literal, rounded once if it is of a float type, to *out and returns
+ * PELTZIVAR_VALUE_OK. Otherwise, it leaves *out unchanged and returns why. */
+
+/* Whether a literal has a value of a type. */
+typedef uint8_t peltzivar_value_status;
+enum {
+    PELTZIVAR_VALUE_OK = 0,
+    PELTZIVAR_VALUE_FLOAT = 1, /* The literal is a float, even if its value is whole, and the type an integer type. */
+    PELTZIVAR_VALUE_TOO_LARGE = 2, /* The value is above the largest value of an integer type. */
+    PELTZIVAR_VALUE_TOO_SMALL = 3, /* The value is below the least value of an integer type. */
+    /* The type is a float type, and the mantissa radix and the exponent base are neither both 10 nor both powers of
+     * two. This is so for all literals of a syntax, or for none. */
+    PELTZIVAR_VALUE_RADIX = 4,
+    PELTZIVAR_VALUE_NO_LITERAL = 5 /* No call has made the literal. */
+};
+
+/* Write an integer, which has neither a point nor an exponent character. The value of `-0` is 0. */
+PELTZIVAR_MUST_USE peltzivar_value_status peltzivar_to_i64(const peltzivar_literal *literal, int64_t *out);
+PELTZIVAR_MUST_USE peltzivar_value_status peltzivar_to_u64(const peltzivar_literal *literal, uint64_t *out);
+
+/* Writes an integer of 128 bits in two's complement: bits 0 to 63 to `low`, and bits 64 to 127 to `high`. */
+typedef struct {
+    uint64_t low;
+    int64_t high;
+} peltzivar_i128;
+PELTZIVAR_MUST_USE peltzivar_value_status peltzivar_to_i128(const peltzivar_literal *literal, peltzivar_i128 *out);
+
+/* Write the float that is nearest to the value of an integer or a float, or the even one if two are as near. A value
+ * that is too large is infinity, which is no error, and that of `-0` is -0.0. */
+PELTZIVAR_MUST_USE peltzivar_value_status peltzivar_to_f64(const peltzivar_literal *literal, double *out);
+PELTZIVAR_MUST_USE peltzivar_value_status peltzivar_to_f32(const peltzivar_literal *literal, float *out);
+
+/* Returns what a status means, such as "above the largest value of the type". PELTZIVAR_VALUE_OK has an empty
+ * string. */
+const char *peltzivar_value_description(peltzivar_value_status status);
+
+/* ERRORS */
+
+/* Writes why a text was refused as a sentence, such as "unexpected character 'x'". EXPLANATIONS.md describes them. If
+ * no call has written *error, writes an empty string. */
+size_t peltzivar_read_error_text(const peltzivar_read_error *error, char *text, size_t len);
+
+/* The parts of a number, and the number of no part. */
+typedef uint8_t peltzivar_part;
+enum { PELTZIVAR_PART_INTEGER = 0, PELTZIVAR_PART_FRACTION = 1, PELTZIVAR_PART_EXPONENT = 2 };
+#define PELTZIVAR_NO_PART 255
+
+/* Returns the name of a part, such as "integer". */
+const char *peltzivar_part_name(peltzivar_part part);
+
+/* The kinds of causes why a text is not a literal. */
+typedef uint8_t peltzivar_read_error_kind;
+enum {
+    PELTZIVAR_KIND_REQUIREMENT = 1, /* The text does not satisfy flags that are set. */
+    PELTZIVAR_KIND_SEPARATOR = 2, /* A digit separator is not allowed here. */
+    PELTZIVAR_KIND_CASE = 3, /* A letter has the wrong case. */
+    PELTZIVAR_KIND_BYTE = 4, /* A byte cannot follow the bytes before it. */
+    PELTZIVAR_KIND_MISSING = 5 /* Digits are missing. */
+};
+
+/* Why a text is not a literal. `span` has the bytes to show. If it is empty, it marks the place before `start`. `mask`
+ * has the flags to blame, and `number` is the lowest as a setter. For a wrong byte, for missing digits, and if
+ * conditions alone are to blame, they are 0 and PELTZIVAR_NO_SETTER. `conditions` has those to blame, as bits. `part`
+ * is the part of a separator or of missing digits, and otherwise PELTZIVAR_NO_PART. To end the cause, set one of the
+ * flags to blame if `kind` is PELTZIVAR_KIND_SEPARATOR, and otherwise clear all of them, or the conditions. Then there
+ * may be another cause. `code` is a parse error, and `index` its index for peltzivar_error_text. */
+typedef struct {
+    peltzivar_span span;
+    size_t index;
+    peltzivar_word mask;
+    peltzivar_error code;
+    peltzivar_read_error_kind kind;
+    peltzivar_setter number;
+    peltzivar_part part;
+    uint8_t conditions;
+} peltzivar_explanation;
+enum {
+    PELTZIVAR_CONDITION_REQUIRED_BASE_PREFIX = 1,
+    PELTZIVAR_CONDITION_REQUIRED_BASE_SUFFIX = 2,
+    PELTZIVAR_CONDITION_NO_NEGATIVE_MANTISSA_SIGN = 4
+};
+
+/* Writes why a text is not a literal to *out and returns true. If no call has written *error, or if the reader or the
+ * length was refused, leaves *out unchanged and returns false. */
+PELTZIVAR_MUST_USE bool peltzivar_explain(const peltzivar_read_error *error, peltzivar_explanation *out);
+
+/* SPECIAL VALUES AND LANGUAGES
+ *
+ * Spellings are null-terminated strings. A spelling that is null or empty matches no text. */
+typedef struct {
+    const char *nan, *inf, *infinity;
+} peltzivar_specials;
+
+/* A special value. `sign` is '+' or '-', or 0 if the text has no sign. */
+typedef struct {
+    uint8_t spelling, sign;
+} peltzivar_special;
+enum { PELTZIVAR_SPELLING_NAN = 1, PELTZIVAR_SPELLING_INF = 2, PELTZIVAR_SPELLING_INFINITY = 3 };
+
+/* Reads a text of len bytes as a special value: an optional sign, and the first of the spellings that matches.
+ * The flags of the reader's syntax decide which signs, cases and digit separators match. If the text is a special
+ * value, writes it to *out and returns true. Otherwise, or if peltzivar_read refuses the reader or the length,
+ * leaves *out unchanged and returns false. A text can also be a literal, such as `inf` in radix 36. So call
+ * peltzivar_read first. */
+PELTZIVAR_MUST_USE bool peltzivar_read_special(const peltzivar_reader *reader, const peltzivar_specials *specials,
+    const char *text, size_t len, peltzivar_special *out);
+
+/* If a language or file format has a name of len bytes, such as "JSON" or "C_SHARP", writes its spellings to
+ * *specials and returns its reader. Both last as long as the program. A spelling that it lacks is "". Otherwise, writes
+ * nothing and returns a null pointer. Names are case-sensitive. In Python, `help(peltzivar.Language)` describes each.
+ *
+ * A language has one form of literals or more, such as `10`, `0x1F` and `0b1`. The first form that a text has decides
+ * its parts and its value. peltzivar_read_prefix finds the longest literal of any form. `syntax` is that of the first
+ * form. */
+PELTZIVAR_MUST_USE const peltzivar_reader *peltzivar_language(
+    const char *name, size_t len, peltzivar_specials *specials);
+
+/* Returns the name of a language. The languages have the indices from 0 on, in alphabetical order. */
+const char *peltzivar_language_name(size_t index);
+
+/* Returns the name of a form of a language, such as "hexadecimal". Its forms have the indices from 0 on. If
+ * peltzivar_language did not return this reader, or a copy of it, returns an empty string. */
+const char *peltzivar_form_name(const peltzivar_reader *reader, size_t form);
+
+/* Writes the syntax of a form of a language to *out and returns true. If peltzivar_form_name returns an empty string,
+ * leaves *out unchanged and returns false. */
+PELTZIVAR_MUST_USE bool peltzivar_form_syntax(const peltzivar_reader *reader, size_t form, peltzivar_syntax *out);
+
+/* WRITING
+ *
+ * Each call writes a number as a literal of a reader's syntax, which is that of the first form of a language, and a null
+ * terminator to a buffer of len bytes. It writes to *needed how many bytes are enough, and returns PELTZIVAR_WRITE_OK if
+ * len is. Otherwise, it writes only the beginning and a null terminator, and returns PELTZIVAR_WRITE_BUFFER. If the number
+ * cannot be written, it leaves the memory unchanged and returns why. Reading the text returns the same value. */
+
+/* How numbers are written where a syntax leaves a choice: the number of integer digits in a group, if the format allows
+ * separators between them, or 0 for no groups, and whether the base prefix and the base suffix are left out unless
+ * conditions require them. A null pointer is the same as zeros. */
+typedef struct {
+    uint8_t group;
+    bool without_base;
+} peltzivar_style;
+
+/* Whether a number is written. */
+typedef uint8_t peltzivar_write_status;
+enum {
+    PELTZIVAR_WRITE_OK = 0,
+    PELTZIVAR_WRITE_RADIX = 1, /* The mantissa radixes differ or, if there is an exponent, the exponent bases. */
+    PELTZIVAR_WRITE_NEGATIVE = 2, /* No literal has the sign `-`. */
+    PELTZIVAR_WRITE_FRACTION = 3, /* Literals are integers, and the number has a decimal point. */
+    PELTZIVAR_WRITE_EXPONENT = 4, /* No literal has an exponent, or one of so many digits. */
+    PELTZIVAR_WRITE_FLOAT = 5, /* Each literal has an exponent, and the number is of an integer type. */
+    PELTZIVAR_WRITE_SPECIAL = 6, /* The number is NaN or infinity. */
+    PELTZIVAR_WRITE_BUFFER = 7, /* The buffer is too short. */
+    PELTZIVAR_WRITE_NOT_MADE = 8 /* No call has made the reader, or the literal. */
+};
+
+/* Write an integer, with its digits in the mantissa radix. */
+PELTZIVAR_MUST_USE peltzivar_write_status peltzivar_format_i64(const peltzivar_reader *reader, int64_t value,
+    const peltzivar_style *style, char *text, size_t len, size_t *needed);
+PELTZIVAR_MUST_USE peltzivar_write_status peltzivar_format_u64(const peltzivar_reader *reader, uint64_t value,
+    const peltzivar_style *style, char *text, size_t len, size_t *needed);
+PELTZIVAR_MUST_USE peltzivar_write_status peltzivar_format_i128(const peltzivar_reader *reader, peltzivar_i128 value,
+    const peltzivar_style *style, char *text, size_t len, size_t *needed);
+
+/* Writes the shortest decimal digits that are read as this float. A very large or very small one has an exponent, if the
+ * syntax has one. */
+PELTZIVAR_MUST_USE peltzivar_write_status peltzivar_format_f64(const peltzivar_reader *reader, double value,
+    const peltzivar_style *style, char *text, size_t len, size_t *needed);
+
+/* Writes a literal, which may be of another syntax, with the same value and without leading zeros. */
+PELTZIVAR_MUST_USE peltzivar_write_status peltzivar_format_literal(const peltzivar_reader *reader,
+    const peltzivar_literal *literal, const peltzivar_style *style, char *text, size_t len, size_t *needed);
+
+/* Returns what a status means, such as "no literal has this exponent". PELTZIVAR_WRITE_OK has an empty string. */
+const char *peltzivar_write_description(peltzivar_write_status status);
+
+/* WORDS */
 
 /* An edit: a setter and a value. A flag becomes false if the value is 0, and true otherwise, and so does each flag of a
  * group. A byte is replaced by the value. */
@@ -85,6 +397,13 @@ typedef struct {
     uint8_t value;
 } peltzivar_edit;
 
+/* The fields of a format in unpacked form. `flags` has each flag at its bit of a word. The other bits of `flags` are
+ * ignored on input and are 0 on output. */
+typedef struct {
+    uint64_t flags;
+    uint8_t digit_separator, base_prefix, base_suffix, mantissa_radix, exponent_base, exponent_radix;
+} peltzivar_fields;
+
 /* The word of the standard format, which has mantissa radix 10 and requires digits in the mantissa and in the exponent.
  * All its other fields are 0. PELTZIVAR_NEW_FIELDS holds the same fields. The macros that end in _INIT expand to
  * initialisers with the same values, for use where C requires constant expressions, such as at file scope. */
@@ -92,21 +411,6 @@ typedef struct {
 #define PELTZIVAR_NEW_FIELDS_INIT {UINT64_C(0xC), 0, 0, 0, 10, 0, 0}
 static const peltzivar_word PELTZIVAR_STANDARD = PELTZIVAR_STANDARD_INIT;
 static const peltzivar_fields PELTZIVAR_NEW_FIELDS = PELTZIVAR_NEW_FIELDS_INIT;
-
-/* The number of fields, and the sizes of buffers for any string of peltzivar_source, and of any other function. */
-#define PELTZIVAR_FIELD_COUNT 37
-#define PELTZIVAR_SOURCE_SIZE 2048
-#define PELTZIVAR_TEXT_SIZE 256
-
-/* The numbers of no setter, of no part of a number, and of a byte that is not a digit. */
-#define PELTZIVAR_NO_SETTER 255
-#define PELTZIVAR_NO_PART 255
-#define PELTZIVAR_NO_DIGIT UINT32_MAX
-
-/* Returns the version of the library in the form of PELTZIVAR_VERSION_NUMBER. */
-uint32_t peltzivar_version(void);
-
-/* WORDS */
 
 /* Applies the edits, in order, to a copy of PELTZIVAR_NEW_FIELDS, packs it, writes the word to *out and returns true.
  * If a setter is unknown, returns false and leaves *out unchanged. The word may be unlawful (see peltzivar_check). */
@@ -153,14 +457,6 @@ bool peltzivar_flag(peltzivar_word format, peltzivar_setter setter);
 PELTZIVAR_MUST_USE peltzivar_error peltzivar_parse_word(
     const char *text, size_t len, peltzivar_word *out, size_t *index);
 
-/* STRINGS
- *
- * Each function that ends in _text, and peltzivar_source, write a null-terminated ASCII string to a buffer of len bytes,
- * as snprintf does. If the string and its null terminator do not fit, they write only the beginning of the string and a
- * null terminator. If len is 0, they write nothing. They always return the length of the whole string, not counting the
- * null terminator. A function that returns a const char * returns a null-terminated ASCII string that lasts as long as
- * the program. A string is empty if nothing has the number or index that is passed. */
-
 /* Writes a word as `0x` followed by 32 uppercase hexadecimal digits. */
 size_t peltzivar_word_text(peltzivar_word format, char *text, size_t len);
 
@@ -188,10 +484,10 @@ PELTZIVAR_MUST_USE bool peltzivar_edit_fields(
  * If no digit separator flag is set, packing drops the digit separator, that is, sets it to 0. */
 peltzivar_word peltzivar_pack(const peltzivar_fields *fields);
 
-/* SETTINGS */
+/* ONE SETTING */
 
-/* Parses a setting: a string NAME=VALUE of len bytes, which need not be null-terminated. If it is valid, writes its edit
- * to *out and returns true. Otherwise, returns false and leaves *out unchanged. FORMAT.md has a table of the settings.
+/* Parses a setting: a string NAME=VALUE of len bytes, which need not be null-terminated. If it is valid, writes its
+ * edit to *out and returns true. Otherwise, returns false and leaves *out unchanged. SETTINGS.md has a table of them.
  * The name radix is read as mantissa_radix. Only peltzivar_read_settings takes `exponent` and `point`, which are not
  * fields. */
 PELTZIVAR_MUST_USE bool peltzivar_parse_edit(const char *text, size_t len, peltzivar_edit *out);
@@ -199,9 +495,9 @@ PELTZIVAR_MUST_USE bool peltzivar_parse_edit(const char *text, size_t len, peltz
 /* Does the same for the value of base_prefix alone, such as `'p'`, `0x70`, `112` or `none`, which is 0. */
 PELTZIVAR_MUST_USE bool peltzivar_parse_byte(const char *text, size_t len, uint8_t *out);
 
-/* Writes the reason why peltzivar_parse_edit rejects a string, such as "no_special takes `true` or `false`", or "unknown
- * setting name; did you mean `base_suffix`?". The string has len bytes, and the buffer `to` has to_len bytes. If
- * peltzivar_parse_edit accepts it, writes an empty string. */
+/* Writes the reason why peltzivar_parse_edit rejects a string, such as "no_special takes `true` or `false`", or
+ * "unknown setting name; did you mean `base_suffix`?". The string has len bytes, and the buffer `to` has to_len bytes.
+ * If peltzivar_parse_edit accepts it, writes an empty string. */
 size_t peltzivar_setting_error_text(const char *text, size_t len, char *to, size_t to_len);
 
 /* Writes an edit as NAME=VALUE, where VALUE is `true`, `false`, `none` or a decimal number. peltzivar_parse_edit parses
@@ -225,9 +521,9 @@ peltzivar_word peltzivar_setter_mask(peltzivar_setter setter);
 /* Writes a reason as a sentence, such as "no_special and case_sensitive_special cannot both be set". */
 size_t peltzivar_reason_text(peltzivar_word format, size_t index, char *text, size_t len);
 
-/* Returns a mask of the bits that a reason blames: every word in which these bits have the same values breaks every rule
- * of the reason. The mask is 0 if there is no such reason. If the word was built from a list of edits, an edit is to
- * blame for the reason if it wrote one of these bits and no later edit wrote that bit. */
+/* Returns a mask of the bits that a reason blames: every word in which these bits have the same values breaks every
+ * rule of the reason. The mask is 0 if there is no such reason. If the word was built from a list of edits, an edit is
+ * to blame for the reason if it wrote one of these bits and no later edit wrote that bit. */
 peltzivar_word peltzivar_reason_mask(peltzivar_word format, size_t index);
 
 /* Returns the rules that a word breaks because of a reason: bit n is set for the rule with the number n. The result is
@@ -275,21 +571,19 @@ peltzivar_word peltzivar_options_reason_mask(
 uint32_t peltzivar_options_reason_roles(
     peltzivar_word format, uint8_t exponent, uint8_t decimal_point, size_t index);
 
+/* What the next two calls return for a byte that is not a digit. */
+#define PELTZIVAR_NO_DIGIT UINT32_MAX
+
 /* Return the value of a byte as a digit in the mantissa radix or the exponent radix, or PELTZIVAR_NO_DIGIT. Letters of
  * either case are the digits from 10 on. */
 uint32_t peltzivar_mantissa_digit(peltzivar_word format, uint8_t byte);
 uint32_t peltzivar_exponent_digit(peltzivar_word format, uint8_t byte);
 
-/* The parts of a number, and where a part may have digit separators: between its digits, before them and after them.
- * `consecutive` states whether several separators in a row may stand where one may. */
-typedef uint8_t peltzivar_part;
-enum { PELTZIVAR_PART_INTEGER = 0, PELTZIVAR_PART_FRACTION = 1, PELTZIVAR_PART_EXPONENT = 2 };
+/* Where a part of a number may have digit separators: between its digits, before them and after them. `consecutive`
+ * states whether several separators in a row may stand where one may. */
 typedef struct {
     bool internal, leading, trailing, consecutive;
 } peltzivar_separators;
-
-/* Returns the name of a part, such as "integer". */
-const char *peltzivar_part_name(peltzivar_part part);
 
 /* Returns where a part of a number may have digit separators. If there is no such part, all members are false. */
 peltzivar_separators peltzivar_separators_of(peltzivar_word format, peltzivar_part part);
@@ -320,161 +614,6 @@ peltzivar_role peltzivar_role_of(peltzivar_word format, uint8_t exponent, uint8_
 
 /* Returns the name of a role, such as "digit": its constant in lowercase, without PELTZIVAR_ROLE_. */
 const char *peltzivar_role_name(peltzivar_role role);
-
-/* LITERALS
- *
- * A literal is a text that is a number of a syntax. A syntax is a lawful word with an exponent character and a decimal
- * point, or with 0 for both. Then literals are integers. FORMAT.md defines literals, and why a text is not one. */
-typedef struct {
-    peltzivar_word format;
-    uint8_t exponent, decimal_point;
-} peltzivar_syntax;
-
-/* A reader of the literals of a syntax. peltzivar_reader_init makes it once, for any number of texts, and it can be
- * copied. `syntax` is its syntax, with the normal form of the word. Do not change a reader, or an error below, and pass
- * neither to another build of the library. Calls refuse memory whose `magic` they did not write, such as zeros. */
-#ifdef __GNUC__
-#define PELTZIVAR_ALIGNED __attribute__((aligned(16)))
-#elif defined(__cplusplus)
-#define PELTZIVAR_ALIGNED alignas(16)
-#else
-#define PELTZIVAR_ALIGNED _Alignas(16)
-#endif
-typedef struct {
-    PELTZIVAR_ALIGNED uint64_t magic;
-    peltzivar_syntax syntax;
-    uint64_t tables[508];
-} peltzivar_reader;
-
-/* Writes the reader of a syntax to *reader and returns PELTZIVAR_SUCCESS if the word is lawful, and if the options fit
- * its normal form or are both 0. Otherwise, leaves *reader unchanged and returns the error of the first rule that the
- * word breaks, or the error that peltzivar_check_options returns for the normal form. It takes as long as reading some
- * 400 texts. */
-PELTZIVAR_MUST_USE peltzivar_error peltzivar_reader_init(peltzivar_reader *reader, const peltzivar_syntax *syntax);
-
-/* Writes why peltzivar_reader_init refuses a syntax as a sentence, such as "the exponent character 'e' is a digit in radix
- * 16". If it accepts the syntax, writes an empty string. */
-size_t peltzivar_syntax_error_text(const peltzivar_syntax *syntax, char *text, size_t len);
-
-/* The bytes of a text from the index `start` to below the index `end`. */
-typedef struct {
-    size_t start, end;
-} peltzivar_span;
-
-/* The parts of a literal, in the order of the text, and its length. An absent part is empty. The prefix includes the
- * zero before it. The three parts with digits include digit separators, for which peltzivar_mantissa_digit and
- * peltzivar_exponent_digit return PELTZIVAR_NO_DIGIT. A float has a point or an exponent character, or both. */
-typedef struct {
-    peltzivar_span sign, prefix, integer, point, fraction, exponent_character, exponent_sign, exponent, suffix;
-    size_t size;
-    bool is_float;
-} peltzivar_literal;
-
-/* Where reading stopped. The first `valid_up_to` bytes are the longest beginning of the text that some literal begins
- * with. If these are all of its bytes, bytes are missing, and a longer text may be a literal. */
-typedef struct {
-    PELTZIVAR_ALIGNED uint64_t magic;
-    size_t valid_up_to;
-    uint64_t stop[12];
-} peltzivar_read_error;
-
-/* Reads a text of len bytes. If it is a literal, writes its parts to *literal and returns true. Otherwise, writes where
- * reading stopped to *error and returns false. Also refuses a reader that is null or that no call has made, and a text of
- * more than PTRDIFF_MAX bytes. Then `valid_up_to` is 0. */
-PELTZIVAR_MUST_USE bool peltzivar_read(const peltzivar_reader *reader, const char *text, size_t len,
-    peltzivar_literal *literal, peltzivar_read_error *error);
-
-/* Does the same for the longest beginning of the text that is a literal. What follows it may be anything. If there is
- * none, *error is that of peltzivar_read. Reads no byte behind the first that cannot follow or, if it begins a character
- * of UTF-8, behind this character. */
-PELTZIVAR_MUST_USE bool peltzivar_read_prefix(const peltzivar_reader *reader, const char *text, size_t len,
-    peltzivar_literal *literal, peltzivar_read_error *error);
-
-/* Writes why a text was refused as a sentence, such as "unexpected character 'x'". If no call has written *error,
- * writes an empty string. */
-size_t peltzivar_read_error_text(const peltzivar_read_error *error, char *text, size_t len);
-
-/* The kinds of causes why a text is not a literal. */
-typedef uint8_t peltzivar_read_error_kind;
-enum {
-    PELTZIVAR_KIND_REQUIREMENT = 1, /* The text does not satisfy flags that are set. */
-    PELTZIVAR_KIND_SEPARATOR = 2, /* A digit separator is not allowed here. */
-    PELTZIVAR_KIND_CASE = 3, /* A letter has the wrong case. */
-    PELTZIVAR_KIND_BYTE = 4, /* A byte cannot follow the bytes before it. */
-    PELTZIVAR_KIND_MISSING = 5 /* Digits are missing. */
-};
-
-/* Why a text is not a literal. `span` has the bytes to show. If it is empty, it marks the place before `start`. `mask` has
- * the flags to blame, and `number` is the lowest as a setter. For a wrong byte and for missing digits, they are 0 and
- * PELTZIVAR_NO_SETTER. `part` is the part of a separator or of missing digits, and otherwise PELTZIVAR_NO_PART. To end
- * the cause, set one of the flags to blame if `kind` is PELTZIVAR_KIND_SEPARATOR, and otherwise clear all of them. Then
- * there may be another cause. `code` is a parse error, and `index` its index for peltzivar_error_text. */
-typedef struct {
-    peltzivar_span span;
-    size_t index;
-    peltzivar_word mask;
-    peltzivar_error code;
-    peltzivar_read_error_kind kind;
-    peltzivar_setter number;
-    peltzivar_part part;
-} peltzivar_explanation;
-
-/* Writes why a text is not a literal to *out and returns true. If no call has written *error, or if the reader or the
- * length was refused, leaves *out unchanged and returns false. */
-PELTZIVAR_MUST_USE bool peltzivar_explain(const peltzivar_read_error *error, peltzivar_explanation *out);
-
-/* SPECIAL VALUES AND LANGUAGES
- *
- * Spellings are null-terminated strings. A spelling that is null or empty matches no text. */
-typedef struct {
-    const char *nan, *inf, *infinity;
-} peltzivar_specials;
-
-/* A special value. `sign` is '+' or '-', or 0 if the text has no sign. */
-typedef struct {
-    uint8_t spelling, sign;
-} peltzivar_special;
-enum { PELTZIVAR_SPELLING_NAN = 1, PELTZIVAR_SPELLING_INF = 2, PELTZIVAR_SPELLING_INFINITY = 3 };
-
-/* Reads a text of len bytes as a special value: an optional sign, and the first of the spellings that matches. The
- * flags of the reader's syntax decide which signs, cases and digit separators match. If the text is a special value,
- * writes it to *out and returns true. Otherwise, or if peltzivar_read refuses the reader or the length, leaves *out
- * unchanged and returns false. A text can also be a literal, such as `inf` in radix 36. So call peltzivar_read first. */
-PELTZIVAR_MUST_USE bool peltzivar_read_special(const peltzivar_reader *reader, const peltzivar_specials *specials,
-    const char *text, size_t len, peltzivar_special *out);
-
-/* If a language or file format has a name of len bytes, such as "JSON" or "C_HEX_FLOAT", writes its spellings to
- * *specials and returns its reader. Both last as long as the program. A spelling that it lacks is "". Otherwise, writes
- * nothing and returns a null pointer. Names are case-sensitive. In Python, `help(peltzivar.Language)` describes each. */
-PELTZIVAR_MUST_USE const peltzivar_reader *peltzivar_language(
-    const char *name, size_t len, peltzivar_specials *specials);
-
-/* Returns the name of a language. The languages have the indices from 0 on, in alphabetical order. */
-const char *peltzivar_language_name(size_t index);
-
-/* SETTINGS OF A TEXT
- *
- * A text, such as a file, has one setting a line, of a field, a group or an option. Lines end with \n. A byte order mark
- * at the start of the text is skipped, and so are lines that are blank or begin with `#`. No comment can follow a
- * setting. A setting overrides those before it. Fields without a setting have the values of PELTZIVAR_NEW_FIELDS, the
- * exponent character is `e`, and the decimal point is `.`. In a mantissa or exponent radix above 14, `e` is a digit, so
- * `exponent` must be set. If both options are `none`, literals are integers. One alone cannot be `none`: for numbers
- * with a point but no exponent, set no_exponent_notation, and an `exponent` that is not a digit, such as '~'. */
-
-/* Reads the settings of a text of len bytes, and writes the syntax that they build to *out. Returns the number of
- * problems: first the lines that are refused, and then the reasons why the others do not build a lawful word or, if
- * they do, why the options do not fit it. Reasons and notes on a field or option are left out if its last line is
- * refused. If there is a problem, leaves *out unchanged. */
-PELTZIVAR_MUST_USE size_t peltzivar_read_settings(const char *text, size_t len, peltzivar_syntax *out);
-
-/* Writes a problem as a sentence, such as "unknown setting `base_suffx`; did you mean `base_suffix`?". The problems
- * have the indices from 0 on. Behind them are the notes: on the first 32 settings that later ones override completely,
- * and then on fields that have no effect. Each call reads the whole text. The buffer `to` has to_len bytes. */
-size_t peltzivar_settings_text(const char *text, size_t len, size_t index, char *to, size_t to_len);
-
-/* Returns the number of lines that cause the problem or note with an index. Writes their indices, in ascending order, to
- * the array `to` of to_len elements, as far as they fit. The first line has the index 0, and a default has no line. */
-size_t peltzivar_settings_lines(const char *text, size_t len, size_t index, size_t *to, size_t to_len);
 
 #ifdef __cplusplus
 }

@@ -26,7 +26,8 @@ os.environ.setdefault("SOURCE_DATE_EPOCH", "315532800")
 
 class BuildLibrary(build_ext):
     def get_ext_filename(self, fullname):
-        return os.path.join(*fullname.split(".")[:-1], LIBRARY)
+        # With the version, Python does not take the library for a module.
+        return os.path.join(*fullname.split(".")[:-1], f"{LIBRARY}.{self.distribution.get_version().split('.')[0]}")
 
     def build_extension(self, ext):
         if not shutil.which("cargo"):

@@ -18,9 +18,11 @@ import re
 import sys
 
 CALLS = """edit_word normal_form format_error check build_strict is_built edits_of is_valid_options_punctuation
-options_error migrate same_format apply Format::new Syntax::new Syntax::integers read read_prefix Specials::read to_integer
-parse_integer to_float""".split()
-CRATES = "lexical_base lexical_number lexical_flags lexical_builder lexical_util lexical_literal lexical_value".split()
+options_error migrate same_format apply Format::new Syntax::new Syntax::integers Syntax::with read read_prefix
+Specials::read ReaderList::read ReaderList::read_prefix to_integer parse_integer to_float
+format_literal""".split()
+CRATES = """lexical_base lexical_number lexical_flags lexical_builder lexical_util lexical_literal lexical_value
+lexical_writer""".split()
 TOP = pathlib.Path(__file__).resolve().parent.parent
 USE = re.compile(r"^ *(?:ghost )?(?:unfoldable )?(?:pub )?use Rattle\.([\w.]+?)(?: as (\w+)|\.\{(.*)\})?;?$", re.M)
 DEFINES = re.compile(r"(?:abbrev |unfoldable )?(?:pub )?(?:data |record )?(\S+)(?: \(.*?\))* :(?= |$)")

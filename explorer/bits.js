@@ -3,50 +3,36 @@
 const ROW_BITS = 32;
 
 /* Returns the field of each bit: its name, its part of a number, and its title below the bits. */
-function fieldsOfBits(library) {
+function fieldsOfBits({ fields }) {
     const bits = Array.from({ length: 128 }, () => ({ name: "reserved", part: "reserved", title: "reserved" }));
-    for (const { bit, name, part } of library.flags) {
-        bits[bit] = { name, part, title: bit < ROW_BITS ? "flags" : "separator flags" };
-    }
-    for (const { bit, name, part } of library.bytes) {
-        for (let index = bit; index < bit + 8; index++) bits[index] = { name, part, title: name.replace("_", " ") };
+    for (const { bit, name, part, isByte } of fields) {
+        const title = isByte ? name.replace("_", " ") : bit < ROW_BITS ? "flags" : "separator flags";
+        bits.fill({ name, part, title, isFlag: !isByte }, bit, isByte ? bit + 8 : bit + 1);
     }
     return bits;
-}
-
-/* Returns the runs of bits with the same title in a row: title, name of the field and length. */
-function runs(row) {
-    const found = [];
-    for (const { title, name } of row) {
-        const last = found.at(-1);
-        if (last && last.title === title) last.length += 1;
-        else found.push({ title, name: title.endsWith("flags") ? "" : name, length: 1 });
-    }
-    return found;
 }
 
 /* Makes the picture. A click on the bit of a flag calls `toggle` with its name. */
 function makeBits(library, toggle) {
     const fields = fieldsOfBits(library);
-    const cells = [];
+    const cells = fields.map(({ name, part, title, isFlag }, bit) => {
+        const edge = bit % 8 === 7 || fields[bit + 1].title !== title ? " edge" : "";
+        const cell = element("span", { class: `bit ${part}${isFlag ? " flag" : ""}${edge}`, "data-field": name });
+        if (isFlag) cell.addEventListener("click", () => toggle(name));
+        return cell;
+    });
     for (let high = 127; high > 0; high -= ROW_BITS) {
-        const row = fields.slice(high - ROW_BITS + 1, high + 1).reverse();
-        const made = row.map(({ name, part, title }, index) => {
-            const isFlag = title.endsWith("flags");
-            const edge = index === 0 || row[index - 1].title !== title || (high - index) % 8 === 7 ? " edge" : "";
-            const cell = element("span", { class: `bit ${part}${isFlag ? " flag" : ""}${edge}`, "data-field": name });
-            if (isFlag) cell.addEventListener("click", () => toggle(name));
-            return cell;
-        });
-        made.forEach((cell, index) => (cells[high - index] = cell));
-        const titles = runs(row).map(({ title, name, length }) => {
-            const made = element("span", { class: "run", "data-field": name }, title);
-            made.style.gridColumn = `span ${length}`;
-            return made;
-        });
-        const ends = [high, high - ROW_BITS + 1].map((bit) => element("span", { class: "number" }, String(bit)));
-        const grid = element("div", { class: "cells" }, made, titles);
-        find("bits").append(element("div", { class: "row" }, ends[0], grid, ends[1]));
+        const low = high - ROW_BITS + 1;
+        const titles = [];
+        for (const { title, name, isFlag } of fields.slice(low, high + 1).reverse()) {
+            if (titles.at(-1)?.textContent !== title) {
+                titles.push(element("span", { class: "run", "data-field": isFlag ? "" : name }, title));
+            }
+            titles.at(-1).style.gridColumn = `span ${(parseInt(titles.at(-1).style.gridColumn.slice(5)) || 0) + 1}`;
+        }
+        const grid = element("div", { class: "cells" }, cells.slice(low, high + 1).reverse(), titles);
+        const [left, right] = [high, low].map((bit) => element("span", { class: "number" }, String(bit)));
+        find("bits").append(element("div", { class: "row" }, left, grid, right));
     }
     return cells;
 }

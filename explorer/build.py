@@ -3,6 +3,7 @@
 The page has a hash of its WebAssembly and of the sources of that. If it is the same, the WebAssembly is taken again.
 """
 import base64
+import gzip
 import hashlib
 import json
 import os
@@ -12,6 +13,7 @@ import shutil
 import subprocess
 import sys
 import tempfile
+import textwrap
 
 HERE = pathlib.Path(__file__).resolve().parent
 TOP = HERE.parent
@@ -48,21 +50,25 @@ def section(title):
 
 def named(text):
     """Returns a text in which flags have names, in place of the numbers of their bits."""
-    names = dict(rows(r"^\| (\d+) \| (`\w+`) \| \w+ \|[^|]*\| `[^|]*` \| `[^|]*` \|$"))
-    text = re.sub(r"Flags \d+ to [^.]* are", "These flags are", text)
-    numbers = r"\b[Ff]lags? (\d+(?:,?\s+(?:and\s+|or\s+)?\d+)*)|(\d+)(?=: )"
-    return re.sub(numbers, lambda match: re.sub(r"\d+", lambda number: names[number[0]], match[1] or match[2]), text)
+    names = dict(rows(r"^\| (\d+) \| (`\w+`) \| \w+ \|[^|]*\|[^|]*\| `[^|]*` \| `[^|]*` \|$"))
+    numbers = r"\b[Ff]lags? (\d+(?:,?\s+(?:and\s+|or\s+)?\d+)*)"
+    return re.sub(numbers, lambda match: re.sub(r"\d+", lambda number: names[number[0]], match[1]), text)
 
 
 def html(text):
-    """Returns paragraphs, lists and blocks of code in Markdown as HTML. Links become their texts."""
-    text = re.sub(r"\[([^\]]*)\]\([^)]*\)", r"\1", text).replace("&", "&amp;").replace("<", "&lt;")
-    text = re.sub(r"`([^`]*)`", r"<code>\1</code>", text)
-    text = re.sub(r"\*([^*]+)\*", r"<em>\1</em>", text)
+    """Returns paragraphs, lists, tables and blocks of code in Markdown as HTML. Links become their texts."""
     made = ""
-    for block in text.strip("\n").split("\n\n"):
+    for block in text.strip("\n").replace("&", "&amp;").replace("<", "&lt;").split("\n\n"):
         if block.startswith("    "):
-            made += f"<pre>{block.strip()}</pre>\n"
+            made += f"<pre>{textwrap.dedent(block)}</pre>\n"
+            continue
+        block = re.sub(r"\[([^\]]*)\]\([^)]*\)", r"\1", block)
+        block = re.sub(r"`([^`]*)`", r"<code>\1</code>", block)
+        block = re.sub(r"\*([^*]+)\*", r"<em>\1</em>", block)
+        if block.startswith("| "):
+            head, _, *body = (re.findall(r"(?<=\| ).*?(?= \|)", line) for line in block.splitlines())
+            lines = [f"<th>{'<th>'.join(head)}", *(f"<td>{'<td>'.join(line)}" for line in body)]
+            made += "<table>" + "".join(f"<tr>{line}" for line in lines) + "</table>\n"
         elif block.startswith("- "):
             made += "<ul>" + "".join(f"<li>{item}</li>" for item in re.split(r"(?:^|\n)- ", block)[1:]) + "</ul>\n"
         else:
@@ -70,21 +76,33 @@ def html(text):
     return made
 
 
+def sentences():
+    """Returns what each flag or group does, by the first sentence of its setter's documentation."""
+    text = (TOP / "rust/src/format_builder/setters.rs").read_text()
+    found = {}
+    for comment, name in re.findall(r"((?: +///.*\n)+) +pub const fn (\w+)", text):
+        first = re.match(r"Sets (?:or clears |whether (?:the format )?)?(.*?)\.(?: |$)", " ".join(comment.replace("///", "").split()))
+        if first:
+            found[name] = first[1][0].upper() + first[1][1:]
+    return found
+
+
 def fields():
     """Returns the flags, the groups of flags and the bytes: each with its name, its bit or bits, and its meaning."""
+    sentence = sentences()
     groups = [
-        {"name": name, "bits": [*map(int, bits.split())], "meaning": f"flags that {meaning}"}
-        for name, bits, meaning in rows(r"^\| `(\w+)` \| ([\d ]+) \| (.*) \|$")
+        {"name": name, "bits": [*map(int, bits.split())], "meaning": sentence[name]}
+        for name, bits, _ in rows(r"^\| `(\w+)` \| ([\d ]+) \| (.*) \|$")
     ]
     separators = next(group["bits"] for group in groups if group["name"] == "digit_separator_flags")
     flags, numbers = [], []
-    for bit, name, accepted, rejected in rows(r"^\| (\d+) \| `(\w+)` \| \w+ \|[^|]*\| (`[^|]*`) \| (`[^|]*`) \|$"):
+    for bit, name, accepted, rejected in rows(r"^\| (\d+) \| `(\w+)` \| \w+ \|[^|]*\|[^|]*\| (`[^|]*`) \| (`[^|]*`) \|$"):
         found = next((row[:2] for row in SECTIONS if re.fullmatch(row[2], name)), None)
-        meaning = f"rejects {rejected} but accepts {accepted}".replace("` `", "`, `")
         if int(bit) in separators:
-            found, meaning = ("", "separator"), f"accepts {accepted}".replace("` `", "`, `")
+            found = ("", "separator")
         title, part = found or sys.exit(f"explorer/build.py: no section of {name}")
-        flags.append({"bit": int(bit), "name": name, "meaning": meaning, "section": title, "part": part})
+        texts = {"accepts": accepted.strip("`").split("` `"), "refuses": rejected.strip("`").split("` `")}
+        flags.append({"bit": int(bit), "name": name, "meaning": sentence[name], **texts, "section": title, "part": part})
     for low, name, meaning in rows(r"^\| (\d+) to \d+ \| `(\w+)` \| \d+ \| (.*) \|$"):
         meaning += "; 0 means the mantissa radix" if name.startswith("exponent_") else ""
         part, is_number = BYTE_PARTS.get(name, "exponent"), name.endswith(("_base", "_radix"))
@@ -92,14 +110,12 @@ def fields():
     return {"flags": flags, "groups": groups, "bytes": numbers}
 
 
-def setting(call):
-    """Returns a setter call of a language as a setting."""
-    name, argument = re.fullmatch(r"\.(\w+)\((.*)\)", call).groups()
-    value = re.sub(r"^NonZeroU8::new\((.*)\)$", r"\1", argument)
-    value = re.sub(r"^b'\\?(.)'$", r"'\1'", value)
-    if not re.fullmatch(r"'.'|\d+|true|false", value):
-        sys.exit(f"rust/src/literal/language.rs: not a value: {argument}")
-    return f"{name}={value}"
+def conditions():
+    """Returns the conditions: the name of each, what it does, and a text that it refuses."""
+    text = (TOP / "rust/src/literal/conditions.rs").read_text()
+    row = r"/// (.*?)\. If set, [^`]*(`[^`]*`).*\n    #\[must_use\]\n    pub const fn (\w+)\(mut self, \w+: bool\)"
+    found = re.findall(row, text) or sys.exit("rust/src/literal/conditions.rs: no conditions")
+    return [{"name": name, "meaning": does, "refuses": [text.strip("`")]} for does, text, name in found]
 
 
 def numbers(name, has_specials):
@@ -109,22 +125,12 @@ def numbers(name, has_specials):
     return "\n".join(text if mark == "+" else f"!{text}" for mark, text in rows)
 
 
-def languages():
-    """Returns the languages: name, comment, settings, options and numbers. Integers alone have the options 0."""
-    text = (TOP / "rust/src/literal/language.rs").read_text()
-    head = r"^    (\w+) = \w+\((?:b'(.)', )?NumberFormatBuilder::new\(\)"
-    found = re.findall(rf"((?:^    ///.*\n)+){head}((?:\n        \..*)*)\s*\)([,;])", text, re.M)
-    if len(found) != len(re.findall(head, text, re.M)):
-        sys.exit("rust/src/literal/language.rs: a language has another form")
-    for comment, name, exponent, body, end in found:
-        yield {
-            "name": name,
-            "about": " ".join(comment.replace("///", "").split()),
-            "settings": [setting(call) for call in re.findall(r"^ +(\.\w+\(.*?\))(?: //.*)?$", body, re.M)],
-            "exponent": ord(exponent or "\0"),
-            "point": ord("." if exponent else "\0"),
-            "numbers": numbers(name, end == ","),
-        }
+def languages(forms):
+    """Returns the languages: name, comment, numbers and forms."""
+    text = (TOP / "rust/src/literal/language/tables.rs").read_text()
+    for comment, name, end in re.findall(r"((?:^    ///[^\n]*\n)+)^    (\w+) = \{.*?\}(,| *;)", text, re.M | re.S):
+        about = " ".join(comment.replace("///", "").split())
+        yield {"name": name, "about": about, "numbers": numbers(name, end == ","), "forms": forms[name]}
 
 
 def rules():
@@ -132,15 +138,14 @@ def rules():
     return [named(condition) for condition in rows(r"^\| \d+ \| (.*?) \| `Invalid")]
 
 
-def data():
-    """Returns the data that the page shows."""
-    limits = section("What a format cannot express")
+def data(forms):
+    """Returns the data that the page shows, with these forms of languages."""
     header = (TOP / "c/peltzivar.h").read_text()
     return {
         **fields(),
+        "conditions": conditions(),
         "rules": rules(),
-        "languages": [*languages()],
-        "limits": re.findall(r"^\| (.*) \| (.*) \|$", limits, re.M)[1:],
+        "languages": [*languages(forms)],
         "version": re.search(r'^#define PELTZIVAR_VERSION "(.*)"$', header, re.M)[1],
     }
 
@@ -166,30 +171,39 @@ def output(*command):
 
 
 def compiler(folder):
-    """Returns a compiler that has the target, with its options: rustup's, or Debian's with its source of `core`."""
+    """Returns a compiler that has the target, with its options: rustup's, or Debian's with its source of the library."""
     rustc = shutil.which("rustc")
     if rustc and any(pathlib.Path(output(rustc, "--print=target-libdir", f"--target={TARGET}").strip()).glob("libcore-*")):
         return [rustc, *OPTIONS, f"-L{folder}"]
     debian = [pathlib.Path("/usr/bin/rustc"), *OPTIONS, f"-L{folder}"]
     version = output(debian[0], "--version").split()[1] if debian[0].exists() else ""
-    core = pathlib.Path(f"/usr/src/rustc-{version}/library/core/src/lib.rs")
-    if not core.exists() or not shutil.which("wasm-ld"):
+    sources = pathlib.Path(f"/usr/src/rustc-{version}/library")
+    if not (sources / "compiler-builtins").exists() or not shutil.which("wasm-ld"):
         sys.exit(NO_COMPILER)
-    library = [*debian, "--crate-type=rlib", f"--out-dir={folder}"]
-    output(*library, "--edition=2024", "--crate-name=core", core)
-    output(*library, "--edition=2021", "--crate-name=compiler_builtins", HERE / "builtins.rs")
+    library = [*debian, "--crate-type=rlib", f"--out-dir={folder}", "--edition=2024"]
+    output(*library, "--crate-name=core", sources / "core/src/lib.rs")
+    builtins = sources / "compiler-builtins/compiler-builtins/src/lib.rs"
+    features = ['--cfg=feature="compiler-builtins"', '--cfg=feature="mem"']
+    output(*library, "--crate-name=compiler_builtins", *features, builtins)
     return [*debian, "-Clinker=wasm-ld", "-Clinker-flavor=wasm-ld"]
 
 
 def compiled():
-    """Returns the WebAssembly of library.rs with the crate."""
+    """Returns the WebAssembly of library.rs with the crate, and what languages.rs prints, by language."""
     with tempfile.TemporaryDirectory() as folder:
         rustc, wasm = compiler(folder), pathlib.Path(folder, "library.wasm")
-        crate = ["--edition=2021", "--crate-type=rlib", "--crate-name=peltzivar", f"--out-dir={folder}"]
-        output(*rustc, *crate, TOP / "rust/src/lib.rs")
+        crate = ["--edition=2021", "--crate-type=rlib", "--crate-name=peltzivar", TOP / "rust/src/lib.rs"]
+        output(*rustc, *crate, f"--out-dir={folder}")
         page = ["--edition=2024", "--crate-type=cdylib", "-Clto=fat", "-Ccodegen-units=1", "-Cstrip=symbols"]
         output(*rustc, *page, "--extern=peltzivar", "-o", wasm, HERE / "library.rs")
-        return wasm.read_bytes()
+        host, program = pathlib.Path(folder, "host"), pathlib.Path(folder, "languages")
+        output(rustc[0], *crate, f"--out-dir={host}")
+        output(rustc[0], "--edition=2024", f"-L{host}", "--extern=peltzivar", "-o", program, HERE / "languages.rs")
+        forms = {}
+        for line in output(program).splitlines():
+            language, name, syntax = line.split("\t")
+            forms.setdefault(language, []).append({"name": name, "syntax": syntax})
+        return base64.b64encode(gzip.compress(wasm.read_bytes(), mtime=0)).decode(), forms
 
 
 def digest(text):
@@ -197,18 +211,17 @@ def digest(text):
     return f"'sha256-{base64.b64encode(hashlib.sha256(text.encode()).digest()).decode()}'"
 
 
-def page(wasm):
-    """Returns the page with this WebAssembly, as base64."""
+def page(wasm, forms):
+    """Returns the page with this WebAssembly, which is compressed, and written in base64, and these forms of languages."""
     style = "\n" + (HERE / "page.css").read_text()
     script = "\n" + "\n".join((HERE / f"{name}.js").read_text() for name in SCRIPTS)
-    embedded = json.dumps(data(), ensure_ascii=False, separators=(",", ":")).replace("<", "\\u003c")
+    embedded = json.dumps(data(forms), ensure_ascii=False, separators=(",", ":")).replace("<", "\\u003c")
     policy = f"default-src 'none'; script-src {digest(script)} 'wasm-unsafe-eval'; style-src {digest(style)}"
-    _, literals = section("How a reader applies the flags").split("A *literal* is", 1)
     parts = {
-        "literals": html(named("A *literal* is" + literals.partition("This answers the questions")[0])),
+        "literals": html(section("Literals")) + html(section("Where separators may be")),
         "rules": html("\n".join(f"- Rule {index}: {rule}." for index, rule in enumerate(rules(), 1))),
-        "punctuation": html(section("The rules").partition("\n\n")[0].rpartition("\n[`Outcomes`")[0]),
-        "equivalent": html(section("Equivalent words")),
+        "limits": html(section("What a format cannot express")),
+        "terms": html(section("Terms")),
         "policy": f"{policy}; img-src data:; base-uri 'none'; form-action 'none'",
         "style": style,
         "data": embedded,
@@ -226,9 +239,12 @@ def main(arguments):
     old = PAGE.read_text() if PAGE.exists() else ""
     found = re.search(r'<script id="library" [^>]*data-hash="(\w+)">([^<]*)</script>', old)
     is_current = bool(found) and found[1] == hash_of(found[2])
+    if is_current:
+        shown = json.loads(re.search(r'<script type="application/json" id="data">([^<]*)</script>', old)[1])["languages"]
+        made = found[2], {language["name"]: language["forms"] for language in shown}
     if arguments:
-        sys.exit(0 if is_current and old == page(found[2]) else "explorer/index.html: not up to date: run explorer/build")
-    text = page(found[2] if is_current else base64.b64encode(compiled()).decode())
+        sys.exit(0 if is_current and old == page(*made) else "explorer/index.html: not up to date: run explorer/build")
+    text = page(*(made if is_current else compiled()))
     if len(text.encode()) >= MOST_BYTES:
         sys.exit(f"explorer/index.html: {len(text.encode())} bytes, more than {MOST_BYTES}")
     PAGE.write_text(text)

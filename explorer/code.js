@@ -1,4 +1,9 @@
-/* The code that builds a word, to be copied. The options of a parser follow as a comment. */
+/* The code that makes a reader of a state, to be copied. If there is no reader, it has the word alone, and says why. */
+
+/* Returns a byte as a character of Rust or C. */
+function character(byte, prefix) {
+    return quoted(byte, prefix).replace(/'(['\\])'/, "'\\$1'");
+}
 
 class Code {
     constructor(library) {
@@ -12,54 +17,103 @@ class Code {
         });
     }
 
-    /* Returns the lines of the comment on a state. */
-    comment({ word, exponent, point }) {
-        const options = `A parser's exponent character is ${quoted(exponent, "")}, and its decimal point ${quoted(point, "")}.`;
-        return [wordText(word), exponent || point ? options : "A parser reads integers alone."];
+    /* Returns why a state has no reader: the first reason, or an empty text. */
+    problem({ reasons, options }) {
+        const [first] = [...reasons, ...options];
+        return first ? `There is no reader: ${first.text}.` : "";
     }
 
-    rust(state, { isBuilt, error }) {
-        const calls = this.edits(state.word).map(({ name, isByte, isNumber, value }) => {
-            const byte = isNumber || "'\\".includes(String.fromCharCode(value)) ? String(value) : quoted(value, "b");
+    rust(state, shown) {
+        const { word, exponent, point } = state;
+        const problem = this.problem(shown);
+        if (problem) return `// ${problem}\npub const WORD: u128 = ${wordText(word)};\n`;
+        const calls = this.edits(word).map(({ name, isByte, isNumber, value }) => {
+            const byte = isNumber ? String(value) : character(value, "b");
             const optional = value ? `NonZeroU8::new(${byte})` : "None";
             return `    .${name}(${!isByte ? Boolean(value) : name === "mantissa_radix" ? byte : optional})\n`;
         });
-        const uses = calls.some((call) => call.includes("NonZeroU8")) ? "use core::num::NonZeroU8;\n" : "";
-        const lines = this.comment(state);
-        if (error) lines.push("The word is not lawful, so `build_or_panic` would not compile.");
-        const comment = lines.map((line) => `/// ${line}\n`).join("");
-        if (!isBuilt) return `/// No builder makes this word.\n${comment}const FORMAT: u128 = ${wordText(state.word)};\n`;
-        const build = error ? "build_unchecked" : "build_or_panic";
-        const value = `NumberFormatBuilder::new()\n${calls.join("")}    .${build}();\n`;
-        return `${uses}use peltzivar::format::NumberFormatBuilder;\n\n${comment}const FORMAT: u128 = ${value}`;
+        const build = `NumberFormatBuilder::new()\n${calls.join("")}    .build_format_or_panic()`;
+        const isFloat = exponent || point;
+        const options = [exponent, point].map((it) => character(it, "b")).join(", ");
+        const conditions = this.library.conditions.filter(({ flag }) => state.conditions & flag).map(({ name }) => `.${name}(true)`);
+        const hasBytes = shown.isBuilt && calls.some((call) => call.includes("NonZeroU8"));
+        const syntax = isFloat ? `Syntax::new_or_panic(FORMAT, ${options})` : "Syntax::integers(FORMAT)";
+        const names = `${conditions.length ? "Conditions, " : ""}ParseError, Reader, Syntax`;
+        return [
+            ...(hasBytes ? ["use core::num::NonZeroU8;"] : []),
+            `use peltzivar::literal::{${names}};`,
+            `use peltzivar::${shown.isBuilt ? "{Format, NumberFormatBuilder}" : "Format"};`,
+            "",
+            `/// ${wordText(word)}`,
+            `pub const FORMAT: Format = ${shown.isBuilt ? build : `Format::of::<${wordText(word)}>()`};`,
+            `pub const SYNTAX: Syntax = ${syntax}${conditions.length ? "" : ";"}`,
+            ...(conditions.length ? [`    .with_or_panic(Conditions::NONE${conditions.join("")});`] : []),
+            "pub static READER: Reader = Reader::new(SYNTAX);",
+            "",
+            `pub fn read(text: &str) -> Result<${isFloat ? "f64" : "i64"}, ParseError> {`,
+            "    READER.parse(text)",
+            "}",
+            "",
+        ].join("\n");
     }
 
-    c(state) {
+    c(state, shown) {
+        const problem = this.problem(shown);
+        const halves = [BigInt.asUintN(64, state.word), state.word >> 64n].map((it) => `UINT64_C(0x${it.toString(16).toUpperCase()})`);
+        const start = `#include "peltzivar.h"\n`;
+        if (problem) return `${start}\n/* ${problem} */\nstatic const peltzivar_word WORD = {${halves.join(", ")}};\n`;
+        const lines = this.lines(state).map((line) => `    ${JSON.stringify(`${line}\n`)}`).join("\n");
+        const [type, call] = state.exponent ? ["double", "peltzivar_to_f64"] : ["int64_t", "peltzivar_to_i64"];
+        return `${start}#include <string.h>
+
+/* ${wordText(state.word)} */
+static const char SETTINGS[] =
+${lines || '    ""'};
+
+/* Makes the reader. Call this once, before the first text is read. */
+bool make_reader(peltzivar_reader *reader) {
+    peltzivar_syntax syntax;
+    return !peltzivar_read_settings(SETTINGS, strlen(SETTINGS), &syntax)
+        && peltzivar_reader_init(reader, &syntax) == PELTZIVAR_SUCCESS;
+}
+
+/* Writes the value of a number, and returns false if the text has none. */
+bool read_number(const peltzivar_reader *reader, const char *text, ${type} *value) {
+    peltzivar_literal literal;
+    peltzivar_read_error error;
+    return peltzivar_read(reader, text, strlen(text), &literal, &error)
+        && ${call}(&literal, value) == PELTZIVAR_VALUE_OK;
+}
+`;
+    }
+
+    python(state, shown) {
+        const problem = this.problem(shown);
+        const word = wordText(state.word);
+        if (problem) return `from peltzivar import FormatView\n\n# ${problem}\nview = FormatView(${word})\n`;
+        const lines = this.lines(state).map((line) => `    ${JSON.stringify(line)},\n`).join("");
+        return `from peltzivar import Syntax
+
+# ${word}
+syntax = Syntax.of(${lines && `\n${lines}`})
+
+
+def read(text):
+    return syntax.read(text).value
+`;
+    }
+
+    /* Returns the settings of a state: those of the word, and then those of options and conditions that are not the usual
+     * ones. */
+    lines(state) {
         const settings = this.edits(state.word).map((edit) => this.library.setting(edit, edit.value));
-        const comment = [...this.comment(state), ...settings].join("\n * ");
-        const halves = [state.word & HALF, state.word >> 64n].map((half) => `UINT64_C(0x${half.toString(16).toUpperCase()})`);
-        const value = `static const peltzivar_word FORMAT = {${halves.join(", ")}};\n`;
-        return `#include "peltzivar.h"\n\n/* ${comment} */\n${value}`;
+        return [...settings, ...this.library.differences(state, { ...this.library.usual, word: state.word }).map(({ text }) => text)];
     }
 
-    python(state, { isBuilt, error }) {
-        const rows = this.edits(state.word).map(({ name, isByte, isNumber, value }) => {
-            const isVisible = !isNumber && value > 32 && value < 127;
-            const byte = isVisible ? JSON.stringify(String.fromCharCode(value)) : String(value || "None");
-            return `    ${name}=${!isByte ? (value ? "True" : "False") : name === "mantissa_radix" ? value : byte},\n`;
-        });
-        const view = error ? "FormatView" : "Format";
-        const call = isBuilt ? `${view}.of(${rows.length ? `\n${rows.join("")}` : ""})` : `${view}(${wordText(state.word)})`;
-        const comment = this.comment(state).map((line) => `# ${line}\n`).join("");
-        return `from peltzivar import ${view}\n\n${comment}format = ${call}\n`;
-    }
-
-    /* The settings of the word, and then those of the options that are not the usual ones. */
     settings(state, { isBuilt }) {
-        const settings = this.edits(state.word).map((edit) => this.library.setting(edit, edit.value));
-        const { word } = this.library.build(settings);
+        const lines = this.lines(state);
+        const { word } = this.library.read(lines.join("\n"));
         const nearest = isBuilt ? [] : [`# No builder makes this word. These settings build the nearest one, ${wordText(word)}.`];
-        const options = this.library.differences(state, { ...STANDARD_OPTIONS, word: state.word }).map(({ text }) => text);
-        return [`# ${wordText(state.word)}`, ...nearest, ...settings, ...options, ""].join("\n");
+        return [`# ${wordText(state.word)}`, ...nearest, ...lines, ""].join("\n");
     }
 }

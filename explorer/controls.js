@@ -10,9 +10,18 @@ const WORDS = [
     [/exponent/, "float scientific"],
 ];
 
-/* Returns the first piece of code in a meaning. */
-function example(meaning) {
-    return meaning.split("`")[1] ?? "";
+/* Returns texts that a flag makes a parser refuse, and texts that it accepts then, in words. Flags of separators make it
+ * accept texts. */
+function examples({ accepts = [], refuses = [], part }) {
+    const texts = (all) => all.map((text) => `\`${text}\``).join(", ");
+    if (!accepts.length) return refuses.length ? `refuses ${texts(refuses)}` : "";
+    return part === "separator" ? `accepts ${texts(accepts)}` : `refuses ${texts(refuses)}, accepts ${texts(accepts)}`;
+}
+
+/* Returns where the field is in the word. */
+function placeOf({ bit, bits, isByte }) {
+    if (bit === undefined) return bits ? `bits ${bits.join(", ")}` : "not in the word";
+    return isByte ? `bits ${bit} to ${bit + 7}` : `bit ${bit}`;
 }
 
 class Controls {
@@ -21,7 +30,6 @@ class Controls {
         this.edit = edit;
         this.boxes = new Map();
         this.inputs = new Map();
-        this.asNumbers = false;
         this.makeBytes();
         this.makeFlags();
         this.makeSeparators();
@@ -29,9 +37,10 @@ class Controls {
     }
 
     /* Returns the check box of a flag or a group. */
-    box(name, meaning) {
+    box(field) {
+        const { name, meaning } = field;
         const change = (event) => this.edit(name, Number(event.target.checked));
-        const label = `${name}: ${meaning.replaceAll("`", "")}`;
+        const label = `${[meaning, examples(field)].filter(Boolean).join(": ")} (${name})`.replaceAll("`", "");
         const box = element("input", { type: "checkbox", id: name, change, "aria-label": label });
         this.boxes.set(name, box);
         return box;
@@ -44,15 +53,23 @@ class Controls {
             const ofSection = flags.filter((flag) => flag.section === title);
             const isOfGroup = ofSection.some(({ mask }) => mask & group.mask);
             const rows = ofSection.map((flag) => this.flagRow(flag));
-            if (isOfGroup) rows.unshift(this.flagRow({ ...group, part: "group", meaning: `all ${group.meaning}` }));
+            if (isOfGroup) rows.unshift(this.flagRow({ ...group, part: "group" }));
             find("flags").append(element("fieldset", {}, element("legend", {}, title), rows));
         }
     }
 
-    flagRow({ name, part, meaning }) {
-        const label = element("label", { for: name }, element("span", { class: `dot ${part}` }), name);
-        const text = element("span", { class: "meaning" }, withCode(meaning));
-        return element("div", { class: "flag-row field", "data-field": name }, this.box(name, meaning), label, text);
+    /* Returns the row of a flag or a group: what it does, with examples, and then its name. */
+    flagRow(field) {
+        const { name, part, meaning } = field;
+        const label = element("label", { for: name }, element("span", { class: `dot ${part}` }), ...withCode(meaning));
+        const all = [this.box(field), label, element("span", { class: "meaning" }, withCode(examples(field))), this.nameOf(field)];
+        return element("div", { class: "flag-row control field", "data-field": name }, all);
+    }
+
+    /* Returns the name of a field, and where it is in the word. */
+    nameOf(field) {
+        const place = element("span", { class: "place" }, placeOf(field));
+        return element("span", { class: "name" }, `${field.name} \u00b7 `, place);
     }
 
     /* Makes the table of separator flags: a row for each part of a number, a column for each position. */
@@ -71,16 +88,15 @@ class Controls {
         find("separators").after(...others.map((flag) => this.flagRow(flag)));
     }
 
-    groupHead({ name, meaning }, title, scope) {
-        const label = element("label", {}, this.box(name, meaning), title);
-        return element("th", { scope, class: "field", "data-field": name }, label);
+    groupHead(group, title, scope) {
+        const label = element("label", {}, this.box(group), title);
+        return element("th", { scope, class: "field", "data-field": group.name }, label);
     }
 
     separatorRow(row, columns) {
         const cells = columns.map((column) => {
             const flag = this.library.flags.find(({ mask }) => mask & row.mask & column.mask);
-            const text = element("code", {}, example(flag.meaning));
-            const label = element("label", {}, this.box(flag.name, flag.meaning), text);
+            const label = element("label", {}, this.box(flag), element("code", {}, flag.accepts[0]));
             return element("td", { class: "field", "data-field": flag.name }, label);
         });
         return element("tr", {}, this.groupHead(row, row.name.replace("_digit_separator_flags", ""), "row"), cells);
@@ -94,21 +110,22 @@ class Controls {
         const textOf = ({ dataset: { field = "" }, textContent }) => plain(`${field} ${textContent} ${others(field)}`);
         const has = (node) => textOf(node).includes(wanted);
         const hide = (node, rows) => (node.hidden = !rows.some((row) => !row.hidden));
-        for (const row of document.querySelectorAll("#controls .byte-row, #controls .flag-row")) row.hidden = !has(row);
+        for (const row of document.querySelectorAll("#controls .control")) row.hidden = !has(row);
         const rows = [...document.querySelectorAll("#separators tbody tr")];
         for (const row of rows) row.hidden = ![...row.querySelectorAll("[data-field]")].some(has);
         hide(find("separators"), rows);
         const groups = document.querySelectorAll("#flags fieldset, #controls > section");
-        for (const group of groups) hide(group, [...group.querySelectorAll(".byte-row, .flag-row, tbody tr")]);
+        for (const group of groups) hide(group, [...group.querySelectorAll(".control, tbody tr")]);
         find("no-field").hidden = [...groups].some((group) => !group.hidden);
     }
 
     makeBytes() {
-        const rows = [...this.library.bytes, ...OPTIONS].map((field) => this.byteRow(field));
-        find("bytes").append(...rows);
+        find("bytes").append(...[...this.library.bytes, ...OPTIONS].map((field) => this.byteRow(field)));
+        find("conditions").append(...this.library.conditions.map((condition) => this.flagRow(condition)));
     }
 
-    byteRow({ name, title = name, part = "option", meaning, isNumber = false }) {
+    byteRow(field) {
+        const { name, title = name.replace("_", " "), part = "option", meaning, isNumber = false } = field;
         const problem = element("span", { class: "problem", id: `${name}-problem`, role: "status" });
         let before;
         /* While a text is refused, the byte is the one before the text was typed. */
@@ -128,7 +145,8 @@ class Controls {
         this.inputs.set(name, { box, other, problem, isNumber });
         const label = element("label", { for: name }, element("span", { class: `dot ${part}` }), title);
         const text = element("span", { class: "meaning", id: `${name}-meaning` }, withCode(meaning));
-        return element("div", { class: "byte-row field", "data-field": name }, label, box, other, problem, text);
+        const all = [label, box, other, problem, text, this.nameOf(field)];
+        return element("div", { class: "byte-row control field", "data-field": name }, all);
     }
 
     /* Returns {value} of a typed text: a number, a character, the name of one, or an empty text; or {error}. */
@@ -146,7 +164,9 @@ class Controls {
     show(state) {
         this.shown = state;
         for (const [name, box] of this.boxes) {
-            const { mask } = this.library.named.get(name);
+            const { mask, flag } = this.library.named.get(name) ?? this.library.conditions.find((it) => it.name === name);
+            if (flag) box.checked = Boolean(state.conditions & flag);
+            if (flag) continue;
             box.checked = (state.word & mask) === mask;
             box.indeterminate = !box.checked && (state.word & mask) !== 0n;
         }
@@ -166,7 +186,7 @@ class Controls {
         const isNamed = byteText(byte) !== String(byte);
         const numbers = [isNamed ? byteText(byte) : "", byte, `0x${byte.toString(16).toUpperCase().padStart(2, "0")}`];
         setText(other, byte !== effective ? `means ${effective}` : isAbsent || isNumber ? "" : numbers.join(" "));
-        const asNumber = isNumber || this.asNumbers || (byte >= 48 && byte < 58);
+        const asNumber = isNumber || (byte >= 48 && byte < 58);
         Object.assign(input, { byte, text: isAbsent ? "" : asNumber ? String(byte) : byteText(byte) });
         if (!isKept) this.fill(name);
     }

@@ -1,8 +1,7 @@
 /* The library, which runs as WebAssembly. All calls of library.rs are here. A word is a BigInt, and its flags and bytes
- * are read and written by bit arithmetic. */
+ * are read and written by bit arithmetic. A state is a word with the options. */
 "use strict";
 
-const HALF = (1n << 64n) - 1n;
 const MOST_WORD = (1n << 128n) - 1n;
 /* How many bytes a text may have. */
 const MOST_TEXT = 60000;
@@ -11,11 +10,12 @@ const OPTIONS = [
     { name: "exponent", title: "exponent character", meaning: "an option of the parser, such as the `e` in `1e5`" },
     { name: "point", title: "decimal point", meaning: "an option of the parser, such as the `.` in `1.5`" },
 ];
-const STANDARD_OPTIONS = { exponent: 101, point: 46 };
+const STANDARD_OPTIONS = { exponent: 101, point: 46, conditions: 0 };
 
 class Library {
-    constructor(calls, { flags, groups, bytes }) {
+    constructor(calls, { flags, groups, bytes, conditions }) {
         this.calls = calls;
+        this.conditions = conditions.map((condition, index) => ({ ...condition, part: "option", flag: 1 << index }));
         this.flags = flags.map((flag) => ({ ...flag, mask: 1n << BigInt(flag.bit) }));
         this.bytes = bytes.map((byte) => ({ ...byte, isByte: true, mask: 255n << BigInt(byte.bit) }));
         this.groups = groups.map((group) => {
@@ -26,45 +26,66 @@ class Library {
         this.named = new Map([...this.fields, ...this.groups].map((field) => [field.name, field]));
         this.known = this.fields.reduce((all, { mask }) => all | mask, 0n);
         this.standard = this.build([]).word;
+        this.usual = { word: this.standard, ...STANDARD_OPTIONS };
     }
 
-    /* Returns a library from the bytes of its WebAssembly. */
+    /* Returns a library from its compressed WebAssembly. */
     static async load(bytes, data) {
-        const { instance } = await WebAssembly.instantiate(bytes, {});
+        const stream = new Blob([bytes]).stream().pipeThrough(new DecompressionStream("gzip"));
+        const { instance } = await WebAssembly.instantiate(await new Response(stream).arrayBuffer(), {});
         return new Library(instance.exports, data);
     }
 
     /* Returns the answer of a call that reads this text. */
-    call(name, text, ...numbers) {
+    call(name, text) {
         const { memory, input, output } = this.calls;
-        const bytes = new TextEncoder().encode(text.slice(0, MOST_TEXT)).subarray(0, MOST_TEXT);
+        const bytes = new TextEncoder().encode(text.slice(0, 2 * MOST_TEXT)).subarray(0, 2 * MOST_TEXT);
         new Uint8Array(memory.buffer).set(bytes, input());
-        const length = this.calls[name](...numbers, bytes.length);
+        const length = this.calls[name](bytes.length);
         return JSON.parse(new TextDecoder().decode(new Uint8Array(memory.buffer, output(), length)));
     }
 
     /* Returns {word, notes} of a new builder with settings, or {error, index} for the first setting that is none. */
     build(settings) {
-        const answer = this.call("build", settings.join("\n"));
+        const answer = this.call("build", ["", ...settings].join("\n"));
         return answer.error ? answer : { ...answer, word: BigInt(answer.word) };
     }
 
     /* Returns all about a state: whether the word is built, its error, normal form, reasons and notes, and why the options
      * do not fit. Reasons and notes have their text, the fields that they blame, the broken rules, and repaired states. */
-    explain({ word, exponent, point }) {
-        const answer = this.call("explain", "", word & HALF, word >> 64n, exponent, point);
+    explain(state) {
+        const answer = this.call("explain", passed([state]));
         const named = ({ mask, options: own = [], repairs = [], ...it }) => {
             const fields = [...own, ...this.namesOf(BigInt(mask))];
             return { ...it, mask: BigInt(mask), fields, repairs: repairs.map(withWord) };
         };
         const [reasons, options, notes] = ["reasons", "options", "notes"].map((name) => answer[name].map(named));
+        if (answer.contradiction) {
+            const { name, flag } = this.conditions.find(({ name }) => answer.contradiction.startsWith(name));
+            const repairs = [{ ...state, conditions: state.conditions & ~flag }];
+            options.push({ text: answer.contradiction, fields: [name], rules: [], repairs });
+        }
         return { ...answer, normal: BigInt(answer.normal), reasons, options, notes };
     }
 
-    /* Returns an object for each line of a text, as `numbers` of library.rs describes: none if the word is not lawful. */
-    numbers({ word, exponent, point }, text) {
-        const answers = this.call("numbers", text, word & HALF, word >> 64n, exponent, point);
+    /* Returns an object for each line of a text, as `numbers` of library.rs describes: none if a word is not lawful. */
+    numbers(states, text) {
+        const answers = this.call("numbers", `${passed(states)}\n${text}`);
         return answers.map((answer) => ({ ...answer, offers: answer.offers.map(withWord) }));
+    }
+
+    /* Returns texts that tell the states of some forms from those of others, as `differ` of library.rs describes. */
+    differ(states, others) {
+        return this.call("differ", `${passed(states)}\n${passed(others)}`);
+    }
+
+    /* Returns the state of a syntax as the library prints it: a word, two bytes unless numbers are integers alone, and the
+     * conditions as settings. */
+    stateOfSyntax(text) {
+        const [word, exponent = 0, point = 0] = text.split(" ").filter((it) => !it.includes("="));
+        const set = this.conditions.filter(({ name }) => text.includes(`${name}=true`));
+        const conditions = set.reduce((all, { flag }) => all | flag, 0);
+        return { word: BigInt(word), exponent: Number(exponent), point: Number(point), conditions };
     }
 
     /* Returns {value}, or {error} if the setter does not take the text. A separator needs a flag that allows it. */
@@ -111,7 +132,12 @@ class Library {
             const [text, before] = [state, other].map((it) => `${name}=${it[name] ? quoted(it[name], "") : "none"}`);
             return { name, isByte: true, text, before, value: other[name] };
         });
-        return [...fields, ...options];
+        const changed = this.conditions.filter(({ flag }) => (state.conditions ^ other.conditions) & flag);
+        const conditions = changed.map(({ name, flag }) => {
+            const [text, before] = [state, other].map(({ conditions }) => `${name}=${Boolean(conditions & flag)}`);
+            return { name, text, before, value: other.conditions & flag };
+        });
+        return [...fields, ...options, ...conditions];
     }
 
     /* Returns the names of the fields with bits in a mask. All separator flags together have one name. */
@@ -130,11 +156,17 @@ class Library {
         return `${name}=${isNumber ? value : quoted(value, "")}`;
     }
 
-    /* Returns {word, notes} and the options of a text, or {error}. The text is hexadecimal, decimal, or settings, in which
-     * # begins a comment. */
+    /* Returns {word, notes}, and the options and conditions of a text, or {error}. The text is hexadecimal, decimal, or
+     * settings, in which # begins a comment. */
     read(text) {
         const [options, settings] = [{}, []];
-        const word = text.replace(/\b(exponent|point)\s*=\s*('.'|[^\s,;#]*)[\s,;]*/g, (_, name, value) => {
+        const rest = this.conditions.reduce((rest, { name, flag }) => {
+            return rest.replace(new RegExp(`\\b${name}=(true|false)\\b[\\s,;]*`, "g"), (_, value) => {
+                options.conditions = (options.conditions & ~flag) | (value === "true" ? flag : 0);
+                return "";
+            });
+        }, text);
+        const word = rest.replace(/\b(exponent|point)\s*=\s*('.'|[^\s,;#]*)[\s,;]*/g, (_, name, value) => {
             options[name] = this.byte(/^'.'$/.test(value) ? value[1] : value);
             return "";
         });
@@ -142,14 +174,32 @@ class Library {
         const digits = word.trim().replace(/(?<=\w)_(?=\w)/g, "").replace(/,$/, "");
         const isNumber = /^0x[0-9a-f]{1,32}$|^[0-9]{1,39}$/i.test(digits);
         if (isNumber && BigInt(digits) <= MOST_WORD) return { word: BigInt(digits), options };
-        const rest = word.replace(/\b(\w+)\s*=\s*('.'|[^\s,;#]*)|#.*|[\s,;]/g, (_, name, value) => {
+        const others = word.replace(/\b(\w+)\s*=\s*('.'|[^\s,;#]*)|#.*|[\s,;]/g, (_, name, value) => {
             if (name) settings.push(`${name}=${value}`);
             return "";
         });
-        if (rest || !settings.length) return { error: "This is neither a word nor a list of settings." };
+        if (others || !(settings.length || Object.keys(options).length)) return { error: "This is neither a word nor a list of settings." };
         const { error, index, ...built } = this.build(settings);
         return error ? { error: `${settings[index]}: ${error}${error.endsWith("?") ? "" : "."}` } : { ...built, options };
     }
+}
+
+/* Returns the line by which states are passed to the library. */
+function passed(states) {
+    const options = ({ exponent, point, conditions }) => exponent | (point << 8) | (conditions << 16);
+    return states.map((state) => `${state.word}:${options(state)}`).join(" ");
+}
+
+/* Returns the state of a form, without its name. */
+function stateOf({ word, exponent, point, conditions }) {
+    return { word, exponent, point, conditions };
+}
+
+/* Returns the value of a number, which the library computed, as text, or why it has none. */
+function valueText({ integer, float, unknown }) {
+    if (float === undefined) return integer ?? unknown;
+    const [value] = new Float64Array(BigUint64Array.of(BigInt(float)).buffer);
+    return Object.is(value, -0) ? "-0" : String(value);
 }
 
 /* Returns an answer with its word as a number. */

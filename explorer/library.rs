@@ -1,15 +1,20 @@
 //! The library for the page, as WebAssembly: calls of the crate `peltzivar`. A call reads a text from `INPUT`, writes
-//! its answer to `OUTPUT` as JSON, and returns how many bytes the answer has. A word has two halves of 64 bits.
+//! its answer to `OUTPUT` as JSON, and returns how many bytes the answer has. States are passed as lines of the text, each
+//! of the states of one or more forms.
 #![no_std]
 
 use core::fmt::{self, Display, Write};
 use core::ops::Range;
 
 use peltzivar::edits::{apply, is_built, normal_form};
-use peltzivar::literal::Reader;
+use peltzivar::literal::{FormError, Number, Reader, Readers};
 use peltzivar::{Edit, Error, FormatView, NumberFormatBuilder, Reason, Rule};
-use suggest::{Found, Line, SPECIALS, State, blamed_options, lines_of, offers, read, repairs};
+use examples::{Refused, other_values, refused};
+use forms::{Forms, Value, states_of, value_of};
+use suggest::{Found, Line, State, blamed_options, conditions_of, lines_of, offers, repairs};
 
+mod examples;
+mod forms;
 mod suggest;
 
 const SIZE: usize = 1 << 18;
@@ -30,17 +35,19 @@ pub extern "C" fn output() -> *const u8 {
     (&raw const OUTPUT).cast()
 }
 
-/// Returns the text of a call.
-fn text_of(length: usize) -> &'static [u8] {
+/// Returns the text of a call: its first line, and the others.
+fn text_of(length: usize) -> (&'static str, &'static [u8]) {
     // SAFETY: WebAssembly has one thread, and the page writes the text only between calls.
-    unsafe { &(&*(&raw const INPUT))[..length.min(SIZE)] }
+    let text = unsafe { &(&*(&raw const INPUT))[..length.min(SIZE)] };
+    let end = text.iter().position(|&byte| byte == b'\n').unwrap_or(text.len());
+    (core::str::from_utf8(&text[..end]).unwrap_or(""), text.get(end + 1..).unwrap_or_default())
 }
 
-/// Returns the word that settings, one a line, build, with the notes on fields without effect: `{"word", "notes"}`, or
+/// Returns the word that settings, one a line behind an empty one, build, with the notes on fields without effect: `{"word", "notes"}`, or
 /// `{"error", "index"}` for the first that is none.
 #[unsafe(no_mangle)]
 pub extern "C" fn build(length: usize) -> usize {
-    let text = core::str::from_utf8(text_of(length)).unwrap_or("");
+    let text = core::str::from_utf8(text_of(length).1).unwrap_or("");
     let mut builder = NumberFormatBuilder::new();
     for (index, line) in text.split('\n').filter(|line| !line.is_empty()).enumerate() {
         match line.parse::<Edit>() {
@@ -55,18 +62,21 @@ pub extern "C" fn build(length: usize) -> usize {
     })
 }
 
-/// Returns all that the page shows of a word and of an exponent character and a decimal point beside it.
+/// Returns all that the page shows of a state, which is the first line.
 #[unsafe(no_mangle)]
-pub extern "C" fn explain(low: u64, high: u64, exponent: u8, point: u8) -> usize {
-    let word = u128::from(high) << 64 | u128::from(low);
+pub extern "C" fn explain(length: usize) -> usize {
+    let Some(state) = states_of(text_of(length).0).next() else { return 0 };
+    let State { word, exponent, point, conditions } = state;
     let view = FormatView::new(word);
     answer(|out| {
         write!(out, r#"{{"normal":{},"isBuilt":{}"#, Word(normal_form(word)), is_built(word))?;
         write!(out, r#","error":{},"reasons":"#, Quoted(Failure(view.error())))?;
-        let state = State { word, exponent, point };
         list(out, view.reasons(), |out, reason| put_reason(out, state, reason))?;
         out.write_str(r#","options":"#)?;
         list(out, view.options_reasons(exponent, point), |out, reason| put_reason(out, state, reason))?;
+        let fitting = State { conditions: 0, ..state }.exact();
+        let contradiction = fitting.and_then(|syntax| syntax.with(conditions_of(conditions)).err());
+        contradiction.map_or(Ok(()), |it| write!(out, r#","contradiction":{}"#, Quoted(it)))?;
         out.write_str(r#","notes":"#)?;
         list(out, view.notes(), |out, note| {
             write!(out, r#"{{"text":{},"mask":{}}}"#, Quoted(note), Word(note.mask()))
@@ -93,56 +103,107 @@ fn put_reason(out: &mut Answer, state: State, reason: Reason) -> fmt::Result {
 }
 
 /// Writes an object with a state, without its last brace.
-fn put_state(out: &mut Answer, State { word, exponent, point }: State) -> fmt::Result {
-    write!(out, r#"{{"word":{},"exponent":{exponent},"point":{point}"#, Word(word))
+fn put_state(out: &mut Answer, State { word, exponent, point, conditions }: State) -> fmt::Result {
+    write!(out, r#"{{"word":{},"exponent":{exponent},"point":{point},"conditions":{conditions}"#, Word(word))
 }
 
-/// Returns an object for each of the lines: the parts of its number, or of the longest front of a refused text that is a
-/// number; why and where it is refused, with the flags to blame and the bytes to mark; and, if it is not as expected, the
-/// states that are offered, each with the same for the number in it and how many lines are as expected then. If the word
-/// is not lawful, returns an empty array.
+/// Returns an object for each line but the first, which has the forms: the value and the parts of its number, or the parts
+/// of the longest front of a refused text that is a number; the form that accepts the text, or to which it is nearest; why
+/// and where it is refused, with the flags to blame and the bytes to mark; and, if it is not as expected of one form, the
+/// states that are offered, each with the same for the number in it and how many lines are as expected then. If a word is
+/// not lawful, returns an empty array.
 #[unsafe(no_mangle)]
-pub extern "C" fn numbers(low: u64, high: u64, exponent: u8, point: u8, length: usize) -> usize {
-    let (state, lines) = (State { word: u128::from(high) << 64 | u128::from(low), exponent, point }, text_of(length));
-    answer(|out| match state.syntax().map(Reader::new) {
-        Some(reader) => list(out, lines_of(lines), |out, line| put_line(out, state, &reader, lines, line)),
+pub extern "C" fn numbers(length: usize) -> usize {
+    let (states, lines) = text_of(length);
+    answer(|out| match Forms::new(states_of(states)) {
+        Some(forms) => list(out, lines_of(lines), |out, line| put_line(out, &forms, lines, line)),
         None => out.write_str("[]"),
     })
 }
 
-fn put_line(out: &mut Answer, state: State, reader: &Reader, lines: &[u8], line: Line<'_>) -> fmt::Result {
+fn put_line(out: &mut Answer, forms: &Forms, lines: &[u8], line: Line<'_>) -> fmt::Result {
     out.write_str("{")?;
-    put_reading(out, reader, line.text)?;
+    put_reading(out, forms.readers(), line.text)?;
     out.write_str(r#","offers":"#)?;
-    let is_expected = read(reader, line.text).is_err() == line.is_refused;
-    let found = if is_expected { Found::new(lines) } else { offers(state, lines, line) };
+    let is_expected = forms.readers().read(line.text).is_err() == line.is_refused;
+    let mut states = forms.states().filter(|_| !is_expected && forms.states().len() == 1);
+    let found = states.next().map_or(Found::new(lines), |state| offers(state, lines, line));
     list(out, found.best(), |out, (state, expected)| {
         put_state(out, state)?;
         write!(out, r#","expected":{expected},"#)?;
-        state.syntax().map_or(Ok(()), |it| put_reading(out, &Reader::new(it), line.text))?;
+        Forms::new([state].into_iter()).map_or(Ok(()), |it| put_reading(out, it.readers(), line.text))?;
         out.write_str("}")
     })?;
     out.write_str("}")
 }
 
-/// Writes the parts of a text, or of its longest front that is a number, and then why and where it is refused.
-fn put_reading(out: &mut Answer, reader: &Reader, text: &[u8]) -> fmt::Result {
+/// Writes the value and the parts of a text, or the parts of its longest front that is a number, and why and where it is
+/// refused.
+fn put_reading(out: &mut Answer, readers: Readers<'_>, text: &[u8]) -> fmt::Result {
+    let read = readers.read(text);
+    if let Ok(number) = read {
+        put_value(out, value_of(number))?;
+        out.write_str(",")?;
+    }
     out.write_str(r#""parts":"#)?;
     let put = |out: &mut Answer, (kind, bytes): (&str, &[u8])| {
         let size = bytes.len();
         write!(out, r#"{{"kind":"{kind}","size":{size}}}"#)
     };
-    if let (Err(_), Some(special)) = (reader.read(text), SPECIALS.read(&reader.syntax(), text)) {
+    if let Ok(Number::Special(special)) = read {
         let (sign, rest) = text.split_at(special.sign.map_or(0, |_| 1));
         return list(out, [("sign", sign), ("special", rest)].into_iter().filter(|(_, bytes)| !bytes.is_empty()), put);
     }
-    match reader.read_prefix(text) {
-        Ok((literal, _)) => list(out, literal.parts(), put)?,
-        Err(_) => out.write_str("[]")?,
+    match readers.read_prefix(text).ok().and_then(|(number, _)| number.literal()) {
+        Some(literal) => list(out, literal.parts(), put)?,
+        None => out.write_str("[]")?,
     }
-    let Err(error) = reader.read(text) else { return Ok(()) };
-    let (mask, Range { start, end }) = (Word(error.mask()), error.span());
-    write!(out, r#","error":{},"mask":{mask},"start":{start},"end":{end}"#, Quoted(error))
+    match read {
+        Ok(number) => write!(out, r#","form":{}"#, number.form().unwrap_or(0)),
+        Err(FormError { form, error, .. }) => {
+            let (mask, Range { start, end }) = (Word(error.mask()), error.span());
+            write!(out, r#","form":{form},"error":{},"mask":{mask},"start":{start},"end":{end}"#, Quoted(error))
+        }
+    }
+}
+
+/// Returns texts that tell the forms of two lines apart: those that the second ones refuse, those that the first ones refuse,
+/// and one to which they give different values. If a word is not lawful, returns an empty array.
+#[unsafe(no_mangle)]
+pub extern "C" fn differ(length: usize) -> usize {
+    let (first, second) = text_of(length);
+    let lines = [first, core::str::from_utf8(second).unwrap_or("")];
+    let [Some(first), Some(second)] = lines.map(|it| Forms::new(states_of(it))) else {
+        return answer(|out| out.write_str("[]"));
+    };
+    answer(|out| {
+        out.write_str("[")?;
+        list(out, refused(&first, &second), put_refused)?;
+        out.write_str(",")?;
+        list(out, refused(&second, &first), put_refused)?;
+        out.write_str(",")?;
+        list(out, other_values(&first, &second).into_iter(), |out, (text, [here, there])| {
+            write!(out, r#"{{"text":{},"here":{{"#, Quoted(text))?;
+            put_value(out, here)?;
+            out.write_str(r#"},"there":{"#)?;
+            put_value(out, there)?;
+            out.write_str("}}")
+        })?;
+        out.write_str("]")
+    })
+}
+
+fn put_refused(out: &mut Answer, (text, error): Refused) -> fmt::Result {
+    write!(out, r#"{{"text":{},"error":{}}}"#, Quoted(text), Quoted(error))
+}
+
+/// Writes an integer as digits, a float as the number of its bits, and why a number has no value.
+fn put_value(out: &mut Answer, value: Value) -> fmt::Result {
+    match value {
+        Value::Integer(is_negative, size) => write!(out, r#""integer":"{}{size}""#, if is_negative { "-" } else { "" }),
+        Value::Float(bits) => write!(out, r#""float":"{bits}""#),
+        Value::Unknown(error) => write!(out, r#""unknown":{}"#, Quoted(error)),
+    }
 }
 
 /// Writes an array, each item by a function.

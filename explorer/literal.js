@@ -15,21 +15,21 @@ const PARTS = {
     suffix: ["base", "base_suffix"],
     digit_separator: ["separator", "digit_separator"],
 };
-/* How many lines the field shows, how many of them are read, and how long a number is that has a value. */
-const [MOST_ROWS, MOST_LINES, MOST_VALUE] = [8, 100, 500];
+/* How many lines the field shows, and how many of them are read. */
+const [MOST_ROWS, MOST_LINES] = [8, 100];
 
 class Trial {
     constructor(library, { change }) {
         this.library = library;
         this.change = change;
-        this.keys = [];
         find("literal").addEventListener("input", ({ target }) => change({ numbers: target.value }, "literal"));
     }
 
     /* Reads the numbers of a state, and shows what was read. Returns how many of them are as expected and how many are not
      * read, in words, and the first number that is not as expected. */
-    show(state) {
+    show(state, forms) {
         this.state = state;
+        this.forms = forms;
         const box = find("literal");
         if (box.value !== state.numbers) box.value = state.numbers;
         box.rows = Math.min(Math.max(state.numbers.split("\n").length, 2), MOST_ROWS);
@@ -46,10 +46,10 @@ class Trial {
             ...(lines.length && !this.answers.length ? ["not read, since the word is not lawful"] : []),
             ...(left ? [`${unread}: the page reads up to ${MOST_LINES} lines with ${MOST_TEXT / 1000} kB`] : []),
         ];
-        this.fill([
-            ...this.answers.map((answer) => ({ key: this.keyOf(answer), make: () => this.row(answer) })),
-            ...texts.map((text) => ({ key: text, make: () => element("li", { class: "bad" }, text) })),
-        ]);
+        const focused = document.activeElement.id;
+        const messages = texts.map((text) => element("li", { class: "unexpected" }, element("p", { class: "bad" }, text)));
+        find("read").replaceChildren(...this.answers.map((answer) => this.row(answer)), ...messages);
+        if (focused.startsWith("refuse-")) find(focused)?.focus();
         const expected = this.answers.filter(({ isExpected }) => isExpected).length;
         const count = this.answers.length ? `${expected} of ${this.answers.length} as expected` : "";
         const counts = [count, left ? unread : ""].filter(Boolean).join("; ");
@@ -58,7 +58,7 @@ class Trial {
 
     /* Returns what the library returns for lines, with what each line expects and what is offered in words. */
     read(lines) {
-        const answers = this.library.numbers(this.state, lines.map(({ text }) => text).join("\n"));
+        const answers = this.library.numbers(this.forms, lines.map(({ text }) => text).join("\n"));
         return answers.map(({ offers, ...answer }, index) => {
             const isRefused = lines[index].text.startsWith("!");
             const text = lines[index].text.slice(Number(isRefused));
@@ -67,7 +67,7 @@ class Trial {
                 const changes = differences.sort((a, b) => Number(!a.isByte) - Number(!b.isByte));
                 const count = answers.length > 1 ? `; ${offer.expected} of ${answers.length} as expected` : "";
                 const label = `set ${changes.map((it) => it.text).join(", ")}`;
-                const told = this.told({ ...offer, text, isRefused }, offer);
+                const told = this.told({ ...offer, text, isRefused });
                 return { ...offer, changes, label, then: `then ${text} is ${told}${count}` };
             });
             const isExpected = isRefused === Boolean(answer.error);
@@ -75,63 +75,39 @@ class Trial {
         });
     }
 
-    /* Returns a text of all that a row shows. */
-    keyOf({ text, place, parts, start, end, offers, ...answer }) {
-        const told = this.told({ text, parts, start, ...answer });
-        const texts = offers.flatMap(({ label, then }) => [label, then]);
-        return [text, place, start, end, told, ...parts.flatMap(Object.values), ...texts].join("\n");
-    }
-
-    /* Shows the rows. Those that show the same as before stay. */
-    fill(rows) {
-        const list = find("read");
-        rows.forEach(({ key, make }, index) => {
-            if (key === this.keys[index]) return;
-            if (list.children[index]) list.children[index].replaceWith(make());
-            else list.append(make());
-        });
-        while (list.children.length > rows.length) list.lastElementChild.remove();
-        this.keys = rows.map(({ key }) => key);
-    }
-
     row(answer) {
         const { text, place, isRefused, isExpected, mask = 0 } = answer;
-        const change = () => this.turn(place);
         const nothing = isRefused ? "No flag alone refuses it." : "No format that differs in a few fields accepts it.";
         const offers = answer.offers.map((offer, index) => this.offer(place, offer, index));
-        const label = `${text} must be refused`;
-        const box = element("input", { type: "checkbox", change, id: `refuse-${place}`, "aria-label": label });
+        if (!isExpected && !offers.length && this.forms.length === 1) offers.push(element("li", {}, nothing));
+        const attributes = { change: () => this.turn(place), id: `refuse-${place}`, "aria-label": `${text} must be refused` };
+        const box = element("input", { type: "checkbox", ...attributes });
         box.checked = isRefused;
-        return element(
-            "li",
-            { class: isExpected ? "" : "unexpected", "data-field": this.library.namesOf(BigInt(mask)).join(" ") },
-            element(
-                "div",
-                {},
-                element("span", { class: "written" }, this.pieces(answer)),
-                element("p", { class: isExpected ? "good" : "bad" }, this.told(answer)),
-            ),
-            element("label", { class: "refuse", title: "must be refused" }, box, "refuse"),
-            element("ul", {}, isExpected || offers.length ? offers : element("li", {}, nothing)),
-        );
+        const told = element("p", { class: isExpected ? "good" : "bad" }, this.told(answer));
+        const line = element("div", {}, element("span", { class: "written" }, this.pieces(answer)), told);
+        const refuse = element("label", { class: "refuse", title: "must be refused" }, box, "refuse");
+        const fields = this.library.namesOf(BigInt(mask)).join(" ");
+        const kind = isExpected ? "" : "unexpected";
+        return element("li", { class: kind, "data-field": fields }, line, refuse, element("ul", {}, offers));
     }
 
     /* Returns what is told of a number in a state. */
-    told({ text, error, start, parts, isRefused }, state = this.state) {
+    told({ text, error, start, isRefused, form = 0, ...answer }) {
         const where = start < text.length ? `at index ${start}` : "at the end";
-        const what = error ? `${where}: ${error}` : this.reading(state, text, parts);
+        const name = this.forms.length > 1 ? `, ${this.forms[form].name}` : "";
+        const what = (error ? `${where}: ${error}` : this.reading(answer)) + name;
         if (isRefused) return error ? `refused: ${what}` : `accepted as ${what}, but it must be refused`;
         return error ? what : `accepted: ${what}`;
     }
 
     /* Returns the text with its parts, in which the wrong bytes are marked, or a place if there are none. */
-    pieces({ text, parts, start, end }) {
+    pieces({ text, parts, start, end, form = 0 }) {
         const bytes = new TextEncoder().encode(text);
         let next = 0;
         const all = [...parts, { size: bytes.length }].map(({ kind, size }) => ({ kind, start: next, end: next += size }));
         const cut = (from, to) => all.filter((part) => part.start < to && from < part.end).map(({ kind, start, end }) => {
             const piece = new TextDecoder().decode(bytes.subarray(Math.max(start, from), Math.min(end, to)));
-            return kind ? this.spans(kind, piece) : piece;
+            return kind ? this.spans(kind, piece, form) : piece;
         }).flat();
         if (start === undefined) return cut(0, bytes.length);
         const marked = element("mark", {}, start < end ? cut(start, end) : "\u00a0");
@@ -139,8 +115,8 @@ class Trial {
     }
 
     /* Returns the spans of a part. Digit separators between its digits have spans of their own. */
-    spans(kind, text) {
-        const byte = this.library.get(this.state.word, "digit_separator");
+    spans(kind, text, form) {
+        const byte = this.library.get(this.forms[form].word, "digit_separator");
         const runs = new RegExp(`(\\x${byte.toString(16).padStart(2, "0")}+)`);
         const pieces = ["integer", "fraction", "exponent"].includes(kind) ? text.split(runs) : [text];
         return pieces.flatMap((piece, index) => {
@@ -153,33 +129,20 @@ class Trial {
     /* Returns a state that is offered, as a button with its settings, with what the number is then. */
     offer(place, { label, then, changes }, index) {
         const use = () => {
-            const { word, exponent, point } = this.answers.find((it) => it.place === place).offers[index];
-            this.change({ word, exponent, point });
+            this.change(stateOf(this.answers.find((it) => it.place === place).offers[index]));
             (find("read").querySelector(".use") ?? find("literal")).focus();
         };
         const fields = changes.map(({ name }) => name).join(" ");
         return element("li", {}, button("use", label, use, { "data-field": fields }), then);
     }
 
-    /* Returns what a number is in a state, by its parts: its kind, and its value if that is not too large. */
-    reading({ word }, text, parts) {
-        let at = 0;
-        const piece = Object.fromEntries(parts.map(({ kind, size }) => [kind, text.slice(at, (at += size))]));
-        if (piece.special) return "special value";
-        const kind = piece.point || piece.exponent_character ? "float" : "integer";
-        if (text.length > MOST_VALUE) return kind;
-        const byte = (name) => this.library.effective(word, name);
-        const separator = String.fromCharCode(byte("digit_separator"));
-        const digits = (run = "") => [...run].filter((it) => it !== separator).map((it) => BigInt(parseInt(it, 36)));
-        const number = (all, radix) => all.reduce((sum, digit) => sum * BigInt(radix) + digit, 0n);
-        const [radix, base, fraction] = [byte("mantissa_radix"), byte("exponent_base"), digits(piece.fraction)];
-        const mantissa = number([...digits(piece.integer), ...fraction], radix);
-        const sign = piece.sign === "-" ? "-" : "";
-        if (kind === "integer") return `integer = ${sign}${mantissa}`;
-        const exponent = Number(`${piece.exponent_sign ?? ""}${number(digits(piece.exponent), byte("exponent_radix"))}`);
-        const scaled = () => Number(mantissa) * base ** exponent / radix ** fraction.length;
-        const value = radix === 10 && base === 10 ? Number(`${mantissa}e${exponent - fraction.length}`) : scaled();
-        return Number.isFinite(value) ? `float = ${sign}${value}` : "float";
+    /* Returns what a number is: its kind and its value. */
+    reading(answer) {
+        const { parts, unknown } = answer;
+        if (parts.some(({ kind }) => kind === "special")) return `special value = ${valueText(answer)}`;
+        const isFloat = parts.some(({ kind }) => kind === "point" || kind === "exponent_character");
+        const kind = isFloat ? "float" : "integer";
+        return unknown ? `${kind}: ${unknown}` : `${kind} = ${valueText(answer)}`;
     }
 
     /* Makes an accepted number of a line one that must be refused, or the other way round. */

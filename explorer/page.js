@@ -1,28 +1,27 @@
-/* The state of the page: a word, an exponent character, a decimal point and the numbers, which the fragment of the URL has
- * too. */
+/* The state of the page: a word, an exponent character, a decimal point and the numbers. The fragment of the URL has it too,
+ * with the format to compare with and the tab of the code. */
 
 const LANGUAGES = ["rust", "c", "python", "settings"];
-/* After how many milliseconds without an edit the fragment is written. */
-const PAUSE = 400;
+/* After how many milliseconds without an edit the fragment is written, and how many pixels are beside a hint. */
+const [PAUSE, GAP] = [400, 6];
+/* The parts of a fragment. */
+const FRAGMENT = /^#?(word|exponent|point|conditions|numbers|compare|tab)=/;
 /* What is told for a while of a link that is copied from a file, which others cannot open. */
 const [TOLD, TOLD_FOR] = ["Copied from # on: paste it behind the address of the page.", 8000];
 
-/* Returns the place and the meaning of each field by its name. */
-function meaningsOf({ flags, groups, bytes }) {
-    return new Map([
-        ...flags.map(({ name, bit, meaning }) => [name, [`bit ${bit}`, `if set, a parser ${meaning}`]]),
-        ...groups.map(({ name, bits, meaning }) => [name, [`bits ${bits.join(", ")}`, meaning]]),
-        ...bytes.map(({ name, bit, meaning }) => [name, [`bits ${bit} to ${bit + 7}`, meaning]]),
-        ...OPTIONS.map(({ name, title }) => [name, ["not in the word", `the ${title}, an option of the parser`]]),
-        ["reserved", ["bits of no field", "they are 0 in a lawful word"]],
-    ]);
+/* Returns what a hint tells of each field by its name: where it is, what it means, and examples. */
+function meaningsOf({ fields, groups, conditions }) {
+    const text = (field) => [placeOf(field), field.meaning, examples(field)].filter(Boolean).join(": ");
+    const all = [...fields, ...groups, ...OPTIONS, ...conditions].map((field) => [field.name, text(field)]);
+    return new Map([...all, ["reserved", "bits of no field, which are 0 in a lawful word"]]);
 }
 
 class Page {
     constructor(library, data) {
         this.library = library;
         this.data = data;
-        for (const language of data.languages) language.word = library.build(language.settings).word;
+        const forms = data.languages.flatMap((language) => language.forms);
+        for (const form of forms) Object.assign(form, library.stateOfSyntax(form.syntax));
         [this.past, this.future] = [[], []];
         const edit = (name, value, key) => this.edit(name, value, key);
         const use = (state) => {
@@ -30,17 +29,16 @@ class Page {
             (find("reasons").querySelector(".use") ?? find("verdict")).focus();
         };
         this.controls = new Controls(library, edit);
-        this.report = new Report(library, data, { use, edit, go: (name) => this.go(name) });
+        this.report = new Report(library, data, { use, edit, go: (name) => this.go(name), change: () => this.saveLater() });
         this.trial = new Trial(library, { change: (part, key) => this.change(part, key) });
         this.cells = makeBits(library, (name) => this.controls.boxes.get(name).click());
         this.code = new Code(library);
         this.meanings = meaningsOf(library);
-        this.hint = find("hint").textContent;
         setText(find("version"), data.version);
         this.listen();
         this.listenToWord();
         this.listenToTabs();
-        this.makeTexts();
+        find("language").append(...choices(data.languages));
         this.read();
     }
 
@@ -51,13 +49,12 @@ class Page {
         click("undo", () => this.travel(this.past, this.future));
         click("redo", () => this.travel(this.future, this.past));
         document.addEventListener("keydown", (event) => this.undo(event));
-        click("standard", () => this.jump({ word: this.library.standard, ...STANDARD_OPTIONS }));
+        click("standard", () => this.jump(this.library.usual));
         find("language").addEventListener("change", ({ target }) => this.start(target.value));
-        find("as-numbers").addEventListener("change", (event) => {
-            this.controls.asNumbers = event.target.checked;
-            this.show();
-        });
-        click("copy-code", (event) => copy(event.target, find("code").textContent));
+        for (const { id, dataset } of document.querySelectorAll("[data-copies]")) {
+            const beside = find(dataset.copies);
+            click(id, () => copy(find(id), beside.value ?? beside.textContent));
+        }
         click("copy-link", (event) => {
             this.save();
             const isFile = location.protocol === "file:";
@@ -65,7 +62,7 @@ class Page {
             setTimeout(() => setText(find("copied"), ""), TOLD_FOR);
             copy(event.target, isFile ? location.hash : location.href);
         });
-        click("verdict", () => find("report-title").focus());
+        click("verdict", () => find(find("report").hidden ? "code-title" : "report-title").focus());
         click("count", () => find("literal").focus());
         for (const { id, dataset } of document.querySelectorAll("[data-go]")) click(id, () => find(dataset.go).focus());
         const marked = (node) => node.closest("[data-field]");
@@ -76,6 +73,9 @@ class Page {
         const point = ({ target }) => this.mark(marked(target) ?? marked(document.activeElement));
         document.addEventListener("pointerover", point);
         document.documentElement.addEventListener("pointerleave", (it) => it.pointerType === "mouse" && point(it));
+        const hide = () => (find("hint").hidden = true);
+        addEventListener("scroll", hide, { capture: true, passive: true });
+        document.addEventListener("keydown", ({ key }) => key === "Escape" && hide());
     }
 
     /* Takes Ctrl+Z, Ctrl+Y and Ctrl+Shift+Z, except in the fields for texts. */
@@ -111,61 +111,65 @@ class Page {
     }
 
     listenToTabs() {
-        const tabs = LANGUAGES.map((name) => find(`tab-${name}`));
-        const choose = (index) => {
-            this.language = LANGUAGES[index];
-            tabs.forEach((tab, other) => {
-                tab.setAttribute("aria-selected", String(other === index));
-                tab.tabIndex = other === index ? 0 : -1;
-            });
-            find("code").setAttribute("aria-labelledby", tabs[index].id);
-            if (this.shown) this.showCode();
-        };
-        choose(0);
-        tabs.forEach((tab, index) => {
-            tab.addEventListener("click", () => choose(index));
-            tab.addEventListener("keydown", ({ key }) => {
+        LANGUAGES.forEach((name, index) => {
+            find(`tab-${name}`).addEventListener("click", () => this.chooseTab(name));
+            find(`tab-${name}`).addEventListener("keydown", ({ key }) => {
                 const step = { ArrowRight: 1, ArrowLeft: -1 }[key];
                 if (!step) return;
-                const next = (index + step + tabs.length) % tabs.length;
-                choose(next);
-                tabs[next].focus();
+                this.chooseTab(LANGUAGES[(index + step + LANGUAGES.length) % LANGUAGES.length]);
+                find(`tab-${this.language}`).focus();
             });
         });
     }
 
-    makeTexts() {
-        const rows = this.data.limits.map(([limit, instead]) => {
-            return element("tr", {}, element("td", {}, withCode(limit)), element("td", {}, withCode(instead)));
-        });
-        find("limits").append(...rows);
-        find("language").append(...choices(this.data.languages));
+    /* Shows the code of a language. */
+    chooseTab(language) {
+        this.language = language;
+        for (const name of LANGUAGES) {
+            find(`tab-${name}`).setAttribute("aria-selected", String(name === language));
+            find(`tab-${name}`).tabIndex = name === language ? 0 : -1;
+        }
+        find("code").setAttribute("aria-labelledby", `tab-${language}`);
+        if (!this.shown) return;
+        this.showCode();
+        this.saveLater();
     }
 
     /* Starts from a language, with its numbers in place of those of another. */
     start(name) {
         const { languages } = this.data;
-        const { word, exponent, point, numbers } = languages.find((it) => it.name === name) ?? this.state;
+        const { forms, numbers } = languages.find((it) => it.name === name) ?? { forms: [this.state], ...this.state };
         const isOwn = this.state.numbers && !languages.some((it) => it.numbers === this.state.numbers);
-        this.jump({ word, exponent, point, numbers: isOwn ? this.state.numbers : numbers });
+        this.jump({ ...stateOf(forms[0]), numbers: isOwn ? this.state.numbers : numbers });
     }
 
-    /* Shows the language as chosen while the state is its state. */
+    /* Shows the language as chosen while the state is that of one of its forms, and returns the forms that are read. */
     showLanguage() {
-        const isSame = (it) => ["word", "exponent", "point"].every((name) => it[name] === this.state[name]);
-        const language = this.data.languages.find((it) => it.name === find("language").value && isSame(it));
+        const isShown = (form) => Object.entries(stateOf(form)).every(([name, value]) => this.state[name] === value);
+        const chosen = this.data.languages.find(({ name }) => name === find("language").value);
+        const language = chosen?.forms.some(isShown) ? chosen : undefined;
         find("language").value = language?.name ?? "";
         find("about").replaceChildren(...withCode(language?.about ?? ""));
+        const forms = language?.forms ?? [this.state];
+        const buttons = forms.map((form) => {
+            return button("form", form.name, () => this.jump(stateOf(form)), { "aria-pressed": String(isShown(form)) });
+        });
+        find("forms").hidden = forms.length === 1;
+        const hadFocus = [...find("forms").children].indexOf(document.activeElement);
+        find("forms").replaceChildren(...buttons);
+        buttons[hadFocus]?.focus();
+        return forms;
     }
 
     /* Takes a text as the word, or a link as the state, if it is whole, or shows why it is not one. */
     take(text, isWhole) {
-        const link = /#(word|exponent|point|numbers)=\S*/.exec(text);
-        if (link && isWhole) {
-            history.replaceState(null, "", link[0]);
+        const [link] = /#\w+=\S*/.exec(text) ?? [""];
+        const isLink = FRAGMENT.test(link);
+        if (isLink && isWhole) {
+            history.replaceState(null, "", link);
             return this.read();
         }
-        if (link || (text.startsWith("#") && !isWhole)) return this.tell("Press Enter to take this link.", false);
+        if (isLink || (text.startsWith("#") && !isWhole)) return this.tell("Press Enter to take this link.", false);
         const { word, options, notes = [], error } = this.library.read(text);
         if (error) {
             const forms = "A word is `0x` and up to 32 hexadecimal digits, a decimal number, or settings such as `radix=16`.";
@@ -188,6 +192,9 @@ class Page {
 
     /* Changes a field or an option. Numbers are integers alone without both options, or floats with both. */
     edit(name, value, key) {
+        const { conditions } = this.state;
+        const flag = this.library.conditions.find((it) => it.name === name)?.flag;
+        if (flag) return this.change({ conditions: value ? conditions | flag : conditions & ~flag }, key);
         if (!(name in STANDARD_OPTIONS)) return this.change({ word: this.library.put(this.state.word, name, value) }, key);
         const other = name === "point" ? "exponent" : "point";
         const isAlone = (value === 0) !== (this.state[other] === 0);
@@ -220,33 +227,44 @@ class Page {
     }
 
     fragment() {
-        const { word, exponent, point, numbers } = this.state;
-        const rest = numbers && `&numbers=${encodeURIComponent(numbers)}`;
-        return `#word=${wordText(word)}&exponent=${exponent}&point=${point}${rest}`;
+        const { word, exponent, point, numbers, ...rest } = this.state;
+        const conditions = this.library.conditions.filter(({ flag }) => rest.conditions & flag).map(({ name }) => name).join(" ");
+        const compared = find("compare").value === "another" ? find("other").value : find("compare").value;
+        const tab = this.language === LANGUAGES[0] ? "" : this.language;
+        const others = Object.entries({ conditions, numbers, compare: compared, tab }).filter(([, text]) => text);
+        const all = others.map(([name, text]) => `&${name}=${encodeURIComponent(text)}`).join("");
+        return `#word=${wordText(word)}&exponent=${exponent}&point=${point}${all}`;
     }
 
-    /* Writes the state to the fragment. */
+    /* Writes the fragment, at once or after a pause. */
     save() {
         clearTimeout(this.timer);
         if (location.hash !== this.fragment()) history.replaceState(null, "", this.fragment());
     }
 
+    saveLater() {
+        clearTimeout(this.timer);
+        this.timer = setTimeout(() => this.save(), PAUSE);
+    }
+
     /* Reads the state from the fragment. A part that is missing has its default. If one is invalid, the page says so. */
     read() {
         const hash = location.hash.slice(1);
-        const isNamed = /^(word|exponent|point|numbers)=/.test(hash);
-        const parts = new URLSearchParams(isNamed ? hash.replaceAll("+", "%2B") : { word: hash });
+        const parts = new URLSearchParams(FRAGMENT.test(hash) ? hash.replaceAll("+", "%2B") : { word: hash });
         const byte = (name) => (parts.has(name) ? this.library.byte(parts.get(name)) : STANDARD_OPTIONS[name]);
         const word = parts.get("word") ? this.library.read(parts.get("word")).word : this.library.standard;
-        const found = { word, exponent: byte("exponent"), point: byte("point") };
+        const names = (parts.get("conditions") ?? "").split(" ");
+        const conditions = this.library.conditions.reduce((all, { name, flag }) => (names.includes(name) ? all | flag : all), 0);
+        const found = { word, exponent: byte("exponent"), point: byte("point"), conditions };
         const lost = Object.keys(found).filter((name) => found[name] === undefined);
-        const usual = { word: this.library.standard, ...STANDARD_OPTIONS };
-        for (const name of lost) found[name] = usual[name];
+        for (const name of lost) found[name] = this.library.usual[name];
         if (this.state) this.past.push(this.state);
         this.future = [];
         this.state = { ...found, numbers: (parts.get("numbers") ?? "").replace(/\r\n?/g, "\n") };
         this.key = "";
+        this.chooseTab(LANGUAGES.find((name) => name === parts.get("tab")) ?? LANGUAGES[0]);
         this.showAnew();
+        this.report.choose(parts.get("compare") ?? "");
         const titles = { word: "format word", exponent: "exponent character", point: "decimal point" };
         const all = lost.map((name) => titles[name]).join(" and no ");
         if (lost.length) this.tell(`This link has no ${all}. The page shows the standard one instead.`, true);
@@ -275,20 +293,19 @@ class Page {
         if (document.activeElement !== find("word") && !isKept) this.showWord();
         find("undo").disabled = !this.past.length;
         find("redo").disabled = !this.future.length;
-        this.showLanguage();
-        const reasons = this.report.show(this.state, this.shown);
+        const forms = this.showLanguage();
+        const reasons = this.report.show(this.state, this.shown, forms);
         this.controls.show(this.state);
         showBits(this.cells, word);
-        const { count, isGood, first } = this.trial.show(this.state);
+        const { count, isGood, first } = this.trial.show(this.state, forms);
         setText(find("count"), count);
         find("count").className = isGood ? "good" : "bad";
         const nothing = count ? "" : "The word satisfies all rules. Type numbers to try it.";
         setText(find("first-error"), reasons[0]?.text ?? first ?? nothing);
-        const fields = new Set(reasons.flatMap((reason) => reason.fields));
-        this.blame(fields, new Set(this.library.changes(word, this.library.standard).map(({ name }) => name)));
+        const blamed = reasons.flatMap((reason) => reason.fields);
+        this.blame(new Set(blamed), new Set(this.library.differences(this.state, this.library.usual).map(({ name }) => name)));
         this.showCode();
-        clearTimeout(this.timer);
-        this.timer = setTimeout(() => this.save(), PAUSE);
+        this.saveLater();
     }
 
     /* Marks the fields that reasons blame, and those that differ from the standard format. */
@@ -305,16 +322,21 @@ class Page {
         setText(find("code"), this.code[this.language](this.state, this.shown));
     }
 
-    /* Marks each element with the same field as this one, and describes the field. */
+    /* Marks each element with the same field as this one. Beside this one, a hint describes the field, unless it does. */
     mark(node) {
         const names = (node?.dataset.field ?? "").split(" ").filter(Boolean);
         for (const other of document.querySelectorAll("[data-field]")) {
             const isMarked = other.dataset.field.split(" ").some((name) => names.includes(name));
             other.classList.toggle("marked", isMarked);
         }
-        if (!names.length) return setText(find("hint"), this.hint);
-        const [where, meaning] = this.meanings.get(names[0]) ?? ["", ""];
-        find("hint").replaceChildren(element("code", {}, names[0]), ` ${where}: `, ...withCode(meaning));
+        const hint = find("hint");
+        hint.hidden = !names.length || node.matches(".control, .reason, .note");
+        if (hint.hidden) return;
+        hint.replaceChildren(element("code", {}, names[0]), " ", ...withCode(this.meanings.get(names[0])));
+        const [{ left, top, bottom }, { width, height }] = [node, hint].map((it) => it.getBoundingClientRect());
+        const isBelow = bottom + GAP + height < innerHeight;
+        hint.style.top = `${isBelow ? bottom + GAP : top - GAP - height}px`;
+        hint.style.left = `${Math.max(GAP, Math.min(left, document.documentElement.clientWidth - width - GAP))}px`;
     }
 
     /* Goes to the control of a field, which the filter may hide. */
@@ -325,24 +347,14 @@ class Page {
     }
 }
 
-/* Copies a text, and shows that on the button. Without a clipboard, which not every page has, a selection is copied. */
+/* Copies a text, and shows that on the button. Only pages from a file or by HTTPS have a clipboard. */
 async function copy(button, text) {
     const label = button.dataset.label ?? button.textContent;
     button.dataset.label = label;
-    const isCopied = await navigator.clipboard?.writeText(text).then(() => true, () => false) || copySelection(text);
+    const isCopied = await navigator.clipboard?.writeText(text).then(() => true, () => false);
     button.focus();
     setText(button, isCopied ? "copied" : "not copied: no clipboard");
     setTimeout(() => setText(button, label), isCopied ? 1200 : 5000);
-}
-
-function copySelection(text) {
-    const area = element("textarea", { readonly: true });
-    area.value = text;
-    document.body.append(area);
-    area.select();
-    const isCopied = document.execCommand("copy");
-    area.remove();
-    return isCopied;
 }
 
 async function main() {

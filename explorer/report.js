@@ -1,17 +1,22 @@
-/* The report on a state: its reasons, with what ends them, its notes, its normal form, and the comparison with another. */
+/* The report on a state: its reasons, with what ends them, its notes, its normal form, and the comparison with another
+ * state, which is hidden until it is asked for. */
 
 class Report {
-    constructor(library, data, { use, edit, go }) {
+    constructor(library, data, { use, edit, go, change }) {
         this.library = library;
         this.data = data;
         this.use = use;
         this.edit = edit;
         this.go = go;
-        const others = [{ name: "", about: "the standard format" }, { name: "another", about: "another word" }];
-        find("compare").append(...choices([...others, ...data.languages]));
-        find("compare").addEventListener("change", () => this.compare());
+        const others = [["", "nothing"], ["standard", "the standard format"], ["another", "this word, or another one"]];
+        const all = data.languages.flatMap((language) => {
+            const forms = language.forms.map((form) => ({ name: `${language.name}:${form.name}`, about: `\u2014 ${form.name}` }));
+            return forms.length > 1 ? [language, ...forms] : [language];
+        });
+        find("compare").append(...choices([...others.map(([name, about]) => ({ name, about })), ...all]));
+        find("compare").addEventListener("change", () => this.choose(find("compare").value));
         find("other").addEventListener("input", () => this.compare());
-        find("keep").addEventListener("click", () => this.keep());
+        for (const id of ["compare", "other"]) find(id).addEventListener("input", change);
     }
 
     /* Returns buttons that lead to the controls of fields. Reserved bits have none. */
@@ -23,7 +28,7 @@ class Report {
         });
     }
 
-    /* Shows a reason why the word is not lawful, or why an option does not fit. */
+    /* Shows a reason why the word is not lawful, or why an option or a condition does not fit. */
     reason({ text, fields, rules, repairs }) {
         const broken = rules.map(({ index, error }) => {
             const text = `breaks rule ${index + 1}, \u201c${this.data.rules[index]}\u201d: `;
@@ -32,78 +37,99 @@ class Report {
         const buttons = repairs.map((state) => {
             const changes = this.library.differences(state, this.state);
             const label = changes.map((it) => it.text).join(", ") || "clear the reserved bits";
-            const names = changes.map(({ name }) => name).join(" ");
-            return button("use", label, () => this.use(state), { "data-field": names });
+            return button("use", label, () => this.use(state), { "data-field": changes.map(({ name }) => name).join(" ") });
         });
-        return element(
-            "li",
-            { class: "reason", "data-field": fields.join(" ") },
-            element("strong", {}, text),
-            element("ul", { class: "rules" }, broken),
-            element("p", {}, element("span", { class: "key" }, "To blame"), this.links(fields)),
-            buttons.length ? element("p", {}, element("span", { class: "key" }, "Ends it"), buttons) : "",
-        );
+        const row = (key, all) => (all.length ? element("p", {}, element("span", { class: "key" }, key), all) : "");
+        const parts = [element("strong", {}, text), element("ul", { class: "rules" }, broken)];
+        const rows = [row("To blame", this.links(fields)), row("Ends it", buttons)];
+        return element("li", { class: "reason", "data-field": fields.join(" ") }, parts, rows);
     }
 
     note({ text, fields }) {
         return element("li", { class: "note", "data-field": fields.join(" ") }, text, element("p", {}, this.links(fields)));
     }
 
-    /* Keeps the state, to compare later ones with it. */
-    keep() {
+    /* Compares with a language, the standard format, another word, which is the present one at first, or nothing. */
+    choose(name) {
+        const isKnown = [...find("compare").options].some(({ value }) => value === name);
+        find("compare").value = isKnown ? name : "another";
         const { word, exponent, point } = this.state;
-        find("compare").value = "another";
-        find("other").value = `${wordText(word)} exponent=${exponent} point=${point}`;
+        find("other").value = isKnown ? `${wordText(word)} exponent=${exponent} point=${point}` : name;
         this.compare();
     }
 
-    /* Returns the state to compare with, or {error}, which is empty if there is no text. */
+    /* Returns the forms to compare with, or {error}, which is empty if there is no text. */
     other() {
-        const name = find("compare").value;
-        const standard = { ...STANDARD_OPTIONS, word: this.library.standard };
-        if (name !== "another") return this.data.languages.find((it) => it.name === name) ?? standard;
+        const [name, form] = find("compare").value.split(":");
+        if (name === "standard") return { forms: [this.library.usual] };
+        const { forms } = this.data.languages.find((it) => it.name === name) ?? {};
+        if (forms) return { forms: forms.filter((it) => !form || it.name === form) };
         const { word, options, error } = this.library.read(find("other").value);
-        return error ? { error: find("other").value.trim() && error } : { ...STANDARD_OPTIONS, word, ...options };
+        if (error) return { error: find("other").value.trim() && error, forms: [] };
+        return { forms: [{ ...this.library.usual, word, ...options }] };
     }
 
-    /* Shows each field and option that differs from the other format, with a button that takes it back. */
-    compare() {
-        const { library, state } = this;
-        const other = this.other();
-        find("other-line").hidden = find("compare").value !== "another";
-        const hadFocus = [...find("changes").querySelectorAll("button")].indexOf(document.activeElement);
-        const isState = !("error" in other);
-        const changes = isState ? library.differences(state, other) : [];
-        const { error, normal } = isState ? library.explain(other) : other;
-        const isSame = normal === library.explain(state).normal && !changes.some(({ name }) => name in STANDARD_OPTIONS);
+    /* Returns what two formats have to do with each other, in words, and the fields and options in which they differ. */
+    relation(other) {
+        const changes = this.library.differences(this.state, other);
+        const { error, normal } = this.library.explain(other);
+        const isSame = normal === this.library.explain(this.state).normal && !changes.some(({ name }) => !this.library.named.has(name));
         const same = changes.length ? "Same format, stored differently." : "Same format.";
-        const told = error ? "The other word is not lawful." : isSame ? same : "Not the same format.";
-        const where = changes.length ? " Where they differ, the word above has:" : "";
-        setText(find("same"), isState ? told + where : error);
-        const chips = changes.map(({ name, text, before, value, isByte }) => {
-            const title = `back to ${before}`;
-            const back = button("back", "\u00d7", () => this.edit(name, value), { title, "aria-label": title });
-            const rest = isByte ? `instead of ${before.slice(name.length + 1)}` : "";
-            return element("li", { class: "chip", "data-field": name }, element("code", {}, text), rest, back);
+        return { changes, told: error ? `The other word is not lawful: ${error}.` : isSame ? same : "" };
+    }
+
+    /* Shows texts that tell the formats apart, and each field and option in which they differ, with a button that takes it
+     * from the other one. */
+    compare() {
+        const name = find("compare").value;
+        find("comparison").hidden = !name;
+        find("other-line").hidden = name !== "another";
+        if (!name) return;
+        const title = find("compare").selectedOptions[0].textContent;
+        setText(find("comparison-title"), name === "another" ? "Compared with another word" : `Compared with ${title}`);
+        const { error, forms } = this.other();
+        const { changes = [], told = "" } = forms.length === 1 ? this.relation(forms[0]) : {};
+        const isTold = error !== undefined || (told && this.forms.length === 1);
+        const texts = isTold ? [] : this.texts(this.library.differ(this.forms, forms));
+        find("texts").replaceChildren(...texts);
+        setText(find("same"), isTold ? (error ?? told) : texts.length ? "Not the same." : "No text was found that tells them apart.");
+        const chips = changes.map(({ name, text, before, value }) => {
+            const set = button("set", `set ${before.slice(name.length + 1)}`, () => this.edit(name, value), { "aria-label": `set ${before}` });
+            return element("li", { class: "chip", "data-field": name }, element("code", {}, text), set);
         });
+        const hadFocus = [...find("changes").querySelectorAll("button")].indexOf(document.activeElement);
         find("changes").replaceChildren(...chips);
         if (hadFocus < 0) return;
         (find("changes").querySelectorAll("button")[Math.min(hadFocus, chips.length - 1)] ?? find("compare")).focus();
     }
 
+    /* Returns lists of the texts that tell two formats apart, as `differ` of library.rs returns them. */
+    texts(lists) {
+        const titles = ["Accepted here and refused there", "Refused here and accepted there", "With another value"];
+        return lists.flatMap((texts, index) => {
+            const rows = texts.map(({ text, error, here, there }) => {
+                const told = error ?? `is ${valueText(here)} here, and ${valueText(there)} there`;
+                return element("li", {}, element("code", {}, text), ` ${told}`);
+            });
+            return rows.length ? [element("h3", {}, titles[index]), element("ul", {}, rows)] : [];
+        });
+    }
+
     showNormal(word, normal) {
         const use = button("use", "use it", () => this.use({ word: normal }));
         const text = ["The normal form is ", element("code", {}, wordText(normal)), " ", use];
-        find("normal").replaceChildren(...(normal === word ? ["The word is its own normal form."] : text));
+        find("normal").replaceChildren(...(normal === word ? ["This word is in normal form."] : text));
     }
 
     /* Shows all of this for a state and what explains it, and returns the reasons. */
-    show(state, { error, reasons, options, notes, normal }) {
+    show(state, { error, reasons, options, notes, normal, contradiction }, forms) {
         this.state = state;
+        this.forms = forms;
         const all = [...reasons, ...options];
-        const lawful = options.length ? "An option does not fit" : "Lawful";
+        const lawful = options.length ? `${contradiction ? "A condition" : "An option"} does not fit` : "Lawful";
         setText(find("verdict"), error ? `Not lawful: ${all.length} reason${all.length > 1 ? "s" : ""}` : lawful);
         find("verdict").className = all.length ? "bad" : "good";
+        find("report").hidden = !all.length && !notes.length;
         find("reasons").replaceChildren(...all.map((reason) => this.reason(reason)));
         find("notes").replaceChildren(...notes.map((note) => this.note(note)));
         this.compare();

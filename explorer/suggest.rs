@@ -6,7 +6,7 @@ use peltzivar::format::{
     BASE_PREFIX, BASE_SUFFIX, CONSECUTIVE_DIGIT_SEPARATOR, DIGIT_SEPARATOR, DIGIT_SEPARATOR_FLAG_MASK, EXPONENT_BASE,
     EXPONENT_RADIX, FLAG_MASK, MANTISSA_RADIX, SPECIAL_DIGIT_SEPARATOR,
 };
-use peltzivar::literal::{ReadError, ReadErrorKind, Reader, Specials, Syntax};
+use peltzivar::literal::{Conditions, ReadError, ReadErrorKind, Reader, Specials, Syntax};
 use peltzivar::reasons::Byte;
 use peltzivar::{Cause, Format, FormatView, Reason, Rule};
 
@@ -32,12 +32,13 @@ const NO_POINT: u8 = 12;
 /// The usual exponent characters.
 const EXPONENTS: [u8; 3] = [b'e', b'p', b'^'];
 
-/// A format word, and the options of a parser. If both options are 0, numbers are integers alone.
+/// A format word, the options of a parser, and a bit for each condition. If both options are 0, numbers are integers alone.
 #[derive(Clone, Copy, Debug, PartialEq, Eq)]
 pub struct State {
     pub word: u128,
     pub exponent: u8,
     pub point: u8,
+    pub conditions: u8,
 }
 
 impl State {
@@ -45,20 +46,23 @@ impl State {
         self.exponent == 0 && self.point == 0
     }
 
-    /// Returns the syntax if the word is lawful and the options fit.
-    fn exact(self) -> Option<Syntax> {
+    /// Returns the syntax if the word is lawful, and the options and the conditions fit.
+    pub fn exact(self) -> Option<Syntax> {
         let format = Format::new(self.word).ok()?;
-        match self.is_integers() {
-            true => Some(Syntax::integers(format)),
-            false => Syntax::new(format, self.exponent, self.point).ok(),
-        }
+        let syntax = match self.is_integers() {
+            true => Syntax::integers(format),
+            false => Syntax::new(format, self.exponent, self.point).ok()?,
+        };
+        syntax.with(conditions_of(self.conditions)).ok()
     }
 
-    /// Returns the syntax if the word is lawful. No byte matches an option that does not fit.
+    /// Returns the syntax if the word is lawful. No byte matches an option that does not fit, and there are no conditions if
+    /// one does not fit.
     pub fn syntax(self) -> Option<Syntax> {
         let others = [(NO_EXPONENT, self.point), (self.exponent, NO_POINT), (NO_EXPONENT, NO_POINT)];
-        let others = others.into_iter().map(|(exponent, point)| Self { exponent, point, ..self });
-        self.exact().or_else(|| others.into_iter().find_map(Self::exact))
+        let all = [(self.exponent, self.point)].into_iter().chain(others);
+        let mut others = all.map(|(exponent, point)| Self { exponent, point, conditions: 0, ..self });
+        self.exact().or_else(|| others.find_map(Self::exact))
     }
 
     /// Returns the state with an exponent character and a decimal point that fit, if the word is lawful.
@@ -119,6 +123,17 @@ pub fn read(reader: &Reader, text: &[u8]) -> Result<(), ReadError> {
         Err(error) if SPECIALS.read(&reader.syntax(), text).is_none() => Err(error),
         _ => Ok(()),
     }
+}
+
+/// Returns the conditions of bits, and the bits of conditions.
+pub fn conditions_of(bits: u8) -> Conditions {
+    let [prefix, suffix, sign] = [1, 2, 4].map(|bit| bits & bit != 0);
+    Conditions::NONE.required_base_prefix(prefix).required_base_suffix(suffix).no_negative_mantissa_sign(sign)
+}
+
+fn bits_of_conditions(it: Conditions) -> u8 {
+    let all = [it.required_base_prefix, it.required_base_suffix, it.no_negative_mantissa_sign];
+    all.iter().rev().fold(0, |bits, &is_set| bits << 1 | u8::from(is_set))
 }
 
 /// Returns each flag of a mask of flags, from the lowest.
@@ -193,6 +208,12 @@ pub fn offers<'a>(state: State, lines: &'a [u8], line: Line<'_>) -> Found<'a> {
 }
 
 fn refusing(state: State, text: &[u8], found: &mut Found<'_>) {
+    for bit in [1, 2, 4] {
+        let other = State { conditions: state.conditions | bit, ..state };
+        if other.exact().is_some_and(|it| read(&Reader::new(it), text).is_err()) {
+            found.push(other);
+        }
+    }
     for flag in bits_of(FLAG_MASK) {
         let other = State { word: state.word ^ flag, ..state };
         // Consecutive separators need another flag of their part.
@@ -231,7 +252,8 @@ fn settled(mut state: State, text: &[u8]) -> Result<State, usize> {
     while let Err(error) = read_in(state) {
         match error {
             Some(error) if matches!(error.kind(), ReadErrorKind::Requirement | ReadErrorKind::Case) => {
-                state.word &= !error.mask()
+                state.word &= !error.mask();
+                state.conditions &= !bits_of_conditions(error.conditions());
             }
             error => return Err(error.map_or(text.len(), |it| it.valid_up_to())),
         }

@@ -35,9 +35,12 @@ except ImportError:
 STANDARD = "0x00000A0000000000000000000000000C"
 # A word with bits in each of its bytes, and among both kinds of flags.
 MIXED = "0x0A0210687800005F00000FC70001441F"
-# Words that a builder makes, with bytes that need an escape or cannot be seen, and words that none makes.
-WORDS = [STANDARD, MIXED, "0x000002005C000027000000010000000C", "0x00000A807F0000220000000100000000",
-         "0x00000A000000005F000000000000000C", "0x01FF257862000020800017FF8003FFFF"]
+# Words with an exponent character, a decimal point and the normal form, also with bytes that need an escape or cannot be
+# seen, without options, with a condition, and a word that no builder makes. The last one has no reader.
+NORMAL = "0x0A0A0A0000000000000000000000000C"
+STATES = [(STANDARD, "e", ".", NORMAL), (MIXED, "p", ",", f"{MIXED} required_base_prefix"), (STANDARD, "\\", "'", NORMAL), (STANDARD, "", "", NORMAL),
+          ("0x000002095C000027000000010000000C", "^", '"', "0x020202095C000027000000010000000C"),
+          ("0x00000A000000005F000000000000000C", "e", ".", NORMAL), ("0x01FF257862000020800017FF8003FFFF", "e", ".", "")]
 # Returns those of the recorded results that the library in the page does not return.
 WRONG_RESULTS = """const { library } = page;
     const hex = (word) => word.toString(16).toUpperCase().padStart(32, "0");
@@ -55,6 +58,27 @@ WRONG_RESULTS = """const { library } = page;
             build: () => hex(library.build(rest.slice(1)).word) === first,
         };
         return !results[kind](); })"""
+
+
+# Returns the texts whose contrast with the ground behind them is below 4.5, with this contrast.
+FAINT = """const canvas = document.createElement("canvas").getContext("2d", { willReadFrequently: true });
+    canvas.canvas.width = canvas.canvas.height = 1;
+    const grounds = (node) => (node ? [...grounds(node.parentElement), getComputedStyle(node).backgroundColor] : []);
+    const luminance = (colours) => {
+        canvas.fillStyle = "white";
+        for (const colour of ["white", ...colours]) { canvas.fillStyle = colour; canvas.fillRect(0, 0, 1, 1); }
+        const [red, green, blue] = [...canvas.getImageData(0, 0, 1, 1).data].map((it) => it / 255)
+            .map((it) => (it <= 0.04045 ? it / 12.92 : ((it + 0.055) / 1.055) ** 2.4));
+        return 0.2126 * red + 0.7152 * green + 0.0722 * blue;
+    };
+    const contrast = (node) => {
+        const [ground, text] = [grounds(node), [...grounds(node), getComputedStyle(node).color]].map(luminance);
+        return (Math.max(ground, text) + 0.05) / (Math.min(ground, text) + 0.05);
+    };
+    const hasText = (node) => node.value || [...node.childNodes].some((it) => it.nodeType === 3 && it.data.trim());
+    return [...document.querySelectorAll("body *")]
+        .filter((it) => it.checkVisibility({ visibilityProperty: true }) && !it.disabled && hasText(it))
+        .filter((it) => contrast(it) < 4.5).map((it) => `${it.textContent.slice(0, 40)} ${contrast(it)}`);"""
 
 
 def has(*programs):
@@ -140,46 +164,69 @@ class Walk(unittest.TestCase):
         self.assertEqual((self.run_script(WRONG_RESULTS, lines), lines == []), ([], False))
 
     def code(self, language):
-        """Returns a new folder, and the code that the page shows for each of WORDS."""
+        """Returns a new folder, and the code that the page shows for each of STATES."""
         folder = pathlib.Path(tempfile.mkdtemp())
         self.addCleanup(shutil.rmtree, folder)
-        return folder, self.run_script("""const [language, words] = arguments;
-            return words.map((text) => {
-                const state = { word: BigInt(text), exponent: 101, point: 46 };
-                return page.code[language](state, page.library.explain(state)); })""", language, WORDS)
+        codes = []
+        for word, exponent, point, normal in STATES:
+            options = f"&exponent={ord(exponent or chr(0))}&point={ord(point or chr(0))}&conditions={normal.partition(' ')[2]}"
+            self.load(f"#word={word}{options}&tab={language}")
+            codes.append(self.run_script("return document.getElementById('code').textContent"))
+        return folder, codes
+
+    def assert_states(self, printed):
+        """Fails unless each line has the normal form of one of STATES, its options, and whether the prefix is required."""
+        wanted = [f"{normal[:34]} {ord(exponent or chr(0))} {ord(point or chr(0))} {int(' ' in normal)}"
+                  for _, exponent, point, normal in STATES]
+        self.assertEqual([line.strip() for line in printed.splitlines()], [*wanted[:-1], STATES[-1][0]])
 
     def cargo(self, command, manifest, folder, *options):
         return run("cargo", command, "--quiet", "--offline", "--manifest-path", manifest, "--target-dir", folder, *options)
 
+    def library(self, folder, *suffixes):
+        """Builds the library of C and Python, and returns it."""
+        self.cargo("build", TOP / "rust/capi/Cargo.toml", folder, "--release")
+        return next(it for it in (folder / "release").iterdir() if it.suffix in suffixes)
+
     @unittest.skipUnless(has("cargo"), "no cargo")
-    def test_rust_code_builds_the_word(self):
+    def test_rust_code_makes_the_reader(self):
         folder, codes = self.code("rust")
-        blocks = "".join(f'{{ {text} println!("{{FORMAT:#034X}}"); }}\n' for text in codes)
-        (folder / "main.rs").write_text(f"fn main() {{ {blocks} }}")
+        options = "SYNTAX.exponent().unwrap_or(0), SYNTAX.point().unwrap_or(0), SYNTAX.conditions().required_base_prefix as u8"
+        show = f'println!("{{}} {{}} {{}} {{}}", SYNTAX.format(), {options}); assert!(read("").is_err());'
+        shows = [show] * (len(codes) - 1) + ['println!("{WORD:#034X}");']
+        modules = [f"mod m{index} {{\n{code}\npub fn show() {{ {shows[index]} }}\n}}\n" for index, code in enumerate(codes)]
+        calls = " ".join(f"m{index}::show();" for index in range(len(codes)))
+        (folder / "main.rs").write_text("#![deny(warnings)]\n" + "".join(modules) + f"fn main() {{ {calls} }}")
         (folder / "Cargo.toml").write_text(
             '[package]\nname = "code"\nedition = "2021"\n[[bin]]\nname = "code"\npath = "main.rs"\n[workspace]\n'
             f'[dependencies]\npeltzivar = {{ path = "{TOP / "rust"}" }}\n')
-        self.assertEqual(self.cargo("run", folder / "Cargo.toml", folder).split(), WORDS)
+        self.assert_states(self.cargo("run", folder / "Cargo.toml", folder))
 
-    @unittest.skipUnless(has("cc"), "no C compiler")
-    def test_c_code_has_the_word(self):
+    @unittest.skipUnless(has("cargo", "cc"), "no cargo, or no C compiler")
+    def test_c_code_makes_the_reader(self):
         folder, codes = self.code("c")
-        show = r'printf("0x%016llX%016llX\n", (unsigned long long)FORMAT.high, (unsigned long long)FORMAT.low);'
-        blocks = "".join(f"{{\n{text}\n{show}\n}}\n" for text in codes)
-        (folder / "main.c").write_text(
-            f'#include "peltzivar.h"\n#include <stdio.h>\nint main(void) {{ {blocks} return 0; }}\n')
-        run("cc", "-Wall", "-Wextra", "-Werror", "-I", TOP / "c", "-o", folder / "main", folder / "main.c")
-        self.assertEqual(run(folder / "main").split(), WORDS)
+        library = self.library(folder, ".a")
+        show = r'printf("0x%016llX%016llX ", (unsigned long long){0}.high, (unsigned long long){0}.low);'
+        options = "reader.syntax.exponent, reader.syntax.decimal_point, reader.syntax.required_base_prefix"
+        rest = rf'printf("%d %d %d\n", {options}); return read_number(&reader, "", 0);'
+        reader = f"peltzivar_reader reader; if (!make_reader(&reader)) return 1; {show.format('reader.syntax.format')} {rest}"
+        printed = ""
+        for index, code in enumerate(codes):
+            body = show.format("WORD") + 'puts("");' if index == len(codes) - 1 else reader
+            (folder / "main.c").write_text(f"{code}\n#include <stdio.h>\nint main(void) {{ {body} }}\n")
+            run("cc", "-Wall", "-Wextra", "-Werror", "-I", TOP / "c", "-o", folder / "main", folder / "main.c", library)
+            printed += run(folder / "main")
+        self.assert_states(printed)
 
     @unittest.skipUnless(has("cargo"), "no cargo")
-    def test_python_code_builds_the_word(self):
+    def test_python_code_makes_the_reader(self):
         folder, codes = self.code("python")
-        self.cargo("build", TOP / "rust/capi/Cargo.toml", folder, "--release")
-        library = next(it for it in (folder / "release").iterdir() if it.suffix in (".so", ".dylib"))
-        (folder / "main.py").write_text("".join(f"{text}print(format)\n" for text in codes))
+        library = self.library(folder, ".so", ".dylib")
+        options = "*(ord(it) if it else 0 for it in (syntax.exponent, syntax.point)), int(syntax.required_base_prefix)"
+        show = f"print(syntax.format, {options})\n"
+        (folder / "main.py").write_text("".join(f"{text}{show}" for text in codes[:-1]) + f"{codes[-1]}print(view)\n")
         variables = {"PELTZIVAR_LIBRARY": str(library), "PYTHONPATH": str(TOP / "c"), "PYTHONDONTWRITEBYTECODE": "1"}
-        printed = run(sys.executable, folder / "main.py", env={**os.environ, **variables})
-        self.assertEqual(printed.split(), WORDS)
+        self.assert_states(run(sys.executable, folder / "main.py", env={**os.environ, **variables}))
 
     def test_flags_are_set_by_box_label_key_and_bit(self):
         self.assertEqual((self.value(), self.text("#verdict")), (STANDARD, "Lawful"))
@@ -192,10 +239,11 @@ class Walk(unittest.TestCase):
         self.click(".bit[data-field=no_positive_mantissa_sign]")
         self.assertTrue(self.find("#no_positive_mantissa_sign").is_selected())
         self.assertEqual(self.value(), "0x00000A0000000000000000000000341C")
+        Select(self.find("#compare")).select_by_value("standard")
         self.assertEqual(self.texts("#changes code")[:2], ["no_positive_mantissa_sign=true", "no_special=true"])
-        self.click("#changes li:first-child .back")
+        self.click("#changes li:first-child button")
         self.assertEqual(self.value(), "0x00000A0000000000000000000000340C")
-        self.assertEqual(self.run_script("return document.activeElement.title"), "back to no_special=false")
+        self.assertEqual(self.run_script("return document.activeElement.ariaLabel"), "set no_special=false")
 
     def test_bytes_and_options_are_typed(self):
         self.type("#base_prefix", "x")
@@ -210,7 +258,7 @@ class Walk(unittest.TestCase):
         self.assertEqual(self.texts(".reason .link"), ["exponent character", "decimal point"])
         self.type("#point", ".")
         self.type("#mantissa_radix", "256")
-        self.assertIn("mantissa_radix takes a number", self.text("#mantissa_radix-problem"))
+        self.assertIn("the mantissa radix takes a number", self.text("#mantissa_radix-problem"))
         self.assertEqual(self.value(), "0x0000100078000000000000000000000C")
         self.find("#mantissa_radix").send_keys(Keys.ESCAPE)
         self.assertEqual(self.value("#mantissa_radix"), "16")
@@ -247,39 +295,70 @@ class Walk(unittest.TestCase):
         self.assertEqual(self.run_script("return history.length"), entries)
 
     def test_fields_are_found(self):
-        shown = """return [...document.querySelectorAll('#controls .field label')].filter((it) => it.checkVisibility())
-            .map((it) => it.textContent)"""
+        shown = """return [...document.querySelectorAll('#controls .field')].filter((it) => it.checkVisibility())
+            .map((it) => it.dataset.field)"""
         rows = {"leading zeros": "no_float_leading_zeros", "plus": "required_exponent_sign", "hex": "mantissa_radix"}
         for text, wanted in {**rows, "underscore": "digit_separator"}.items():
             self.type("#filter", text)
             self.assertIn(wanted, self.run_script(shown))
             self.assertNotIn("no_special", self.run_script(shown))
 
-    def test_two_words_are_compared(self):
+    def test_two_formats_are_compared(self):
         def shown():
             return self.text("#same"), self.texts("#changes code")
 
-        where = "Where they differ, the word above has:"
-        differ = f"Not the same format. {where}"
+        self.assertFalse(self.find("#comparison").is_displayed())
+        Select(self.find("#compare")).select_by_value("another")
         self.assertEqual(shown(), ("Same format.", []))
-        self.click("#keep")
         self.type("#exponent", "p")
-        self.assertEqual(shown(), (differ, ["exponent='p'"]))
+        self.assertEqual(shown(), ("Not the same.", ["exponent='p'"]))
         self.click("#changes button")
         self.assertEqual((shown(), self.value("#exponent")), (("Same format.", []), "e"))
         self.type("#other", "0x0A0A0A0000000000000000000000000C")
-        self.assertEqual(shown(), (f"Same format, stored differently. {where}", ["exponent_base=none", "exponent_radix=none"]))
-        self.type("#other", "radix=16 exponent='^'")
-        self.assertEqual(shown(), (differ, ["mantissa_radix=10", "exponent='e'"]))
+        self.assertEqual(shown(), ("Same format, stored differently.", ["exponent_base=none", "exponent_radix=none"]))
         for text, wanted in {"nonsense": "This is neither a word nor a list of settings.", " ": ""}.items():
             self.type("#other", text)
             self.assertEqual(shown(), (wanted, []))
         self.type("#other", "0xC")
-        self.assertEqual(shown(), (f"The other word is not lawful. {where}", ["mantissa_radix=10"]))
-        Select(self.find("#compare")).select_by_value("TOML")
-        self.assertEqual(self.texts("#changes code")[0], "required_integer_digits=false")
-        Select(self.find("#language")).select_by_value("TOML")
-        self.assertEqual(shown(), ("Same format.", []))
+        told = "The other word is not lawful: lexical number format error: 'invalid radix for mantissa digits'."
+        self.assertEqual(shown(), (told, ["mantissa_radix=10"]))
+
+    def test_texts_tell_two_languages_apart(self):
+        Select(self.find("#language")).select_by_value("JSON")
+        Select(self.find("#compare")).select_by_value("C")
+        self.assertEqual(self.texts("#texts h3")[:2], ["Accepted here and refused there", "Refused here and accepted there"])
+        self.assertIn("-1 unexpected minus sign, which no_negative_mantissa_sign forbids", self.texts("#texts li"))
+        self.assertIn("0x1 unexpected character 'x'", self.texts("#texts li"))
+        Select(self.find("#compare")).select_by_value("C:octal")
+        self.click("#no_special")
+        self.assertEqual(self.texts("#texts li")[-1], "10 is 10 here, and 8 there")
+
+    def test_forms_of_a_language_are_read_together(self):
+        self.type("#literal", "0x1F\n0b12\n1_000\n!1u")
+        Select(self.find("#language")).select_by_value("RUST")
+        self.assertEqual(self.texts("#read p"), [
+            "accepted: integer = 31, hexadecimal", "at index 3: unexpected character '2', binary",
+            "accepted: integer = 1000, decimal", "refused: at index 1: unexpected character 'u', decimal"])
+        self.click("#forms button", "hexadecimal")
+        self.assertEqual((self.value("#base_prefix"), self.value("#language"), self.focused()), ("x", "RUST", ""))
+        self.assertTrue(self.find("#required_base_prefix").is_selected())
+        self.assertEqual((self.value("#exponent"), self.value("#point")), ("", ""))
+        self.assertEqual(self.text("#count"), "3 of 4 as expected")
+        self.click("#no_special")
+        self.assertEqual((self.value("#language"), self.text("#count")), ("", "2 of 4 as expected"))
+
+    def test_conditions_are_offered_and_fit_the_format(self):
+        self.load("#word=0x0A0210007800005F000000010000000C&exponent=112&numbers=!1F%0A0x1F%0A-0x1F")
+        self.click("#read .use", "set required_base_prefix=true")
+        self.assertEqual(self.text("#count"), "3 of 3 as expected")
+        self.assertTrue(self.find("#required_base_prefix").is_selected())
+        self.click("#no_negative_mantissa_sign")
+        self.assertIn("at index 0: unexpected minus sign", self.text("#read .unexpected p"))
+        self.wait(lambda: "&conditions=required_base_prefix%20no_negative" in self.run_script("return location.hash"))
+        self.type("#base_prefix", "")
+        self.assertEqual(self.text("#verdict"), "A condition does not fit")
+        self.click(".reason .use", "required_base_prefix=false")
+        self.assertEqual((self.text("#verdict"), self.find("#required_base_prefix").is_selected()), ("Lawful", False))
 
     def test_groups_of_separator_flags_and_a_note(self):
         self.type("#digit_separator", "_")
@@ -363,7 +442,7 @@ class Walk(unittest.TestCase):
         self.assertEqual(self.texts("#read li")[-1], "30 lines are not read: the page reads up to 100 lines with 60 kB")
         self.run_script("page.change({ numbers: '1'.repeat(60000) })")
         self.assertEqual((self.text("#count"), self.find("#count").get_attribute("class")), ("1 line is not read", "bad"))
-        self.run_script("navigator.clipboard.writeText = () => Promise.reject(); document.execCommand = () => false")
+        self.run_script("navigator.clipboard.writeText = () => Promise.reject()")
         self.click("#copy-code")
         self.wait(lambda: self.text("#copy-code") == "not copied: no clipboard")
 
@@ -378,6 +457,7 @@ class Walk(unittest.TestCase):
         self.assertEqual(self.run_script(place), before)
 
     def test_the_normal_form_is_used(self):
+        self.click("#normal-panel summary")
         self.assertEqual(self.text("#normal code"), "0x0A0A0A0000000000000000000000000C")
         self.click("#normal .use")
         self.assertEqual(self.value(), "0x0A0A0A0000000000000000000000000C")
@@ -386,9 +466,9 @@ class Walk(unittest.TestCase):
         for name in self.run_script("return page.data.languages.map(({ name }) => name)"):
             Select(self.find("#language")).select_by_value(name)
             self.assertEqual((self.text("#verdict"), self.texts("#read .unexpected")), ("Lawful", []), name)
-            self.assertIn("!", self.value("#literal"), name)
-        Select(self.find("#language")).select_by_value("C_HEX_FLOAT")
+        Select(self.find("#language")).select_by_value("C")
         self.assertIn("C23", self.text("#about"))
+        self.click("#forms button", "hexadecimal float")
         self.assertEqual((self.value("#exponent"), self.value("#digit_separator")), ("p", "'"))
         self.assertEqual(self.value(), "0x0A02100078000027000000070000441C")
         self.click("#no_special")
@@ -396,10 +476,10 @@ class Walk(unittest.TestCase):
         self.type("#literal", "7")
         Select(self.find("#language")).select_by_value("JSON")
         Select(self.find("#language")).select_by_value("")
-        self.assertEqual((self.value(), self.value("#literal")), ("0x00000A0000000000000000000000341F", "7"))
+        self.assertEqual((self.value(), self.value("#literal")), ("0x0A0A0A0000000000000000000000341F", "7"))
 
     def test_integers_alone_have_no_options(self):
-        Select(self.find("#language")).select_by_value("RUST_HEX_INTEGER")
+        self.type("#exponent", "")
         self.assertEqual((self.value("#exponent"), self.value("#point")), ("", ""))
         self.type("#exponent", "p")
         self.assertEqual((self.value("#point"), self.text("#verdict")), (".", "Lawful"))
@@ -436,6 +516,48 @@ class Walk(unittest.TestCase):
         self.assertEqual((self.value(), self.value("#exponent"), self.value("#point")), (STANDARD, "e", "."))
         self.assertIn("This link has no format word", self.text("#word-problem"))
 
+    def test_a_link_is_followed_while_the_page_is_open(self):
+        self.run_script("location.hash = `#word=${arguments[0]}&exponent=112&compare=JSON&tab=python`", MIXED)
+        self.wait(lambda: self.value() == MIXED)
+        self.assertEqual((self.value("#exponent"), self.value("#compare")), ("p", "JSON"))
+        self.assertIn("from peltzivar import", self.text("#code"))
+        self.click("#tab-c")
+        Select(self.find("#compare")).select_by_value("another")
+        self.type("#other", "radix=8")
+        self.wait(lambda: self.run_script("return location.hash").endswith("&compare=radix%3D8&tab=c"))
+        self.driver.refresh()
+        self.wait(lambda: self.run_script("return document.documentElement.dataset.ready"))
+        self.assertEqual((self.value("#other"), self.text("#code")[:8]), ("radix=8", "#include"))
+
+    def test_copy_copies_what_is_beside_it(self):
+        self.run_script("navigator.clipboard.writeText = async (text) => { window.copied = text; }")
+        for tab in ("rust", "c", "python", "settings"):
+            self.click(f"#tab-{tab}")
+            self.click("#copy-code")
+            self.wait(lambda: self.run_script("return copied === document.getElementById('code').textContent"))
+        self.click("#copy-word")
+        self.wait(lambda: self.run_script("return copied") == STANDARD)
+
+    def test_texts_can_be_read_in_light_and_dark(self):
+        self.addCleanup(self.driver.execute_cdp_cmd, "Emulation.setEmulatedMedia", {"features": []})
+        for mode in ("light", "dark"):
+            features = [{"name": "prefers-color-scheme", "value": mode}]
+            self.driver.execute_cdp_cmd("Emulation.setEmulatedMedia", {"features": features})
+            for word, compare in ((MIXED, "JSON"), ("0x000010006200005F00000000000000CC", "another")):
+                self.load(f"#word={word}&exponent=112&compare={compare}&numbers=%2B0x1_0.8p%2B1%0A!1%0A1k")
+                self.run_script("document.querySelectorAll('details').forEach((it) => { it.open = true; })")
+                self.assertEqual(self.run_script(FAINT), [], mode)
+
+    def test_what_has_the_focus_has_an_outline(self):
+        self.find("body").send_keys(Keys.TAB)
+        self.assertEqual(self.run_script(
+            """return [...document.querySelectorAll("button, input, select, textarea, summary, pre[tabindex]")].filter((it) => {
+                it.focus();
+                const { outlineStyle, outlineWidth } = getComputedStyle(it);
+                return it === document.activeElement && (outlineStyle === "none" || parseFloat(outlineWidth) < 2);
+            }).map((it) => it.id || it.textContent)"""
+        ), [])
+
     def test_bits_are_those_of_the_word(self):
         self.load(f"#word={MIXED}")
         bits = self.run_script("return [...document.querySelectorAll('.bit')].map((it) => it.textContent).join('')")
@@ -443,14 +565,14 @@ class Walk(unittest.TestCase):
 
     def test_numbers_are_tried(self):
         self.load("#word=0x00000A000000005F000000020000000C")
-        self.type("#literal", "-0.1_2e5\n-1_000\n1\u00e9\n!1\n!.x")
-        self.assertEqual(self.texts("#read > li:first-child .written span"), ["-", "0", ".", "1", "_", "2", "e", "5"])
+        self.type("#literal", "-0.1_2e-5\n-1_000\n1\u00e9\n!1\n!.x")
+        self.assertEqual(self.texts("#read > li:first-child .written span"), ["-", "0", ".", "1", "_", "2", "e", "-", "5"])
         self.assertEqual(self.find("#read .separator").get_attribute("data-field"), "digit_separator")
         self.assertEqual(self.texts("#read > li:nth-child(2) .written"), ["-1_000"])
         self.assertEqual(self.texts("#read > li:nth-child(2) .written span"), ["-", "1"])
         self.assertEqual(self.texts("#read mark"), ["_", "\u00e9", "x"])
         self.assertEqual(self.texts("#read p"), [
-            "accepted: float = -12000",
+            "accepted: float = -0.0000012",
             "at index 2: unexpected digit separator in the integer after a digit, which requires "
             "integer_internal_digit_separator or integer_trailing_digit_separator",
             "at index 1: unexpected character '\u00e9'",

@@ -1,16 +1,27 @@
-"""Builds, reads, checks and edits number formats, which are 128-bit words, and reads the numbers of a format.
+"""Reads numbers as a language, a file or you write them, with their values, and says why a text is not one.
 
-    >>> from peltzivar import Format, Syntax
-    >>> format = Format.of(mantissa_radix=16, base_prefix="x")
-    >>> print(format)
-    0x0000100078000000000000000000000C
-    >>> Syntax.integers(format).read("-0x1F").integer
-    '1F'
+    >>> from peltzivar import Syntax, languages
+    >>> languages.TOML.read("1_000.5").value, languages.RUST.read("0x1F").value
+    (1000.5, 31)
+    >>> prices = Syntax.of(digit_separator=".", internal_digit_separator=True, point=",")
+    >>> price = prices.read("1.234,50")
+    >>> price.value, price.decimal()
+    (1234.5, Decimal('1234.50'))
 
-A word is lawful if it satisfies all rules. A `FormatView` holds any word, and a `Format` a lawful one. A `Syntax` reads
-literals, which are the numbers of a format, and the class `languages` has those of languages. In the repository,
-docs/FORMAT.md describes fields, rules and literals, and docs/C-AND-PYTHON.md this module. A value of a wrong type
-raises a TypeError, and another wrong value a ValueError.
+`read` returns a `Literal`, or raises a LiteralError. A `Language` has the numbers of a language, and `Syntax.of` takes
+settings: a keyword argument for each field of a format, the exponent character and the decimal point. Each field is an
+attribute of `FormatView`. Settings can also be texts, such as the lines of a file. Wrong ones raise a SettingsError:
+
+    >>> Syntax.of("radix = 16", "base_prefix = 'b'")
+    Traceback (most recent call last):
+    peltzivar.SettingsError: the base prefix 'b' is a digit in radix 16
+    >>> prices.read("1.234,,50")
+    Traceback (most recent call last):
+    peltzivar.LiteralError: unexpected character ','
+
+A format is a 128-bit word. It is lawful if it satisfies all rules. A `FormatView` holds any word, and a `Format` a lawful
+one. In the repository, docs/FORMAT.md describes fields, rules and literals, and docs/C-AND-PYTHON.md this module. A
+value of a wrong type raises a TypeError, and another wrong value a ValueError.
 
 This module needs the shared library of peltzivar.h, but no other package. `make install` and pip install both. To use
 another library, set PELTZIVAR_LIBRARY to its path. If none is found, importing this module raises an ImportError.
@@ -19,13 +30,17 @@ another library, set PELTZIVAR_LIBRARY to its path. If none is found, importing 
 from __future__ import annotations
 
 import functools
+import inspect
+import math
 import operator
 import os
 import reprlib
-from ctypes import CDLL, POINTER, Structure, c_bool, c_char_p, c_size_t, c_uint8, c_uint32, c_uint64
-from ctypes import create_string_buffer, sizeof
+from ctypes import CDLL, POINTER, Structure, c_bool, c_char_p, c_double, c_float, c_int64, c_size_t
+from ctypes import c_uint8, c_uint32, c_uint64, create_string_buffer, sizeof
 from dataclasses import dataclass, field
+from decimal import MAX_EMAX, MIN_EMIN, Context, Decimal, DecimalException, InvalidOperation, Rounded
 from enum import Enum
+from fractions import Fraction
 from itertools import count, repeat, takewhile
 from pathlib import Path
 from struct import Struct
@@ -33,7 +48,7 @@ from types import SimpleNamespace
 from typing import Any, AnyStr, Callable, Dict, Generic, Iterable, List, Optional, Tuple, Type, TypeVar, Union, cast
 
 __all__ = ["STANDARD", "Byte", "Edit", "Error", "Format", "FormatError", "FormatView", "Language", "Literal"]
-__all__ += ["LiteralError", "Note", "OptionsError", "Part", "ReadErrorKind", "Reason", "ReasonsError", "Role", "Rule"]
+__all__ += ["LiteralError", "Note", "OptionsError", "Part", "Parts", "ReadErrorKind", "Reason", "ReasonsError", "Role", "Rule"]
 __all__ += ["Separators", "Setter", "SettingsError", "Special", "Specials", "Spelling", "Syntax", "Value", "languages"]
 __all__ += ["notes_of"]
 
@@ -238,39 +253,14 @@ class _Word(Structure):
     ]
 
 
-class _Fields(Structure):
-    _fields_ = [
-        ("flags", c_uint64),
-        ("digit_separator", c_uint8),
-        ("base_prefix", c_uint8),
-        ("base_suffix", c_uint8),
-        ("mantissa_radix", c_uint8),
-        ("exponent_base", c_uint8),
-        ("exponent_radix", c_uint8),
-    ]
-
-
-class _Edit(Structure):
-    _fields_ = [
-        ("setter", c_uint8),
-        ("value", c_uint8),
-    ]
-
-
-class _Separators(Structure):
-    _fields_ = [
-        ("internal", c_bool),
-        ("leading", c_bool),
-        ("trailing", c_bool),
-        ("consecutive", c_bool),
-    ]
-
-
 class _Syntax(Structure):
     _fields_ = [
         ("format", _Word),
         ("exponent", c_uint8),
         ("decimal_point", c_uint8),
+        ("required_base_prefix", c_bool),
+        ("required_base_suffix", c_bool),
+        ("no_negative_mantissa_sign", c_bool),
     ]
 
 
@@ -291,6 +281,8 @@ class _Span(Structure):
 
 class _Literal(Structure):
     _fields_ = [
+        ("magic", c_uint64),
+        ("text", c_char_p),
         ("sign", _Span),
         ("prefix", _Span),
         ("integer", _Span),
@@ -302,6 +294,8 @@ class _Literal(Structure):
         ("suffix", _Span),
         ("size", c_size_t),
         ("is_float", c_bool),
+        ("form", c_uint8),
+        ("counts", c_uint64 * 14),
     ]
 
 
@@ -309,7 +303,15 @@ class _ReadError(Structure):
     _fields_ = [
         ("magic", c_uint64),
         ("valid_up_to", c_size_t),
-        ("stop", c_uint64 * 12),
+        ("form", c_size_t),
+        ("stop", c_uint64 * 13),
+    ]
+
+
+class _I128(Structure):
+    _fields_ = [
+        ("low", c_uint64),
+        ("high", c_int64),
     ]
 
 
@@ -322,6 +324,7 @@ class _Explanation(Structure):
         ("kind", c_uint8),
         ("number", c_uint8),
         ("part", c_uint8),
+        ("conditions", c_uint8),
     ]
 
 
@@ -340,8 +343,70 @@ class _Special(Structure):
     ]
 
 
+class _Style(Structure):
+    _fields_ = [
+        ("group", c_uint8),
+        ("without_base", c_bool),
+    ]
+
+
+class _Edit(Structure):
+    _fields_ = [
+        ("setter", c_uint8),
+        ("value", c_uint8),
+    ]
+
+
+class _Fields(Structure):
+    _fields_ = [
+        ("flags", c_uint64),
+        ("digit_separator", c_uint8),
+        ("base_prefix", c_uint8),
+        ("base_suffix", c_uint8),
+        ("mantissa_radix", c_uint8),
+        ("exponent_base", c_uint8),
+        ("exponent_radix", c_uint8),
+    ]
+
+
+class _Separators(Structure):
+    _fields_ = [
+        ("internal", c_bool),
+        ("leading", c_bool),
+        ("trailing", c_bool),
+        ("consecutive", c_bool),
+    ]
+
+
 _CALLS: Dict[str, Tuple[Any, List[Any]]] = {
     "version": (c_uint32, []),
+    "read_settings": (c_size_t, [c_char_p, c_size_t, POINTER(_Syntax)]),
+    "settings_text": (c_size_t, [c_char_p, c_size_t, c_size_t, c_char_p, c_size_t]),
+    "settings_lines": (c_size_t, [c_char_p, c_size_t, c_size_t, POINTER(c_size_t), c_size_t]),
+    "reader_init": (c_uint32, [POINTER(_Reader), POINTER(_Syntax)]),
+    "syntax_error_text": (c_size_t, [POINTER(_Syntax), c_char_p, c_size_t]),
+    "read": (c_bool, [POINTER(_Reader), c_char_p, c_size_t, POINTER(_Literal), POINTER(_ReadError)]),
+    "read_prefix": (c_bool, [POINTER(_Reader), c_char_p, c_size_t, POINTER(_Literal), POINTER(_ReadError)]),
+    "to_i64": (c_uint8, [POINTER(_Literal), POINTER(c_int64)]),
+    "to_u64": (c_uint8, [POINTER(_Literal), POINTER(c_uint64)]),
+    "to_i128": (c_uint8, [POINTER(_Literal), POINTER(_I128)]),
+    "to_f64": (c_uint8, [POINTER(_Literal), POINTER(c_double)]),
+    "to_f32": (c_uint8, [POINTER(_Literal), POINTER(c_float)]),
+    "value_description": (c_char_p, [c_uint8]),
+    "read_error_text": (c_size_t, [POINTER(_ReadError), c_char_p, c_size_t]),
+    "part_name": (c_char_p, [c_uint8]),
+    "explain": (c_bool, [POINTER(_ReadError), POINTER(_Explanation)]),
+    "read_special": (c_bool, [POINTER(_Reader), POINTER(_Specials), c_char_p, c_size_t, POINTER(_Special)]),
+    "language": (POINTER(_Reader), [c_char_p, c_size_t, POINTER(_Specials)]),
+    "language_name": (c_char_p, [c_size_t]),
+    "form_name": (c_char_p, [POINTER(_Reader), c_size_t]),
+    "form_syntax": (c_bool, [POINTER(_Reader), c_size_t, POINTER(_Syntax)]),
+    "format_i64": (c_uint8, [POINTER(_Reader), c_int64, POINTER(_Style), c_char_p, c_size_t, POINTER(c_size_t)]),
+    "format_u64": (c_uint8, [POINTER(_Reader), c_uint64, POINTER(_Style), c_char_p, c_size_t, POINTER(c_size_t)]),
+    "format_i128": (c_uint8, [POINTER(_Reader), _I128, POINTER(_Style), c_char_p, c_size_t, POINTER(c_size_t)]),
+    "format_f64": (c_uint8, [POINTER(_Reader), c_double, POINTER(_Style), c_char_p, c_size_t, POINTER(c_size_t)]),
+    "format_literal": (c_uint8, [POINTER(_Reader), POINTER(_Literal), POINTER(_Style), c_char_p, c_size_t, POINTER(c_size_t)]),
+    "write_description": (c_char_p, [c_uint8]),
     "build": (c_bool, [POINTER(_Edit), c_size_t, POINTER(_Word)]),
     "edit_word": (c_bool, [_Word, POINTER(_Edit), c_size_t, POINTER(_Word)]),
     "check": (c_uint32, [_Word]),
@@ -378,25 +443,12 @@ _CALLS: Dict[str, Tuple[Any, List[Any]]] = {
     "options_reason_roles": (c_uint32, [_Word, c_uint8, c_uint8, c_size_t]),
     "mantissa_digit": (c_uint32, [_Word, c_uint8]),
     "exponent_digit": (c_uint32, [_Word, c_uint8]),
-    "part_name": (c_char_p, [c_uint8]),
     "separators_of": (_Separators, [_Word, c_uint8]),
     "is_separator": (c_bool, [_Word, c_uint8]),
     "is_base_prefix": (c_bool, [_Word, c_uint8]),
     "is_base_suffix": (c_bool, [_Word, c_uint8]),
     "role_of": (c_uint8, [_Word, c_uint8, c_uint8, c_uint8]),
     "role_name": (c_char_p, [c_uint8]),
-    "reader_init": (c_uint32, [POINTER(_Reader), POINTER(_Syntax)]),
-    "syntax_error_text": (c_size_t, [POINTER(_Syntax), c_char_p, c_size_t]),
-    "read": (c_bool, [POINTER(_Reader), c_char_p, c_size_t, POINTER(_Literal), POINTER(_ReadError)]),
-    "read_prefix": (c_bool, [POINTER(_Reader), c_char_p, c_size_t, POINTER(_Literal), POINTER(_ReadError)]),
-    "read_error_text": (c_size_t, [POINTER(_ReadError), c_char_p, c_size_t]),
-    "explain": (c_bool, [POINTER(_ReadError), POINTER(_Explanation)]),
-    "read_special": (c_bool, [POINTER(_Reader), POINTER(_Specials), c_char_p, c_size_t, POINTER(_Special)]),
-    "language": (POINTER(_Reader), [c_char_p, c_size_t, POINTER(_Specials)]),
-    "language_name": (c_char_p, [c_size_t]),
-    "read_settings": (c_size_t, [c_char_p, c_size_t, POINTER(_Syntax)]),
-    "settings_text": (c_size_t, [c_char_p, c_size_t, c_size_t, c_char_p, c_size_t]),
-    "settings_lines": (c_size_t, [c_char_p, c_size_t, c_size_t, POINTER(c_size_t), c_size_t]),
 }
 # End
 
@@ -452,7 +504,11 @@ Call = TypeVar("Call", bound=Callable[..., Any])
 _RADIXES = (Setter.MANTISSA_RADIX, Setter.EXPONENT_BASE, Setter.EXPONENT_RADIX)
 _BYTES = (Setter.DIGIT_SEPARATOR, Setter.BASE_PREFIX, Setter.BASE_SUFFIX)
 _SETTERS = {**{it.name.lower(): it for it in Setter}, "radix": Setter.MANTISSA_RADIX}
+# The conditions of a syntax, with their types.
+_CONDITIONS: Dict[str, Any] = dict(_Syntax._fields_[3:])
 _SETTING = "a str or an Edit (pass a list as `*settings`)"
+# The default of an argument whose field keeps its value.
+_KEPT: Any = ...
 
 
 def _text(call: Any, *arguments: Any, size: int = _TEXT_SIZE) -> str:
@@ -516,16 +572,40 @@ def _refusal(setting: str) -> str:
 
 
 def _takes_fields(call: Call) -> Call:
-    """Makes a call pass its keyword arguments as edits, in order and behind its settings."""
+    """Makes a call pass its keyword arguments as settings, in order and behind its other settings."""
+    signature = inspect.signature(call)
+    others = [it for it in signature.parameters.values() if it.default is not _KEPT]
+    names = set(signature.parameters) - {it.name for it in others}
 
     @functools.wraps(call)
     def calling(*settings: Any, **fields: Any) -> Any:
         for name in fields:
-            if name not in _SETTERS:
-                raise TypeError(f"{call.__name__}() got an unexpected keyword argument {name!r}: {_refusal(name + '=')}")
-        return call(*settings, *(Edit.of(name, value) for name, value in fields.items()))
+            if name not in names:
+                setting = name.encode() + b"="
+                text = _settings_text(setting, 0) if "point" in names else _refusal(name + "=")
+                raise TypeError(f"{call.__name__}() got an unexpected keyword argument {name!r}: {text}")
+        return call(*settings, *(_setting(name, value) for name, value in fields.items()))
 
+    # That which `help` shows. Type checkers see each field.
+    fields = inspect.Parameter("fields", inspect.Parameter.VAR_KEYWORD)
+    calling.__dict__["__signature__"] = signature.replace(parameters=[*others, fields])
     return cast(Call, calling)
+
+
+def _setting(name: str, value: Value) -> Union[Edit, str]:
+    """Returns an argument as a setting."""
+    if name in _SETTERS:
+        return Edit.of(name, value)
+    if name in _CONDITIONS:
+        return f"{name}={'none' if value is None else str(_condition(name, value)).lower()}"
+    return f"{name}={'none' if value is None else _byte(name, value)}"
+
+
+def _condition(name: str, value: Value) -> int:
+    """Returns the value of a condition. Raises an error that names it if it does not take the value."""
+    if _CONDITIONS[name] is c_bool:
+        return _typed(name, value, bool)
+    return 0 if value is None else _number(name, value)
 
 
 @dataclass(frozen=True, init=False, repr=False)
@@ -651,7 +731,7 @@ class FormatError(ReasonsError):
 
 
 class OptionsError(ReasonsError):
-    """Raised if an exponent character and a decimal point do not fit a format."""
+    """Raised if an exponent character and a decimal point do not fit a format, or if it contradicts a condition."""
 
 
 class SettingsError(ReasonsError):
@@ -665,8 +745,9 @@ class LiteralError(ValueError):
     `valid_up_to` is the length of the longest beginning of the text that some literal begins with. If it is the length
     of the text, characters are missing. `span` is the first index and the end of the characters to show, maybe none, as
     in `text[slice(*span)]`. `kind` is the kind of the cause, and `part` the part of a separator or of missing digits.
-    `mask` has the flags to blame as bits of a word. A wrong byte and missing digits blame none. `error` is the error of
-    `lexical-util`.
+    `mask` has the flags to blame as bits of a word, and `conditions` the names of conditions. A wrong byte and missing
+    digits blame none. `error` is the error of
+    `lexical-util`. `form` is the name of the form of a language for which most of the text is right, or empty.
     """
 
     sentence: str
@@ -677,10 +758,13 @@ class LiteralError(ValueError):
     part: Optional[Part]
     mask: int
     error: Error
+    form: str = ""
+    conditions: Tuple[str, ...] = ()
 
     @property
     def edits(self) -> Tuple[Edit, ...]:
-        """The edits of the format that end the cause: each alone for a separator, and otherwise all together."""
+        """The edits of the format that end the cause: each alone for a separator, and otherwise all together. Conditions
+        are not part of a format."""
         return tuple(Edit.of(it, self.kind is ReadErrorKind.SEPARATOR) for it in _members(Setter, self.mask))
 
     def __str__(self) -> str:
@@ -712,9 +796,6 @@ class _Field:
 
 
 _field: Any = _Field
-# The default of an argument whose field keeps its value.
-_KEPT: Any = ...
-
 
 class FormatView:
     """A view of a format word, lawful or not. `int(view)` is the word, and `str(view)` is its text.
@@ -1045,23 +1126,10 @@ class Format(FormatView):
 
 
 @dataclass(frozen=True)
-class Literal(Generic[AnyStr]):
-    """A text that is a literal of a syntax, and its parts in the order of the text. An absent part is empty. The prefix
-    includes the zero before it, and a part with digits includes digit separators. `str(literal)` is the text. Literals
-    are equal if their syntaxes and their parts are equal. In Rust, it is enough that the formats of the syntaxes are.
+class Parts(Generic[AnyStr]):
+    """The parts of a literal, in the order of the text. An absent part is empty. The prefix includes the zero before it,
+    and a part with digits includes digit separators."""
 
-    If `is_float` is false, the number is `int(literal.sign + literal.digits(Part.INTEGER), radix)`, where the radix is
-    `literal.syntax.format.mantissa_radix`. `int` raises a ValueError for more than 4300 digits, unless the radix is a
-    power of two: see `sys.set_int_max_str_digits`. If the text is a `str` and all radixes are 10, a float is:
-
-        integer, fraction, exponent = map(literal.digits, Part)
-        float(f"{literal.sign}{integer or 0}.{fraction}e{literal.exponent_sign}{exponent or 0}")
-
-    A float of `languages.C_HEX_FLOAT` is `float.fromhex(literal.text)`, if it has no digit separator.
-    """
-
-    syntax: Syntax = field(repr=False)
-    text: AnyStr
     sign: AnyStr
     prefix: AnyStr
     integer: AnyStr
@@ -1072,42 +1140,198 @@ class Literal(Generic[AnyStr]):
     exponent: AnyStr
     suffix: AnyStr
 
+
+# The ends of the nine parts of a literal, each of which begins where that before it ends.
+_ENDS = Struct(f"{_Literal.sign.offset}x" + f"{sizeof(c_size_t)}xN" * 9).unpack_from
+
+
+class Literal(Generic[AnyStr]):
+    """A text that is a literal of a syntax. `str(literal)` is the text, and `read` makes a literal.
+
+        >>> literal = languages.TOML.read("-1_000.50e-3")
+        >>> literal.value, literal.decimal(), literal.fraction()
+        (-1.0005, Decimal('-1.00050'), Fraction(-2001, 2000))
+        >>> literal.parts.sign, literal.parts.integer, literal.digits(Part.INTEGER)
+        ('-', '1_000', '1000')
+
+    `int(literal)` is the value of an integer, and raises a ValueError for a float. As for each text, `int` raises a
+    ValueError for more than 4300 digits, unless the radix is a power of two: see `sys.set_int_max_str_digits`.
+    `float(literal)` is the float that is nearest to the value, or `inf` if that is too large. It raises a ValueError if
+    the mantissa radix and the exponent base are neither both 10 nor both powers of two.
+
+    Literals are equal if their formats and their parts are equal, as in Rust.
+    """
+
+    __slots__ = ("_owner", "_text", "_found", "_data")
+    __match_args__ = ("syntax", "text")
+
+    def _set(self, owner: Union[Syntax, Language], text: AnyStr, found: _Literal, data: bytes) -> Literal[AnyStr]:
+        self._owner, self._found = owner, found
+        self._text: AnyStr = text
+        self._data = data  # `found` points to it.
+        return self
+
+    @property
+    def syntax(self) -> Syntax:
+        """The syntax, which is that of a form of a language if `Language.read` has read the text."""
+        return cast(Syntax, self._owner._syntaxes[self._found.form])
+
+    @property
+    def form(self) -> str:
+        """The name of the form of a language, such as `hexadecimal`. It is empty if `Syntax.read` has read the text."""
+        return str(self._owner._names[self._found.form])
+
+    @property
+    def text(self) -> AnyStr:
+        """The text."""
+        return self._text
+
+    @property
+    def parts(self) -> Parts[AnyStr]:
+        """The parts of the text."""
+        ends: Tuple[int, ...] = _ENDS(self._found)
+        return Parts(*(self._text[start:end] for start, end in zip((0, *ends), ends)))
+
     @property
     def is_float(self) -> bool:
         """Whether the literal has a decimal point or an exponent character."""
-        return bool(self.point or self.exponent_character)
+        return bool(self._found.is_float)
 
-    def __str__(self) -> str:
-        text: Union[str, bytes] = self.text
-        return text.decode() if isinstance(text, bytes) else text
+    @property
+    def value(self) -> Union[int, float]:
+        """The value: an int if the literal is an integer, and otherwise a float."""
+        return float(self) if self._found.is_float else int(self)
+
+    def __int__(self) -> int:
+        value = c_int64()
+        if not _library.to_i64(self._found, value):
+            return value.value
+        if self._found.is_float:
+            raise ValueError(f"{reprlib.repr(self._text)} is a float")
+        sign, integer, *_ = self._written()
+        return int(sign + integer, self.syntax._fields.mantissa_radix)
+
+    def __float__(self) -> float:
+        value = c_double()
+        if status := _library.to_f64(self._found, value):
+            raise ValueError(_library.value_description(status).decode())
+        return value.value
+
+    def decimal(self) -> Decimal:
+        """Returns the exact value, which has the digits of the text if all radixes are 10. Raises OverflowError if it has
+        more than 10^6 digits, and ValueError if a float has a radix with other prime factors than 2 and 5."""
+        digits, places, exponent = self._scaled()
+        radix, base = self.syntax._fields.mantissa_radix, self.syntax._fields.exponent_base
+        if self.is_float and not (radix in _FACTORS and base in _FACTORS):
+            raise ValueError("a float has an exact decimal value only if its radixes are products of 2 and 5")
+        of_radix, of_base = _FACTORS.get(radix, (0, 0)), _FACTORS.get(base, (0, 0))
+        twos, fives = (more * exponent - less * places for less, more in zip(of_radix, of_base))
+        try:
+            if radix == 10:
+                number = Decimal(digits)
+            else:
+                whole = int(digits, radix)
+                shift = max((whole & -whole).bit_length() - 1, 0)
+                number, twos = Decimal(whole >> shift), twos + shift
+            tens = min(twos, fives)
+            if max(twos, fives) - tens > 4 * _MOST_DIGITS:
+                raise OverflowError
+            if twos != fives:
+                power = _EXACT.power(2, twos - tens) if twos > fives else _EXACT.power(5, fives - tens)
+                number = _EXACT.multiply(number, power)
+            return _EXACT.scaleb(number, tens)
+        except (DecimalException, OverflowError):
+            raise OverflowError(_TOO_LONG) from None
+
+    def fraction(self) -> Fraction:
+        """Returns the exact value. Raises OverflowError if its numerator or denominator has more than 10^6 digits before
+        the fraction is reduced."""
+        digits, places, exponent = self._scaled()
+        radix, base = self.syntax._fields.mantissa_radix, self.syntax._fields.exponent_base
+        number, up, down = int(digits, radix), max(exponent, 0), max(-exponent, 0)
+        above = math.log10(abs(number) or 1) + up * math.log10(base)
+        if max(above, places * math.log10(radix) + down * math.log10(base)) >= _MOST_DIGITS:
+            raise OverflowError(_TOO_LONG)
+        return Fraction(number * base**up, radix**places * base**down)
+
+    def _scaled(self) -> Tuple[str, int, int]:
+        """Returns the sign with the digits of the integer and the fraction, the number of the latter, and the exponent."""
+        sign, integer, fraction, exponent_sign, exponent = self._written()
+        digits, fields = (integer + fraction).lstrip("0"), self.syntax._fields
+        if (len(digits) - 1) * math.log10(fields.mantissa_radix) >= _MOST_DIGITS:
+            raise OverflowError(_TOO_LONG)
+        # Of a longer exponent, 64 digits are too many.
+        power = int(f"{exponent_sign}{exponent.lstrip('0')[:64] or 0}", fields.exponent_radix)
+        return f"{sign}{digits or 0}", len(fraction), power if digits else 0
+
+    def _written(self) -> List[str]:
+        """Returns the sign, the digits of the integer and of the fraction, the sign of the exponent, and its digits."""
+        ends: Tuple[int, ...] = _ENDS(self._found)
+        separator = bytes([self.syntax._fields.digit_separator])
+        parts = [self._data[: ends[0]], *(self._data[ends[it - 1] : ends[it]] for it in (2, 4, 6, 7))]
+        return [part.replace(separator, b"").decode() for part in parts]
 
     def digits(self, part: Part) -> AnyStr:
         """Returns the digits of a part without digit separators."""
-        written: AnyStr = getattr(self, _typed("part", part, Part).name.lower())
-        separator = str(self.syntax.format.digit_separator or "")
-        if isinstance(written, bytes):
-            return written.replace(separator.encode(), b"")
-        return written.replace(separator, "")
+        _, integer, fraction, _, exponent = self._written()
+        digits: Any = (integer, fraction, exponent)[_typed("part", part, Part).value]
+        return cast(AnyStr, digits.encode() if isinstance(self._text, bytes) else digits)
+
+    def __str__(self) -> str:
+        text: Union[str, bytes] = self._text
+        return text.decode() if isinstance(text, bytes) else text
+
+    def __repr__(self) -> str:
+        return f"{self.syntax!r}.read({self._text!r})"
+
+    def __eq__(self, other: object) -> bool:
+        if not isinstance(other, Literal):
+            return NotImplemented
+        return self._key() == other._key()
+
+    def __hash__(self) -> int:
+        return hash(self._key())
+
+    def _key(self) -> Tuple[Any, ...]:
+        return self.syntax.format, self._text, _ENDS(self._found)
+
+    def __reduce__(self) -> Tuple[Any, ...]:
+        """Returns what reads the text again."""
+        return type(self._owner).read, (self._owner, self._text)
+
+
+# How often 2 and 5 divide each number that no other prime divides.
+_FACTORS = {2**twos * 5**fives: (twos, fives) for twos in range(6) for fives in range(3)}
+_MOST_DIGITS = 10**6
+_TOO_LONG = "the exact value has more than 10^6 digits"
+_EXACT = Context(_MOST_DIGITS, Emin=MIN_EMIN, Emax=MAX_EMAX, traps=[InvalidOperation, Rounded])
 
 
 @dataclass(frozen=True)
 class Syntax:
-    """What literals are read by: a format, and an exponent character and a decimal point that fit it. If both are None,
-    literals are integers.
+    """What literals are read by: a format, an exponent character and a decimal point that fit it, and conditions. If the
+    exponent character and the decimal point are both None, literals are integers.
 
-        >>> syntax = Syntax(Format.of(mantissa_radix=16, base_prefix="x", exponent_radix=10), exponent="p")
+        >>> syntax = Syntax(Format.of(mantissa_radix=16, base_prefix="x", exponent_base=2, exponent_radix=10), exponent="p")
         >>> literal = syntax.read("-0x1.8p3")
-        >>> literal.integer, literal.fraction, literal.exponent
-        ('1', '8', '3')
+        >>> literal.value, literal.parts.fraction, literal.parts.exponent
+        (-12.0, '8', '3')
 
-    The format is in normal form, so equivalent formats have the same syntax. Raises OptionsError if the exponent
-    character or the decimal point does not fit the normal form, or if only one of them is None.
+    The conditions are that a literal has the base prefix or the base suffix, and that its sign is not `-`. The format is
+    in normal form, so equivalent formats have the same syntax. Raises OptionsError if the exponent character or the
+    decimal point does not fit the normal form, if only one of them is None, or if the format contradicts a condition.
     """
 
     format: Format
     exponent: Optional[Byte] = "e"
     point: Optional[Byte] = "."
-    _reader: _Reader = field(init=False, repr=False, compare=False)
+    # Made by make_python.py: conditions
+    required_base_prefix: bool = False
+    required_base_suffix: bool = False
+    no_negative_mantissa_sign: bool = False
+    # End
+    _reader: Any = field(init=False, repr=False, compare=False)
+    _fields: Any = field(init=False, repr=False, compare=False)
 
     def __post_init__(self) -> None:
         format, options = _typed("format", self.format, Format).normal_form(), (0, 0)
@@ -1115,15 +1339,18 @@ class Syntax:
             options = _byte("exponent", self.exponent), _byte("point", self.point)
             format.check_options(*options)
         elif self.exponent is not self.point:
-            sentence = _text(_library.settings_text, b"exponent=none", 13, 0)
+            sentence = _settings_text(b"exponent=none", 0)
             raise OptionsError((Reason(sentence, options=(Role.EXPONENT, Role.POINT)),))
         exponent, point = (chr(it) if it else None for it in options)
-        vars(self).update(format=format, exponent=exponent, point=point, _reader=_Reader())
-        _library.reader_init(self._reader, _Syntax(format._halves, *options))
+        conditions = [_condition(name, getattr(self, name)) for name in _CONDITIONS]
+        vars(self).update(format=format, exponent=exponent, point=point, _reader=_Reader(), _fields=format._unpacked())
+        numbers = _Syntax(format._halves, *options, *conditions)
+        if _library.reader_init(self._reader, numbers):
+            raise OptionsError((Reason(_text(_library.syntax_error_text, numbers)),))
 
     def __reduce__(self) -> Tuple[Any, ...]:
         """Returns what makes the syntax again, since a reader is of this build of the library."""
-        return type(self), (self.format, self.exponent, self.point)
+        return type(self), (self.format, self.exponent, self.point, *(getattr(self, it) for it in _CONDITIONS))
 
     @classmethod
     def integers(cls, format: Format) -> Syntax:
@@ -1131,15 +1358,75 @@ class Syntax:
         return cls(format, None, None)
 
     @classmethod
-    def of(cls, *settings: Union[Edit, str]) -> Syntax:
-        """Returns the syntax that settings make, such as the lines of a file. Raises SettingsError if there is none.
+    @_takes_fields
+    def of(
+        cls,
+        *settings: Union[Edit, str],
+        # Made by make_python.py: settings
+        required_integer_digits: bool = _KEPT,
+        required_fraction_digits: bool = _KEPT,
+        required_exponent_digits: bool = _KEPT,
+        required_mantissa_digits: bool = _KEPT,
+        no_positive_mantissa_sign: bool = _KEPT,
+        required_mantissa_sign: bool = _KEPT,
+        no_exponent_notation: bool = _KEPT,
+        no_positive_exponent_sign: bool = _KEPT,
+        required_exponent_sign: bool = _KEPT,
+        no_exponent_without_fraction: bool = _KEPT,
+        no_special: bool = _KEPT,
+        case_sensitive_special: bool = _KEPT,
+        no_integer_leading_zeros: bool = _KEPT,
+        no_float_leading_zeros: bool = _KEPT,
+        required_exponent_notation: bool = _KEPT,
+        case_sensitive_exponent: bool = _KEPT,
+        case_sensitive_base_prefix: bool = _KEPT,
+        case_sensitive_base_suffix: bool = _KEPT,
+        integer_internal_digit_separator: bool = _KEPT,
+        fraction_internal_digit_separator: bool = _KEPT,
+        exponent_internal_digit_separator: bool = _KEPT,
+        integer_leading_digit_separator: bool = _KEPT,
+        fraction_leading_digit_separator: bool = _KEPT,
+        exponent_leading_digit_separator: bool = _KEPT,
+        integer_trailing_digit_separator: bool = _KEPT,
+        fraction_trailing_digit_separator: bool = _KEPT,
+        exponent_trailing_digit_separator: bool = _KEPT,
+        integer_consecutive_digit_separator: bool = _KEPT,
+        fraction_consecutive_digit_separator: bool = _KEPT,
+        exponent_consecutive_digit_separator: bool = _KEPT,
+        special_digit_separator: bool = _KEPT,
+        digit_separator: Optional[Byte] = _KEPT,
+        base_prefix: Optional[Byte] = _KEPT,
+        base_suffix: Optional[Byte] = _KEPT,
+        mantissa_radix: int = _KEPT,
+        exponent_base: Optional[int] = _KEPT,
+        exponent_radix: Optional[int] = _KEPT,
+        required_digits: bool = _KEPT,
+        internal_digit_separator: bool = _KEPT,
+        leading_digit_separator: bool = _KEPT,
+        trailing_digit_separator: bool = _KEPT,
+        consecutive_digit_separator: bool = _KEPT,
+        digit_separator_flags: bool = _KEPT,
+        integer_digit_separator_flags: bool = _KEPT,
+        fraction_digit_separator_flags: bool = _KEPT,
+        exponent_digit_separator_flags: bool = _KEPT,
+        radix: int = _KEPT,
+        exponent: Optional[Byte] = _KEPT,
+        point: Optional[Byte] = _KEPT,
+        required_base_prefix: bool = _KEPT,
+        required_base_suffix: bool = _KEPT,
+        no_negative_mantissa_sign: bool = _KEPT,
+        # End
+    ) -> Syntax:
+        """Returns the syntax that settings make, such as the lines of a file, and then keyword arguments. Raises
+        SettingsError if there is none.
 
             Syntax.of("mantissa_radix = 16", "base_prefix = 'x'", "exponent = 'p'")
+            Syntax.of(mantissa_radix=16, base_prefix="x", exponent="p")
 
         A setting has the form that `Edit` takes, and a setting of `exponent` or `point` that of `base_prefix`. If both
-        are `none`, literals are integers, and one alone is refused: for floats without an exponent, keep its character
-        and set `no_exponent_notation`. A setting that is blank or begins with `#` is skipped. A setting overrides those
-        before it.
+        are `none`, or None, literals are integers, and one alone is refused: for floats without an exponent, keep its
+        character and set `no_exponent_notation`. A setting that is blank or begins with `#` is skipped. A setting
+        overrides those before it.
         """
         text, made = _lines(settings), _Syntax()
         if problems := _library.read_settings(text, len(text), made):
@@ -1147,7 +1434,65 @@ class Syntax:
         return cls._of_numbers(made)
 
     @classmethod
-    def notes_of(cls, *settings: Union[Edit, str]) -> Tuple[Note, ...]:
+    @_takes_fields
+    def notes_of(
+        cls,
+        *settings: Union[Edit, str],
+        # Made by make_python.py: settings
+        required_integer_digits: bool = _KEPT,
+        required_fraction_digits: bool = _KEPT,
+        required_exponent_digits: bool = _KEPT,
+        required_mantissa_digits: bool = _KEPT,
+        no_positive_mantissa_sign: bool = _KEPT,
+        required_mantissa_sign: bool = _KEPT,
+        no_exponent_notation: bool = _KEPT,
+        no_positive_exponent_sign: bool = _KEPT,
+        required_exponent_sign: bool = _KEPT,
+        no_exponent_without_fraction: bool = _KEPT,
+        no_special: bool = _KEPT,
+        case_sensitive_special: bool = _KEPT,
+        no_integer_leading_zeros: bool = _KEPT,
+        no_float_leading_zeros: bool = _KEPT,
+        required_exponent_notation: bool = _KEPT,
+        case_sensitive_exponent: bool = _KEPT,
+        case_sensitive_base_prefix: bool = _KEPT,
+        case_sensitive_base_suffix: bool = _KEPT,
+        integer_internal_digit_separator: bool = _KEPT,
+        fraction_internal_digit_separator: bool = _KEPT,
+        exponent_internal_digit_separator: bool = _KEPT,
+        integer_leading_digit_separator: bool = _KEPT,
+        fraction_leading_digit_separator: bool = _KEPT,
+        exponent_leading_digit_separator: bool = _KEPT,
+        integer_trailing_digit_separator: bool = _KEPT,
+        fraction_trailing_digit_separator: bool = _KEPT,
+        exponent_trailing_digit_separator: bool = _KEPT,
+        integer_consecutive_digit_separator: bool = _KEPT,
+        fraction_consecutive_digit_separator: bool = _KEPT,
+        exponent_consecutive_digit_separator: bool = _KEPT,
+        special_digit_separator: bool = _KEPT,
+        digit_separator: Optional[Byte] = _KEPT,
+        base_prefix: Optional[Byte] = _KEPT,
+        base_suffix: Optional[Byte] = _KEPT,
+        mantissa_radix: int = _KEPT,
+        exponent_base: Optional[int] = _KEPT,
+        exponent_radix: Optional[int] = _KEPT,
+        required_digits: bool = _KEPT,
+        internal_digit_separator: bool = _KEPT,
+        leading_digit_separator: bool = _KEPT,
+        trailing_digit_separator: bool = _KEPT,
+        consecutive_digit_separator: bool = _KEPT,
+        digit_separator_flags: bool = _KEPT,
+        integer_digit_separator_flags: bool = _KEPT,
+        fraction_digit_separator_flags: bool = _KEPT,
+        exponent_digit_separator_flags: bool = _KEPT,
+        radix: int = _KEPT,
+        exponent: Optional[Byte] = _KEPT,
+        point: Optional[Byte] = _KEPT,
+        required_base_prefix: bool = _KEPT,
+        required_base_suffix: bool = _KEPT,
+        no_negative_mantissa_sign: bool = _KEPT,
+        # End
+    ) -> Tuple[Note, ...]:
         """Returns the notes on settings that later ones override, the first 32 alone, and on those that have no effect,
         such as a digit separator that no flag allows, which the syntax lacks."""
         text = _lines(settings)
@@ -1155,7 +1500,8 @@ class Syntax:
 
     @classmethod
     def _of_numbers(cls, numbers: _Syntax) -> Syntax:
-        return cls(Format(_joined(numbers.format)), numbers.exponent or None, numbers.decimal_point or None)
+        conditions: Any = {name: getattr(numbers, name) for name in _CONDITIONS if getattr(numbers, name)}
+        return cls(Format(_joined(numbers.format)), numbers.exponent or None, numbers.decimal_point or None, **conditions)
 
     def role_of(self, byte: Byte) -> Optional[Role]:
         """Returns the only role that a byte has in literals, or None."""
@@ -1166,7 +1512,7 @@ class Syntax:
 
         Each index is one of the text: of characters in a `str`, and of bytes in `bytes`.
         """
-        return _accepted(text, self._read(_library.read, text))
+        return _accepted(self, text, _read(self, _library.read, text))
 
     def read_prefix(self, text: AnyStr) -> Tuple[Literal[AnyStr], AnyStr]:
         """Returns the longest literal that a text begins with, and the rest. Raises LiteralError if there is none.
@@ -1175,30 +1521,62 @@ class Syntax:
             >>> literal.text, rest
             ('1.25', '.3')
         """
-        literal = _accepted(text, self._read(_library.read_prefix, text))
+        literal = _accepted(self, text, _read(self, _library.read_prefix, text))
         return literal, text[len(literal.text) :]
 
-    def _read(self, call: Any, text: AnyStr) -> Union[Literal[AnyStr], _ReadError]:
-        """Returns the literal of peltzivar_read or peltzivar_read_prefix, or where it stopped."""
-        parts, stopped, data = _Literal(), _ReadError(), _readable(text)
-        if not call(self._reader, data, len(data), parts, stopped):
-            return stopped
-        a, b, c, d, e, f, g, h, size = _ENDS(parts)
+    def format_number(
+        self, value: Union[int, float, Decimal, Literal[Any]], *, group: int = 0, without_base: bool = False
+    ) -> str:
+        """Returns a number as a literal. Reading the text returns the same value.
+
+            >>> prices = Syntax.of(digit_separator=".", internal_digit_separator=True, point=",")
+            >>> prices.format_number(Decimal("1234567.50"), group=3)
+            '1.234.567,50'
+
+        Of a float, the digits are those of `repr`. `group` is the number of integer digits in a group, if the format
+        allows separators between them. `without_base` leaves out the base prefix and the base suffix, unless conditions
+        require them. Raises ValueError if no literal has this value, or if the digits have another radix, as those of a
+        Decimal and of an int with more than 128 bits, which are decimal.
+        """
+        style, needed = _Style(_number("group", group), _typed("without_base", without_base, bool)), c_size_t(64)
+        number: Any
+        if isinstance(value, int) and -(1 << 127) <= value < 1 << 127:
+            call, number = _library.format_i128, _I128(value & (1 << 64) - 1, value >> 64)
+        elif isinstance(value, float) or isinstance(value, Decimal) and not value.is_finite():
+            call, number = _library.format_f64, float(value)
+        elif isinstance(value, (int, Decimal)):
+            text = str(value) if isinstance(value, int) or abs(value.adjusted()) > 400 else f"{value:f}"
+            literal = Syntax(Format()).read(text)
+            call, number = _library.format_literal, literal._found
+        else:
+            call, number = _library.format_literal, _typed("value", value, Literal, "a number or a Literal")._found
+        for _ in range(2):
+            buffer = create_string_buffer(needed.value)
+            if not (status := call(self._reader, number, style, buffer, len(buffer), needed)):
+                return buffer.value.decode()
+        raise ValueError(_library.write_description(status).decode())
+
+    @property
+    def _syntaxes(self) -> Tuple[Syntax, ...]:
+        return (self,)
+
+    _names = ("",)
+
+
+def _read(owner: Union[Syntax, Language], call: Any, text: AnyStr) -> Union[Literal[AnyStr], _ReadError]:
+    """Returns the literal of peltzivar_read or peltzivar_read_prefix, or where it stopped."""
+    found, data = _Literal(), _readable(text)
+    if call(owner._reader, data, len(data), found, None):
         literal: Literal[AnyStr] = Literal.__new__(Literal)
-        # Without `__init__`, which is slow in a frozen class.
-        literal.__dict__.update(
-            syntax=self, text=text[:size], sign=text[:a], prefix=text[a:b], integer=text[b:c], point=text[c:d],
-            fraction=text[d:e], exponent_character=text[e:f], exponent_sign=text[f:g], exponent=text[g:h],
-            suffix=text[h:size],
-        )  # fmt: skip
-        return literal
+        return literal._set(owner, text[: found.size], found, data)
+    stopped = _ReadError()
+    call(owner._reader, data, len(data), found, stopped)
+    return stopped
 
 
-# The ends of the nine parts of a literal, each of which begins where that before it ends.
-_ENDS = Struct(f"{sizeof(c_size_t)}xN" * 9).unpack_from
-
-
-def _accepted(text: AnyStr, found: Union[Literal[AnyStr], _ReadError]) -> Literal[AnyStr]:
+def _accepted(
+    owner: Union[Syntax, Language], text: AnyStr, found: Union[Literal[AnyStr], _ReadError]
+) -> Literal[AnyStr]:
     """Returns the literal that was found. Raises LiteralError if there is none."""
     if isinstance(found, Literal):
         return found
@@ -1208,7 +1586,9 @@ def _accepted(text: AnyStr, found: Union[Literal[AnyStr], _ReadError]) -> Litera
     sentence = _text(_library.read_error_text, found) if is_byte else f"unexpected character {text[index]!r}"
     part = Part(why.part) if why.part != _NO_PART else None
     span, kind, mask = (why.span.start, why.span.end), ReadErrorKind(why.kind), _joined(why.mask)
-    raise LiteralError(sentence, text, index, span, kind, part, mask, Error(why.code))
+    conditions = tuple(name for bit, name in enumerate(_CONDITIONS) if why.conditions >> bit & 1)
+    form = owner._names[found.form]
+    raise LiteralError(sentence, text, index, span, kind, part, mask, Error(why.code), form, conditions)
 
 
 def _readable(text: object) -> bytes:
@@ -1228,10 +1608,15 @@ def _lines(settings: Iterable[Union[Edit, str]]) -> bytes:
     return b"\n".join(lines)
 
 
+def _settings_text(text: bytes, index: int) -> str:
+    """Returns a problem of settings, or a note on them, or an empty text."""
+    return _text(_library.settings_text, text, len(text), index)
+
+
 def _findings(text: bytes, wanted: Iterable[int]) -> Iterable[Tuple[str, int, Tuple[int, ...]]]:
     """Returns the text, no mask and the indexes of problems of settings, behind which are the notes on them."""
     for index in wanted:
-        if not (sentence := _text(_library.settings_text, text, len(text), index)):
+        if not (sentence := _settings_text(text, index)):
             break
         lines = (c_size_t * _FIELD_COUNT)()
         blamed = _library.settings_lines(text, len(text), index, lines, len(lines))
@@ -1240,10 +1625,22 @@ def _findings(text: bytes, wanted: Iterable[int]) -> Iterable[Tuple[str, int, Tu
 
 @dataclass(frozen=True)
 class Special:
-    """A special value: its sign, which is `+`, `-` or empty, and its spelling. `float(str(special))` is its number."""
+    """A special value: its sign, which is `+`, `-` or empty, and its spelling. `float(special)` is its value."""
 
     sign: str
     spelling: Spelling
+
+    @property
+    def value(self) -> float:
+        """The value, as a float."""
+        return float(self)
+
+    def decimal(self) -> Decimal:
+        """Returns the value as a Decimal."""
+        return Decimal(str(self))
+
+    def __float__(self) -> float:
+        return float(str(self))
 
     def __str__(self) -> str:
         return f"{self.sign}{self.spelling}"
@@ -1273,124 +1670,138 @@ class Language(_Named):
     # Made by make_python.py: languages
     """How a language, or a file, writes numbers. `languages` is another name of this class.
 
-    `read(text)` returns a `Literal` of `syntax`, or a `Special` with a spelling of `specials`.
+    `read(text)` returns a `Literal` of a syntax of `forms`, or a `Special` with a spelling of `specials`.
 
-    No format rejects `-`, or requires a prefix, a suffix or a decimal point. So `C_FLOAT` reads `1`.
+    ADA: Ada's decimal literals (Reference Manual 2012, 2.4.1). A format cannot accept based literals, such as
+        `16#FF#`, or accept `1.0E-3` but reject `1E-3`. Forms: decimal.
 
-    ADA: Ada's decimal literals (Reference Manual 2012, 2.4.1). A format cannot accept `1.0E-3` but reject `1E-3`.
+    C: C's integer and floating constants (C23, 6.4.4.1 and 6.4.4.2). A format cannot accept `1u`, `1L` and `1.0f`.
+        Forms: decimal; octal; hexadecimal; binary; hexadecimal float.
 
-    C_FLOAT: C's decimal floating constants (C23, Floating constants). A format cannot accept both `1.0f` and `1.0L`.
+    CSV_DE: Numbers in CSV, as German spreadsheets write cells of the format `#.##0,00` (RFC 4180): `1.234,50`. Forms:
+        decimal.
 
-    C_HEX_FLOAT: C's hexadecimal floating constants (C23, Floating constants): `0x1.8p3` is 1.5 * 2^3. A format cannot
-        accept both `0x1p3f` and `0x1p3L`, reject `-0x1p3`, or require the prefix, so `1p3` is accepted.
+    CSV_EN: Numbers in CSV, as English spreadsheets write cells of the format `#,##0.00`, in quotes (RFC 4180):
+        `"1,234.50"`. A format cannot accept the minus sign U+2212 of Gnumeric: replace it by `-`. Forms: decimal.
 
-    C_SHARP: C#'s real literals and decimal integers (C# standard, 6.4.5.3 and 6.4.5.4). A format cannot accept `1L`,
-        `1f` and `1m`.
+    C_PLUS_PLUS: C++'s integer and floating literals (C++17, 5.13.2 and 5.13.4). A format cannot accept `1u`, `1L`,
+        `1.0f` and suffixes of users. Forms: decimal; octal; hexadecimal; binary; hexadecimal float.
 
-    FORTRAN: Fortran's signed integers and reals (ISO/IEC 1539-1:2018, 7.4.3). A format cannot accept both `1E3` and
-        `1D3`, or a kind as in `1.0_8`.
+    C_SHARP: C#'s integer and real literals (C# standard, 6.4.5.3 and 6.4.5.4). A format cannot accept `1L`, `1f` and
+        `1m`. Forms: decimal; hexadecimal; binary.
 
-    GO_HEX_FLOAT: Go's hexadecimal floats (Language Specification, Floating-point literals). A format cannot reject
-        `-0x1p3`, or require the prefix, so `1p3` is accepted.
+    FORTRAN: Fortran's signed integers and reals (ISO/IEC 1539-1:2018, 7.4.3). A format cannot accept a kind, as in
+        `1.0_8`, or binary, octal and hexadecimal constants, such as `Z'FF'`. Forms: decimal; double precision.
 
-    HASKELL: Haskell's floats and decimal integers (Haskell 2010 Report, 2.5).
+    GO: Go's integer and floating-point literals (Language Specification). A format cannot accept `1i`. Forms: decimal;
+        octal; hexadecimal; octal, 0o; binary; hexadecimal float.
 
-    JAVA: Java's decimal floats and integers (Language Specification 21, 3.10.1 and 3.10.2). A format cannot accept
-        `1L`, `1f` and `1d`.
+    HASKELL: Haskell's integers and floats (Haskell 2010 Report, 2.5). Forms: decimal; hexadecimal; octal.
 
-    JAVASCRIPT: JavaScript's decimal literals in strict code (ECMA-262, Numeric Literals). A format cannot accept `1n`
-        but reject `1.5n`.
+    JAVA: Java's integer and floating-point literals (Language Specification 21, 3.10.1 and 3.10.2). A format cannot
+        accept `1L`, `1f` and `1d`. Forms: decimal; octal; hexadecimal; binary; hexadecimal float.
 
-    JSON: JSON's numbers (RFC 8259, 6. Numbers).
+    JAVASCRIPT: JavaScript's numeric literals in strict code (ECMA-262, Numeric Literals). A format cannot accept `1n`.
+        Forms: decimal; hexadecimal; octal; binary.
 
-    JULIA: Julia's decimal floats and integers (Manual 1.11, Integers and Floating-Point Numbers). A format cannot
-        accept both `1e3` and `1f3`.
+    JSON: JSON's numbers (RFC 8259, 6. Numbers). Forms: decimal.
 
-    KOTLIN: Kotlin's real literals and decimal integers (Kotlin language specification 1.9, Literals). A format cannot
-        accept `1L`, `1f` and `1u`.
+    JULIA: Julia's integers and floats (Manual 1.11, Integers and Floating-Point Numbers). Forms: decimal; 32 bits;
+        hexadecimal; octal; binary; hexadecimal float.
 
-    NASM_HEX_INTEGER: NASM's hexadecimal integers with the suffix `h` (NASM manual, Numeric Constants). A format cannot
-        accept `0FFx` too, reject `-1h` or `FFh`, which is a name, or require the suffix, so `10` is 16.
+    KOTLIN: Kotlin's integer and real literals (Kotlin language specification 1.9, Literals). A format cannot accept
+        `1L`, `1f` and `1u`. Forms: decimal; hexadecimal; binary.
 
-    OCAML: OCaml's decimal floats and integers (Manual 5.2, 11.1 Lexical conventions). A format cannot accept `1._`,
-        whose fraction has a separator alone, or `1l`, `1L` and `1n`.
+    NASM: NASM's numeric constants (NASM manual, Numeric Constants and Floating-Point Constants). A format cannot
+        accept `$0c8`, or reject `ffh`, which is a name. Forms: decimal; decimal, d; decimal, t; hexadecimal, h;
+        hexadecimal, x; octal, o; octal, q; binary, b; binary, y; decimal, 0d; decimal, 0t; hexadecimal, 0h;
+        hexadecimal, 0x; octal, 0o; octal, 0q; binary, 0b; binary, 0y.
 
-    PYTHON: Python's floats and decimal integers (Language Reference 3.12, 2.4.5 and 2.4.6). A format cannot accept
-        `00` and reject `01`.
+    OCAML: OCaml's integers and floats (Manual 5.2, 11.1 Lexical conventions). A format cannot accept `1._`, whose
+        fraction has a separator alone, or `1l`, `1L` and `1n`. Forms: decimal; hexadecimal; octal; binary.
 
-    PYTHON_HEX_INTEGER: Python's hexadecimal integers (Language Reference 3.12, 2.4.5). A format cannot reject `-0x1F`,
-        or require the prefix, so `10` is 16.
+    PYTHON: Python's integers and floats (Language Reference 3.12, 2.4.5 and 2.4.6). A format cannot accept `00` and
+        reject `01`, or accept `1j`. Forms: decimal; hexadecimal; octal; binary.
 
-    RUBY: Ruby's floats and decimal integers (ISO/IEC 30170:2012, 8.7.6.2). A format cannot accept `1r` and `1i`, or
-        accept `0d10` but reject `0d1.5`.
+    RUBY: Ruby's integers and floats (ISO/IEC 30170:2012, 8.7.6.2), with signs. A format cannot accept `1r` and `1i`.
+        Forms: decimal; octal; hexadecimal; octal, 0o; binary; decimal, 0d.
 
-    RUST_HEX_INTEGER: Rust's hexadecimal integers (Reference, Integer literals). A format cannot accept the suffix in
-        `0x1F_u8`, reject `-0x1F`, or require the prefix, so `10` is 16.
+    RUST: Rust's integers and floats (Reference, Integer literals and Floating-point literals). A format cannot accept
+        the suffixes in `0x1F_u8` and `1f32`. Forms: decimal; with a point at the end; hexadecimal; octal; binary.
 
-    SPREADSHEET_CSV: Numbers in CSV, as spreadsheets write cells of the format `#,##0.00`, in quotes (RFC 4180):
-        `"1,234.50"`. A format cannot require groups of three digits, or accept the minus sign U+2212 of Gnumeric:
-        replace it by `-`. For `1.234,50` use the separator `.` and the decimal point `,`.
+    SQL: SQL's signed numeric literals (ISO/IEC 9075-2:2016, 5.3 `<literal>`). Forms: decimal.
 
-    SQL: SQL's signed numeric literals (ISO/IEC 9075-2:2016, 5.3 `<literal>`).
+    SWIFT: Swift's numeric literals, with the sign `-` (The Swift Programming Language, Lexical Structure). Forms:
+        decimal; hexadecimal; octal; binary; hexadecimal float.
 
-    SWIFT_HEX_FLOAT: Swift's hexadecimal floats (The Swift Programming Language, Lexical Structure, Floating-Point
-        Literals). A format cannot require the prefix, so `1p3` is accepted.
+    TOML: TOML's integers and floats (TOML 1.0.0, Integer and Float). Forms: decimal; hexadecimal; octal; binary.
 
-    TOML: TOML's floats and decimal integers (TOML 1.0.0, Integer and Float).
-
-    YAML: YAML's floats and decimal integers (YAML 1.2.2, 10.3.2 Tag Resolution): those of the standard format. A
-        format cannot accept `.inf` and `.INF` but reject `.iNF`, or accept `-.inf` but reject `-.nan`.
+    YAML: YAML's integers and floats (YAML 1.2.2, 10.3.2 Tag Resolution). A format cannot accept `.inf` and `.INF` but
+        reject `.iNF`, or accept `-.inf` but reject `-.nan`. Forms: decimal; octal; hexadecimal.
     """
 
     ADA = "ADA"
-    C_FLOAT = "C_FLOAT"
-    C_HEX_FLOAT = "C_HEX_FLOAT"
+    C = "C"
+    CSV_DE = "CSV_DE"
+    CSV_EN = "CSV_EN"
+    C_PLUS_PLUS = "C_PLUS_PLUS"
     C_SHARP = "C_SHARP"
     FORTRAN = "FORTRAN"
-    GO_HEX_FLOAT = "GO_HEX_FLOAT"
+    GO = "GO"
     HASKELL = "HASKELL"
     JAVA = "JAVA"
     JAVASCRIPT = "JAVASCRIPT"
     JSON = "JSON"
     JULIA = "JULIA"
     KOTLIN = "KOTLIN"
-    NASM_HEX_INTEGER = "NASM_HEX_INTEGER"
+    NASM = "NASM"
     OCAML = "OCAML"
     PYTHON = "PYTHON"
-    PYTHON_HEX_INTEGER = "PYTHON_HEX_INTEGER"
     RUBY = "RUBY"
-    RUST_HEX_INTEGER = "RUST_HEX_INTEGER"
-    SPREADSHEET_CSV = "SPREADSHEET_CSV"
+    RUST = "RUST"
     SQL = "SQL"
-    SWIFT_HEX_FLOAT = "SWIFT_HEX_FLOAT"
+    SWIFT = "SWIFT"
     TOML = "TOML"
     YAML = "YAML"
     # End
 
     @functools.cached_property
-    def _definition(self) -> Tuple[Syntax, Specials]:
-        specials = _Specials()
-        reader = _library.language(self.name.encode(), len(self.name), specials).contents
-        spellings = (getattr(specials, it) for it, _ in _Specials._fields_)
-        return Syntax._of_numbers(reader.syntax), Specials(*(it.decode() if it else None for it in spellings))
+    def _reader(self) -> Any:
+        return _library.language(self.name.encode(), len(self.name), None)
+
+    @functools.cached_property
+    def _names(self) -> Tuple[str, ...]:
+        return tuple(takewhile(bool, (_library.form_name(self._reader, it).decode() for it in count())))
+
+    @functools.cached_property
+    def _syntaxes(self) -> Tuple[Syntax, ...]:
+        made = [_Syntax() for _ in self._names]
+        return tuple(Syntax._of_numbers(it) for form, it in enumerate(made) if _library.form_syntax(self._reader, form, it))
 
     @property
-    def syntax(self) -> Syntax:
-        """The syntax of literals."""
-        return self._definition[0]
+    def forms(self) -> Dict[str, Syntax]:
+        """The syntax of each form of literals, by its name. The first one that a text has decides its value."""
+        return dict(zip(self._names, self._syntaxes))
 
-    @property
+    @functools.cached_property
     def specials(self) -> Specials:
         """The spellings of NaN and infinity. A language in which they are names, or do not exist, has none."""
-        return self._definition[1]
+        specials = _Specials()
+        _library.language(self.name.encode(), len(self.name), specials)
+        return Specials(*(getattr(specials, it).decode() or None for it, _ in _Specials._fields_))
 
     def read(self, text: AnyStr) -> Union[Literal[AnyStr], Special]:
         """Returns the number that a text is: a literal or a special value. Raises LiteralError if it is neither."""
-        syntax, specials = self._definition
-        found = syntax._read(_library.read, text)
+        found = _read(self, _library.read, text)
         if isinstance(found, Literal):
             return found
-        return specials.read(syntax, text) or _accepted(text, found)
+        return self.specials.read(self._syntaxes[0], text) or _accepted(self, text, found)
+
+    def read_prefix(self, text: AnyStr) -> Tuple[Literal[AnyStr], AnyStr]:
+        """Returns the longest literal of any form that a text begins with, and the rest. Raises LiteralError if there is
+        none."""
+        literal = _accepted(self, text, _read(self, _library.read_prefix, text))
+        return literal, text[len(literal.text) :]
 
 
 languages = Language

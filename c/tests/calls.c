@@ -3,6 +3,7 @@
 #include "peltzivar.h"
 #include "peltzivar.h"
 
+#include <math.h>
 #include <stdio.h>
 #include <string.h>
 
@@ -35,7 +36,7 @@ static void test_constants(void) {
     CHECK(is_word(peltzivar_pack(&PELTZIVAR_NEW_FIELDS), PELTZIVAR_STANDARD.high, PELTZIVAR_STANDARD.low));
     CHECK(is_word(words[0], PELTZIVAR_STANDARD.high, PELTZIVAR_STANDARD.low));
     CHECK(sizeof(peltzivar_word) == 16 && sizeof(peltzivar_fields) == 16 && sizeof(peltzivar_edit) == 2);
-    CHECK(sizeof(peltzivar_reader) == 4096 && sizeof(peltzivar_read_error) == 112);
+    CHECK(sizeof(peltzivar_reader) == 4096 && sizeof(peltzivar_read_error) == 128 && sizeof(peltzivar_literal) == 288);
 }
 
 /* Returns all flags. */
@@ -150,18 +151,18 @@ static void test_readers(void) {
         peltzivar_syntax it;
         peltzivar_error error;
         const char *sentence;
-    } rows[] = {{{{0, 0}, 0, 0}, PELTZIVAR_INVALID_MANTISSA_RADIX, "the mantissa radix 0 is not between 2 and 36"},
-        {{PELTZIVAR_STANDARD_INIT, 'e', 0}, PELTZIVAR_INVALID_DECIMAL_POINT,
+    } rows[] = {{{{0, 0}, 0, 0, false, false, false}, PELTZIVAR_INVALID_MANTISSA_RADIX, "the mantissa radix 0 is not between 2 and 36"},
+        {{PELTZIVAR_STANDARD_INIT, 'e', 0, false, false, false}, PELTZIVAR_INVALID_DECIMAL_POINT,
             "only one of the exponent character and the decimal point is absent: for numbers without an exponent, keep both, "
             "and set no_exponent_notation"},
-        {{PELTZIVAR_STANDARD_INIT, '5', '.'}, PELTZIVAR_INVALID_EXPONENT_SYMBOL,
+        {{PELTZIVAR_STANDARD_INIT, '5', '.', false, false, false}, PELTZIVAR_INVALID_EXPONENT_SYMBOL,
             "the exponent character '5' is a digit in the mantissa radix 10 and the exponent radix 10"}};
-    static const peltzivar_syntax integers = {PELTZIVAR_STANDARD_INIT, 0, 0};
+    static const peltzivar_syntax integers = {PELTZIVAR_STANDARD_INIT, 0, 0, false, false, false};
     static peltzivar_reader readers[3];
     static const peltzivar_specials specials = {"1", "1", "1"};
     peltzivar_reader *const out = &readers[1];
     peltzivar_read_error error, unwritten;
-    peltzivar_explanation why = {{1, 2}, 3, {4, 5}, 6, 7, 8, 9};
+    peltzivar_explanation why = {{1, 2}, 3, {4, 5}, 6, 7, 8, 9, 10};
     peltzivar_special special;
     memset(&unwritten, 0, sizeof unwritten), memset(&readers[2], '#', sizeof readers[2]);
     for (int i = 0; i < 3; i++) {
@@ -206,6 +207,110 @@ static void test_literals(void) {
     CHECK(WRITES("unexpected character '.'", peltzivar_read_error_text(&error, text, sizeof text)));
 }
 
+/* The values of literals of a language, and why there is none. */
+static void test_values(void) {
+    static const struct {
+        const char *language, *text;
+        int64_t integer;
+        uint64_t natural;
+        double number;
+        peltzivar_value_status statuses[2];
+    } rows[] = {{"TOML", "-9_223_372_036_854_775_808", INT64_MIN, 7, -9223372036854775808.0, {0, PELTZIVAR_VALUE_TOO_SMALL}},
+        {"TOML", "18446744073709551615", 7, UINT64_MAX, 18446744073709551616.0, {PELTZIVAR_VALUE_TOO_LARGE, 0}},
+        {"SWIFT", "-0x0", 0, 0, -0.0, {0, 0}}, {"C", "0x1.8p-1", 7, 7, 0.75, {1, PELTZIVAR_VALUE_FLOAT}},
+        {"JSON", "1e999", 7, 7, HUGE_VAL, {1, 1}}, {"CSV_EN", "1,234.50", 7, 7, 1234.5, {1, 1}}};
+    peltzivar_literal it;
+    for (size_t i = 0; i < sizeof rows / sizeof *rows; i++) {
+        int64_t integer = 7;
+        uint64_t natural = 7;
+        double number = 7;
+        const peltzivar_reader *const reader = peltzivar_language(rows[i].language, strlen(rows[i].language), NULL);
+        CHECK(peltzivar_read(reader, rows[i].text, strlen(rows[i].text), &it, NULL) && it.text == rows[i].text);
+        CHECK(peltzivar_to_i64(&it, &integer) == rows[i].statuses[0] && integer == rows[i].integer);
+        CHECK(peltzivar_to_u64(&it, &natural) == rows[i].statuses[1] && natural == rows[i].natural);
+        CHECK(peltzivar_to_f64(&it, &number) == PELTZIVAR_VALUE_OK && !memcmp(&number, &rows[i].number, 8));
+    }
+    peltzivar_i128 wide = {1, 2};
+    float small = 7;
+    const peltzivar_reader *const json = peltzivar_language("JSON", 4, NULL);
+    CHECK(peltzivar_read(json, "-170141183460469231731687303715884105728", 40, &it, NULL));
+    CHECK(!peltzivar_to_i128(&it, &wide) && wide.low == 0 && wide.high == INT64_MIN && !peltzivar_to_i128(&it, NULL));
+    CHECK(peltzivar_read(json, "16777217.0000001", 16, &it, NULL) && !peltzivar_to_f32(&it, &small) && (int)small == 16777218);
+    CHECK(peltzivar_read(json, "-18446744073709551617", 21, &it, NULL) && peltzivar_to_i64(&it, NULL) == PELTZIVAR_VALUE_TOO_SMALL);
+    CHECK(!peltzivar_to_i128(&it, &wide) && wide.low == UINT64_MAX && wide.high == -2);
+    memset(&it, 0, sizeof it);
+    CHECK(peltzivar_to_f32(&it, &small) == PELTZIVAR_VALUE_NO_LITERAL && (int)small == 16777218);
+    peltzivar_syntax ternary;
+    peltzivar_reader reader;
+    CHECK(!peltzivar_read_settings("radix=3", 7, &ternary) && !peltzivar_reader_init(&reader, &ternary));
+    CHECK(peltzivar_read(&reader, "0.1", 3, &it, NULL) && peltzivar_to_f32(&it, &small) == PELTZIVAR_VALUE_RADIX);
+    CHECK((int)small == 16777218 && !*peltzivar_value_description(PELTZIVAR_VALUE_OK) && !*peltzivar_value_description(255));
+    CHECK(!strcmp(peltzivar_value_description(PELTZIVAR_VALUE_TOO_LARGE), "above the largest value of the type"));
+}
+
+/* Each condition refuses a text alone, and is refused by a format that contradicts it. */
+static void test_conditions(void) {
+    static const char *const rows[][5] = {
+        {"required_base_prefix=true\nbase_prefix='x'", "0x1", "1", "expected the prefix 0x, which required_base_prefix requires", "required_base_prefix=true"},
+        {"required_base_suffix=true\nbase_suffix='h'", "1h", "1", "expected the suffix h, which required_base_suffix requires", "required_base_suffix=true"},
+        {"no_negative_mantissa_sign=true", "1e-1", "-1", "unexpected minus sign, which no_negative_mantissa_sign forbids",
+            "no_negative_mantissa_sign=true\nrequired_mantissa_sign=true\nno_positive_mantissa_sign=true"}};
+    static const uint8_t bits[] = {PELTZIVAR_CONDITION_REQUIRED_BASE_PREFIX, PELTZIVAR_CONDITION_REQUIRED_BASE_SUFFIX,
+        PELTZIVAR_CONDITION_NO_NEGATIVE_MANTISSA_SIGN};
+    peltzivar_syntax syntax;
+    peltzivar_reader reader;
+    peltzivar_read_error error;
+    peltzivar_explanation why;
+    for (int i = 0; i < 3; i++) {
+        CHECK(!peltzivar_read_settings(rows[i][0], strlen(rows[i][0]), &syntax) && !peltzivar_reader_init(&reader, &syntax));
+        CHECK(syntax.required_base_prefix == (i == 0) && syntax.required_base_suffix == (i == 1) && syntax.no_negative_mantissa_sign == (i == 2));
+        CHECK(!memcmp(&syntax.exponent, &reader.syntax.exponent, 5));
+        CHECK(peltzivar_read(&reader, rows[i][1], strlen(rows[i][1]), NULL, NULL));
+        CHECK(!peltzivar_read(&reader, rows[i][2], strlen(rows[i][2]), NULL, &error) && peltzivar_explain(&error, &why));
+        CHECK(why.conditions == bits[i] && !why.mask.low && why.kind == PELTZIVAR_KIND_REQUIREMENT);
+        CHECK(WRITES(rows[i][3], peltzivar_read_error_text(&error, text, sizeof text)));
+        CHECK(peltzivar_read_settings(rows[i][4], strlen(rows[i][4]), &syntax) == 1);
+    }
+    syntax.required_base_suffix = true;
+    CHECK(peltzivar_reader_init(&reader, &syntax) == PELTZIVAR_INVALID_BASE_SUFFIX);
+    CHECK(WRITES("required_base_suffix is set, and the format has no base suffix", peltzivar_syntax_error_text(&syntax, text, sizeof text)));
+}
+
+/* Numbers are written as literals, and a buffer that is too short has the beginning. */
+static void test_writing(void) {
+    static const char lines[] = "digit_separator='.'\ninternal_digit_separator=true\npoint=','";
+    static const peltzivar_style grouped = {3, false}, bare = {0, true};
+    const peltzivar_reader *const json = peltzivar_language("JSON", 4, NULL);
+    const peltzivar_i128 least = {0, INT64_MIN};
+    peltzivar_syntax syntax;
+    peltzivar_reader german, hexadecimal, unmade;
+    peltzivar_literal literal;
+    char wide[512];
+    size_t needed = 7;
+    CHECK(!peltzivar_read_settings(lines, sizeof lines - 1, &syntax) && !peltzivar_reader_init(&german, &syntax));
+    CHECK(!peltzivar_read_settings("radix=16\nbase_prefix='x'\nexponent='p'", 37, &syntax) && !peltzivar_reader_init(&hexadecimal, &syntax));
+    memset(&unmade, 0, sizeof unmade), memset(&literal, 0, sizeof literal);
+    CHECK(!peltzivar_format_i64(&german, -1234567, &grouped, text, sizeof text, &needed) && !strcmp(text, "-1.234.567") && needed == 11);
+    CHECK(!peltzivar_format_u64(&hexadecimal, UINT64_MAX, NULL, text, sizeof text, NULL) && !strcmp(text, "0xFFFFFFFFFFFFFFFF"));
+    CHECK(!peltzivar_format_u64(&hexadecimal, 31, &bare, text, 3, &needed) && !strcmp(text, "1F") && needed == 3);
+    CHECK(!peltzivar_format_i128(json, least, NULL, text, sizeof text, NULL) && !strcmp(text, "-170141183460469231731687303715884105728"));
+    CHECK(!peltzivar_format_f64(&german, 1234.5, &grouped, text, sizeof text, NULL) && !strcmp(text, "1.234,5"));
+    CHECK(!peltzivar_format_f64(json, -1e300, NULL, text, sizeof text, NULL) && !strcmp(text, "-1e300"));
+    CHECK(!peltzivar_format_f64(peltzivar_language("CSV_EN", 6, NULL), 5e-324, NULL, wide, sizeof wide, &needed) && needed == 327);
+    CHECK(peltzivar_format_f64(json, HUGE_VAL, NULL, text, sizeof text, &needed) == PELTZIVAR_WRITE_SPECIAL && needed == 327);
+    CHECK(peltzivar_format_f64(&hexadecimal, 0.5, NULL, text, sizeof text, NULL) == PELTZIVAR_WRITE_RADIX);
+    CHECK(peltzivar_format_i64(&unmade, 1, NULL, text, sizeof text, NULL) == PELTZIVAR_WRITE_NOT_MADE);
+    CHECK(peltzivar_format_literal(json, &literal, NULL, text, sizeof text, NULL) == PELTZIVAR_WRITE_NOT_MADE);
+    CHECK(peltzivar_read(&german, "-1.234,50", 9, &literal, NULL));
+    CHECK(!peltzivar_format_literal(json, &literal, NULL, text, sizeof text, NULL) && !strcmp(text, "-1234.50"));
+    memset(text, '#', sizeof text);
+    CHECK(peltzivar_format_literal(json, &literal, NULL, text, 8, &needed) == PELTZIVAR_WRITE_BUFFER && needed == 9);
+    CHECK(!strcmp(text, "-1234.5") && text[8] == '#');
+    CHECK(peltzivar_format_i64(json, 10, NULL, NULL, 0, &needed) == PELTZIVAR_WRITE_BUFFER && needed == 3);
+    CHECK(peltzivar_format_i64(peltzivar_language("C", 1, NULL), -1, NULL, text, sizeof text, NULL) == PELTZIVAR_WRITE_NEGATIVE);
+    CHECK(!strcmp(peltzivar_write_description(PELTZIVAR_WRITE_NEGATIVE), "no literal has the sign '-'") && !*peltzivar_write_description(255));
+}
+
 static void test_special_values(void) {
     const peltzivar_reader *const reader = peltzivar_language("YAML", 4, NULL);
     static const peltzivar_specials all = {"NaN", "inf", "infinity"}, few = {NULL, "", "infinity"};
@@ -225,6 +330,7 @@ static void test_special_values(void) {
 /* Each language has a reader of a syntax that passes the check, and a name by which it is found. */
 static void test_languages(void) {
     peltzivar_specials specials = {text, text, text};
+    peltzivar_syntax syntax;
     const char *name;
     CHECK(!peltzivar_language("json", 4, &specials) && specials.inf == text);
     CHECK(!peltzivar_language("JSON", SIZE_MAX, &specials) && !*peltzivar_language_name(SIZE_MAX));
@@ -233,7 +339,14 @@ static void test_languages(void) {
         const peltzivar_reader *const reader = peltzivar_language(name, strlen(name), &specials);
         peltzivar_reader same;
         CHECK(reader && !peltzivar_reader_init(&same, &reader->syntax) && i < 99);
-        CHECK(!memcmp(&same.syntax, &reader->syntax, 18) && peltzivar_read_prefix(reader, "0x1p1h", 6, NULL, NULL));
+        size_t form = 0;
+        for (; *peltzivar_form_name(reader, form); form++) {
+            CHECK(peltzivar_form_syntax(reader, form, &syntax) && !peltzivar_reader_init(NULL, &syntax));
+            if (!form) CHECK(!memcmp(&syntax, &reader->syntax, 21));
+            CHECK(!*peltzivar_form_name(&same, form) && !peltzivar_form_syntax(&same, form, &syntax));
+        }
+        CHECK(form && !peltzivar_form_syntax(reader, form, &syntax) && !*peltzivar_form_name(reader, SIZE_MAX));
+        CHECK(!memcmp(&same.syntax, &reader->syntax, 21) && peltzivar_read_prefix(reader, "0x1p1h", 6, NULL, NULL));
     }
     const peltzivar_reader *const json = peltzivar_language("JSON", 4, &specials);
     CHECK(json && !*specials.nan && !*specials.inf && !*specials.infinity && !peltzivar_read(json, "01", 2, NULL, NULL));
@@ -247,7 +360,7 @@ static void test_settings(void) {
         "expected NAME=VALUE, not `no_special`", "the base prefix 'b' is a digit in radix 16",
         "no flag allows the digit separator '_'", ""};
     static const size_t lines[][3] = {{1, 1, 7}, {1, 4, 7}, {2, 0, 2}, {1, 3, 7}, {0, 7, 7}};
-    peltzivar_syntax syntax = {{1, 2}, 3, 4};
+    peltzivar_syntax syntax = {{1, 2}, 3, 4, true, true, true};
     char longest[64] = "digit_separator=";
     memset(longest + 16, 0xFF, 48);
     CHECK(peltzivar_settings_text(longest, sizeof longest, 0, NULL, 0) < PELTZIVAR_TEXT_SIZE);
@@ -295,6 +408,6 @@ static void test_null(void) {
 
 int main(void) {
     test_constants(), test_setters(), test_fields(), test_words(), test_options(), test_texts(), test_readers();
-    test_literals(), test_special_values(), test_languages(), test_settings(), test_null();
+    test_literals(), test_values(), test_conditions(), test_writing(), test_special_values(), test_languages(), test_settings(), test_null();
     return failed;
 }

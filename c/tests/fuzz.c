@@ -127,13 +127,43 @@ static bool draw_reader(peltzivar_word word, peltzivar_reader *reader) {
     static const uint8_t options[][2] = {{'e', '.'}, {'e', '.'}, {'p', '.'}, {'^', ','}, {0, 0}, {0, 0}, {'e', 0}, {'_', 'E'}};
     for (int tries = 0; peltzivar_check(word) && tries < 9; tries++) word = draw_word();
     const uint8_t *const drawn = options[draw() % 8];
-    peltzivar_syntax syntax = {word, drawn[0], drawn[1]};
+    peltzivar_syntax syntax = {word, drawn[0], drawn[1], draw() % 8 == 0, draw() % 8 == 0, draw() % 8 == 0};
     if (draw() % 16 == 0) for (size_t i = 0; i < sizeof syntax; i++) ((unsigned char *)&syntax)[i] = (unsigned char)draw();
     memset(reader, (int)draw(), sizeof *reader), reader->syntax = syntax;
     const peltzivar_error refused = peltzivar_reader_init(reader, &syntax);
     WRITE(peltzivar_syntax_error_text, &syntax);
     CHECK(!*text == !refused && peltzivar_same_format(syntax.format, reader->syntax.format));
     return !refused;
+}
+
+/* Integer types agree on the value of a literal, or on why there is none, and the float types on whether there is one. */
+static void test_values(const peltzivar_literal *literal) {
+    int64_t integer = 7;
+    uint64_t natural = 7;
+    peltzivar_i128 wide = {7, 7};
+    double real = 7;
+    const peltzivar_value_status status = peltzivar_to_i64(literal, &integer), other = peltzivar_to_u64(literal, &natural);
+    const peltzivar_value_status of_wide = peltzivar_to_i128(literal, &wide);
+    CHECK((status == PELTZIVAR_VALUE_FLOAT) == literal->is_float && (other == PELTZIVAR_VALUE_FLOAT) == literal->is_float);
+    CHECK(status || (!of_wide && wide.low == (uint64_t)integer && wide.high == (integer < 0 ? -1 : 0)));
+    CHECK(other || (!of_wide && wide.low == natural && wide.high == 0));
+    CHECK(!status || integer == 7);
+    CHECK(!of_wide || (wide.low == 7 && wide.high == 7));
+    const peltzivar_value_status of_float = peltzivar_to_f64(literal, &real);
+    CHECK(of_float ? of_float == PELTZIVAR_VALUE_RADIX && real == 7 : status || real == (double)integer);
+}
+
+/* A literal can be written in its own syntax, and what is written has the same value. */
+static void test_written(const peltzivar_reader *reader, const peltzivar_literal *literal) {
+    const peltzivar_style style = {(uint8_t)(draw() % 5), draw() % 2};
+    peltzivar_literal again;
+    peltzivar_i128 values[2] = {{7, 7}, {7, 7}};
+    double reals[2] = {7, 7};
+    size_t needed = 0;
+    CHECK(!peltzivar_format_literal(reader, literal, &style, text, sizeof text, &needed) && needed == strlen(text) + 1);
+    CHECK(peltzivar_read(reader, text, needed - 1, &again, NULL));
+    CHECK(peltzivar_to_i128(literal, &values[0]) == peltzivar_to_i128(&again, &values[1]) && !memcmp(&values[0], &values[1], 16));
+    CHECK(peltzivar_to_f64(literal, &reals[0]) == peltzivar_to_f64(&again, &reals[1]) && !memcmp(&reals[0], &reals[1], 8));
 }
 
 /* What is read is written, and nothing else. The parts of a literal are its bytes. */
@@ -175,6 +205,7 @@ static void test_literals(peltzivar_word word) {
         CHECK(peltzivar_read(&reader, from, literal.size, &literal_before, NULL));
         CHECK(!memcmp(&literal, &literal_before, offsetof(peltzivar_literal, size)));
         CHECK(literal.is_float == (literal.integer.end < literal.exponent_character.end));
+        test_values(&literal), test_written(&reader, &literal);
     } else CHECK(!is_read);
     free(from);
 }
@@ -213,7 +244,7 @@ static void test_lines(void) {
     if (len && draw() % 4 == 0) text[draw() % len] = (char)draw();
     for (size_t i = 0; i < len; i++) count += text[i] == '\n';
     char *const from = copy(len);
-    peltzivar_syntax syntax = {{1, 2}, 3, 4};
+    peltzivar_syntax syntax = {{1, 2}, 3, 4, true, true, true};
     const size_t problems = peltzivar_read_settings(from, len, &syntax);
     CHECK(problems ? syntax.format.low == 1 && syntax.exponent == 3 && syntax.decimal_point == 4
                    : !peltzivar_reader_init(NULL, &syntax));

@@ -18,7 +18,8 @@ SANITIZERS = ["-g", "-fsanitize=address,undefined", "-fno-sanitize-recover=all"]
 COMPILERS = {"gcc": "c99 c11 c17 c2x", "clang": "c99 c11 c17 c2x", "g++": "c++11 c++14 c++17 c++20"}
 COMPILERS |= {"clang++": "c++11 c++14 c++17 c++20"}
 # The types in Rust that do not have the name of C in another case.
-TYPES = {"size_t": "usize", "bool": "bool", "char": "u8", "uint8_t": "u8", "uint32_t": "u32"}
+TYPES = {"size_t": "usize", "bool": "bool", "char": "u8", "uint8_t": "u8", "uint32_t": "u32", "int64_t": "i64"}
+TYPES |= {"uint64_t": "u64", "double": "f64", "float": "f32"}
 TYPES |= {"peltzivar_edit": "NumberedEdit", "peltzivar_special": "NumberedSpecial", "peltzivar_error": "ErrorNumber"}
 TYPES |= {"peltzivar_part": "u8", "peltzivar_role": "u8"}
 LIBRARY = ctypes.CDLL(str(SHARED))
@@ -83,18 +84,22 @@ class Programs(unittest.TestCase):
         lines = re.findall(r"^ \*     (.*)$", HEADER, re.M)
         self.folder.joinpath("first.c").write_text("\n".join(lines) + "\n")
         program = self.made("cc", *STRICT, self.folder / "first.c", ARCHIVE)
-        self.assertEqual(run(program), ("the base prefix 'b' is a digit in radix 16\n", 1))
+        self.assertEqual(run(program), ("1234.50\n", 0))
 
     def test_the_example(self):
         program = self.made("cc", *STRICT, *SANITIZERS, C / "example.c", ARCHIVE)
         rows = [
-            ("18446744073709551615 -1", 0, "18446744073709551615 is 18446744073709551615\n-1 is -1\n"),
-            ("digit_separator=95 18446744073709551616", 0, "no flag allows the digit separator '_'\n18446744073709551616 is a float, or too large\n"),
-            ("no_special=1", 1, "no_special takes `true` or `false`, not `1`\n"),
-            ("x=" * 2048, 2, ""),
+            ("", "-9223372036854775808\r\n9223372036854775808\n0.1", 0, "-9223372036854775808\nabove the largest value of the type\n0.10000000000000001\n"),
+            ("digit_separator=95", "1_0\n", 0, "no flag allows the digit separator '_'\nline 1, column 2: unexpected character '_'\n"),
+            ("no_special=1", "", 1, "no_special takes `true` or `false`, not `1`\n"),
+            ("radix=3", "0.1\n", 0, "the mantissa radix and the exponent base are not both 10 or both powers of two\n"),
+            # What the buffers hold, and a byte more.
+            (f"{'#':4094}", f"{'0' * 4094}\n", 0, "0\n"),
+            (f"{'#':4095}", "", 2, "the settings are too long\n"),
+            ("", "0" * 4095, 2, "line 1 is too long\n"),
         ]
-        for settings, status, printed in rows:
-            self.assertEqual(run(program, *settings.split()), (printed, status))
+        for settings, lines, status, printed in rows:
+            self.assertEqual(run(program, settings, input=lines), (printed, status))
 
     def test_the_examples_print_what_the_page_shows(self):
         self.made("cc", C / "example.c", ARCHIVE, name="example")
@@ -131,7 +136,7 @@ class Header(unittest.TestCase):
         self.assertEqual(self.numbers(r"ROLE_(\w+)"), {name: number for number, name in enumerate(roles)})
         errors = ["SUCCESS", *(it for it in variants("error.rs", "Error") if it != "SUCCESS")]
         numbered = {name: number for number, name in enumerate(errors)}
-        self.assertEqual(self.numbers(r"((?!SET_|RULE_|PART_|ROLE_|KIND_|SPELLING_)\w+)"), numbered)
+        self.assertEqual(self.numbers(r"((?!SET_|RULE_|PART_|ROLE_|KIND_|SPELLING_|VALUE_|CONDITION_|WRITE_)\w+)"), numbered)
 
     def test_names_and_conditions_are_those_of_the_header_and_of_format(self):
         def strings(call):
@@ -169,11 +174,18 @@ class Header(unittest.TestCase):
             return in_rust(kind)
         if re.search(rf"\*{name}, size_t (to_)?len\b", others):
             return f"*{'const' if const else 'mut'} {in_rust(kind)}"
-        if const and name == "reader":
+        if const and name in ("reader", "style"):
             return f"Option<&{in_rust(kind)}>"
         if const or name == "fields":
             return f"&{'' if const else 'mut '}{in_rust(kind)}"
         return f"Out<{in_rust(kind)}>"
+
+    def test_sizes_in_comments(self):
+        words = " ".join(re.sub(r"^ \* ", "", HEADER, flags=re.M).split())
+        most, more = (int(re.search(rf"{it} (\d+) hexadecimal digits", words)[1]) for it in ("0x` followed by 1 to", "and at least"))
+        for number, error in ((most, "SUCCESS"), (more - 1, "SUCCESS"), (most + 1, "OVERFLOW"), (more, "OVERFLOW")):
+            parsed = LIBRARY.peltzivar_parse_word(b"0x" + b"1" * number, number + 2, None, None)
+            self.assertEqual(parsed, self.numbers("(SUCCESS|OVERFLOW)")[error], number)
 
     def test_all_versions_are_the_same(self):
         number = LIBRARY.peltzivar_version()  # That of cargo.

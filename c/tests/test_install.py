@@ -49,7 +49,7 @@ class Install(InFolder):
         self.assertTrue(lines)
         for line in lines:
             self.run_in("bash", "-c", line)
-            self.assertEqual(self.run_in("./example", "radix=8", "17"), "17 is 15\n")
+            self.assertEqual(self.run_in("./example", "radix=8", input="17\n"), "15\n")
 
     def test_python_finds_the_library_below_the_prefix(self):
         self.make("install", f"PREFIX={self.prefix}")
@@ -64,7 +64,7 @@ class Install(InFolder):
         self.environment.pop("CARGO_TARGET_DIR", None)
         for command in (build, f"{compile_it} -o '{self.folder}/example'"):
             self.run_in("bash", "-c", command, cwd=C.parent)
-        self.assertEqual(self.run_in("./example", "radix=8", "17"), "17 is 15\n")
+        self.assertEqual(self.run_in("./example", "radix=8", input="17\n"), "15\n")
 
     def test_uninstall_removes_what_install_wrote_without_cargo_and_for_all_users(self):
         paths = ["PREFIX=/usr/my own", "LIBDIR=/usr/my own/lib here", f"DESTDIR={self.folder}/a root"]
@@ -74,7 +74,8 @@ class Install(InFolder):
         modes = {str(it.relative_to(root)): it.stat().st_mode & 0o777 for it in root.rglob("*") if not it.is_dir()}
         self.assertEqual({mode for path, mode in modes.items() if ".so" not in path}, {0o644}, modes)
         self.assertEqual({mode for path, mode in modes.items() if ".so" in path}, {0o755}, modes)
-        names = {"include/peltzivar.h", "lib here/libpeltzivar_c.a", "share/doc/peltzivar/LICENSE", "share/doc/peltzivar/FORMAT.md"}
+        names = {"include/peltzivar.h", "lib here/libpeltzivar_c.a", "share/doc/peltzivar/LICENSE"}
+        names |= {f"share/doc/peltzivar/{it}.md" for it in ("FORMAT", "EXPLANATIONS", "SETTINGS")}
         self.assertEqual(names - set(modes), set())
         self.assertNotIn("a root", (root / "lib here/pkgconfig/peltzivar.pc").read_text())
         self.make("uninstall", *paths)
@@ -86,14 +87,21 @@ class Install(InFolder):
         self.assertEqual([*self.prefix.rglob("*.py")], [])
         self.assertRegex(self.make("check", "PYTHON=no-python"), line)
 
-    def test_cargo_is_named_if_it_is_missing(self):
-        with self.assertRaisesRegex(AssertionError, "no-cargo is not found: install Rust"):
-            self.make("install", f"PREFIX={self.prefix}", f"BUILD={self.folder}/build", "CARGO=no-cargo")
+    def test_a_missing_or_old_library_is_built(self):
+        library = self.folder / "build/release/libpeltzivar_c.so"
+        install = ["install", f"PREFIX={self.prefix}", f"BUILD={self.folder}/build", "CARGO=no-cargo"]
+        self.assertRaisesRegex(AssertionError, "no-cargo is not found: install Rust", self.make, *install)
+        library.parent.mkdir(parents=True)
+        library.touch()
+        os.utime(library, (0, 0))
+        self.assertRaisesRegex(AssertionError, "no-cargo is not found: install Rust", self.make, *install)
 
     @unittest.skipUnless(shutil.which("pkg-config"), "pkg-config")
     def test_pkg_config_has_the_version_and_another_prefix(self):
-        self.make("install", f"PREFIX={self.prefix}")
+        self.make("install", f"PREFIX={self.prefix}", f"INCLUDEDIR={self.prefix}/headers")
         self.assertEqual(self.run_in("pkg-config", "--modversion", "peltzivar"), f"{VERSION}\n")
+        headers = self.run_in("pkg-config", "--variable=includedir", "peltzivar").strip()
+        self.assertTrue(pathlib.Path(headers, "peltzivar.h").exists(), headers)
         self.run_in("pkg-config", "--exists", *re.search(r"(peltzivar)(>=)([\d.]+)\)", PAGE).groups())
         moved = ["pkg-config", "--define-variable=prefix=/moved", "--variable=libdir", "peltzivar"]
         self.assertEqual(self.run_in(*moved), "/moved/lib\n")
@@ -112,7 +120,7 @@ class Package(InFolder):
 
     def test_packages_of_a_copy_of_the_checkout(self):
         checkout = self.folder / "a copy/c"
-        shutil.copytree(C.parent, checkout.parent, ignore=shutil.ignore_patterns(".git", "crates", "target", "build", "*.so"))
+        shutil.copytree(C.parent, checkout.parent, ignore=shutil.ignore_patterns(".git", "crates", "target", "build", "*.so*"))
         wheel = self.build("wheel", checkout)
         shutil.unpack_archive(self.build("sdist", checkout), self.folder / "sources")
         (source,) = self.folder.glob("sources/*")
@@ -120,12 +128,15 @@ class Package(InFolder):
         with zipfile.ZipFile(wheel) as opened:
             files = {name.rpartition("/")[2]: opened.read(name) for name in opened.namelist()}
         self.assertEqual((files["py.typed"], files["LICENSE"]), (b"", (C.parent / "LICENSE").read_bytes()))
-        self.assertRegex(files["METADATA"].decode(), r"(?ms)^License: MIT$.*^Requires-Python: >=3.9$.*^\n.* >>> from peltzivar import Format, Syntax$")
+        self.assertRegex(files["METADATA"].decode(), r"(?ms)^License: MIT$.*^Requires-Python: >=3.9$.*^\n.* >>> from peltzivar import Syntax, languages$")
+        self.assertRegex(wheel.name, f"-py3-none-linux_{os.uname().machine}.whl$")
         self.run_in(PACKAGER, "-m", "venv", "--system-site-packages", "--without-pip", "environment")
         install = ["environment/bin/python", "-m", "pip", "install", "--no-build-isolation", "--no-index", "--no-deps", "--quiet"]
         for package, folder in (([wheel], ".*/site-packages"), (["--editable", checkout], checkout)):
             self.run_in(*install, *package)
             self.assertRegex(self.run_in("environment/bin/python", *IMPORT[1:]), f"^{WORD} {folder}/peltzivar/__init__.py$")
+            modules = "import pkgutil, peltzivar; print([*pkgutil.iter_modules(peltzivar.__path__)])"
+            self.assertEqual(self.run_in("environment/bin/python", "-B", "-c", modules), "[]\n")
 
 
 if __name__ == "__main__":

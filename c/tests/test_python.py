@@ -1,8 +1,8 @@
-"""Tests the Python module: `make -C c check`. The expected values are the tables of docs/FORMAT.md, and known words and
-sentences."""
+"""Tests the Python module: `make -C c check`. The expected values are the tables of docs/FORMAT.md and
+docs/EXPLANATIONS.md, and known words and sentences."""
 import copy
 import doctest
-import inspect
+import math
 import os
 import pathlib
 import pickle
@@ -14,6 +14,8 @@ import subprocess
 import sys
 import tempfile
 import unittest
+from decimal import Decimal
+from fractions import Fraction
 from random import Random
 
 TESTS = pathlib.Path(__file__).resolve().parent
@@ -24,11 +26,12 @@ from peltzivar import Edit, Error, Format, FormatError, FormatView, Language, Li
 from peltzivar import Role, Rule, Setter, SettingsError, Special, Specials, Spelling, Syntax, notes_of
 
 PAGE = (TOP / "docs/FORMAT.md").read_text()
+EXPLANATIONS = (TOP / "docs/EXPLANATIONS.md").read_text()
 FLAGS = re.findall(r"^\| (\d+) \| `(\w+)` \| (?:true|false) \|", PAGE, re.M)
 GROUPS = re.findall(r"^\| `(\w+)` \| (\d[\d ]*) \|", PAGE, re.M)
 BYTES = re.findall(r"^\| (\d+) to \d+ \| `(\w+)` \|", PAGE, re.M)
 RULES = re.findall(r"^\| (\d+) \| (.*) \| `(Invalid\w+)` \| `+('.*')`+ \| `(\w+)` \| (.*) \|$", PAGE, re.M)
-CAUSES = re.findall(r"^\| (?:`(.*)` )?\| `(.*)` \| (\w+) ?(.*?) \| (\d+) \| (\d+)\.\.(\d+) \|$", PAGE, re.M)
+CAUSES = re.findall(r"^\| (?:`(.*)` )?\| `(.*)` \| (\w+) ?(.*?) \| (\d+) \| (\d+)\.\.(\d+) \|$", EXPLANATIONS, re.M)
 CALLS = peltzivar._library
 
 
@@ -185,11 +188,92 @@ class Literals(unittest.TestCase):
         text = "-0x1_F.8_0p+1_2h"
         parts = ["-", "0x", "1_F", ".", "8_0", "p", "+", "1_2", "h"]
         for literal, in_type in ((syntax.read(text), str), (syntax.read(text.encode()), str.encode)):
-            self.assertEqual((str(literal), [*vars(literal).values()][2:]), (text, [*map(in_type, parts)]))
+            self.assertEqual((str(literal), [*vars(literal.parts).values()]), (text, [*map(in_type, parts)]))
             self.assertEqual([*map(literal.digits, Part)], [*map(in_type, ["1F", "80", "12"])])
         self.assertEqual([syntax.read(it).is_float for it in ("-F_F", "1.", "1p0")], [False, True, True])
         literal, rest = syntax.read_prefix("1.8p+\u00e9")
-        self.assertEqual((literal.text, literal.fraction, rest), ("1.8", "8", "p+\u00e9"))
+        self.assertEqual((literal.text, literal.parts.fraction, rest), ("1.8", "8", "p+\u00e9"))
+
+    def test_values(self):
+        rows = [
+            (Language.TOML, "-9_223_372_036_854_775_809", -(2**63) - 1, "-9223372036854775809", -(2**63) - 1),
+            (Language.JSON, "-0", 0, "-0", 0),
+            (Language.JSON, "1.50e-1", 0.15, "0.150", Fraction(3, 20)),
+            (Language.JSON, "1e400", math.inf, "1E+400", 10**400),
+            (Language.CSV_EN, "1,234.50", 1234.5, "1234.50", Fraction(2469, 2)),
+            (Language.RUST, "0x1_F", 31, "31", 31),
+            (Language.SWIFT, "-0x1.8p-1", -0.75, "-0.75", Fraction(-3, 4)),
+        ]
+        for language, text, value, decimal, fraction in rows:
+            for given in (text, text.encode()):
+                it = language.read(given)
+                self.assertEqual((repr(it.value), str(it.decimal()), it.fraction()), (repr(value), decimal, fraction))
+                self.assertEqual((repr(float(it)), it.decimal()), (repr(float(decimal)), Decimal(decimal)))
+                for same in (eval(repr(it)), pickle.loads(pickle.dumps(it)), copy.deepcopy(it)):
+                    self.assertEqual((same, hash(same), same.value), (it, hash(it), it.value))
+        self.assertRaisesRegex(ValueError, "^'1.0' is a float$", int, Language.JSON.read("1.0"))
+        self.assertEqual([repr(Language.TOML.read("-inf").value), str(Language.TOML.read("-inf").decimal())], ["-inf", "-Infinity"])
+        # Literals are equal if their formats and parts are equal.
+        self.assertEqual(Syntax(Format()).read("1"), Syntax.integers(Format()).read("1"))
+        self.assertNotEqual(Syntax(Format()).read("1"), Syntax(Format.of(no_special=True)).read("1"))
+        self.assertNotEqual(Syntax(Format()).read("1.5"), Syntax(Format(), "e", ",").read("1,5"))
+
+    def test_values_that_are_refused(self):
+        ternary, decimal, binary = Syntax(Format.of(radix=3)), Language.JSON, Language.C
+        self.assertEqual((ternary.read("-12").value, str(ternary.read("12").decimal()), ternary.read("0.1").fraction()), (-5, "5", Fraction(1, 3)))
+        self.assertRaisesRegex(ValueError, "mantissa radix and the exponent base", float, ternary.read("12"))
+        self.assertRaisesRegex(ValueError, "products of 2 and 5", ternary.read("0.1").decimal)
+        self.assertRaisesRegex(ValueError, r"\(4300", int, decimal.read("9" * 4301))
+        self.assertEqual(int(Language.RUST.read("0x" + "F" * 5000)), 16**5000 - 1)
+        self.assertEqual(len(decimal.read("9" * 10**6).decimal().as_tuple().digits), 10**6)
+        self.assertEqual(decimal.read("1e999999").fraction(), 10**999999)
+        self.assertEqual(binary.read("0x1p-1430676").decimal().adjusted(), -430677)
+        large = [decimal.read("9" * (10**6 + 1)).decimal, decimal.read("1e1000000").fraction, decimal.read("1e-1000000").fraction]
+        large += [decimal.read("1e" + "9" * 5000).decimal, binary.read("0x1p-1430677").decimal, binary.read("0x1p3321929").decimal]
+        for call in [*large, binary.read("0x1p99999999999999999999").fraction]:
+            self.assertRaisesRegex(OverflowError, "more than 10\\^6 digits", call)
+
+    def test_conditions(self):
+        rows = [("required_base_prefix", {"base_prefix": "x"}, "0x1", "1"), ("required_base_suffix", {"base_suffix": "h"}, "1h", "1")]
+        for name, fields, accepted, refused in [*rows, ("no_negative_mantissa_sign", {}, "1e-1", "-1")]:
+            syntax = Syntax.of(**fields, **{name: True})
+            copies = eval(repr(syntax)), pickle.loads(pickle.dumps(syntax)), Syntax(Format.of(**fields), **{name: True})
+            self.assertEqual({syntax, *copies} - {Syntax.of(**fields)}, {syntax})
+            for it in copies:
+                self.assertEqual(it.read(accepted).text, accepted)
+                with self.assertRaises(LiteralError) as caught:
+                    it.read(refused)
+                error = pickle.loads(pickle.dumps(caught.exception))
+                self.assertEqual((error.kind, error.conditions, error.mask, error.edits), (ReadErrorKind.REQUIREMENT, (name,), 0, ()))
+        for error, call in ((OptionsError, lambda: Syntax(Format(), required_base_prefix=True)), (SettingsError, lambda: Syntax.of("required_base_prefix=true"))):
+            self.assertRaisesRegex(error, "^required_base_prefix is set, and the format has no base prefix$", call)
+
+    def test_numbers_are_written(self):
+        german, hexadecimal = Syntax.of(digit_separator=".", internal_digit_separator=True, point=","), Syntax.of(radix=16, base_prefix="x", exponent="p")
+        rows = [(0, "0"), (-1234567, "-1.234.567"), (10**40, "10" + ".000" * 13), (1234.5, "1.234,5"), (-1e300, "-1e300"), (Decimal("1234.50"), "1.234,50")]
+        for value, text in [*rows, (Decimal("1E+3"), "1.000"), (Decimal("1E-500"), "1e-500"), (Language.CSV_EN.read("1,234.50"), "1.234,50")]:
+            self.assertEqual(german.format_number(value, group=3), text)
+            if not isinstance(value, peltzivar.Literal):
+                self.assertEqual(german.read(text).decimal(), Decimal(repr(value)) if isinstance(value, float) else value)
+        self.assertEqual([hexadecimal.format_number(2**128 // 3), hexadecimal.format_number(31, without_base=True)], ["0x" + "5" * 32, "1F"])
+        wrong = [(german, math.inf, "NaN or infinity"), (german, Decimal("NaN"), "NaN or infinity"), (hexadecimal, 2**127, "radix")]
+        for syntax, value, sentence in [*wrong, (Syntax.integers(Format()), 1.5, "decimal point"), (Language.C.forms["octal"], -1, "'-'")]:
+            self.assertRaisesRegex(ValueError, sentence, syntax.format_number, value)
+
+    def test_a_locale_plays_no_role(self):
+        """Tests C, too, since it has the same locale."""
+        folder = pathlib.Path(tempfile.mkdtemp())
+        self.addCleanup(shutil.rmtree, folder)
+        if shutil.which("localedef"):
+            subprocess.run(["localedef", "-i", "de_DE", "-f", "UTF-8", folder / "de_DE.UTF-8"], capture_output=True)
+        program = "import locale; locale.setlocale(locale.LC_ALL, 'de_DE.UTF-8'); print(locale.localeconv()['decimal_point'])\n"
+        program += "import peltzivar; print(peltzivar.Language.JSON.read('12345678901234567890.5').value)"
+        environment = {**os.environ, "PYTHONPATH": str(TESTS.parent)}
+        for more in ({}, {"LOCPATH": str(folder)}):
+            ran = subprocess.run([sys.executable, "-c", program], env={**environment, **more}, capture_output=True, text=True)
+            if "unsupported locale" not in ran.stderr:
+                return self.assertEqual(ran.stdout, ",\n1.2345678901234567e+19\n")
+        self.skipTest("no locale de_DE.UTF-8")
 
     def test_causes_of_format(self):
         self.assertGreater(len(CAUSES), 10)
@@ -220,7 +304,7 @@ class Literals(unittest.TestCase):
         for syntax in syntaxes:
             copies = eval(repr(syntax)), pickle.loads(pickle.dumps(syntax)), copy.deepcopy(syntax)
             self.assertEqual({syntax, *copies}, {syntaxes[3] if syntax is syntaxes[3] else syntaxes[0]})
-            self.assertEqual([it.read("-1").integer for it in copies], ["1"] * 3)
+            self.assertEqual([it.read("-1").parts.integer for it in copies], ["1"] * 3)
             self.assertLess(len(pickle.dumps(syntax)), 200)  # Another build must make its own reader.
 
     def test_languages_read_the_texts_of_their_grammars(self):
@@ -233,6 +317,19 @@ class Literals(unittest.TestCase):
                 is_read = False
             self.assertEqual(is_read, mark in ("+", "-!"), (name, text))
 
+    def test_forms_of_languages(self):
+        rows = [("10", "decimal", 10), ("017", "octal", 15), ("0x1F", "hexadecimal", 31), ("0x1.8p1", "hexadecimal float", 3.0)]
+        for text, form, value in rows:
+            for it in (Language.C.read(text), Language.C.read_prefix(text + "z")[0]):
+                for literal in (it, pickle.loads(pickle.dumps(it))):
+                    self.assertEqual((literal.form, repr(literal.value), literal.syntax), (form, repr(value), Language.C.forms[form]))
+                    self.assertEqual(Language.C.forms[form].read(text), literal)
+        for text, form, index in (("0b12", "binary", 3), ("10d", "decimal", 2), ("0b", "binary", 2), ("0b102z", "binary", 4)):
+            with self.assertRaises(LiteralError) as caught:
+                Language.PYTHON.read(text)
+            error = pickle.loads(pickle.dumps(caught.exception))
+            self.assertEqual((error.form, error.valid_up_to), (form, index), text)
+
     def test_special_values(self):
         for text, wanted in (("+inf", "+INF"), (b"-nan", "-NAN"), ("inf", "INF")):
             special = Language.TOML.read(text)
@@ -244,7 +341,9 @@ class Literals(unittest.TestCase):
     def test_settings_make_a_syntax(self):
         lines = ["# hexadecimal\r\n", "radix = 16\n", "base_prefix='x'", "", "exponent = 'p'"]
         self.assertEqual(Syntax.of(*lines), Syntax(Format.of(radix=16, base_prefix="x"), "p"))
-        self.assertEqual(Syntax.of(Edit("radix=16"), "exponent=none", "point=none"), Syntax.integers(Format.of(radix=16)))
+        self.assertEqual(Syntax.of("radix=2", radix=16, base_prefix="x", exponent=b"p"), Syntax.of(*lines))
+        for integers in (Syntax.of(Edit("radix=16"), "exponent=none", "point=none"), Syntax.of(radix=16, exponent=None, point=None)):
+            self.assertEqual(integers, Syntax.integers(Format.of(radix=16)))
         notes = [(str(it), it.indexes) for it in Syntax.notes_of(*lines, "digit_separator = '_'", "radix = 16")]
         self.assertEqual(notes, [("a later setting overrides radix", (1, 6)), ("no flag allows the digit separator '_'", (5,))])
         with self.assertRaises(SettingsError) as caught:
@@ -269,6 +368,12 @@ WRONG = [
     ("Format.of(base_prefix='\u00e9')", ValueError, f"base_prefix is {BYTE}: '\u00e9'"),
     ("Format().edit(colour=7)", TypeError, "edit() got an unexpected keyword argument 'colour': unknown setting name"),
     ("Format.of(thousands=',')", TypeError, "of() got an unexpected keyword argument 'thousands': " + SUGGESTION),
+    ("Syntax.of(digit_seperator='_')", TypeError, "of() got an unexpected keyword argument 'digit_seperator': unknown setting `digit_seperator`; did you mean `digit_separator`?"),
+    ("Syntax.of(exponnt='_')", TypeError, "of() got an unexpected keyword argument 'exponnt': unknown setting `exponnt`; did you mean `exponent`?"),
+    ("Format.of(exponent='p')", TypeError, "of() got an unexpected keyword argument 'exponent': unknown setting name"),
+    ("Syntax.of(required_base_prefix=1)", TypeError, "required_base_prefix is a bool, not int"),
+    ("Syntax(Format()).format_number('1')", TypeError, "value is a number or a Literal, not str"),
+    ("Syntax.of(point='')", ValueError, f"point is {BYTE}: ''"),
     ("Edit.of('digit_seperator', '_')", ValueError, f"setter 'digit_seperator': {SUGGESTION}"),
     ("Format.of(\"digit_seperator='_'\")", ValueError, f"digit_seperator='_': {SUGGESTION}"),
     ("Edit(\"radix='x'\")", ValueError, "radix='x': radix takes a number, 2 to 36 in a lawful format"),
@@ -288,7 +393,7 @@ class Wrong(unittest.TestCase):
     def test_random_objects_are_refused_by_name(self):
         objects = [None, True, 1.5, float("nan"), -1, 0, 65, 256, 1 << 128, 10**5000, "", "x", "0x1", "\u00e9", "\ud800", "a\0b", b"", b"\xff"]
         objects += [[], {}, object(), print, Edit, Format(), Edit("radix=8"), Part.INTEGER, Setter.NO_SPECIAL, Error.EMPTY, "radix=8"]
-        fields = [name for name in inspect.signature(Format.of).parameters if name != "settings"]
+        fields = [it.name.lower() for it in Setter]
         one, view, syntax, random = Format(), FormatView((1 << 128) - 1), Syntax(Format()), Random(1)
         calls = {
             "a byte": [view.is_separator, view.mantissa_digit, view.exponent_digit, view.role_of, syntax.role_of],
@@ -317,21 +422,23 @@ class Wrong(unittest.TestCase):
 
     @unittest.skipUnless(shutil.which("mypy"), "mypy")
     def test_a_type_checker_refuses_wrong_arguments(self):
-        program = """from peltzivar import Edit, Format, Setter, notes_of
+        program = """from peltzivar import Edit, Format, Setter, Syntax, notes_of
 Format.of("radix=16", Edit.of(Setter.NO_SPECIAL, True), mantissa_radix=16, base_prefix=b"x").edit(exponent_base=None)
 Format.of(mantissa_radix="x", base_prefx=3)
 Format().edit(no_special=1)
+Syntax.of(radix=16, point=1.5).read("1").value.real
 notes_of(mantissa_radix=None)
 print(Format().no_special + "", Format().edit().check().error().description)
 """
         command = ["mypy", "--strict", "--cache-dir=/dev/null", peltzivar.__file__, "/dev/stdin"]
         ran = subprocess.run(command, env={**os.environ, "MYPYPATH": str(TESTS.parent)}, input=program, capture_output=True, text=True)
-        self.assertEqual(re.findall(r"^(.*):(\d+): error", ran.stdout, re.M), [("/dev/stdin", line) for line in "33456"], ran)
+        self.assertEqual(re.findall(r"^(.*):(\d+): error", ran.stdout, re.M), [("/dev/stdin", line) for line in "334567"], ran)
 
     def test_help_has_no_private_names(self):
         text = pydoc.plain(pydoc.render_doc(peltzivar))
         self.assertEqual(re.findall(r"^ +\|  (_[a-z]\w*)", text, re.M), [])
-        self.assertNotIn("builtins.int", text)
+        self.assertNotRegex(text, r"builtins\.int|ctypes|Ellipsis|libpeltzivar|'_[A-Z][a-z]")
+        self.assertRegex(text, r"(?s)DESCRIPTION\n.*?\.read\(.*?\.value.*?Syntax\.of\(.*?Error.*?128-bit")
 
 
 class Loading(unittest.TestCase):

@@ -1,7 +1,7 @@
 //! Reads hexadecimal integers, such as `1_FF`. A format that is not lawful does not compile.
 
 use core::num::NonZeroU8;
-use peltzivar::literal::{Reader, Syntax};
+use peltzivar::literal::{ParseError, Reader, Syntax};
 use peltzivar::NumberFormatBuilder;
 
 static INTEGERS: Reader = Reader::new(Syntax::integers(
@@ -13,10 +13,14 @@ static INTEGERS: Reader = Reader::new(Syntax::integers(
 ));
 
 fn main() {
-    let literal = INTEGERS.read(b"1_FF").unwrap();
-    assert_eq!(literal.to_u64(), Ok(0x1FF));
-
-    let error = INTEGERS.read(b"1__FF").unwrap_err();
-    assert_eq!(format!("{error:#}"), "unexpected digit separator in the integer after another");
-    assert_eq!(error.span(), 2..3);
+    for text in ["1_FF", "1__FF", "1_0000"] {
+        match INTEGERS.parse::<u16>(text) {
+            Ok(value) => println!("{text} is {value}"),
+            Err(ParseError::Value(error)) => println!("{text} is {error}"),
+            Err(ParseError::Read(error)) => {
+                let (start, len) = (error.span().start, error.span().len().max(1));
+                println!("{text}\n{:start$}{:^<len$} {error:#}", "", "");
+            }
+        }
+    }
 }

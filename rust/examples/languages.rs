@@ -23,7 +23,7 @@ const fn numbers(builder: NumberFormatBuilder, exponent: u8) -> Syntax {
 
 fn main() {
     let text = std::env::args_os().nth(1).unwrap_or_default();
-    let others = Language::ALL.iter().map(|it| (it.name(), it.syntax()));
+    let others = Language::ALL.iter().flat_map(|it| it.forms().iter().map(|form| (it.name(), form.syntax)));
     for (name, syntax) in LANGUAGES.into_iter().chain(others) {
         let is_number = Reader::new(syntax).read(text.as_encoded_bytes()).is_ok();
         let verb = ["rejects", "accepts"][usize::from(is_number)];

@@ -79,13 +79,14 @@ impl<const FORMAT: u128> fmt::Debug for NumberFormat<FORMAT> {
     }
 }
 
-/// Writes the view of the format, and the options.
+/// Writes the view of the format, the options, and the conditions.
 impl fmt::Debug for Syntax {
     fn fmt(&self, f: &mut fmt::Formatter<'_>) -> fmt::Result {
         f.debug_struct("Syntax")
             .field("format", &self.format().view())
             .field("exponent", &self.exponent().map(char::from))
             .field("point", &self.point().map(char::from))
+            .field("conditions", &self.conditions())
             .finish()
     }
 }

@@ -53,6 +53,7 @@ impl FormatError {
         match (self.first_reason(), self.rejected, self.code().index()) {
             (_, Rejected::Options(_, 0, 1..) | Rejected::Options(_, 1.., 0), _) => ShortText::of(ONE_OPTION),
             (Some(reason), ..) => reason.text(),
+            (_, Rejected::Conditions(error), _) => error.text(),
             (None, Rejected::Bytes, _) => ShortText::of("options are two bytes, such as 'e' or 101"),
             (None, _, Some(0 | 1)) => ShortText::of("a format word begins with `0x`"),
             (None, ..) => self.code().text(),

@@ -137,6 +137,7 @@ pub(crate) enum Rejected {
     Bytes,
     // A word that is not lawful.
     Word(u128),
+    Conditions(crate::literal::ConditionsError),
     // A word that is lawful, with an exponent character and a decimal point that do not fit it.
     Options(u128, u8, u8),
 }

@@ -21,7 +21,7 @@
 //! | read numbers of a format | a [`Reader`][literal::Reader] of its [`Syntax`][literal::Syntax]; [`Specials`][literal::Specials] for NaN and infinity |
 //! | compute values | [`Reader::parse`][literal::Reader::parse], and `try_from` of an integer type, `f64` or `f32` |
 //! | report why a text is not a number | [`ReadError`][literal::ReadError] |
-//! | write numbers | the example of [`literal`], and [`digit_to_char`][digit::digit_to_char] |
+//! | write numbers | [`Syntax::format_integer`][literal::Syntax::format_integer], [`Syntax::format_literal`][literal::Syntax::format_literal] |
 //! | write a reader of your own | [`FormatView::is_separator`], [`separators`][FormatView::separators], [`role_of`][FormatView::role_of] |
 //! | read the fields of any word, lawful or not | [`FormatView`]; [`NumberFormat`] for a word that is known at compile time |
 //! | read a configuration | [`Settings`], which knows the lines to blame; [`Edit`] for a single setting, and [`collect`][Iterator::collect] to turn edits into a builder |
@@ -31,7 +31,8 @@
 //! | store words as text | `Display` and `FromStr` of [`Format`], [`FormatView`] and [`Syntax`][literal::Syntax] |
 //! | convert words that `lexical-util` stored | [`edits::migrate`] |
 //!
-//! `FORMAT.txt` in the package defines each flag and rule, which texts are numbers, and why a text is not one.
+//! In the package, `FORMAT.txt` defines each flag and rule, and which texts are numbers, `EXPLANATIONS.txt` why a text is
+//! not one, and `SETTINGS.txt` how settings are written.
 //!
 //! # From `lexical-util`
 //!

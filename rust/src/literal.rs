@@ -1,10 +1,11 @@
 //! Literals: the texts that are numbers of a format, their parts, the calls that read them, and why a text is not one.
 //!
-//! A [`Syntax`] is a lawful format with an exponent character and a decimal point or, for integers alone, without both.
+//! A [`Syntax`] is a lawful format with an exponent character and a decimal point or, for integers alone, without both,
+//! and [`Conditions`].
 //! A [`Reader`] has tables of a syntax, and reads its literals. A [`Literal`] has the parts of a text and, if it is an
 //! integer, its value in any integer type of Rust. A [`ReadError`] finds the cause of a refusal, and the flags to blame.
-//! NaN and infinity are not literals: [`Specials`] reads them. A [`Language`] has a reader and the special values of a
-//! language.
+//! NaN and infinity are not literals: [`Specials`] reads them. [`Readers`] read numbers that have several forms, such as
+//! `10` and `0x1F`, and a [`Language`] has those of a language.
 //!
 //! ```
 //! use peltzivar::format::{Format, STANDARD};
@@ -27,39 +28,39 @@
 //!
 //! # Writing numbers
 //!
-//! A format also determines how a number may be written. This writes an integer with a prefix and groups of three digits,
-//! where the format has them:
+//! A syntax also determines how a number may be written. [`Syntax::format_integer`] writes an integer of Rust, and
+//! [`Syntax::format_literal`] a literal of another syntax. What is written is a literal, with the same value. Nothing is
+//! allocated.
 //!
 //! ```
-//! use peltzivar::{digit::digit_to_char, literal::Language, Format, Part};
+//! use peltzivar::literal::{Language, Style, WriteError};
 //!
-//! fn write(mut value: u64, format: Format) -> Vec<u8> {
-//!     let (mut text, radix) = (Vec::new(), u64::from(format.radix()));
-//!     let separator = format.digit_separator().filter(|_| format.separators(Part::Integer).internal);
-//!     for count in 1.. {
-//!         text.push(digit_to_char((value % radix) as u32));
-//!         value /= radix;
-//!         match separator {
-//!             _ if value == 0 => break,
-//!             Some(separator) if count % 3 == 0 => text.push(separator.get()),
-//!             _ => (),
-//!         }
-//!     }
-//!     text.extend(format.base_prefix().into_iter().flat_map(|prefix| [prefix.get(), b'0']));
-//!     text.reverse();
-//!     text
-//! }
-//! let reader = Language::RUST_HEX_INTEGER.reader();
-//! let text = write(0xC0FFEE, reader.syntax().format());
-//! assert_eq!((text.as_slice(), reader.read(&text).is_ok()), (&b"0xC0F_FEE"[..], true));
+//! let number = Language::C.read(b"1'000.5e3").unwrap();
+//! let python = Language::PYTHON.forms()[0].syntax;
+//! let text = python.format_literal(&number.literal().unwrap(), Style::PLAIN.group(3))?;
+//! assert_eq!(text.to_string(), "1_000.5e3");
+//! assert_eq!(python.format_integer(1_234_567, Style::PLAIN)?.as_str(), Some("1234567"));
+//! // In Python, the `-` of `-1` is an operator.
+//! assert_eq!(python.format_integer(-1, Style::PLAIN).unwrap_err(), WriteError::Negative);
+//!
+//! // A float is written from its shortest digits, which std prints.
+//! let digits = format!("{:?}", 0.1_f64 + 0.2);
+//! let number = Language::RUST.read(digits.as_bytes()).unwrap();
+//! let comma = Language::CSV_DE.forms()[0].syntax;
+//! assert_eq!(comma.format_literal(&number.literal().unwrap(), Style::PLAIN)?.to_string(), "0,30000000000000004");
+//! # Ok::<(), WriteError>(())
 //! ```
 
 #[allow(clippy::redundant_pattern_matching, reason = "as it is proved")]
 mod cause;
+mod conditions;
 mod language;
+#[allow(clippy::len_zero, reason = "as it is proved")]
+mod list;
 mod number;
 #[allow(clippy::needless_lifetimes, reason = "as it is proved")]
 mod read;
+mod readers;
 mod sentence;
 #[allow(clippy::redundant_pattern_matching, reason = "as it is proved")]
 mod span;
@@ -75,11 +76,15 @@ mod syntax;
 mod tables;
 mod text;
 mod value;
+mod writer;
 
 pub use cause::{Place, ReadError, ReadErrorKind};
-pub use language::{Language, Number};
+pub use language::{Form, Language};
+pub use list::FormError;
 pub use number::{Digits, Literal};
 pub use read::Reader;
+pub use readers::{Number, Readers};
 pub use specials::{Sign, Special, Specials, Spelling};
-pub use syntax::Syntax;
+pub use syntax::{Conditions, ConditionsError, Syntax};
 pub use value::{FromLiteral, ParseError, ValueError, ValueErrorKind};
+pub use writer::{Style, WriteError, WriteInteger, Written};

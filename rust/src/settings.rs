@@ -3,16 +3,19 @@
 use core::fmt::{self, Write};
 use core::str::from_utf8;
 
-use crate::edits::{apply, likeness, Edit, EditError, EditErrorKind, Fault, Setter, FIELD_COUNT};
-use crate::format::{NumberFormatBuilder, EXPONENT_BASE, EXPONENT_RADIX, MANTISSA_RADIX};
+use crate::edits::{apply, likeness, Edit, EditError, EditErrorKind, Fault, FlagSetter, Setter, FIELD_COUNT};
+use crate::format::{NumberFormatBuilder, BASE_PREFIX, BASE_SUFFIX, EXPONENT_BASE, EXPONENT_RADIX, MANTISSA_RADIX};
 use crate::format_error::ONE_OPTION;
 use crate::lawful::Rejected;
-use crate::literal::Syntax;
+use crate::literal::{Conditions, ConditionsError, Syntax};
 use crate::reasons::{Byte, Cause, Note, Reason};
 use crate::{Format, FormatError};
 
-/// The settings of options: the exponent character and the decimal point.
-const OPTIONS: [&str; 2] = ["exponent", "point"];
+/// The settings of options, the exponent character and the decimal point, and then of conditions.
+const OPTIONS: [&str; 5] = {
+    let [prefix, suffix, sign] = Conditions::NAMES;
+    ["exponent", "point", prefix, suffix, sign]
+};
 const DEFAULTS: [u8; 2] = *b"e.";
 
 /// The number of fields and options, and thereby the largest number of settings that are not overridden.
@@ -30,7 +33,7 @@ const SHOWN: usize = 40;
 /// Settings that are read from texts, such as the lines of a file, and the format or syntax that they build.
 ///
 /// A setting is what an [`Edit`] is parsed from, or has the name `exponent` or `point`, for the exponent character and the
-/// decimal point, and a value that `digit_separator` takes. A text that is blank or begins with `#` sets nothing. White
+/// decimal point, and a value that `digit_separator` takes, or the name of a field of [`Conditions`] and its value. A text that is blank or begins with `#` sets nothing. White
 /// space is skipped as by [`trim_ascii`][slice::trim_ascii], such as the carriage return at the end of a line. A byte
 /// order mark is skipped only at the start of the first text, and `#` begins a comment only at the start of a text.
 ///
@@ -65,6 +68,7 @@ pub struct Settings {
     builder: NumberFormatBuilder,
     /// The exponent character and the decimal point. A character that is `none` is 0.
     options: [u8; 2],
+    conditions: Conditions,
     /// What the settings would write that were refused, and no later setting writes.
     refused: Mask,
     /// The number of texts.
@@ -119,6 +123,7 @@ impl Settings {
         Settings {
             builder: NumberFormatBuilder::new(),
             options: DEFAULTS,
+            conditions: Conditions::NONE,
             refused: Mask::EMPTY,
             count: 0,
             live: [None; LIVE],
@@ -171,7 +176,8 @@ impl Settings {
         };
         self.refused = self.refused.without(mask);
         match option {
-            Some(option) => self.options[option] = edit.argument_byte(),
+            Some(option @ (0 | 1)) => self.options[option] = edit.argument_byte(),
+            Some(option) => self.conditions = self.conditions.edited(option - 2, edit.argument_byte()),
             None => self.builder = apply(self.builder, edit),
         }
         self.push(Setting { index, name, mask });
@@ -196,32 +202,38 @@ impl Settings {
         self.builder.build_format()
     }
 
-    /// Returns the format with the exponent character and the decimal point.
+    /// Returns the format with the exponent character, the decimal point and the conditions.
     ///
     /// # Errors
     ///
-    /// If the format is not lawful, if the options do not fit it, or if only one of them is `none`, returns an error,
-    /// whose reasons [`reasons`][Self::reasons] returns with indexes.
+    /// If the format is not lawful, if the options do not fit it, if only one of them is `none`, or if the conditions
+    /// contradict the format, returns an error, whose reasons [`reasons`][Self::reasons] returns with indexes.
     pub fn build_syntax(&self) -> Result<Syntax, FormatError> {
         let format = self.build_format()?;
-        match self.options {
-            [0, 0] => Ok(Syntax::integers(format)),
+        let syntax = match self.options {
+            [0, 0] => Syntax::integers(format),
             [exponent, point] => Syntax::new(format, exponent, point).map_err(|error| {
                 // The reasons of the fields as they are set, and not as the normal form has them.
                 FormatError::new(error.code(), Rejected::Options(format.word(), exponent, point))
-            }),
-        }
+            })?,
+        };
+        Ok(syntax.with(self.conditions)?)
     }
 
     /// Returns the reasons why the settings do not build a syntax: why the format is not lawful or, if it is, why the
-    /// exponent character and the decimal point do not fit it.
+    /// exponent character and the decimal point do not fit it or, if they do, the first condition that contradicts it.
     pub fn reasons(&self) -> impl Iterator<Item = Finding> + Clone + '_ {
         let error = self.build_syntax().err().into_iter();
+        let contradiction = error.clone().find_map(|error| match error.rejected {
+            Rejected::Conditions(error) => self.finding(FindingKind::Conditions(error), mask_of(error)),
+            _ => None,
+        });
         let reasons = error.flat_map(|error| error.reasons());
-        reasons.filter_map(|reason| {
+        let reasons = reasons.filter_map(|reason| {
             let mask = Mask { word: reason.mask(), options: options_of(reason.cause()) };
             self.finding(FindingKind::Reason(reason), mask)
-        })
+        });
+        reasons.chain(contradiction)
     }
 
     /// Returns notes on the first 32 settings that later ones override completely, and then on fields that are set but
@@ -258,7 +270,7 @@ fn filled<T: Copy, const N: usize>(items: impl Iterator<Item = T>) -> [Option<T>
     slots
 }
 
-/// Returns the edit of a text. If it sets an option, returns the number of the option, and the edit sets a separator.
+/// Returns the edit of a text. If it sets an option or a condition, returns its number, and an edit with its value.
 fn parse(index: usize, text: &[u8]) -> Result<(Option<usize>, Edit), LineError> {
     let refuse = |error, option, refused: &[u8]| {
         let (length, mut piece) = (refused.len(), [0; SHOWN]);
@@ -273,7 +285,8 @@ fn parse(index: usize, text: &[u8]) -> Result<(Option<usize>, Edit), LineError> 
     // Bytes that are not UTF-8 are read as an empty text, which is neither a name nor a value.
     let argument = from_utf8(value).unwrap_or_default();
     let edit = match option {
-        Some(_) => Setter::DigitSeparator.parse(argument),
+        Some(0 | 1) => Setter::DigitSeparator.parse(argument),
+        Some(_) => Setter::Flag(FlagSetter::RequiredIntegerDigits).parse(argument),
         None => Edit::from_setting(from_utf8(name).unwrap_or_default(), argument),
     };
     match edit {
@@ -281,6 +294,15 @@ fn parse(index: usize, text: &[u8]) -> Result<(Option<usize>, Edit), LineError> 
         Err(error) if error.name().is_none() => Err(refuse(error, option, name)),
         Err(error) => Err(refuse(error, option, value)),
     }
+}
+
+/// Returns the fields and the condition that contradict each other.
+fn mask_of(error: ConditionsError) -> Mask {
+    let word = match error {
+        ConditionsError::NoBasePrefix => BASE_PREFIX,
+        ConditionsError::NoBaseSuffix => BASE_SUFFIX,
+    };
+    Mask { word, options: 4 << error.condition() }
 }
 
 /// Returns whether an option is `none`. This is a cause if the other is not.
@@ -315,6 +337,8 @@ pub struct Finding {
 pub enum FindingKind {
     /// A reason why settings do not build a syntax.
     Reason(Reason),
+    /// A condition that contradicts the format, so that the settings do not build a syntax.
+    Conditions(ConditionsError),
     /// A note that later settings override the setting with this name completely. The second index is the last of them.
     Overridden(&'static str),
     /// A note that a field is set but has no effect on any number.
@@ -352,6 +376,7 @@ impl fmt::Display for Finding {
         match &self.kind {
             FindingKind::Reason(it) if is_one_option(it.cause()) => f.write_str(ONE_OPTION),
             FindingKind::Reason(reason) => reason.fmt(f),
+            FindingKind::Conditions(error) => error.fmt(f),
             FindingKind::Overridden(name) => write!(f, "a later setting overrides {name}"),
             FindingKind::Note(note) => note.fmt(f),
         }
@@ -404,6 +429,7 @@ impl fmt::Display for LineError {
         match (self.kind(), self.option) {
             (EditErrorKind::UnknownName, _) => f.write_str("unknown setting `")?,
             (_, None) => write!(f, "{}, not `", self.error)?,
+            (_, Some(option @ 2..)) => write!(f, "{} takes `true` or `false`, not `", OPTIONS[option])?,
             (_, Some(option)) => {
                 let (name, default) = (OPTIONS[option], char::from(DEFAULTS[option]));
                 write!(f, "{name} takes a character such as '{default}', ")?;

@@ -173,8 +173,8 @@ fn a_tie_is_even_and_any_digit_behind_it_breaks_it() {
 
 #[test]
 fn powers_of_two_are_exact_numbers() {
-    let c = Language::C_HEX_FLOAT.reader();
-    for (text, wanted) in [("0x1.8p3", 12.0), ("-0x0p0", -0.0), ("0x.8p0", 0.5), ("0xAp-1", 5.0), ("0x1p-1074", 5e-324)]
+    let c = &Language::C.readers().as_slice()[4];
+    for (text, wanted) in [("0x1.8p3", 12.0), ("0x.8p0", 0.5), ("0xAp-1", 5.0), ("0x1p-1074", 5e-324)]
     {
         check(c, text, wanted, wanted as f32);
     }
@@ -239,5 +239,5 @@ fn a_special_value_is_a_float() {
         (ValueErrorKind::Special, "NaN or infinity, and u8 is an integer type".into())
     );
     assert_eq!(u8::try_from(read(b"25_5")), Ok(255));
-    assert!(matches!(read(b"1"), Number::Literal(literal) if literal.to_f32() == Ok(1.0)));
+    assert!(matches!(read(b"1"), Number::Literal { literal, form: 0 } if literal.to_f32() == Ok(1.0)));
 }

@@ -1,16 +1,17 @@
-//! The reader of literals, over the tables of docs/FORMAT.md and the grammars of languages.
+//! The reader of literals, over the tables of docs/FORMAT.md and docs/EXPLANATIONS.md, and the grammars of languages.
 
 use peltzivar::format::{CASE_SENSITIVE_SPECIAL, DIGIT_SEPARATOR_FLAG_MASK, NO_SPECIAL};
 use peltzivar::literal::{
-    Language, Literal, Number, ReadError, ReadErrorKind, Reader, Sign, Special, Specials, Spelling, Syntax,
+    Language, Literal, Number, ReadError, ReadErrorKind, Reader, Readers, Sign, Special, Specials, Spelling, Syntax,
 };
-use peltzivar::{Edit, FlagSetter, Format, NumberFormatBuilder, Part};
+use peltzivar::{Edit, FlagSetter, Format, NumberFormatBuilder, Part, Settings};
 
-const PAGE: &str = include_str!("../../docs/FORMAT.md");
+const FORMAT: &str = include_str!("../../docs/FORMAT.md");
+const EXPLANATIONS: &str = include_str!("../../docs/EXPLANATIONS.md");
 
-/// Returns the cells of each row of the table in a section of the page.
-fn table(title: &str) -> impl Iterator<Item = Vec<&'static str>> {
-    let (_, section) = PAGE.split_once(&format!("## {title}\n")).expect(title);
+/// Returns the cells of each row of the table in a section of a page.
+fn table(page: &'static str, title: &str) -> impl Iterator<Item = Vec<&'static str>> {
+    let (_, section) = page.split_once(&format!("## {title}\n")).expect(title);
     let lines = section.lines().take_while(|line| !line.starts_with("## "));
     let rows = lines.filter_map(|line| line.strip_prefix('|')?.strip_suffix('|')).skip(2);
     rows.map(|row| row.split('|').map(|cell| cell.trim_matches([' ', '`'])).collect())
@@ -102,8 +103,8 @@ fn settings_end_the_cause(error: ReadError, syntax: Syntax, text: &[u8]) {
 #[test]
 fn flags_accept_and_reject_the_texts_of_the_page() {
     let (mut flags, mut requirements) = (FlagSetter::FLAGS.iter(), vec![]);
-    for row in table("The flags") {
-        let [bit, name, _, with, accepted, rejected] = row[..] else { panic!("{row:?}") };
+    for row in table(FORMAT, "The flags") {
+        let [bit, name, _, _, with, accepted, rejected] = row[..] else { panic!("{row:?}") };
         let flag = name.parse::<FlagSetter>().unwrap();
         let mask = Edit::Flag(flag, true).mask();
         assert_eq!((Some(&flag), bit), (flags.next(), mask.ilog2().to_string().as_str()));
@@ -137,12 +138,28 @@ fn flags_accept_and_reject_the_texts_of_the_page() {
         _ => format!("{} to {}", run[0], run[run.len() - 1]),
     });
     let sentence = format!("Flags {} are *requirements*", Vec::from_iter(runs).join(" and "));
-    assert!(PAGE.contains(&sentence), "{sentence}");
+    assert!(FORMAT.contains(&sentence), "{sentence}");
+}
+
+/// Each condition, by the texts in its row: all are literals without it.
+#[test]
+fn conditions_accept_and_reject_the_texts_of_the_page() {
+    let reader = |settings: &[&str]| Reader::new(Settings::read(settings).unwrap().build_syntax().unwrap());
+    for row in table(FORMAT, "Conditions") {
+        let [condition, _, with, accepted, rejected, _] = row[..] else { panic!("{row:?}") };
+        let with = Vec::from_iter(with.split_whitespace());
+        let (plain, set) = (reader(&with), reader(&[with, vec![condition]].concat()));
+        let texts = texts(accepted).map(|text| (text, true)).chain(texts(rejected).map(|text| (text, false)));
+        for (text, is_accepted) in texts {
+            let results = [&plain, &set].map(|reader| read(reader, text.as_bytes()).is_ok());
+            assert_eq!(results, [true, is_accepted], "{condition}: {text}");
+        }
+    }
 }
 
 #[test]
 fn questions_have_the_answers_of_the_page() {
-    for row in table("How a reader applies the flags") {
+    for row in table(FORMAT, "Questions and answers") {
         let [.., settings, accepted, rejected] = row[..] else { panic!("{row:?}") };
         let reader = Reader::new(match settings.strip_suffix("`, no options") {
             Some(settings) => Syntax::integers(Format::new(word(settings)).unwrap()),
@@ -160,7 +177,7 @@ fn questions_have_the_answers_of_the_page() {
 
 #[test]
 fn causes_are_those_of_the_page() {
-    for row in table("Texts and their causes") {
+    for row in table(EXPLANATIONS, "Texts and their causes") {
         let [text, settings, cause, valid_up_to, span] = row[..] else { panic!("{row:?}") };
         let error = read(&Reader::new(syntax(word(settings))), text.as_bytes()).expect_err(text);
         let mut found = match error.kind() {
@@ -228,55 +245,88 @@ fn special_values_are_known() {
     assert_eq!((special(separators, "nf"), special("", "1"), special("no_special=true", "inf")), (None, None, None));
 }
 
-/// Returns the rows of literals.txt: a language, a text, and whether the format of the language accepts it.
-fn rows() -> impl Iterator<Item = (Language, &'static str, bool)> {
-    let rows = include_str!("literals.txt").lines().filter(|row| !row.is_empty() && !row.starts_with('#'));
+/// A row of a table: a language, a text, whether the language accepts it, and the value, if the tool printed one.
+type Row = (Language, &'static str, bool, Option<f64>);
+
+/// Returns the rows of literals.txt, and what the tools of languages answered.
+fn rows() -> impl Iterator<Item = Row> {
+    let tables = [include_str!("literals.txt"), include_str!("known/languages.txt")];
+    let rows = tables.into_iter().flat_map(str::lines).filter(|row| !row.is_empty() && !row.starts_with("# "));
     rows.map(|row| {
-        let [name, mark, text] = [0, 1, 2].map(|column| row.split_whitespace().nth(column).expect(row));
-        assert!(["+", "-", "+!", "-!"].contains(&mark), "{row}");
-        (*Language::ALL.iter().find(|it| it.name() == name).expect(row), text, ["+", "-!"].contains(&mark))
+        let cells = Vec::from_iter(row.split_whitespace());
+        let &[name, mark, text, ..] = &cells[..] else { panic!("{row}") };
+        let is_accepted = match mark {
+            "+" | "-!" | "=!" => true,
+            "-" | "+!" => false,
+            _ => panic!("{row}"),
+        };
+        let value = cells.get(3).filter(|_| mark == "+").and_then(|value| value.parse().ok());
+        (*Language::ALL.iter().find(|it| it.name() == name).expect(row), text, is_accepted, value)
     })
 }
 
 #[test]
-fn languages_accept_and_reject_what_their_grammars_do() {
-    for (language, text, is_accepted) in rows() {
+fn languages_answer_as_their_grammars_and_tools_do() {
+    for (language, text, is_accepted, value) in rows() {
         let result = language.read(text.as_bytes());
-        let literal = read(language.reader(), text.as_bytes());
         assert_eq!(result.is_ok(), is_accepted, "{language}: {text}: {result:?}");
-        assert_eq!(matches!(result, Ok(Number::Literal(_))), literal.is_ok(), "{language}: {text}");
-    }
-}
-
-/// For each setting with which a language differs from a new builder, a row changes without it. The exponent base changes
-/// values alone. Where a format is not lawful without a setting, consecutive separators have a row.
-#[test]
-fn each_setting_of_a_language_has_a_row() {
-    for language in Language::ALL {
-        let (syntax, format, own) = (language.syntax(), language.syntax().format(), language.specials());
-        let specials = if own == Specials::default() { SPECIALS } else { own };
-        for edit in format.edits().filter(|edit| !matches!(edit, Edit::ExponentBase(_))) {
-            let others: NumberFormatBuilder = format.edits().filter(|it| *it != edit).collect();
-            let Ok(format) = others.build_format() else { continue };
-            let options = syntax.exponent().zip(syntax.point());
-            let with_options = options.map(|(exponent, point)| Syntax::new_or_panic(format, exponent, point));
-            let without = with_options.unwrap_or(Syntax::integers(format));
-            let reader = Reader::new(without);
-            let is_number = |text| reader.read(text).is_ok() || specials.read(&without, text).is_some();
-            let mut rows = rows().filter(|row| row.0 == *language);
-            let has_row = rows.any(|(_, text, is_accepted)| is_number(text.as_bytes()) != is_accepted);
-            assert!(has_row || without == syntax, "rust/tests/literals.txt: no row of {language} needs {edit}");
+        let first = language.readers().as_slice().iter().position(|reader| read(reader, text.as_bytes()).is_ok());
+        assert_eq!(result.ok().and_then(|number| number.form()), first, "{language}: {text}");
+        if let (Ok(number), Some(value)) = (result, value) {
+            let found = number.to_f64();
+            assert!(found == value || found.is_nan() && value.is_nan(), "{language}: {text} is {value}, not {found}");
         }
     }
 }
 
-/// The digits of a hexadecimal float are multiplied by a power of 2, and the digits of other floats by a power of 10.
+/// For each setting with which a form differs from a new builder, and for each condition, a row changes without it. The
+/// exponent base changes values alone, and the first form decides what special values are. Where a format is not lawful
+/// without a setting, consecutive separators have a row.
+#[test]
+fn each_setting_of_a_language_has_a_row() {
+    for language in Language::ALL {
+        let rows = Vec::from_iter(rows().filter(|row| row.0 == *language));
+        let own = language.specials();
+        let specials = if own == Specials::default() { SPECIALS } else { own };
+        for (index, form) in language.forms().iter().enumerate() {
+            let has_row = |without: Syntax| {
+                let mut forms = language.readers().as_slice().to_vec();
+                forms[index] = Reader::new(without);
+                let readers = Readers::new(&forms).unwrap().with_specials(specials);
+                rows.iter().any(|(_, text, is_accepted, _)| readers.read(text.as_bytes()).is_ok() != *is_accepted)
+            };
+            let (syntax, conditions) = (form.syntax, form.syntax.conditions());
+            let is_seen = |edit: &Edit| match edit {
+                Edit::ExponentBase(_) => false,
+                Edit::Flag(flag, _) => index == 0 || *flag != FlagSetter::NoSpecial,
+                _ => true,
+            };
+            for edit in syntax.format().edits().filter(is_seen) {
+                let others: NumberFormatBuilder = syntax.format().edits().filter(|it| *it != edit).collect();
+                let Ok(format) = others.build_format() else { continue };
+                let options = syntax.exponent().zip(syntax.point());
+                let with_options = options.map(|(exponent, point)| Syntax::new_or_panic(format, exponent, point));
+                let Ok(without) = with_options.unwrap_or(Syntax::integers(format)).with(conditions) else { continue };
+                assert!(has_row(without) || without == syntax, "no row of {language} needs {edit} of {}", form.name);
+            }
+            for other in [
+                conditions.required_base_prefix(false),
+                conditions.required_base_suffix(false),
+                conditions.no_negative_mantissa_sign(false),
+            ] {
+                let is_needed = other == conditions || has_row(syntax.with_or_panic(other));
+                assert!(is_needed, "no row of {language} needs {conditions:?} of {}", form.name);
+            }
+        }
+    }
+}
+
+/// The digits before the exponent character `p` are multiplied by a power of 2, and others by a power of 10.
 #[test]
 fn exponents_of_languages_have_the_bases_of_their_grammars() {
-    for language in Language::ALL {
-        let base = if language.name().ends_with("HEX_FLOAT") { 2 } else { 10 };
-        let syntax = language.syntax();
-        assert_eq!(syntax.point().is_none(), language.name().ends_with("_INTEGER"), "{language}");
+    for (language, form) in Language::ALL.iter().flat_map(|it| it.forms().iter().map(move |form| (it, form))) {
+        let syntax = form.syntax;
+        let base = if syntax.exponent() == Some(b'p') { 2 } else { 10 };
         assert!(syntax.point().is_none() || syntax.format().exponent_base() == base, "{language}");
     }
 }
@@ -286,9 +336,11 @@ fn exponents_of_languages_have_the_bases_of_their_grammars() {
 #[test]
 fn any_bytes_are_read() {
     let agree = |language: Language, text: &[u8]| {
-        let prefix = language.reader().read_prefix(text);
+        let prefix = language.read_prefix(text);
         match (language.read(text), prefix) {
-            (Ok(Number::Literal(literal)), _) => assert_eq!(prefix, Ok((literal, &[][..])), "{language}: {text:?}"),
+            (Ok(number @ Number::Literal { .. }), _) => {
+                assert_eq!(prefix, Ok((number, &[][..])), "{language}: {text:?}")
+            }
             (Ok(Number::Special(_)), Err(_)) => (),
             (Err(error), Err(other)) => assert_eq!(error, other, "{language}: {text:?}"),
             (_, Ok((_, rest))) => assert!(!rest.is_empty(), "{language}: {text:?}"),
@@ -303,7 +355,7 @@ fn any_bytes_are_read() {
     for language in Language::ALL {
         texts.iter().for_each(|text| agree(*language, text));
     }
-    for (language, text, _) in rows() {
+    for (language, text, ..) in rows() {
         let long = text.replace('1', &"1".repeat(99));
         for (front, rest) in (0..=long.len()).map(|size| long.as_bytes().split_at(size)) {
             agree(language, front);

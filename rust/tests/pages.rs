@@ -1,5 +1,5 @@
 //! The commands in the pages of the repository print what the pages show. `c/tests/test_python.py` tests the tables of
-//! FORMAT.
+//! FORMAT and EXPLANATIONS.
 
 use std::path::Path;
 use std::process::{Command, Output};
@@ -21,7 +21,7 @@ fn words(command: &str) -> Vec<&str> {
 /// The commands `$ cargo run ..` and `$ numfmt ..` of a page, with the lines below them.
 #[test]
 fn commands_print_what_pages_show() {
-    for name in ["README.md", "docs/FORMAT.md", "docs/RUST.md"] {
+    for name in ["README.md", "docs/FORMAT.md", "docs/EXPLANATIONS.md", "docs/SETTINGS.md", "docs/RUST.md"] {
         let page = std::fs::read_to_string(format!("{}/../{name}", env!("CARGO_MANIFEST_DIR"))).unwrap();
         let mut lines = page.lines().peekable();
         let mut count = 0;
@@ -53,6 +53,7 @@ fn examples_end_as_their_comments_state() {
         ("literal -- 0x000A10007800005F000000010000000C 101 46 1", 2, "WORD E P: the exponent character 'e' is a digit in "),
         ("literal -- 12 101 46 1", 2, "WORD E P: a format word begins with `0x`\n"),
         ("settings -- rust/examples/settings.txt", 0, "0x100A10007800005F000000010000000C 112 46\n"),
+        ("convert -- C", 2, "usage: convert SOURCE TARGET, two of [ADA, C, "),
         ("settings", 1, "\"\": No such file or directory (os error 2)\n"),
     ];
     for (example, wanted, part) in rows {

@@ -1,12 +1,14 @@
-//! A recogniser of literals, written from docs/FORMAT.md alone, and the comparison of the reader with it. The recogniser
-//! tries all splits of a text into parts, all fronts of a text, and all flags.
+//! A recogniser of literals, written from docs/FORMAT.md and docs/EXPLANATIONS.md alone, and the comparison of the
+//! reader with it. The recogniser tries all splits of a text into parts, all fronts of a text, and all flags.
 //!
 //! `cargo test` compares a sample. To compare all texts, which takes ten minutes:
 //!
 //!     cargo test --release --test recogniser -- --ignored
 
 use core::{array, iter, mem, ops::Range};
-use peltzivar::literal::{self, Language, Literal, Place, ReadError, ReadErrorKind, Reader};
+use peltzivar::literal::{
+    self, Conditions, ConditionsError, Language, Literal, Place, ReadError, ReadErrorKind, Reader,
+};
 use peltzivar::{format::FLAG_MASK, Error, Format, Part, Role};
 use {Error::*, Piece::*};
 
@@ -22,8 +24,18 @@ const PLACES: [Place; 4] = [Place::AfterDigit, Place::BeforeDigits, Place::After
 /// Where each part of a text is. An absent part is empty.
 type Pieces = [Range<usize>; 9];
 
-/// Why a text is not a literal: `valid_up_to`, the cause, its mask, its span, its code and the wrong byte.
-type Failure = (usize, ReadErrorKind, u128, Range<usize>, Error, Option<u8>);
+/// Why a text is not a literal: `valid_up_to`, the cause, its mask and conditions, its span, its code and the wrong byte.
+type Failure = (usize, ReadErrorKind, u128, Conditions, Range<usize>, Error, Option<u8>);
+
+/// The number that the first condition has in a word of this file, as if it were a flag.
+const CONDITIONS: u32 = 45;
+const CONDITION_MASK: u128 = 7 << CONDITIONS;
+
+/// Returns the conditions in a mask.
+fn conditions(word: u128) -> Conditions {
+    let [prefix, suffix, sign] = [0, 1, 2].map(|at| is_set(word, CONDITIONS + at));
+    Conditions::NONE.required_base_prefix(prefix).required_base_suffix(suffix).no_negative_mantissa_sign(sign)
+}
 
 fn is_set(word: u128, flag: u32) -> bool {
     word >> flag & 1 == 1
@@ -40,18 +52,18 @@ fn is_digit(word: u128, byte: u8, piece: Piece) -> bool {
     char::from(byte).to_digit(36).is_some_and(|value| value < radix.into())
 }
 
-/// A lawful word in its normal form, and whether literals are integers alone.
+/// A lawful word in its normal form, with conditions, and whether literals are integers alone.
 struct Syntax {
     word: u128,
     is_integers: bool,
     roles: [Option<Role>; 256],
-    /// What can complete a front, the empty text first. No front needs a prefix or a suffix for this.
+    /// What can complete a front, the empty text first. No front needs a prefix or a suffix that is not required for this.
     more: Vec<Vec<u8>>,
 }
 
 impl Syntax {
-    fn new(word: u128, options: Option<(u8, u8)>) -> Self {
-        let word = Format::new(word).unwrap().normal_form().word();
+    fn new(word: u128, options: Option<(u8, u8)>, required: u128) -> Self {
+        let word = Format::new(word).unwrap().normal_form().word() | required;
         let (exponent, point) = options.unwrap_or_default();
         let [separator, prefix, suffix] = [64, 88, 96].map(|bit| (word >> bit) as u8);
         let matches = |byte: u8, own: u8, case| byte == own || !is_set(word, case) && byte.eq_ignore_ascii_case(&own);
@@ -66,9 +78,22 @@ impl Syntax {
             _ if matches(byte, suffix, 17) => Some(Role::Suffix),
             _ => None,
         };
-        let mut more = vec![vec![]];
-        for byte in [b'-', b'0', point, b'0', exponent, b'-', b'0'].into_iter().filter(|&byte| byte != 0) {
-            more.extend(more.clone().into_iter().map(|text: Vec<u8>| [&text[..], &[byte]].concat()));
+        let [has_prefix, has_suffix, is_positive] = [0, 1, 2].map(|at| is_set(required, CONDITIONS + at));
+        let mut more: Vec<Vec<u8>> = vec![vec![]];
+        let mut extend = |pieces: &[&[u8]]| {
+            let longer = |text: &Vec<u8>| pieces.iter().map(|piece| [text, *piece].concat()).collect::<Vec<_>>();
+            more.extend(more.iter().flat_map(longer).collect::<Vec<_>>());
+        };
+        extend(&[if is_positive { b"+" } else { b"-" }]);
+        if has_prefix {
+            extend(&[&[prefix], &[b'0', prefix]]);
+        }
+        for byte in [b'0', point, b'0', exponent, b'-', b'0'].into_iter().filter(|&byte| byte != 0) {
+            extend(&[&[byte]]);
+        }
+        if has_suffix {
+            let ended = more.iter().map(|text| [text, &[suffix][..]].concat());
+            more = iter::once(vec![]).chain(ended).collect();
         }
         Self { word, is_integers: options.is_none(), roles: array::from_fn(|byte| role_of(byte as u8)), more }
     }
@@ -126,8 +151,8 @@ impl Syntax {
 
     /// Returns the flag of each requirement, whether the parts of `text` satisfy it, and the span and the code if they do
     /// not and `end` is `valid_up_to`.
-    fn requirements(&self, text: &[u8], pieces: &Pieces, end: usize) -> [(u32, bool, Range<usize>, Error); 13] {
-        let [sign, prefix, integer, point, fraction, character, exponent_sign, exponent, _] = pieces;
+    fn requirements(&self, text: &[u8], pieces: &Pieces, end: usize) -> [(u32, bool, Range<usize>, Error); 16] {
+        let [sign, prefix, integer, point, fraction, character, exponent_sign, exponent, suffix] = pieces;
         let (is_plus, here) = (|sign: &Range<usize>| &text[sign.clone()] == b"+", || end..end);
         let [has_point, has_exponent] = [!point.is_empty(), !character.is_empty()];
         let digits = Vec::from_iter(integer.clone().filter(|&at| is_digit(self.word, text[at], Integer)));
@@ -151,6 +176,9 @@ impl Syntax {
             (12, is_float || !has_leading_zero, zeros(), InvalidLeadingZeros(first)),
             (13, !is_float || !has_leading_zero, zeros(), InvalidLeadingZeros(first)),
             (14, has_exponent || self.is_integers, here(), MissingExponent(end)),
+            (CONDITIONS, !prefix.is_empty(), sign.end..sign.end, InvalidDigit(sign.end)),
+            (CONDITIONS + 1, !suffix.is_empty(), here(), InvalidDigit(end)),
+            (CONDITIONS + 2, &text[sign.clone()] != b"-", sign.clone(), InvalidNegativeSign(sign.start)),
         ]
     }
 
@@ -172,19 +200,20 @@ impl Syntax {
     /// with it without its last byte. The page names it S, and the syntax of the word `bare` B.
     fn failure(&self, stop: &[u8], is_missing: bool) -> Failure {
         let more = if is_missing { &self.more[..1] } else { &self.more };
-        let bare = self.word & !0x7FFF; // Flags 10 and 11 do nothing to literals.
+        let bare = self.word & !0x7FFF & !CONDITION_MASK; // Flags 10 and 11 do nothing to literals.
         let Some((text, pieces)) = self.begun(bare, stop, more) else {
             return if is_missing { self.missing(stop) } else { self.misplaced(stop, bare) };
         };
         let begins = |word: u128| self.begun(word, stop, more).is_some();
-        let alone = mask(0..15, |flag| is_set(self.word, flag) && !begins(bare | 1 << flag));
+        let alone = |flags| mask(flags, |flag| is_set(self.word, flag) && !begins(bare | 1 << flag));
+        let (alone, unmet) = (alone(0..15), alone(CONDITIONS..CONDITIONS + 3));
         let zeros = || mask(12..14, |flag| is_set(self.word, flag));
         let hidden = u128::from(is_set(self.word, 14) && !self.is_integers) << 12;
-        let blamed = if alone == 0 { zeros() } else { alone } & !hidden;
+        let blamed = if alone | unmet == 0 { zeros() } else { alone } & !hidden;
         let end = if is_missing { stop.len() } else { stop.len() - 1 };
         let mut requirements = self.requirements(&text, &pieces, end).into_iter();
-        let (_, _, span, code) = requirements.find(|row| row.0 == blamed.trailing_zeros()).unwrap();
-        (end, ReadErrorKind::Requirement, blamed, span, code, stop.get(end).copied())
+        let (_, _, span, code) = requirements.find(|row| row.0 == (blamed | unmet).trailing_zeros()).unwrap();
+        (end, ReadErrorKind::Requirement, blamed, conditions(unmet), span, code, stop.get(end).copied())
     }
 
     /// Returns why `text`, with which a literal begins, is not one of B.
@@ -195,7 +224,7 @@ impl Syntax {
         let unsigned = text.strip_prefix(b"+").or(text.strip_prefix(b"-")).unwrap_or(text);
         let is_empty = self.is_piece(self.word, &array::from_fn(|_| 0..0), Prefix, unsigned);
         let (end, code) = (text.len(), if is_empty { Empty } else { InvalidDigit });
-        (end, ReadErrorKind::Missing(part), 0, end..end, code(end), None)
+        (end, ReadErrorKind::Missing(part), 0, Conditions::NONE, end..end, code(end), None)
     }
 
     /// Returns why no literal of B begins with `stop`.
@@ -218,7 +247,7 @@ impl Syntax {
         let end = if self.plays(stop[last], Role::Separator) { last + 1 } else { last };
         let start = end - stop[..end].iter().rev().take_while(|&&byte| self.plays(byte, Role::Separator)).count();
         let span = if (32..41).contains(&number) { start..end } else { last..last + 1 };
-        (last, cause, blamed, span.clone(), InvalidDigit(span.start), Some(stop[last]))
+        (last, cause, blamed, Conditions::NONE, span.clone(), InvalidDigit(span.start), Some(stop[last]))
     }
 }
 
@@ -255,7 +284,8 @@ fn hostile_bytes(word: u128, options: Option<(u8, u8)>) -> Vec<u8> {
 /// Returns the answer of the library, with why a text is refused if that is asked for.
 #[rustfmt::skip]
 fn answer(read: Result<Literal<'_>, ReadError>, has_failures: bool) -> Result<[&[u8]; 9], Option<Failure>> {
-    let failure = |it: ReadError| (it.valid_up_to(), it.kind(), it.mask(), it.span(), it.code(), it.byte());
+    let failure =
+        |it: ReadError| (it.valid_up_to(), it.kind(), it.mask(), it.conditions(), it.span(), it.code(), it.byte());
     let it = read.map_err(|error| has_failures.then(|| failure(error)))?;
     Ok([
         it.sign(), it.prefix(), it.integer(), it.point(), it.fraction(), it.exponent_character(), it.exponent_sign(),
@@ -265,11 +295,20 @@ fn answer(read: Result<Literal<'_>, ReadError>, has_failures: bool) -> Result<[&
 
 /// Compares the answers to texts of up to `longest` of `bytes`: all texts of one byte, and after each text that is compared
 /// `eighths` of eight of those with one more byte.
-fn compare(word: u128, options: Option<(u8, u8)>, bytes: &[u8], longest: usize, has_failures: bool, eighths: u64) {
-    let (syntax, name) = (Syntax::new(word, options), format!("{word:#034X} {options:?}"));
+fn compare(
+    word: u128,
+    options: Option<(u8, u8)>,
+    required: u128,
+    bytes: &[u8],
+    longest: usize,
+    has_failures: bool,
+    eighths: u64,
+) {
+    let (syntax, name) = (Syntax::new(word, options, required), format!("{word:#034X} {options:?} {required:#X}"));
     let format = Format::new(word).unwrap();
     let float = |(exponent, point)| literal::Syntax::new(format, exponent, point).unwrap();
     let library = options.map_or_else(|| literal::Syntax::integers(format), float);
+    let library = library.with(conditions(required)).unwrap();
     let differs = |&byte: &u8| library.role_of(byte) != syntax.roles[usize::from(byte)];
     assert_eq!((0..=255).find(differs), None, "the first byte with another role in {name}");
     let (reader, mut random) = (Reader::new(library), 1);
@@ -295,11 +334,30 @@ fn compare(word: u128, options: Option<(u8, u8)>, bytes: &[u8], longest: usize, 
     }
 }
 
-/// Compares the syntaxes of the languages, and random words with random options and without.
+/// Returns the conditions that a lawful word does not contradict, and compares them with those that the library takes.
+fn possible(word: u128) -> u128 {
+    let has_byte = |bit: u32| word >> bit & 0xFF != 0;
+    let rows = [
+        (has_byte(88), Some(ConditionsError::NoBasePrefix)),
+        (has_byte(96), Some(ConditionsError::NoBaseSuffix)),
+        (true, None),
+    ];
+    let syntax = literal::Syntax::integers(Format::new(word).unwrap());
+    for (at, (is_possible, error)) in (CONDITIONS..).zip(rows) {
+        assert_eq!(syntax.with(conditions(1 << at)).err(), error.filter(|_| !is_possible), "{at} in {word:#034X}");
+    }
+    mask(CONDITIONS..CONDITIONS + 3, |at| rows[(at - CONDITIONS) as usize].0)
+}
+
+/// Compares the syntaxes of the languages, with their conditions and with all that are possible, and random words with
+/// random conditions, and with random options and without.
 fn compare_all(language_eighths: u64, words: usize, eighths: u64) {
-    for syntax in Language::ALL.iter().map(Language::syntax) {
+    for syntax in Language::ALL.iter().flat_map(Language::forms).map(|form| form.syntax) {
         let (word, options) = (syntax.format().word(), syntax.exponent().zip(syntax.point()));
-        compare(word, options, &hostile_bytes(word, options)[..10], 6, true, language_eighths);
+        let own = (0..8).map(|set| set << CONDITIONS).find(|&set| conditions(set) == syntax.conditions()).unwrap();
+        for (required, longest) in [(own, 6), (possible(word), 5)] {
+            compare(word, options, required, &hostile_bytes(word, options)[..10], longest, true, language_eighths);
+        }
     }
     let mut random = 2;
     for at in 0..words {
@@ -309,10 +367,11 @@ fn compare_all(language_eighths: u64, words: usize, eighths: u64) {
         let some_options = || (below(&mut random, 127) as u8, below(&mut random, 127) as u8);
         let options = iter::repeat_with(some_options).find(fits);
         for options in [options, None] {
+            let required = u128::from(below(&mut random, 8)) << CONDITIONS & possible(word);
             let mut pool = hostile_bytes(word, options);
             let bytes: [u8; 10] = array::from_fn(|_| pool.swap_remove(below(&mut random, pool.len() as u64) as usize));
             let (longest, has_failures) = if at < 100 { (3, true) } else { (4, false) };
-            compare(word, options, &bytes, longest, has_failures, eighths);
+            compare(word, options, required, &bytes, longest, has_failures, eighths);
         }
     }
 }

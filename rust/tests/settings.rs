@@ -12,7 +12,7 @@ use settings::load;
 #[test]
 fn files_give_a_syntax_and_what_is_found() {
     #[rustfmt::skip]
-    let rows: [(&[u8], &str, &[&str]); 42] = [
+    let rows: [(&[u8], &str, &[&str]); 45] = [
         (include_bytes!("../examples/settings.txt"), "0x100A10007800005F000000010000000C 112 46", &[]),
         // Nothing is set.
         (b"", "0x0A0A0A0000000000000000000000000C 101 46", &[]),
@@ -21,6 +21,11 @@ fn files_give_a_syntax_and_what_is_found() {
         (b"\xEF\xBB\xBFradix=8", "0x0808080000000000000000000000000C 101 46", &[]),
         (b"\xEF\xBB\xBF# a comment\nradix=8", "0x0808080000000000000000000000000C 101 46", &[]),
         (b"\n\xEF\xBB\xBFradix=8", "", &[r"line 2: unknown setting `\xef\xbb\xbfradix`; did you mean `radix`?"]),
+        // Conditions.
+        (b"base_prefix='x'\nrequired_base_prefix=true", "0x0A0A0A0078000000000000000000000C 101 46 required_base_prefix=true", &[]),
+        (b"required_base_suffix=true\nbase_suffix='h'\n\nbase_suffix=none", "",
+            &["lines 1, 4: required_base_suffix is set, and the format has no base suffix", "lines 2, 4: a later setting overrides base_suffix"]),
+        (b"required_base_suffix='h'", "", &["line 1: required_base_suffix takes `true` or `false`, not `'h'`"]),
         // Ends of lines, as Windows writes them.
         (b"radix=2\r\nbase_prefix='b'\r\n", "0x0202020062000000000000000000000C 101 46", &[]),
         // Blanks are read over at both ends and around the first `=`, but not in quotes.

@@ -14,7 +14,7 @@ const HEXADECIMAL: &str = "mantissa_radix=16 exponent_base=2 exponent_radix=10";
 fn state(settings: &str, exponent: u8, point: u8) -> State {
     let edits = settings.replace("hexadecimal", HEXADECIMAL);
     let builder: Result<NumberFormatBuilder, _> = edits.split_whitespace().map(str::parse::<Edit>).collect();
-    State { word: builder.expect(settings).build_unchecked(), exponent, point }
+    State { word: builder.expect(settings).build_unchecked(), exponent, point, conditions: 0 }
 }
 
 /// Returns what is offered for the first of the lines.
@@ -63,13 +63,13 @@ fn numbers_of_many_forms_lead_to_their_formats() {
     let separators = state(flags, b'e', b'.');
     let none = State { word: separators.word & !DIGIT_SEPARATOR_FLAG_MASK, ..separators };
     assert_eq!(offered(separators, "!1_0\n10").first(), Some(&none));
-    let unfit = State { word: 0x0A0A_1000_0000_005F_0000_0007_0000_000C, exponent: b'e', point: b'.' };
+    let unfit = State { word: 0x0A0A_1000_0000_005F_0000_0007_0000_000C, exponent: b'e', point: b'.', conditions: 0 };
     assert!(offered(unfit, "!2").contains(&State { word: unfit.word | REQUIRED_MANTISSA_SIGN, ..unfit }));
 }
 
 /// Returns the state to which the first offers lead from the standard format.
 fn walk(lines: &str) -> Option<State> {
-    let mut state = State { word: STANDARD, exponent: b'e', point: b'.' };
+    let mut state = State { word: STANDARD, exponent: b'e', point: b'.', conditions: 0 };
     for line in lines_of(lines.as_bytes()) {
         if state.syntax().is_none_or(|it| read(&Reader::new(it), line.text).is_err()) {
             state = offers(state, lines.as_bytes(), line).best().next()?.0;
@@ -94,7 +94,7 @@ fn the_first_offers_lead_to_a_format_of_each_language() {
 fn repairs_end_each_reason() {
     let words = [0, u128::MAX, 0x0001_0002_FF09_0009_0000_0000_0000_7DB8, 0x0000_1000_6200_0000_0000_0E00_8000_4DBC];
     for word in words {
-        let (mut state, mut steps) = (State { word, exponent: b'e', point: b'e' }, 0);
+        let (mut state, mut steps) = (State { word, exponent: b'e', point: b'e', conditions: 0 }, 0);
         while let Some(reason) = problems(state).next() {
             state = repairs(state, reason).next().unwrap_or_else(|| panic!("{state:?}: {reason}"));
             steps += 1;
@@ -102,7 +102,7 @@ fn repairs_end_each_reason() {
         assert!(steps <= 16, "{word:#034X}: {steps}");
     }
     // The digit separator is a digit in radix 42, and also in radix 10.
-    let state = State { word: 0x0000_2A00_0000_0031_0000_0001_0000_000C, exponent: b'^', point: b'.' };
+    let state = State { word: 0x0000_2A00_0000_0031_0000_0001_0000_000C, exponent: b'^', point: b'.', conditions: 0 };
     let separator = problems(state).find(|it| it.to_string().contains("separator '1'")).unwrap();
     assert!(repairs(state, separator).all(|it| it.word & DIGIT_SEPARATOR == 0));
 }

@@ -47,7 +47,11 @@ use peltzivar::format_builder::NonZeroU8 as _;
 use peltzivar::format_builder::NumberFormatBuilder as _;
 use peltzivar::format_builder::OptionU8 as _;
 use peltzivar::literal::FromLiteral as _;
+use peltzivar::literal::WriteInteger as _;
 const _: fn(u128) -> source::BuilderExpression = source::BuilderExpression;
+const _: fn(literal::Style) -> (usize, bool, bool) = |it| match it {
+    literal::Style { group, prefix, suffix, .. } => (group, prefix, suffix),
+};
 const _: fn(literal::Spelling) = |it| match it {
     literal::Spelling::Nan { .. } | literal::Spelling::Inf { .. } | literal::Spelling::Infinity { .. } => (),
 };
@@ -66,6 +70,21 @@ const _: fn(literal::ParseError) = |it| match it {
 };
 const _: fn(literal::Number<'static>) = |it| match it {
     literal::Number::Literal { .. } | literal::Number::Special { .. } => (),
+};
+const _: fn(literal::Number<'static>) -> (literal::Literal<'static>, usize) = |it| match it {
+    literal::Number::Literal { literal, form } => (literal, form),
+    _ => unreachable!(),
+};
+const _: fn(literal::FormError) -> (usize, literal::ReadError) = |it| match it {
+    literal::FormError { form, error, .. } => (form, error),
+};
+const _: fn(literal::Form) -> (&'static str, literal::Syntax) = |it| match it {
+    literal::Form { name, syntax, .. } => (name, syntax),
+};
+const _: fn(literal::Conditions) -> (bool, bool, bool) = |it| match it {
+    literal::Conditions { required_base_prefix, required_base_suffix, no_negative_mantissa_sign, .. } => {
+        (required_base_prefix, required_base_suffix, no_negative_mantissa_sign)
+    }
 };
 const _: fn(Separators) -> (bool, bool, bool, bool) = |it| match it {
     Separators { internal, leading, trailing, consecutive, .. } => (internal, leading, trailing, consecutive),
@@ -125,8 +144,8 @@ names! { Error:
         InvalidFloatParseAlgorithm InvalidFloatPrecision InvalidInfString InvalidInfinityString InvalidMantissaRadix
         InvalidMantissaSign InvalidNanString InvalidNegativeExponentBreak InvalidPositiveExponentBreak
         InvalidPunctuation InvalidRadix InvalidSpecial NanStringTooLong Success;
+    [const fn(a: &'static Error) -> Option<&'static usize>] index;
     [const fn(a: &Error) -> &'static str] description;
-    [const fn(a: &Error) -> Option<&usize>] index;
     [const fn(a: &Error) -> bool] is_empty is_empty_exponent is_empty_fraction is_empty_integer is_empty_mantissa
         is_exponent_without_fraction is_inf_string_too_long is_infinity_string_too_long is_infinity_string_too_short
         is_invalid_base_prefix is_invalid_base_suffix is_invalid_consecutive_exponent_digit_separator
@@ -148,12 +167,13 @@ names! { Error:
 }
 names! { Finding:
     [const fn(a: &Finding) -> FindingKind] kind;
-    [fn(a: &Finding) -> &[usize]] indexes;
+    [fn(a: &'static Finding) -> &'static [usize]] indexes;
 }
 names! { FindingKind:
     [fn(&'static str) -> FindingKind] Overridden;
     [fn(Note) -> FindingKind] Note;
     [fn(Reason) -> FindingKind] Reason;
+    [fn(literal::ConditionsError) -> FindingKind] Conditions;
 }
 names! { FlagSetter:
     [&'static [FlagSetter]] ALL FLAGS;
@@ -376,7 +396,7 @@ names! { Settings:
     [fn(a: impl IntoIterator<Item = impl AsRef<[u8]>>) -> Result<Settings, LineError>] read;
 }
 names! { ShortText:
-    [const fn(a: &ShortText) -> &str] as_str;
+    [const fn(a: &'static ShortText) -> &'static str] as_str;
     [const fn(a: &str) -> ShortText] of;
     [const fn(a: ShortText, b: &str) -> ShortText] and;
     [const fn(a: ShortText, b: u128) -> ShortText] hexadecimal;
@@ -389,16 +409,28 @@ names! { edits::ArgumentKind:
 names! { error::Class:
     [error::Class] Format Options Parse Success;
 }
+names! { literal::Conditions:
+    [const fn(a: literal::Conditions) -> bool] is_none;
+    [const fn(a: literal::Conditions, b: bool) -> literal::Conditions] no_negative_mantissa_sign required_base_prefix
+        required_base_suffix;
+    [literal::Conditions] NONE;
+}
+names! { literal::ConditionsError:
+    [const fn(a: &literal::ConditionsError) -> ShortText] text;
+    [literal::ConditionsError] NoBasePrefix NoBaseSuffix;
+}
 names! { literal::Language:
     [&'static [literal::Language]] ALL;
+    [const fn(a: &literal::Language) -> &'static [literal::Form]] forms;
     [const fn(a: &literal::Language) -> &'static str] name;
     [const fn(a: &literal::Language) -> literal::Specials<'static>] specials;
-    [const fn(a: &literal::Language) -> literal::Syntax] syntax;
-    [fn(a: &literal::Language) -> &'static literal::Reader] reader;
-    [fn(a: &literal::Language, b: &'static [u8]) -> Result<literal::Number<'static>, literal::ReadError>] read;
-    [literal::Language] ADA C_FLOAT C_HEX_FLOAT C_SHARP FORTRAN GO_HEX_FLOAT HASKELL JAVA JAVASCRIPT JSON JULIA KOTLIN
-        NASM_HEX_INTEGER OCAML PYTHON PYTHON_HEX_INTEGER RUBY RUST_HEX_INTEGER SPREADSHEET_CSV SQL SWIFT_HEX_FLOAT TOML
-        YAML;
+    [fn(a: &literal::Language) -> &'static literal::Readers<'static>] readers;
+    [fn(a: &literal::Language, b: &'static [u8]) -> Result<(literal::Number<'static>, &'static [u8]),
+        literal::FormError>] read_prefix;
+    [fn(a: &literal::Language, b: &'static [u8]) -> Result<literal::Number<'static>, literal::FormError>] read;
+    [fn<T: literal::FromLiteral>(a: &literal::Language, b: impl AsRef<[u8]>) -> Result<T, literal::ParseError>] parse;
+    [literal::Language] ADA C CSV_DE CSV_EN C_PLUS_PLUS C_SHARP FORTRAN GO HASKELL JAVA JAVASCRIPT JSON JULIA KOTLIN
+        NASM OCAML PYTHON RUBY RUST SQL SWIFT TOML YAML;
 }
 names! { literal::Literal<'static>:
     [const fn(a: &literal::Literal<'static>) -> &'static [u8]] as_bytes exponent exponent_character exponent_sign
@@ -419,8 +451,9 @@ names! { literal::Literal<'static>:
     [fn(a: literal::Literal<'static>) -> Result<f64, literal::ValueError>] to_f64;
 }
 names! { literal::Number<'static>:
+    [const fn(a: &literal::Number<'static>) -> Option<literal::Literal<'static>>] literal;
+    [const fn(a: &literal::Number<'static>) -> Option<usize>] form;
     [fn(a: &literal::Number<'static>) -> f64] to_f64;
-    [fn(literal::Literal<'static>) -> literal::Number<'static>] Literal;
     [fn(literal::Special) -> literal::Number<'static>] Special;
 }
 names! { literal::ParseError:
@@ -436,6 +469,7 @@ names! { literal::ReadError:
     [const fn(a: &literal::ReadError) -> Range<usize>] span;
     [const fn(a: &literal::ReadError) -> ShortText] text;
     [const fn(a: &literal::ReadError) -> bool] is_incomplete;
+    [const fn(a: &literal::ReadError) -> literal::Conditions] conditions;
     [const fn(a: &literal::ReadError) -> literal::ReadErrorKind] kind;
     [const fn(a: &literal::ReadError) -> u128] mask;
     [const fn(a: &literal::ReadError) -> usize] valid_up_to;
@@ -454,6 +488,19 @@ names! { literal::Reader:
     [const fn(a: literal::Syntax) -> literal::Reader] new;
     [fn<T: literal::FromLiteral>(a: &literal::Reader, b: impl AsRef<[u8]>) -> Result<T, literal::ParseError>] parse;
 }
+names! { literal::Readers<'static>:
+    [const fn(a: &'static [literal::Reader]) -> Option<literal::Readers<'static>>] new;
+    [const fn(a: &'static [literal::Reader]) -> literal::Readers<'static>] new_or_panic;
+    [const fn(a: &literal::Readers<'static>) -> &'static [literal::Reader]] as_slice;
+    [const fn(a: &literal::Readers<'static>) -> literal::Specials<'static>] specials;
+    [const fn(a: &literal::Readers<'static>, b: &'static [u8]) -> Result<(literal::Number<'static>, &'static [u8]),
+        literal::FormError>] read_prefix;
+    [const fn(a: &literal::Readers<'static>, b: &'static [u8]) -> Result<literal::Number<'static>, literal::FormError>]
+        read;
+    [const fn(a: literal::Readers<'static>, b: literal::Specials<'static>) -> literal::Readers<'static>] with_specials;
+    [fn<T: literal::FromLiteral>(a: &literal::Readers<'static>, b: impl AsRef<[u8]>) -> Result<T, literal::ParseError>]
+        parse;
+}
 names! { literal::Sign:
     [literal::Sign] Minus Plus;
 }
@@ -467,14 +514,26 @@ names! { literal::Specials<'static>:
 names! { literal::Spelling:
     [literal::Spelling] Inf Infinity Nan;
 }
+names! { literal::Style:
+    [const fn(a: literal::Style) -> literal::Style] without_base;
+    [const fn(a: literal::Style, b: usize) -> literal::Style] group;
+    [literal::Style] PLAIN;
+}
 names! { literal::Syntax:
     [const fn(a: &literal::Syntax) -> Format] format;
     [const fn(a: &literal::Syntax) -> Option<u8>] exponent point;
     [const fn(a: &literal::Syntax) -> bool] supports_floats;
+    [const fn(a: &literal::Syntax) -> literal::Conditions] conditions;
     [const fn(a: &literal::Syntax, b: u8) -> Option<Role>] role_of;
     [const fn(a: Format) -> literal::Syntax] integers;
     [const fn(a: Format, b: u8, c: u8) -> Result<literal::Syntax, FormatError>] new;
     [const fn(a: Format, b: u8, c: u8) -> literal::Syntax] new_or_panic;
+    [const fn(a: literal::Syntax, b: literal::Conditions) -> Result<literal::Syntax, literal::ConditionsError>] with;
+    [const fn(a: literal::Syntax, b: literal::Conditions) -> literal::Syntax] with_or_panic;
+    [fn(a: &literal::Syntax, b: &literal::Literal<'static>, c: literal::Style) -> Result<literal::Written<'static>,
+        literal::WriteError>] format_literal;
+    [fn(a: &literal::Syntax, b: impl literal::WriteInteger, c: literal::Style) -> Result<literal::Written<'static>,
+        literal::WriteError>] format_integer;
 }
 names! { literal::ValueError:
     [const fn(a: &literal::ValueError) -> &'static str] target;
@@ -482,6 +541,14 @@ names! { literal::ValueError:
 }
 names! { literal::ValueErrorKind:
     [literal::ValueErrorKind] Float Special TooLarge TooSmall UnsupportedRadix;
+}
+names! { literal::WriteError:
+    [fn(usize) -> literal::WriteError] Buffer;
+    [literal::WriteError] Exponent Float Fraction Negative Radix Special;
+}
+names! { literal::Written<'static>:
+    [fn(a: &'static literal::Written<'static>) -> Option<&'static str>] as_str;
+    [fn(a: &literal::Written<'static>, b: &'static mut [u8]) -> Result<&'static str, literal::WriteError>] write_into;
 }
 names! { mod ascii:
     [const fn(a: &[u8]) -> bool] is_valid_ascii_slice is_valid_letter_slice;
@@ -541,7 +608,8 @@ has! { FlagSetter: Clone + Copy + Debug + Display + Eq + FromStr<Err = EditError
 }
 has! { Format: Clone + Copy + Debug + Default + Display + Eq + FromStr<Err = FormatError> + Hash + LowerHex + Ord +
 PartialEq + PartialOrd + TryFrom<u128, Error = FormatError> + UpperHex }
-has! { FormatError: Clone + Copy + Debug + Display + Eq + Hash + PartialEq + std::error::Error }
+has! { FormatError: Clone + Copy + Debug + Display + Eq + From<literal::ConditionsError> + Hash + PartialEq +
+std::error::Error }
 has! { FormatView: Clone + Copy + Debug + Default + Display + Eq + From<Format> + From<NumberFormat<STANDARD>> +
 From<u128> + FromStr<Err = Error> + Hash + LowerHex + Ord + PartialEq + PartialOrd + UpperHex }
 has! { LineError: Clone + Copy + Debug + Display + Eq + Hash + PartialEq + std::error::Error }
@@ -585,26 +653,36 @@ has! { i8: literal::FromLiteral }
 has! { isize: TryFrom<literal::Literal<'static>, Error = literal::ValueError> + TryFrom<literal::Number<'static>, Error
 = literal::ValueError> }
 has! { isize: literal::FromLiteral }
+has! { literal::Conditions: Clone + Copy + Debug + Default + Eq + Hash + Ord + PartialEq + PartialOrd }
+has! { literal::ConditionsError: Clone + Copy + Debug + Display + Eq + Hash + PartialEq + std::error::Error }
 has! { literal::Digits<'_>: DoubleEndedIterator + FusedIterator + Iterator<Item = u8> }
 has! { literal::Digits<'static>: Clone + Debug }
+has! { literal::Form: Clone + Copy + Debug + Eq + Hash + PartialEq }
+has! { literal::FormError: Clone + Copy + Debug + Display + Eq + Hash + PartialEq + std::error::Error }
 has! { literal::Language: Clone + Copy + Debug + Display + Eq + Hash + PartialEq }
 has! { literal::Literal<'_>: AsRef<[u8]> + Debug + Display }
 has! { literal::Literal<'static>: Clone + Copy + Eq + Hash + PartialEq }
 has! { literal::Number<'static>: Clone + Copy + Debug + Eq + Hash + PartialEq }
-has! { literal::ParseError: Clone + Copy + Debug + Display + Eq + From<literal::ReadError> + From<literal::ValueError> +
-Hash + PartialEq + std::error::Error }
+has! { literal::ParseError: Clone + Copy + Debug + Display + Eq + From<literal::FormError> + From<literal::ReadError> +
+From<literal::ValueError> + Hash + PartialEq + std::error::Error }
 has! { literal::Place: Clone + Copy + Debug + Eq + Hash + PartialEq }
-has! { literal::ReadError: Clone + Copy + Debug + Display + Eq + Hash + PartialEq + std::error::Error }
+has! { literal::ReadError: Clone + Copy + Debug + Display + Eq + From<literal::FormError> + Hash + PartialEq +
+std::error::Error }
 has! { literal::ReadErrorKind: Clone + Copy + Debug + Eq + Hash + PartialEq }
 has! { literal::Reader: Clone + Debug + Eq + From<literal::Syntax> + PartialEq }
+has! { literal::Readers<'static>: Clone + Copy + Debug + Eq + PartialEq }
 has! { literal::Sign: Clone + Copy + Debug + Eq + Hash + PartialEq }
 has! { literal::Special: Clone + Copy + Debug + Eq + Hash + PartialEq }
 has! { literal::Specials<'static>: Clone + Copy + Debug + Default + Eq + Hash + PartialEq }
 has! { literal::Spelling: Clone + Copy + Debug + Eq + Hash + PartialEq }
+has! { literal::Style: Clone + Copy + Debug + Default + Eq + Hash + PartialEq }
 has! { literal::Syntax: Clone + Copy + Debug + Display + Eq + FromStr<Err = FormatError> + Hash + Ord + PartialEq +
 PartialOrd }
 has! { literal::ValueError: Clone + Copy + Debug + Display + Eq + Hash + PartialEq + std::error::Error }
 has! { literal::ValueErrorKind: Clone + Copy + Debug + Eq + Hash + PartialEq }
+has! { literal::WriteError: Clone + Copy + Debug + Display + Eq + Hash + PartialEq + std::error::Error }
+has! { literal::Written<'_>: Debug + Display }
+has! { literal::Written<'static>: Clone + Copy }
 has! { source::BuilderExpression: Clone + Copy + Debug + Display }
 has! { u128: From<Format> + From<FormatView> + TryFrom<literal::Literal<'static>, Error = literal::ValueError> +
 TryFrom<literal::Number<'static>, Error = literal::ValueError> }

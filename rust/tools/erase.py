@@ -23,6 +23,7 @@ CRATES = RUST.parent / "crates"
 
 # The beginning of each generated file.
 MADE = "// Made by rust/tools/erase.py"
+PAGES = ("FORMAT", "EXPLANATIONS", "SETTINGS")
 
 # For each crate, the folder of its files in plain Rust, the path of the libraries below it, its own, and the standard
 # library that it uses.
@@ -34,6 +35,7 @@ PLACES = {
     "lexical_util": LIBRARY,
     "lexical_number": ("src/number", "crate", "crate::number", "core"),
     "lexical_literal": ("src/literal", "crate", "crate::literal", "core"),
+    "lexical_writer": ("src/literal/writer", "crate", "crate::literal::writer", "core"),
     "lexical_value": ("src/literal/value", "crate", "crate::literal::value", "core"),
     "numfmt": ("numfmt/src", "peltzivar", "crate", "std"),
 }
@@ -92,13 +94,14 @@ EVERYWHERE = [
     ("fn fmt<W: fmt::Write>(&self, f: &mut fmt::Formatter<W>)", "fn fmt(&self, f: &mut fmt::Formatter<'_>)"),
     ("rattlefmt::skip", "rustfmt::skip"),
     ("pub(crate) fn find_front(&self", "pub(crate) const fn find_front(&self"),
+    ("pub(crate) fn front(&self", "pub(crate) const fn front(&self"),
 ]
 
 # Types that may grow. In plain Rust, a match outside the crate has to have an arm for what they lack today.
 GROWS = {
     "enum": "ArgumentKind Byte Cause Class Edit EditErrorKind Error FlagSetter Note Part Place Radixes ReadErrorKind Role Rule "
-    "Setter ValueErrorKind",
-    "struct": "NamedByte Separators",
+    "Setter ValueErrorKind WriteError",
+    "struct": "FormError NamedByte Separators Style",
 }
 for kind, types in GROWS.items():
     items = [f"pub {kind} {name} {{" for name in types.split()]
@@ -108,6 +111,9 @@ for kind, types in GROWS.items():
 COMPARED = "Clone, Copy, PartialEq, Eq, PartialOrd, Ord, Hash"
 DEPRECATED = '#[deprecated = "Use `build_strict` or `build_unchecked` instead."]'
 ATTRIBUTES = [
+    ("syntax.rt", "Default)]\npub struct Conditions", "Default)]\n#[non_exhaustive]\npub struct Conditions"),
+    ("syntax.rt", "Hash)]\npub enum ConditionsError", "Hash)]\n#[non_exhaustive]\npub enum ConditionsError"),
+    ("lawful.rt", "    Word(u128),", "    Word(u128),\n    Conditions(crate::literal::ConditionsError),"),
     ("error.rt", "#[derive(Clone, Copy, Debug)]", f"#[derive({COMPARED}, Debug)]"),
     ("format_builder.rt", "#[derive(Drop)]", "#[derive(Clone, Copy, PartialEq, Eq, Hash)] #[must_use]"),
     ("format_builder.rt", "pub const fn build(&self)", f"{DEPRECATED} pub const fn build(&self)"),
@@ -120,8 +126,10 @@ ATTRIBUTES = [
     ("feature_format.rt", "#[derive(Clone, Copy)]", f"#[derive({COMPARED})]"),
     # Only in plain Rust do public calls return this type. The documentation hides the traits of a hidden type.
     ("short_text.rt", "#[derive(Drop)]\n#[doc(hidden)]", "#[derive(Clone,\nCopy)]"),
+    ("list.rt", "#[derive(Drop)]", "#[derive(Debug, Clone, Copy, PartialEq, Eq)]"),
     ("read.rt", "#[derive(Drop)]", "#[derive(Clone)]"),
     ("tables.rt", "#[derive(Drop)]", "#[derive(Clone)]"),
+    ("sink.rt", "#[derive(Drop)]", "#[derive(Debug)]"),
     # `Debug` prints the answers.
     ("cause.rt", "#[derive(Debug, Clone, Copy, PartialEq, Eq, Hash)]\npub struct ReadError {", "#[derive(Clone, Copy, PartialEq, Eq, Hash)]\npub struct ReadError {"),
     ("lawful.rt", "Eq)]\npub struct FormatError", "Eq, Hash)]\npub struct FormatError"),
@@ -179,12 +187,12 @@ class Source:
             return self.words.index(";", start) + 1
         if self.words[start] == "ghost" and self.words[start + 2] in "=:" and self.words[start + 3] == "{":
             end = self.behind(start + 3)
-            if self.words[end] != ";":
-                self.refuse(end, "a ghost item does not end with `;`")
+            if self.words[end] not in (";", ","):
+                self.refuse(end, "a ghost item does not end with `;` or `,`")
             return end + 1
         if self.stands(index, "#", "[", "tactic", "(") or self.stands(index, "#", "!", "[", "tactic", "("):
             return self.behind(self.words.index("[", index))
-        if self.stands(index, "impl", "Model", "for"):
+        if self.stands(index, "impl", "Model", "for") or self.stands(index, "impl", "<", "'a", ">", "Model", "for"):
             return self.behind(self.words.index("{", index))
         return self.law(index)
 
@@ -312,10 +320,11 @@ def made_files():
                 text = text.replace(old, new)
             text = re.sub(r"format!\(in rt\.alloc\(\); ([^)]*)\)\?", r"format!(\1)", text)
             files[RUST.joinpath(folder, path.stem).with_suffix(".rs")] = laid_out(renamed(text, "peltzivar", "crate", "std"))
-    # The page that the package has. Cargo packs only files below rust/, and rt takes no links.
+    # The pages that the package has. Cargo packs only files below rust/, and rt takes no links.
     # Links to other files lead nowhere outside the repository.
-    page = (RUST.parent / "docs/FORMAT.md").read_text()
-    files[RUST / "FORMAT.txt"] = re.sub(r"\[([^][]*)\]\([^)#][^)]*\)", r"\1", page)
+    for name in PAGES:
+        page = (RUST.parent / f"docs/{name}.md").read_text()
+        files[RUST / f"{name}.txt"] = re.sub(r"\[([^][]*)\]\([^)#][^)]*\)", r"\1", page)
     unused = [old for file, old, _ in REPLACED + ATTRIBUTES if not any(path.match(file) for path in read)]
     unused += [old for old, _ in EVERYWHERE if old not in sources]
     if unused:

@@ -68,7 +68,7 @@ def plain(words):
             at = until(words, at, ";") + 1
         elif ahead[:3] == ["#", "[", "tactic"] or ahead[:4] == ["#", "!", "[", "tactic"]:
             at = close(words, at + ahead.index("["))
-        elif ahead[:3] == ["impl", "Model", "for"]:
+        elif word == "impl" and ["Model", "for"] in (ahead[1:3], ahead[5:7]):
             at = close(words, until(words, at, "{"))
         elif word == "use" and "laws" in words[at : until(words, at, ";", "{")]:
             end = until(words, at, ";")

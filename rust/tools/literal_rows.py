@@ -37,7 +37,7 @@ def flags():
     section = (TOP / "docs/FORMAT.md").read_text().split("## The flags\n")[1].split("\n## ")[0]
     for row in section.splitlines():
         if re.match(r"\| \d", row):
-            bit, name, _, given, *cells = [cell.strip(" `") for cell in row.strip("|").split("|")]
+            bit, name, _, _, given, *cells = [cell.strip(" `") for cell in row.strip("|").split("|")]
             accepted, rejected = [cell.split("` `") for cell in cells]
             word = cargo("--", "edit", STANDARD, *given.split(), f"{name}=true").strip()
             changed = rejected if int(bit) < 32 else accepted

@@ -133,6 +133,8 @@ def add_function(owner, item, inner):
             generic = f"<{name}: {bounds(it['bounds'])}>"
         elif kind == "type" and not it["is_synthetic"]:
             parameters = re.sub(rf"\b{name}\b", f"impl {bounds(it['bounds'])}", parameters)
+    if re.search(r"&(?!')", result):
+        parameters, result = (re.sub(r"&(?!')", "&'static ", it) for it in (parameters, result))
     kind = "const fn" if inner["header"]["is_const"] else "fn"
     NAMES[owner][f"{kind}{generic}({parameters}) -> {result}"].append(item["name"])
 
@@ -172,7 +174,9 @@ def add_type(path, item, kind, inner):
 
 
 def add_trait(inner):
-    """Puts a trait to the type that has it, unless the type is hidden or the trait is not stable."""
+    """Puts a trait to the type that has it, unless the type is any or hidden, or the trait is not stable."""
+    if "generic" in inner["for"]:
+        return
     try:
         own, name = text_of(inner["for"]), name_of(inner["trait"])
         types = (it for it in shown(inner["items"]) if it[1] == "assoc_type")

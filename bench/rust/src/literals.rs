@@ -84,7 +84,7 @@ impl Literals {
 
 impl Group {
     fn new(language: Language, texts: impl IntoIterator<Item = String>) -> Group {
-        Group { language, reader: language.reader(), texts: texts.into_iter().collect() }
+        Group { language, reader: &language.readers().as_slice()[0], texts: texts.into_iter().collect() }
     }
 }
 
@@ -93,7 +93,7 @@ fn is_float(text: &str) -> bool {
 }
 
 fn accepts(language: Language, text: &str) -> bool {
-    language.reader().read(text.as_bytes()).is_ok()
+    language.read(text.as_bytes()).is_ok()
 }
 
 fn is_refused(language: Language, text: &str) -> bool {
@@ -200,7 +200,7 @@ fn prints(group: &Group) -> impl Fn(&str) -> bool + use<> {
 
 /// Makes a reader, which reads no text.
 fn new(group: &Group) -> impl Fn(&str) -> bool + use<> {
-    let reader = Reader::new(black_box(group.language.syntax()));
+    let reader = Reader::new(black_box(group.reader.syntax()));
     move |_| black_box(&reader).syntax().point().is_some()
 }
 

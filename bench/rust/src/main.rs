@@ -18,6 +18,7 @@ mod results;
 #[path = "../../../compare/rust/src/rows.rs"]
 mod rows;
 mod theirs;
+mod writers;
 
 use data::Data;
 use literals::Literals;
@@ -108,8 +109,8 @@ fn main() {
     let options = options::Options::new(&["--rounds", "--only"]);
     let rounds = options.get("--rounds").unwrap_or(25);
     let only = options.get::<String>("--only").unwrap_or_default();
-    let (data, texts) = (Data::new(), Literals::new());
-    let rows = [byte_rows(&data), word_rows(&data), literals::rows(&texts)].into_iter().flatten();
+    let (data, texts, values) = (Data::new(), Literals::new(), writers::values());
+    let rows = [byte_rows(&data), word_rows(&data), literals::rows(&texts), writers::rows(&values)].into_iter().flatten();
     for row in rows.filter(|row| row.name.contains(&only)) {
         assert!((row.ours)() == (row.theirs)() || row.name.ends_with(OVER), "{}: the results differ", row.name);
         let [ours, theirs] = row.measure(rounds);

@@ -13,7 +13,7 @@ ghost use Rattle.lexical_util.specs.Writes.{write_byte, write_flags};
 ghost use Rattle.lexical_util.specs.Edits.{edited};
 ghost use Rattle.lexical_util.specs.NormalForm.{normal_form_of};
 ghost use Rattle.lexical_literal.specs.Literal.{Literal, Reads};
-ghost use Rattle.lexical_literal.specs.Notation.{notation_of};
+ghost use Rattle.lexical_literal.specs.Notation.{no_conditions, notation_of};
 ghost use Rattle.lexical_number.specs.Numeral.{unsigned};
 ghost use Rattle.lexical_value.specs.Parsed.{IsParsed};
 
@@ -63,7 +63,7 @@ pub fn octal_facts()
 
 /// Returns a reader of the integers of [`DECIMAL`].
 pub fn decimal() -> Reader
-    ensures { result ≡ record { word = DECIMAL; options = None } }
+    ensures { result ≡ record { word = DECIMAL; options = None; conditions = no_conditions } }
 {
     decimal_facts();
     match Format::new(DECIMAL) {
@@ -88,7 +88,7 @@ pub fn is_literal(reader: &Reader, text: &[u8]) -> bool
 ///
 /// If `text` is not such an integer, or if its value is not a `u64`, returns why.
 pub fn read_decimal(text: &[u8]) -> Result<u64, ParseError>
-    ensures { IsParsed (unsigned 64) (record { word = DECIMAL; options = None }) text.now result }
+    ensures { IsParsed (unsigned 64) (record { word = DECIMAL; options = None; conditions = no_conditions }) text.now result }
 {
     parse_integer(&decimal(), text)
 }

@@ -14,6 +14,7 @@ use Rattle.lexical_literal.specs.Additions.Summary.{is_signed, forbids_plus, gap
 use Rattle.lexical_literal.specs.declared.steps.Stage.{Stage}
 use Rattle.lexical_literal.specs.declared.steps.Stage.TheVariants as stages
 use Rattle.lexical_literal.specs.declared.steps.Summary.{Summary}
+use Rattle.lexical_literal.specs.declared.syntax.Condition.{Condition}
 use Rattle.lexical_literal.proofs.RunLemmas.{is_rest}
 use Rattle.lexical_literal.proofs.ScanLemmas.{HasRoles, Accepts, took, none_accepts, role_in, as_digit, no_digit, as_role}
 use Rattle.lexical_literal.proofs.StepLemmas.{reading, begins, stage_after, after_byte, stage_at, gap_at, sign_fits, prefix_fits, ends_part, text_after}
@@ -134,21 +135,21 @@ module _ (m : Notation) where
       ended_by part stage gap (b ∷ text) more (ap (λ t. b ∷ t) found.whole) both.0
       (λ digits. let scale = both.1 in let signed = found.signed in let run = found.run in let end = found.end in grind arith)
 
-  module _ (h : HasRoles m) where
+  module _ (C : Condition → Bool) (h : HasRoles m) where
     -- Nothing follows the suffix.
-    ended : (s : Summary) (text : List ℕ) → s.ended ≡ true → Accepts m (Some s) text → text ≡ []
+    ended : (s : Summary) (text : List ℕ) → s.ended ≡ true → Accepts C m (Some s) text → text ≡ []
     ended s [] over is = refl
-    ended s (b ∷ text) over is = absurd (false≢true (sym (took m h s b (λ o. Accepts m o text) (none_accepts m text) is).going ∙ over))
+    ended s (b ∷ text) over is = absurd (false≢true (sym (took C m h s b (λ o. Accepts C m o text) (none_accepts C m text) is).going ∙ over))
 
     -- What is accepted can be cut into parts.
-    pub cut_of : (part : Part) (stage : Stage) (gap : Bool) (text : List ℕ) → Accepts m (Some (reading part stage gap)) text → Cut m part stage gap text
-    cut_of part stage gap [] is = stopped part stage gap [] is refl
+    pub cut_of : (part : Part) (stage : Stage) (gap : Bool) (text : List ℕ) → Accepts C m (Some (reading part stage gap)) text → Cut m part stage gap text
+    cut_of part stage gap [] is = stopped part stage gap [] (and_parts (ends m (reading part stage gap) && continues m part stage roles.Suffix) _ is).0 refl
     cut_of part stage gap (b ∷ text) is =
-        let t = took m h (reading part stage gap) b (λ o. Accepts m o text) (none_accepts m text) is in
+        let t = took C m h (reading part stage gap) b (λ o. Accepts C m o text) (none_accepts C m text) is in
         go t.role t.plays t.taken t.rest (λ part stage gap. cut_of part stage gap text) where
           go : (r : Role) → role_in m part b ≡ Some r → takes m (reading part stage gap) (b == 43) r ≡ true
-              → Accepts m (Some (after (reading part stage gap) (b == 48) r)) text
-              → ((part : Part) (stage : Stage) (gap : Bool) → Accepts m (Some (reading part stage gap)) text → Cut m part stage gap text)
+              → Accepts C m (Some (after (reading part stage gap) (b == 48) r)) text
+              → ((part : Part) (stage : Stage) (gap : Bool) → Accepts C m (Some (reading part stage gap)) text → Cut m part stage gap text)
               → Cut m part stage gap (b ∷ text)
           go roles.Digit role taken is cut =
               digit_first part stage gap b text (as_digit m h part b role) (grind arith) (grind arith) (cut part (after_digit stage gap (b == 48)) false is)

@@ -1,5 +1,5 @@
 -- A test that says whether parts are a literal, for examples.
-use Rattle.std.proofs.Common.{ℕ, ◌≡◌, Bool, true, false, not, ◌&&◌, ◌||◌, IsTrue, List, [], ◌∷◌, refl, sym, arith}
+use Rattle.std.proofs.Common.{ℕ, ◌≡◌, Bool, true, false, not, ◌&&◌, ◌||◌, IsTrue, List, [], ◌∷◌, refl, sym, ◌∙◌, arith}
 use Rattle.std.proofs.lemmas.Bool.{false≢true}
 use Rattle.std.specs.List.{list_any, AllByRecursion}
 use Rattle.lexical_util.specs.Layout as layout
@@ -7,20 +7,23 @@ use Rattle.lexical_util.specs.Layout.{Flag}
 use Rattle.lexical_util.specs.Roles.{signs}
 use Rattle.lexical_util.specs.declared.format_flags.Part.TheVariants as parts
 use Rattle.lexical_literal.specs.Notation.{Notation}
-use Rattle.lexical_literal.specs.Literal.{Literal, IsLiteral, text_of, requirement, is_absent, is_present, is_float, is_none_or_one, is_none_or_prefix}
+use Rattle.lexical_literal.specs.Literal.{Literal, IsLiteral, condition, text_of, requirement, is_absent, is_present, is_float, is_none_or_one, is_none_or_prefix}
 use Rattle.lexical_literal.specs.Readings.{HasTwoReadings}
 use Rattle.lexical_literal.specs.Run.{is_run}
 use Rattle.lexical_literal.specs.Additions.Summary.{implies}
+use Rattle.lexical_literal.specs.declared.syntax.Condition.{Condition}
+use Rattle.lexical_literal.specs.declared.syntax.Condition.TheVariants as conditions
 use Rattle.lexical_literal.proofs.CutLemmas.{only}
 
--- The tests of the spelling of each part of `l`, and of the parts that go together.
+-- The tests of the spelling of each part of `l`, of the parts that go together, and that there are no conditions.
 abbrev pub tests : Notation → Literal → List Bool
 tests m l =
     is_none_or_one signs l.sign ∷ is_none_or_prefix m.prefix l.prefix ∷ is_run m parts.Integer l.integer ∷ is_none_or_one m.point l.point ∷
     is_run m parts.Fraction l.fraction ∷ is_none_or_one m.exponent_character l.exponent_character ∷ is_none_or_one signs l.exponent_sign ∷
     is_run m parts.Exponent l.exponent ∷ is_none_or_one m.suffix l.suffix ∷ implies (is_absent l.point) (is_absent l.fraction) ∷
     implies (is_absent l.exponent_character) (is_absent l.exponent_sign && is_absent l.exponent) ∷
-    (is_present l.integer || is_float l) ∷ []
+    (is_present l.integer || is_float l) ∷ not (m.condition conditions.BasePrefix) ∷ not (m.condition conditions.BaseSuffix) ∷
+    not (m.condition conditions.NegativeSign) ∷ []
 
 -- `required_flags` lists the flags that require something of the parts.
 abbrev pub required_flags : List Flag
@@ -39,12 +42,18 @@ each [] is = tt
 each (true ∷ tests) is = (refl, each tests is)
 each (false ∷ tests) is = absurd (false≢true (sym is))
 
+conditions_met : (m : Notation) (l : Literal) → m.condition conditions.BasePrefix ≡ false → m.condition conditions.BaseSuffix ≡ false
+    → m.condition conditions.NegativeSign ≡ false → (c : Condition) → IsTrue (m.condition c) → IsTrue (condition c l)
+conditions_met m l prefix suffix sign conditions.BasePrefix set = absurd (false≢true (sym prefix ∙ set))
+conditions_met m l prefix suffix sign conditions.BaseSuffix set = absurd (false≢true (sym suffix ∙ set))
+conditions_met m l prefix suffix sign conditions.NegativeSign set = absurd (false≢true (sym sign ∙ set))
+
 -- Parts that pass the tests are a literal.
 literal_if : (m : Notation) (l : Literal) → list_any m.flag required_flags ≡ false → list_any not (tests m l) ≡ false → IsLiteral m l
 literal_if m l none is =
-    let (sign, (prefix, (integer, (point, (fraction, (character, (exponent_sign, (exponent, (suffix, (after_point, (after_character, (some, end)))))))))))) =
+    let (sign, (prefix, (integer, (point, (fraction, (character, (exponent_sign, (exponent, (suffix, (after_point, (after_character, (some, (prefixed, (suffixed, (signed, end))))))))))))))) =
     each (tests m l) is in
-    record {
+    record { conditions = conditions_met m l (grind arith) (grind arith) (grind arith); spelled = record {
       sign = sign;
       prefix = prefix;
       integer = integer;
@@ -58,7 +67,7 @@ literal_if m l none is =
       after_character = λ absent. (grind arith, grind arith);
       some_number = some;
       requirements = met m l none;
-    }
+    } }
 
 -- A text has two readings if it is the text of two different lists of parts that pass the test.
 pub two : (m : Notation) (text : List ℕ) (l k : Literal) → list_any m.flag required_flags ≡ false → text ≡ text_of l → text ≡ text_of k

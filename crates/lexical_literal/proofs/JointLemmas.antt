@@ -1,6 +1,6 @@
 -- Which flags refuse what is allowed without requirements: flags that refuse alone, or those on leading zeros.
-use Rattle.std.proofs.Common.{◌≡◌, Bool, true, false, not, ◌&&◌, ◌||◌, Option, Some, None, refl, sym, ap, subst, ◌∙◌, arith}
-use Rattle.std.proofs.lemmas.Bool.{false≢true, or_parts}
+use Rattle.std.proofs.Common.{◌≡◌, Bool, true, false, not, ◌&&◌, ◌||◌, if◌then◌else◌, Option, Some, None, refl, sym, ap, subst, ◌∙◌, arith}
+use Rattle.std.proofs.lemmas.Bool.{false≢true}
 use Rattle.std.specs.Prelude.{is_some}
 use Rattle.lexical_util.specs.Layout as layout
 use Rattle.lexical_util.specs.Layout.{Flag}
@@ -10,13 +10,16 @@ use Rattle.lexical_util.specs.declared.format_flags.Part.{Part}
 use Rattle.lexical_util.specs.declared.format_flags.Part.TheVariants as parts
 use Rattle.lexical_literal.specs.Notation.{Notation}
 use Rattle.lexical_literal.specs.Run.{is_place}
-use Rattle.lexical_literal.specs.Cause.{adding, bare, binds, is_one_of, number_separator_flags}
+use Rattle.lexical_literal.specs.Cause.{adding, bare, binds, is_one_of, is_same, number_separator_flags, with_rules}
 use Rattle.lexical_literal.specs.Additions.Causes.{allows, is_plus_next, is_role, role_of_next, separates}
-use Rattle.lexical_literal.specs.Additions.Summary.{has_digit, implies, in_part, is_plus_class, is_zero, may_follow, move, takes}
+use Rattle.lexical_literal.specs.Additions.Summary.{admits, after, complete_by, continues, ends, finishes, has_digit, implies, in_part}
+use Rattle.lexical_literal.specs.Additions.Summary.{is_plus_class, is_zero, may_follow, move_by, no_condition, step_by, takes}
 use Rattle.lexical_literal.specs.declared.steps.Class.{Class}
 use Rattle.lexical_literal.specs.declared.steps.Stage.{Stage}
 use Rattle.lexical_literal.specs.declared.steps.Stage.TheVariants as stages
 use Rattle.lexical_literal.specs.declared.steps.Summary.{Summary}
+use Rattle.lexical_literal.specs.declared.syntax.Condition.{Condition}
+use Rattle.lexical_literal.specs.declared.syntax.Condition.TheVariants as conditions
 use Rattle.lexical_literal.proofs.StepLemmas.{reading}
 
 -- ROLES
@@ -26,14 +29,73 @@ abbrev pub taken : Notation → Summary → Bool → Option Role → Bool
 taken n s plus None = false
 taken n s plus (Some role) = takes n s plus role
 
-moved : (n : Notation) (s : Summary) (ended plus zero : Bool) (o : Option Role)
-    → is_some (move n (record s { ended = ended }) plus zero o) ≡ (not ended && taken n (reading s.part s.stage s.gap) plus o)
-moved n s ended plus zero o = grind arith
+-- `free_allows n s next` is true if `next` may follow without conditions, and `passes C s next` if the conditions `C` let it.
+abbrev pub free_allows : Notation → Summary → Option Class → Bool
+free_allows n s None = complete_by no_condition n s
+free_allows n s (Some class) = is_some (step_by no_condition n s class)
 
--- What is allowed is a question of roles, before a suffix.
+abbrev passes_role : (Condition → Bool) → Summary → Bool → Bool → Option Role → Bool
+passes_role C s plus zero None = true
+passes_role C s plus zero (Some role) = admits C s plus zero role
+
+abbrev pub passes : (Condition → Bool) → Summary → Option Class → Bool
+passes C s None = finishes C s
+passes C s (Some class) = passes_role C s (is_plus_class class) (is_zero class) (in_part s.part class)
+
+split_role : (n : Notation) (s : Summary) (plus zero : Bool) (o : Option Role)
+    → is_some (move_by n.condition n s plus zero o) ≡ (is_some (move_by no_condition n s plus zero o) && passes_role n.condition s plus zero o)
+split_role n s plus zero None = refl
+split_role n s plus zero (Some role) = gate s.ended (takes n s plus role) (admits n.condition s plus zero role) (after s zero role) where
+  gate : (e t a : Bool) (x : Summary)
+      → is_some (if not e && (t && a) then Some x else None) ≡ (is_some (if not e && (t && true) then Some x else None) && a)
+  gate e t a x = grind arith
+
+-- What is allowed is what the flags and the conditions let.
+pub split : (n : Notation) (s : Summary) (next : Option Class) → allows n s next ≡ (free_allows n s next && passes n.condition s next)
+split n s None = both (s.ended || (ends n s && continues n s.part s.stage roles.Suffix)) (finishes n.condition s) where
+  both : (x f : Bool) → (x && f) ≡ ((x && true) && f)
+  both x f = grind arith
+split n s (Some class) = split_role n s (is_plus_class class) (is_zero class) (in_part s.part class)
+
+passes_free : (s : Summary) (next : Option Class) → passes no_condition s next ≡ true
+passes_free s None = refl
+passes_free s (Some class) = go (in_part s.part class) where
+  go : (o : Option Role) → passes_role no_condition s (is_plus_class class) (is_zero class) o ≡ true
+  go None = refl
+  go (Some role) = refl
+
+pub free_is : (n : Notation) (A : Flag → Bool) (s : Summary) (next : Option Class)
+    → allows (with_rules n A no_condition) s next ≡ free_allows (with_rules n A no_condition) s next
+free_is n A s next = split (with_rules n A no_condition) s next ∙ (let pass = passes_free s next in grind arith)
+
+-- What one condition refuses, with others it is refused too.
+pub each_passes : (C : Condition → Bool) (s : Summary) (next : Option Class)
+    → ((c : Condition) → C c ≡ true → passes (λ d. is_same c d || false) s next ≡ true) → passes C s next ≡ true
+each_passes C s None each =
+    let prefix = each conditions.BasePrefix in let suffix = each conditions.BaseSuffix in grind arith
+each_passes C s (Some class) each = go (in_part s.part class) (λ c. each c) where
+  go : (o : Option Role) → ((c : Condition) → C c ≡ true → passes_role (λ d. is_same c d || false) s (is_plus_class class) (is_zero class) o ≡ true)
+      → passes_role C s (is_plus_class class) (is_zero class) o ≡ true
+  go None each = refl
+  go (Some role) each = let prefix = each conditions.BasePrefix in let sign = each conditions.NegativeSign in grind arith
+
+-- The flags do not ask for conditions.
+pub same_free : (n : Notation) (A : Flag → Bool) (D : Condition → Bool) (s : Summary) (next : Option Class)
+    → free_allows (with_rules n A D) s next ≡ free_allows (with_rules n A no_condition) s next
+same_free n A D s None = refl
+same_free n A D s (Some class) = refl
+
+moved : (n : Notation) (s : Summary) (ended plus zero : Bool) (o : Option Role)
+    → is_some (move_by no_condition n (record s { ended = ended }) plus zero o) ≡ (not ended && taken n (reading s.part s.stage s.gap) plus o)
+moved n s ended plus zero None = grind arith
+moved n s ended plus zero (Some role) = grind arith
+
+-- What is allowed without conditions is a question of roles, before a suffix.
 pub allows_is : (n : Notation) (s : Summary) (next : Option Class) → s.ended ≡ false
-    → allows n s next ≡ taken n (reading s.part s.stage s.gap) (is_plus_next next) (role_of_next s next)
-allows_is n s None going = grind arith
+    → free_allows n s next ≡ taken n (reading s.part s.stage s.gap) (is_plus_next next) (role_of_next s next)
+allows_is n s None going = unended s.ended (ends n s && continues n s.part s.stage roles.Suffix) going where
+  unended : (e x : Bool) → e ≡ false → ((e || x) && true) ≡ x
+  unended e x going = grind arith
 allows_is n s (Some class) going = moved n s s.ended (is_plus_class class) (is_zero class) (in_part s.part class)
     ∙ ap (λ e. not e && taken n (reading s.part s.stage s.gap) (is_plus_class class) (in_part s.part class)) going
 
@@ -109,24 +171,26 @@ module _ (m : Notation) where
   -- THE SAME OF WHAT IS ALLOWED
 
   -- What is allowed without requirements, and refused with them, follows no suffix.
-  pub going : (s : Summary) (next : Option Class) → allows (bare m) s next ≡ true → allows m s next ≡ false → s.ended ≡ false
-  going s None free refused = (or_parts s.ended _ refused).0
+  pub going : (s : Summary) (next : Option Class) → free_allows (bare m) s next ≡ true → free_allows m s next ≡ false → s.ended ≡ false
+  going s None free refused = unended s.ended (ends m s && continues m s.part s.stage roles.Suffix) refused where
+    unended : (e x : Bool) → ((e || x) && true) ≡ false → e ≡ false
+    unended e x none = grind arith
   going s (Some class) free refused = let is = sym (moved (bare m) s s.ended (is_plus_class class) (is_zero class) (in_part s.part class)) ∙ free in grind arith
 
   module _ (s : Summary) (next : Option Class) (unended : s.ended ≡ false) where
     abbrev o : Option Role
     o = role_of_next s next
 
-    same : ◌≡◌ {A = Notation → Bool} (λ n. taken n (reading s.part s.stage s.gap) (is_plus_next next) o) (λ n. allows n s next)
+    same : ◌≡◌ {A = Notation → Bool} (λ n. taken n (reading s.part s.stage s.gap) (is_plus_next next) o) (λ n. free_allows n s next)
     same = λ j n. sym (allows_is n s next unended) j
 
     -- What no flag refuses alone, a flag on leading zeros refuses with another.
-    pub joint : Alone (λ n. allows n s next) → allows m s next ≡ false → m.flag layout.no_float_leading_zeros ≡ true
+    pub joint : Alone (λ n. free_allows n s next) → free_allows m s next ≡ false → m.flag layout.no_float_leading_zeros ≡ true
     joint = subst (λ P. Alone P → P m ≡ false → m.flag layout.no_float_leading_zeros ≡ true) same (joint_role s.part s.stage s.gap (is_plus_next next) o)
 
   -- A flag that allows the byte is of the place and the part.
-  pub at_next : (f : Flag) (s : Summary) (class : Class) → is_one_of number_separator_flags f ≡ true → allows (bare m) s (Some class) ≡ false
-      → allows (adding f (bare m)) s (Some class) ≡ true → separates m s (in_part s.part class) f ≡ true
+  pub at_next : (f : Flag) (s : Summary) (class : Class) → is_one_of number_separator_flags f ≡ true → free_allows (bare m) s (Some class) ≡ false
+      → free_allows (adding f (bare m)) s (Some class) ≡ true → separates m s (in_part s.part class) f ≡ true
   at_next f s class is refused allowed =
       subst (λ (P : Notation → Bool). P (bare m) ≡ false → P (adding f (bare m)) ≡ true → separates m s (in_part s.part class) f ≡ true)
       (same s (Some class) (let is = sym (moved (adding f (bare m)) s s.ended (is_plus_class class) (is_zero class) (in_part s.part class))

@@ -1,9 +1,10 @@
 -- Lemmas.
-mod RunLemmas
+pub mod RunLemmas
 mod ScanLemmas
 mod StepLemmas
 mod CutLemmas
 mod LiteralLemmas
+mod ConditionLemmas
 mod FrontLemmas
 mod LongestLemmas
 mod RoleLemmas
@@ -19,3 +20,5 @@ mod JointLemmas
 mod BlameLemmas
 mod PartOfLemmas
 mod OneCauseLemmas
+mod FormLemmas
+mod GroupLemmas

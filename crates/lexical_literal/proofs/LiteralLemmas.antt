@@ -1,4 +1,4 @@
--- The texts that are accepted are the literals.
+-- The texts that are accepted are spelled as literals are.
 use Rattle.std.proofs.Common.{ℕ, ◌≡◌, Bool, true, false, not, ◌==◌, ◌&&◌, ◌||◌, inl, inr, if◌then◌else◌}
 use Rattle.std.proofs.Common.{List, [], ◌∷◌, ◌++◌, Some, refl, sym, subst, ◌∙◌, arith}
 use Rattle.std.proofs.lemmas.Bool.{false≢true, and_parts, and_from, and_right, cases_Bool, or_left, or_right, eqb-true}
@@ -12,15 +12,16 @@ use Rattle.lexical_util.specs.declared.format_flags.Part.{Part}
 use Rattle.lexical_util.specs.declared.format_flags.Part.TheVariants as parts
 use Rattle.lexical_literal.specs.Notation.{Notation}
 use Rattle.lexical_literal.specs.Run.{is_run}
-use Rattle.lexical_literal.specs.Literal.{Literal, IsLiteral, Reads, text_of, is_present, is_absent, is_plus, is_none_or_one, is_none_or_prefix, is_zero_led}
+use Rattle.lexical_literal.specs.Literal.{Literal, IsSpelled, text_of, is_present, is_absent, is_plus, is_none_or_one, is_none_or_prefix, is_zero_led}
 use Rattle.lexical_literal.specs.Additions.Summary.{Cuts, implies, has_digit, is_lone, is_led, after_digit, after_mark, after_point, may_follow}
 use Rattle.lexical_literal.specs.Additions.Summary.{may_lead, is_signed}
-use Rattle.lexical_literal.specs.Additions.Summary.{forbids_plus, gap_fits, digits_suffice, ends, continues, add, digits_piece, piece_of, start, no_cuts}
+use Rattle.lexical_literal.specs.Additions.Summary.{forbids_plus, gap_fits, digits_suffice, ends, continues, add, digits_piece, no_condition, piece_of, start, no_cuts}
 use Rattle.lexical_literal.specs.declared.steps.Piece.TheVariants as pieces
 use Rattle.lexical_literal.specs.declared.steps.Stage.{Stage}
 use Rattle.lexical_literal.specs.declared.steps.Stage.TheVariants as stages
+use Rattle.lexical_literal.specs.declared.syntax.Condition.{Condition}
 use Rattle.lexical_literal.proofs.RunLemmas.{is_rest, rest_of_none, digits_present, opens}
-use Rattle.lexical_literal.proofs.ScanLemmas.{HasRoles, Accepts, Arrives, add_all, arrives_byte, digit_role, is_role}
+use Rattle.lexical_literal.proofs.ScanLemmas.{HasRoles, Accepts, Arrives, add_all, free_byte, digit_role, is_role}
 use Rattle.lexical_literal.proofs.StepLemmas.{reading, led_after, stage_after, passed, stage_at, sign_fits, prefix_fits, digits_fit}
 use Rattle.lexical_literal.proofs.StepLemmas.{ends_exponent, ends_mantissa, fraction_fits, stops, scales, ends_part, text_after}
 use Rattle.lexical_literal.proofs.CutLemmas.{cut_of}
@@ -179,7 +180,7 @@ module _ (m : Notation) where
         point digits fraction tail.stop tail.scale (fraction_seen any) (fraction_counts any)
 
     literal_if : sign_fits m parts.Integer stages.Start l.sign ≡ true → prefix_fits m stages.Start false l.prefix ≡ true
-        → is_rest m parts.Integer false false l.integer ≡ true → ends_part m parts.Integer l integer_last ≡ true → IsLiteral m l
+        → is_rest m parts.Integer false false l.integer ≡ true → ends_part m parts.Integer l integer_last ≡ true → IsSpelled m l
     literal_if sign prefix run is =
         let digits = and_parts (digits_suffice m parts.Integer integer_last) _ is in
         let point = and_parts (is_none_or_one m.point l.point) _ digits.1 in
@@ -203,24 +204,24 @@ module _ (m : Notation) where
         }
 
 module _ (m : Notation) (h : HasRoles m) where
-  -- What is accepted is a literal.
-  pub literal_from : (text : List ℕ) → Accepts m (Some start) text → (l : Literal) × Reads m l text
-  literal_from text is =
-      let cut = cut_of m h parts.Integer stages.Start false text is in
+  -- What is accepted is spelled as a literal.
+  pub spelled_from : (C : Condition → Bool) (text : List ℕ) → Accepts C m (Some start) text → (l : Literal) × (text ≡ text_of l) × IsSpelled m l
+  spelled_from C text is =
+      let cut = cut_of m C h parts.Integer stages.Start false text is in
       let found = cut.found in
       let l : Literal = record found.more { sign = cut.sign; prefix = cut.prefix; integer = found.digits } in
       let first = stage_at stages.Start cut.sign cut.prefix in
       let no_gap = and_right (is_absent cut.prefix) false refl in
       let none : has_digit first ≡ false = grind arith in
-      (l, record { whole = found.whole; literal = literal_if m l found.signed found.prefixed (rw (none, no_gap) at found.run) (rw (no_gap) at found.end) })
+      (l, found.whole, literal_if m l found.signed found.prefixed (rw (none, no_gap) at found.run) (rw (no_gap) at found.end))
 
-  -- A LITERAL IS ACCEPTED
+  -- WHAT IS SPELLED AS A LITERAL IS ACCEPTED WITHOUT CONDITIONS
 
   -- `Goes part last c rest d` holds if `rest` arrives where the digits of `part` end at the stage `last`.
   record Goes (part : Part) (last : Stage) (c : Cuts) (rest : List ℕ) (d : Cuts) : Type 0 where
     leads : is_led last ≡ true → may_lead m ≡ true
     arrives : (gap : Bool) → gap_fits m part (has_digit last) gap false ≡ true → is_signed m part last ≡ true
-        → Arrives m (Some (reading part last gap)) c rest d
+        → Arrives no_condition m (Some (reading part last gap)) c rest d
 
   -- Where a digit follows, it may.
   follow : (D : ByteSet) (stage : Stage) (gap : Bool) (run : List ℕ) → (is_led (stage_after D stage gap run) ≡ true → may_lead m ≡ true) → list_any D run ≡ true
@@ -230,19 +231,19 @@ module _ (m : Notation) (h : HasRoles m) where
   -- The digits of a part.
   run_arrives : (part : Part) (stage : Stage) (gap : Bool) (run rest : List ℕ) (c d : Cuts) → is_signed m part stage ≡ true
       → is_rest m part (has_digit stage) gap run ≡ true → Goes part (stage_after (m.digit part) stage gap run) (add_all c (digits_piece part) run) rest d
-      → Arrives m (Some (reading part stage gap)) c (run ++ rest) d
+      → Arrives no_condition m (Some (reading part stage gap)) c (run ++ rest) d
   run_arrives part stage gap [] rest c d signed fit goes = goes.arrives gap fit signed
   run_arrives part stage gap (b ∷ run) rest c d signed fit goes =
       let more = add c (digits_piece part) in
       elim (cases_Bool (m.digit part b)) [
         | inl digit ↦
             let may = follow (m.digit part) stage gap (b ∷ run) goes.leads (or_left _ _ digit) in
-            arrives_byte m h (reading part stage gap) b roles.Digit c (run ++ rest) d refl (digit_role m h part b digit) (grind arith)
+            free_byte m h (reading part stage gap) b roles.Digit c (run ++ rest) d refl (digit_role m h part b digit) (grind arith)
             (run_arrives part (after_digit stage gap (b == 48)) false run rest more d (grind arith) (grind arith) (rw (digit) at goes))
         | inr other ↦
             let may = λ (some : list_any (m.digit part) run ≡ true). follow (m.digit part) stage gap (b ∷ run) goes.leads (or_right (m.digit part b) _ some) in
             let closes = opens m part (has_digit stage) (may_follow m stage) run (grind arith) may in
-            arrives_byte m h (reading part stage gap) b roles.Separator c (run ++ rest) d refl
+            free_byte m h (reading part stage gap) b roles.Separator c (run ++ rest) d refl
             (is_role m h part roles.Separator b (λ e. cc) (grind arith)) (grind arith)
             (run_arrives part (after_mark stage) true run rest more d (grind arith) (grind arith) (rw (other) at goes))
       ]
@@ -252,8 +253,8 @@ module _ (m : Notation) (h : HasRoles m) where
       → led_after (m.digit part) stage run ≡ false → is_rest m part false false run ≡ true
       → let last = stage_after (m.digit part) stage false run in
       ((gap : Bool) → gap_fits m part (has_digit last) gap false ≡ true → is_signed m part last ≡ true
-      → Arrives m (Some (reading part last gap)) (add_all c (digits_piece part) run) rest d)
-      → Arrives m (Some (reading part stage false)) c (run ++ rest) d
+      → Arrives no_condition m (Some (reading part last gap)) (add_all c (digits_piece part) run) rest d)
+      → Arrives no_condition m (Some (reading part stage false)) c (run ++ rest) d
   unled_arrives part stage run rest c d signed none unled fit goes =
       run_arrives part stage false run rest c d signed (subst (λ t. is_rest m part t false run ≡ true) (sym none) fit)
       (record { leads = λ led. let last = (passed (m.digit part) stage false run).led in cc; arrives = goes })
@@ -261,27 +262,27 @@ module _ (m : Notation) (h : HasRoles m) where
   -- A sign, or none.
   sign_arrives : (part : Part) (stage : Stage) (gap : Bool) (sign rest : List ℕ) (c d : Cuts) → sign_fits m part stage sign ≡ true
       → (is_signed m part (stage_at stage sign []) ≡ true
-      → Arrives m (Some (reading part (stage_at stage sign []) gap)) (add_all c (piece_of part roles.Sign) sign) rest d)
-      → Arrives m (Some (reading part stage gap)) c (sign ++ rest) d
+      → Arrives no_condition m (Some (reading part (stage_at stage sign []) gap)) (add_all c (piece_of part roles.Sign) sign) rest d)
+      → Arrives no_condition m (Some (reading part stage gap)) c (sign ++ rest) d
   sign_arrives part stage gap [] rest c d fits more = more (and_parts (implies (forbids_plus m part) true) (is_signed m part stage) fits).1
   sign_arrives part stage gap (b ∷ []) rest c d fits more =
-      arrives_byte m h (reading part stage gap) b roles.Sign c rest d refl (is_role m h part roles.Sign b (λ e. cc) (grind arith))
+      free_byte m h (reading part stage gap) b roles.Sign c rest d refl (is_role m h part roles.Sign b (λ e. cc) (grind arith))
       (grind arith) (more (grind arith))
   sign_arrives part stage gap (b ∷ x ∷ sign) rest c d fits more = absurd (false≢true fits)
 
   -- The suffix, or nothing.
   stop_arrives : (part : Part) (stage : Stage) (gap : Bool) (c : Cuts) (suffix : List ℕ)
       → (ends m (reading part stage gap) && continues m part stage roles.Suffix) ≡ true → is_none_or_one m.suffix suffix ≡ true
-      → Arrives m (Some (reading part stage gap)) c suffix (add_all c pieces.Suffix suffix)
-  stop_arrives part stage gap c [] is one = (is, refl)
+      → Arrives no_condition m (Some (reading part stage gap)) c suffix (add_all c pieces.Suffix suffix)
+  stop_arrives part stage gap c [] is one = (and_from _ true is refl, refl)
   stop_arrives part stage gap c (b ∷ []) is one =
-      arrives_byte m h (reading part stage gap) b roles.Suffix c [] _ refl (is_role m h part roles.Suffix b (λ e. cc) one) is (refl, refl)
+      free_byte m h (reading part stage gap) b roles.Suffix c [] _ refl (is_role m h part roles.Suffix b (λ e. cc) one) is (refl, refl)
   stop_arrives part stage gap c (b ∷ x ∷ suffix) is one = absurd (false≢true one)
 
   -- What follows an exponent character.
   power_arrives : (l : Literal) (c : Cuts) → sign_fits m parts.Exponent stages.Mark l.exponent_sign ≡ true
       → digits_fit m parts.Exponent (stage_at stages.Mark l.exponent_sign []) l.exponent (ends_exponent m l) ≡ true
-      → Arrives m (Some (reading parts.Exponent stages.Mark false)) c (l.exponent_sign ++ (l.exponent ++ l.suffix))
+      → Arrives no_condition m (Some (reading parts.Exponent stages.Mark false)) c (l.exponent_sign ++ (l.exponent ++ l.suffix))
       (add_all (add_all (add_all c pieces.ExponentSign l.exponent_sign) pieces.Exponent l.exponent) pieces.Suffix l.suffix)
   power_arrives l c sign fits =
       sign_arrives parts.Exponent stages.Mark false l.exponent_sign (l.exponent ++ l.suffix) c _ sign
@@ -292,17 +293,17 @@ module _ (m : Notation) (h : HasRoles m) where
   -- What follows the mantissa.
   tail_arrives : (l : Literal) (part : Part) (stage : Stage) (gap : Bool) (c : Cuts) → ends m (reading part stage gap) ≡ true
       → ends_mantissa m l (continues m part stage roles.Suffix) (continues m part stage roles.Exponent) ≡ true
-      → Arrives m (Some (reading part stage gap)) c (text_after parts.Fraction l) (tail_cuts l c)
+      → Arrives no_condition m (Some (reading part stage gap)) c (text_after parts.Fraction l) (tail_cuts l c)
   tail_arrives l part stage gap c end fits = go l.exponent_character l.exponent_sign l.exponent fits where
     go : (character sign exponent : List ℕ) → let l = record l { exponent_character = character; exponent_sign = sign; exponent = exponent } in
         ends_mantissa m l (continues m part stage roles.Suffix) (continues m part stage roles.Exponent) ≡ true
-        → Arrives m (Some (reading part stage gap)) c (text_after parts.Fraction l) (tail_cuts l c)
+        → Arrives no_condition m (Some (reading part stage gap)) c (text_after parts.Fraction l) (tail_cuts l c)
     go [] [] [] fits =
         let both = and_parts (continues m part stage roles.Suffix) _ fits in
         stop_arrives part stage gap c l.suffix (and_from _ _ end both.0) both.1
     go (b ∷ []) sign exponent fits =
         let scale = and_parts (continues m part stage roles.Exponent) _ (and_parts (m.exponent_character b) _ fits).1 in
-        arrives_byte m h (reading part stage gap) b roles.Exponent c (sign ++ (exponent ++ l.suffix)) _ refl
+        free_byte m h (reading part stage gap) b roles.Exponent c (sign ++ (exponent ++ l.suffix)) _ refl
         (is_role m h part roles.Exponent b (λ e. cc) (and_parts (m.exponent_character b) _ fits).0) (and_from _ _ end scale.0)
         (power_arrives (record l { exponent_character = b ∷ []; exponent_sign = sign; exponent = exponent })
         (add c pieces.ExponentCharacter) (let fit = scale.1 in grind arith) (let fit = scale.1 in grind arith))
@@ -310,11 +311,11 @@ module _ (m : Notation) (h : HasRoles m) where
 
   -- What follows the integer digits.
   end_arrives : (l : Literal) (stage : Stage) (gap : Bool) (c : Cuts) → ends m (reading parts.Integer stage gap) ≡ true
-      → ends_part m parts.Integer l stage ≡ true → Arrives m (Some (reading parts.Integer stage gap)) c (text_after parts.Integer l) (end_cuts l c)
+      → ends_part m parts.Integer l stage ≡ true → Arrives no_condition m (Some (reading parts.Integer stage gap)) c (text_after parts.Integer l) (end_cuts l c)
   end_arrives l stage gap c end fits = go l.point l.fraction (and_parts (digits_suffice m parts.Integer stage) _ fits).1 where
     go : (point fraction : List ℕ) → let l = record l { point = point; fraction = fraction } in
         (is_none_or_one m.point point && (fraction_fits m l stage && ends_mantissa m l (stops m l stage) (scales m l stage))) ≡ true
-        → Arrives m (Some (reading parts.Integer stage gap)) c (text_after parts.Integer l) (end_cuts l c)
+        → Arrives no_condition m (Some (reading parts.Integer stage gap)) c (text_after parts.Integer l) (end_cuts l c)
     go [] [] fits = tail_arrives l parts.Integer stage gap c end fits
     go (b ∷ []) fraction fits =
         let l : Literal = record l { point = b ∷ []; fraction = fraction } in
@@ -322,7 +323,7 @@ module _ (m : Notation) (h : HasRoles m) where
         let point = and_parts (m.point b) _ fits in
         let both = and_parts (fraction_fits m l stage) _ point.1 in
         let float = both.0 in
-        arrives_byte m h (reading parts.Integer stage gap) b roles.Point c (fraction ++ text_after parts.Fraction l) (end_cuts l c) refl
+        free_byte m h (reading parts.Integer stage gap) b roles.Point c (fraction ++ text_after parts.Fraction l) (end_cuts l c) refl
         (is_role m h parts.Integer roles.Point b (λ e. cc) point.0) (grind arith)
         (unled_arrives parts.Fraction (after_point (has_digit stage)) fraction (text_after parts.Fraction l) more (end_cuts l c)
         (grind arith) (grind arith) (grind arith) (grind arith)
@@ -333,21 +334,21 @@ module _ (m : Notation) (h : HasRoles m) where
   -- A prefix, or none.
   prefix_arrives : (stage : Stage) (prefix rest : List ℕ) (c d : Cuts) → may_follow m stage ≡ true → after_digit stage false true ≡ stages.Bare
       → is_signed m parts.Integer stage ≡ true → is_none_or_prefix m.prefix prefix ≡ true
-      → (is_signed m parts.Integer (stage_at stage [] prefix) ≡ true → Arrives m (Some (reading parts.Integer (stage_at stage [] prefix) false))
+      → (is_signed m parts.Integer (stage_at stage [] prefix) ≡ true → Arrives no_condition m (Some (reading parts.Integer (stage_at stage [] prefix) false))
       (prefix_cuts prefix c) rest d)
-      → Arrives m (Some (reading parts.Integer stage false)) c (prefix ++ rest) d
+      → Arrives no_condition m (Some (reading parts.Integer stage false)) c (prefix ++ rest) d
   prefix_arrives stage [] rest c d follows bare signed one more = more signed
   prefix_arrives stage (z ∷ b ∷ []) rest c d follows bare signed one more =
       let both = and_parts (z == 48) _ one in
       let zero = add c pieces.Integer in
-      subst (λ z. Arrives m (Some (reading parts.Integer stage false)) c (z ∷ b ∷ rest) d) (sym (eqb-true z 48 both.0))
-      (arrives_byte m h (reading parts.Integer stage false) 48 roles.Digit c (b ∷ rest) d refl (digit_role m h parts.Integer 48 (h.zero_is_digit parts.Integer))
-      (and_from _ _ signed follows) (subst (λ s. Arrives m (Some (reading parts.Integer s false)) zero (b ∷ rest) d) (sym bare)
-      (arrives_byte m h (reading parts.Integer stages.Bare false) b roles.Prefix zero rest d refl
+      subst (λ z. Arrives no_condition m (Some (reading parts.Integer stage false)) c (z ∷ b ∷ rest) d) (sym (eqb-true z 48 both.0))
+      (free_byte m h (reading parts.Integer stage false) 48 roles.Digit c (b ∷ rest) d refl (digit_role m h parts.Integer 48 (h.zero_is_digit parts.Integer))
+      (and_from _ _ signed follows) (subst (λ s. Arrives no_condition m (Some (reading parts.Integer s false)) zero (b ∷ rest) d) (sym bare)
+      (free_byte m h (reading parts.Integer stages.Bare false) b roles.Prefix zero rest d refl
       (is_role m h parts.Integer roles.Prefix b (λ e. cc) both.1) refl (more refl))))
   prefix_arrives stage _ rest c d follows bare signed one more = absurd (false≢true one)
 
-  module _ (l : Literal) (is : IsLiteral m l) where
+  module _ (l : Literal) (is : IsSpelled m l) where
     run : (part : Part) (digits : List ℕ) → is_run m part digits ≡ true → is_rest m part false false digits ≡ true
     run part digits is = rest_of_none m part digits ∙ is
 
@@ -369,9 +370,9 @@ module _ (m : Notation) (h : HasRoles m) where
         (has_digit (exponent_last m l)) (exponent_seen m l (run parts.Exponent l.exponent is.exponent))
         (let fits = run parts.Exponent l.exponent is.exponent in grind arith))))
 
-    -- A literal is accepted, and its parts are counted.
-    pub literal_arrives : Arrives m (Some start) no_cuts (text_of l) (all_cuts l)
-    literal_arrives =
+    -- It is accepted, and its parts are counted.
+    pub spelled_arrives : Arrives no_condition m (Some start) no_cuts (text_of l) (all_cuts l)
+    spelled_arrives =
         let signs = add_all no_cuts pieces.Sign l.sign in
         let dressed = prefix_cuts l.prefix signs in
         sign_arrives parts.Integer stages.Start false l.sign _ no_cuts (all_cuts l) (grind arith)

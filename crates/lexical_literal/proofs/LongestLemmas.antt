@@ -11,15 +11,16 @@ use Rattle.lexical_literal.specs.Literal.{Literal, IsLiteral, Reads, is_none_or_
 use Rattle.lexical_literal.specs.Additions.Summary.{Cuts, byte_class, in_part, scan, step, is_accepted, is_complete}
 use Rattle.lexical_literal.specs.Additions.Summary.{tally, count, add, piece_number, start, no_cuts, HasLengths}
 use Rattle.lexical_literal.specs.Front.{IsFront, IsValidUpTo, NoLiteral, ReadsFront}
-use Rattle.lexical_literal.specs.Additions.Longest.{IsLongest, IsScanned, IsStopped}
+use Rattle.lexical_literal.specs.Additions.Longest.{HasStopped, IsLongest, IsScanned}
 use Rattle.lexical_literal.specs.Additions.Causes.{allows, class_of_next}
 use Rattle.lexical_literal.specs.Additions.Tables as tables
 use Rattle.lexical_literal.specs.declared.read.Scanned.{Scanned}
 use Rattle.lexical_literal.specs.declared.steps.Piece.{Piece}
 use Rattle.lexical_literal.specs.declared.steps.Summary.{Summary}
 use Rattle.lexical_literal.specs.declared.tables.TheConstants.{ROWS}
-use Rattle.lexical_literal.proofs.ScanLemmas.{HasRoles, IsReady, add_all, scan_append, tally_append}
-use Rattle.lexical_literal.proofs.LiteralLemmas.{literal_from, literal_arrives, all_cuts, is_tail}
+use Rattle.lexical_literal.proofs.ScanLemmas.{IsReady, scan_append, tally_append}
+use Rattle.lexical_literal.proofs.ConditionLemmas.{has_lengths, literal_from, literal_arrives}
+use Rattle.lexical_literal.proofs.LiteralLemmas.{all_cuts}
 use Rattle.lexical_literal.proofs.FrontLemmas.{front_from, front_is_read}
 
 front_shorter : (m : Notation) (text : List ℕ) (k n : ℕ) → k ≤ n → IsFront m (take n text) → IsFront m (take k text)
@@ -31,26 +32,6 @@ front_shorter m text k n below is = record {
     literal = is.reads.literal;
   };
 }
-
-added : (c : Cuts) (piece other : Piece) (bytes : List ℕ)
-    → add_all c piece bytes other ≡ (if piece_number other == piece_number piece then c other + length bytes else c other)
-added c piece other [] = grind (arith, nat_tests)
-added c piece other (b ∷ bytes) = let rest = added (add c piece) piece other bytes in grind (arith, nat_tests)
-
--- The lengths that are counted are those of the parts.
-pub has_lengths : (m : Notation) → HasRoles m → (l : Literal) → IsLiteral m l → HasLengths l (all_cuts l)
-has_lengths m h l is = let twice = prefix l.prefix is.prefix in record {
-  sign = simp added (omega arith);
-  prefix = simp added (omega arith);
-  integer = simp added (omega arith);
-  point = simp added (omega arith);
-  fraction = simp added (omega arith);
-  exponent_character = simp added (omega arith);
-  exponent_sign = simp added (omega arith);
-  exponent = simp added (omega arith);
-} where
-  prefix : (x : List ℕ) → is_none_or_prefix m.prefix x ≡ true → length x ≡ length (is_tail x) + length (is_tail x)
-  prefix x one = grind arith
 
 -- `HasRead m text i s c longest` holds if the first `i` bytes of `text` have the summary `s` and parts with the lengths `c`,
 -- and if `longest` is their longest front that is a literal, provided that `seeks` is true.
@@ -96,19 +77,16 @@ module _ (m : Notation) (text : List ℕ) where
       | inr long ↦ allows_end long ∙ partial (omega (arith, is.error.within))
     ]
 
-    -- If the front does not allow what follows, then the text is not a literal.
-    none_whole : allows m (tables.summary_at scanned.row) (class_of_next m (slice_get text scanned.valid_up_to)) ≡ false → NoLiteral m text
-    none_whole refused l reads = is.incomplete (sym (allows_end (all_right l reads)) ∙ refused) l (whole_front l reads)
+    -- Reading stops at the end of the text, unless the text is a literal, or before.
+    pub stops : (scanned.valid_up_to ≡ length text → is_complete m (tables.summary_at scanned.row) ≡ false) → HasStopped m text scanned
+    stops partial = record { seeks = seeks; is = is; refused = refused_there partial }
 
-    -- Where reading stopped, what follows is refused.
-    pub stopped_there : (scanned.valid_up_to ≡ length text → is_complete m (tables.summary_at scanned.row) ≡ false) → IsStopped m text scanned
-    stopped_there partial = record {
-      error = is.error;
-      row = is.row;
-      read = is.read;
-      refused = refused_there partial;
-      none = none_whole (refused_there partial);
-    }
+    pub none_stops : NoLiteral m text → HasStopped m text scanned
+    none_stops none = stops (λ all. false_from_ne_true _ (λ complete. let l = whole_literal all complete in none l.0 l.1))
+
+    -- If the front does not allow what follows, then the text is not a literal.
+    pub none_whole : allows m (tables.summary_at scanned.row) (class_of_next m (slice_get text scanned.valid_up_to)) ≡ false → NoLiteral m text
+    none_whole refused l reads = is.incomplete (sym (allows_end (all_right l reads)) ∙ refused) l (whole_front l reads)
 
   module _ (scanned : Scanned) (is : IsScanned m true text scanned) where
     -- The longest front that is a literal, and its parts, which have been counted if it is all that was read.
@@ -142,7 +120,7 @@ module _ (m : Notation) (ready : IsReady m) (text : List ℕ) where
 
   module _ (seeks : Bool) (i : ℕ) (s : Summary) (c : Cuts) (longest : Option ℕ) (has : HasRead m seeks text i s c longest) where
     next_scan : i < length text → scan m (Some start) (take (i + 1) text) ≡ step m s (byte_class m (get_or text i 0))
-    next_scan inside = rw (take_more text i 0 inside, scan_append m (Some start) (take i text) (get_or text i 0 ∷ []), has.read) refl
+    next_scan inside = rw (take_more text i 0 inside, scan_append m.condition m (Some start) (take i text) (get_or text i 0 ∷ []), has.read) refl
 
     next_longest : (t : Summary) → scan m (Some start) (take (i + 1) text) ≡ Some t → IsTrue seeks
         → IsLongest m text (i + 1) (if seeks && is_complete m t then Some (i + 1) else longest)
@@ -170,7 +148,7 @@ module _ (m : Notation) (ready : IsReady m) (text : List ℕ) where
       ready = ready;
       within = omega arith;
       read = next_scan inside ∙ taken;
-      counted = rw (take_more text i 0 inside, tally_append m (Some start) no_cuts (take i text) (get_or text i 0 ∷ []), has.read, has.counted) counted;
+      counted = rw (take_more text i 0 inside, tally_append m.condition m (Some start) no_cuts (take i text) (get_or text i 0 ∷ []), has.read, has.counted) counted;
       longest_is = next_longest t (next_scan inside ∙ taken);
     }
 
@@ -206,16 +184,16 @@ module _ (m : Notation) (ready : IsReady m) (text : List ℕ) where
         no_longer = λ more within past l reads. (has.longest_is sought).no_longer more (no_longer_than m text i wrong more within l reads) past l reads;
       };
       counted = λ l reads.
-          rw (← lengths, ← has.counted, reads.whole, (literal_arrives m ready.roles l reads.literal).1) (has_lengths m ready.roles l reads.literal);
+          rw (← lengths, ← has.counted, reads.whole, (literal_arrives m ready.roles l reads.literal).1) (has_lengths m l reads.literal.spelled);
     }
 
   -- A text has one reading.
   pub one_reading : (l k : Literal) → Reads m l text → Reads m k text → l ≡ k
   one_reading l k first second =
-      let a = has_lengths m ready.roles l first.literal in
+      let a = has_lengths m l first.literal.spelled in
       let counts = λ (l : Literal) (is : IsLiteral m l). (literal_arrives m ready.roles l is).1 in
       let b : HasLengths k (all_cuts l) =
-      rw (← counts l first.literal, ← first.whole, second.whole, counts k second.literal) (has_lengths m ready.roles k second.literal) in
+      rw (← counts l first.literal, ← first.whole, second.whole, counts k second.literal) (has_lengths m k second.literal.spelled) in
       let sign = same_part l.sign k.sign _ _ (a.sign ∙ sym b.sign) (sym first.whole ∙ second.whole) in
       let prefix = same_part l.prefix k.prefix _ _ (a.prefix ∙ sym b.prefix) sign.1 in
       let integer = same_part l.integer k.integer _ _ (omega (arith, a.integer, b.integer)) prefix.1 in

@@ -6,7 +6,7 @@ use Rattle.lexical_util.specs.declared.format_flags.Part.{Part}
 use Rattle.lexical_util.specs.declared.format_flags.Part.TheVariants as parts
 use Rattle.lexical_literal.specs.Notation.{Notation}
 use Rattle.lexical_literal.specs.Run.{are_fit, is_fit}
-use Rattle.lexical_literal.specs.Literal.{Literal, IsLiteral, is_none_or_one, is_none_or_prefix}
+use Rattle.lexical_literal.specs.Literal.{Literal, IsSpelled, is_none_or_one, is_none_or_prefix}
 use Rattle.lexical_literal.specs.Readings.{AllIn, PartsHaveRoles, run_byte, prefix_byte}
 
 module _ (m : Notation) (part : Part) where
@@ -25,7 +25,7 @@ prefix_bytes m [] is = tt
 prefix_bytes m (z ∷ b ∷ []) is = (grind arith, (grind arith, tt))
 prefix_bytes m _ is = absurd (false≢true is)
 
-pub parts_have_roles : (m : Notation) (l : Literal) → IsLiteral m l → PartsHaveRoles m l
+pub parts_have_roles : (m : Notation) (l : Literal) → IsSpelled m l → PartsHaveRoles m l
 parts_have_roles m l is = record {
   sign = one_bytes _ l.sign is.sign;
   prefix = prefix_bytes m l.prefix is.prefix;

@@ -13,7 +13,7 @@ use Rattle.lexical_literal.proofs.ScanLemmas.{HasRoles, role_in, scan_none, as_r
 
 -- After `None`, nothing is read.
 pub none_after : (m : Notation) (text : List ℕ) (last : Summary) → scan m None text ≡ Some last → ⊥
-none_after m text last is = let none = scan_none m text in cc
+none_after m text last is = let none = scan_none m.condition m text in cc
 
 module _ (m : Notation) (h : HasRoles m) where
   -- `part_after part text` is the part that `text` ends in, behind a front that ends in `part`.
@@ -23,7 +23,7 @@ module _ (m : Notation) (h : HasRoles m) where
 
   over : (t : Summary) (text : List ℕ) (last : Summary) → t.ended ≡ true → scan m (Some t) text ≡ Some last → last.ended ≡ true
   over t [] last ended is = cc
-  over t (b ∷ text) last ended is = absurd (false≢true (sym (took m h t b (λ o. scan m o text ≡ Some last) (none_after m text last) is).going ∙ ended))
+  over t (b ∷ text) last ended is = absurd (false≢true (sym (took m.condition m h t b (λ o. scan m o text ≡ Some last) (none_after m text last) is).going ∙ ended))
 
   moves : (t : Summary) (b : ℕ) (text : List ℕ) (last : Summary) (r : Role) → role_in m t.part b ≡ Some r → takes m t (b == 43) r ≡ true
       → last.ended ≡ false → scan m (Some (after t (b == 48) r)) text ≡ Some last → part_after (after t (b == 48) r).part text ≡ part_after t.part (b ∷ text)
@@ -35,5 +35,5 @@ module _ (m : Notation) (h : HasRoles m) where
   pub ends_in : (t : Summary) (text : List ℕ) (last : Summary) → scan m (Some t) text ≡ Some last → last.ended ≡ false → last.part ≡ part_after t.part text
   ends_in t [] last is going = let same : t.part ≡ last.part = cc in grind arith
   ends_in t (b ∷ text) last is going =
-      let k = took m h t b (λ o. scan m o text ≡ Some last) (none_after m text last) is in
+      let k = took m.condition m h t b (λ o. scan m o text ≡ Some last) (none_after m text last) is in
       ends_in (after t (b == 48) k.role) text last k.rest going ∙ moves t b text last k.role k.plays k.taken going k.rest

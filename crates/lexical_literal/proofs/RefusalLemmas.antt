@@ -9,14 +9,16 @@ use Rattle.lexical_util.specs.declared.format_flags.Part.{Part}
 use Rattle.lexical_util.specs.declared.format_flags.Part.TheVariants as parts
 use Rattle.lexical_literal.specs.Notation.{Notation}
 use Rattle.lexical_literal.specs.Run.{is_place, is_fit, are_fit}
-use Rattle.lexical_literal.specs.Literal.{Literal, IsLiteral, requirement}
+use Rattle.lexical_literal.specs.Literal.{Literal, IsLiteral, IsSpelled, requirement}
 use Rattle.lexical_literal.specs.Front.{IsFront}
-use Rattle.lexical_literal.specs.Cause.{Allows, is_one_of, requirement_flags, number_separator_flags, with_flags}
+use Rattle.lexical_literal.specs.Cause.{Allows, is_one_of, requirement_flags, number_separator_flags, with_rules}
 use Rattle.lexical_literal.specs.Additions.Causes.{class_of_next, IsWeaker, allows}
 use Rattle.lexical_literal.specs.Additions.Summary.{after, scan, byte_class, step, is_accepted, start}
 use Rattle.lexical_literal.specs.declared.steps.Summary.{Summary}
+use Rattle.lexical_literal.specs.declared.syntax.Condition.{Condition}
+use Rattle.lexical_literal.specs.declared.syntax.Condition.TheVariants as conditions
 use Rattle.lexical_literal.proofs.ScanLemmas.{HasRoles, IsReady, scan_append, took}
-use Rattle.lexical_literal.proofs.LiteralLemmas.{literal_from, literal_arrives}
+use Rattle.lexical_literal.proofs.ConditionLemmas.{literal_from, literal_arrives}
 use Rattle.lexical_literal.proofs.FrontLemmas.{front_from, front_is_read}
 use Rattle.lexical_literal.proofs.PartOfLemmas.{none_after}
 
@@ -29,9 +31,9 @@ apart _ = refl
 
 -- FEWER REQUIREMENTS
 
-module _ (m : Notation) (A : Flag → Bool) where
+module _ (m : Notation) (A : Flag → Bool) (D : Condition → Bool) where
   abbrev n : Notation
-  n = with_flags m A
+  n = with_rules m A D
 
   other_roles : HasRoles m → HasRoles n
   other_roles h = record {
@@ -41,7 +43,7 @@ module _ (m : Notation) (A : Flag → Bool) where
     integers = h.integers;
   }
 
-  module _ (weaker : IsWeaker m A) where
+  module _ (weaker : IsWeaker m A D) where
     pub other_ready : IsReady m → IsReady n
     other_ready ready = record {
       roles = other_roles ready.roles;
@@ -49,6 +51,13 @@ module _ (m : Notation) (A : Flag → Bool) where
       point = ready.point;
       has_exponent = ready.has_exponent;
       has_point = ready.has_point;
+      prefix = ready.prefix;
+      suffix = ready.suffix;
+      has_prefix = λ set. ready.has_prefix (weaker.conditions conditions.BasePrefix set);
+      has_suffix = λ set. ready.has_suffix (weaker.conditions conditions.BaseSuffix set);
+      some_sign =
+          let required = weaker.no_more layout.required_mantissa_sign in let positive = weaker.no_more layout.no_positive_mantissa_sign in
+          let some = ready.some_sign in grind arith;
       agree =
           let none = weaker.no_more layout.no_exponent_notation in let needs = weaker.no_more layout.required_exponent_notation in
           let apart = ready.agree in grind arith;
@@ -74,8 +83,8 @@ module _ (m : Notation) (A : Flag → Bool) where
     as_required l layout.required_integer_digits required is = required (weaker.no_more layout.required_integer_digits (and_from _ true is refl))
     as_required l f required is = let more = weaker.no_more f in grind arith
 
-    literal_too : (l : Literal) → IsLiteral m l → IsLiteral n l
-    literal_too l is = record {
+    spelled_too : (l : Literal) → IsSpelled m l → IsSpelled n l
+    spelled_too l is = record {
       sign = is.sign;
       prefix = is.prefix;
       integer = all_fit parts.Integer [] l.integer is.integer;
@@ -91,6 +100,9 @@ module _ (m : Notation) (A : Flag → Bool) where
       requirements = λ f. as_required l f (is.requirements f);
     }
 
+    literal_too : (l : Literal) → IsLiteral m l → IsLiteral n l
+    literal_too l is = record { spelled = spelled_too l is.spelled; conditions = λ c set. is.conditions c (weaker.conditions c set) }
+
     front_too : (text : List ℕ) → IsFront m text → IsFront n text
     front_too text is =
         record { more = is.more; literal = is.literal; reads = record { whole = is.reads.whole; literal = literal_too is.literal is.reads.literal } }
@@ -100,8 +112,8 @@ module _ (m : Notation) (A : Flag → Bool) where
   same_last : HasRoles m → (t : Summary) (text : List ℕ) (s r : Summary) → scan m (Some t) text ≡ Some s → scan n (Some t) text ≡ Some r → s ≡ r
   same_last h t [] s r is_s is_r = cc
   same_last h t (b ∷ text) s r is_s is_r =
-      let one = took m h t b (λ o. scan m o text ≡ Some s) (none_after m text s) is_s in
-      let two = took n (other_roles h) t b (λ o. scan n o text ≡ Some r) (none_after n text r) is_r in
+      let one = took m.condition m h t b (λ o. scan m o text ≡ Some s) (none_after m text s) is_s in
+      let two = took D n (other_roles h) t b (λ o. scan n o text ≡ Some r) (none_after n text r) is_r in
       let same : two.role ≡ one.role = let first = one.plays in let second = two.plays in cc in
       same_last h (after t (b == 48) one.role) text s r one.rest (subst (λ x. scan n (Some (after t (b == 48) x)) text ≡ Some r) same two.rest)
 
@@ -109,7 +121,7 @@ module _ (m : Notation) (A : Flag → Bool) where
   some_of None some = absurd (some refl)
   some_of (Some u) some = (u, refl)
 
-  module _ (ready : IsReady m) (weaker : IsWeaker m A) (front : List ℕ) (s : Summary) (read : scan m (Some start) front ≡ Some s) where
+  module _ (ready : IsReady m) (weaker : IsWeaker m A D) (front : List ℕ) (s : Summary) (read : scan m (Some start) front ≡ Some s) where
     read_too : scan n (Some start) front ≡ Some s
     read_too =
         let front_is = front_too weaker front (front_from m ready front s read) in
@@ -117,7 +129,7 @@ module _ (m : Notation) (A : Flag → Bool) where
         some.1 ∙ ap Some (sym (same_last ready.roles start front s some.0 read some.1))
 
     one_more : (b : ℕ) → scan n (Some start) (front ++ b ∷ []) ≡ step n s (byte_class m b)
-    one_more b = scan_append n (Some start) front (b ∷ []) ∙ ap (λ o. scan n o (b ∷ [])) read_too
+    one_more b = scan_append D n (Some start) front (b ∷ []) ∙ ap (λ o. scan n o (b ∷ [])) read_too
 
     pub decided : (next : Option ℕ) → (allows n s (class_of_next m next) ≡ true) ↔ Allows n front next
     decided None = (

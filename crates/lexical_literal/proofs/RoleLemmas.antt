@@ -1,12 +1,12 @@
 -- In a syntax, no byte plays two roles.
-use Rattle.std.proofs.Common.{ℕ, ◌≡◌, ◌<◌, ◌↔◌, Bool, true, false, nat_lt, ◌&&◌, IsTrue, List, [], ◌∷◌, Option, Some, None, refl, sym, arith}
+use Rattle.std.proofs.Common.{ℕ, ◌≡◌, ◌<◌, ◌↔◌, Bool, true, false, nat_lt, ◌&&◌, ◌==◌, IsTrue, List, [], ◌∷◌, Option, Some, None, refl, sym, arith}
 use Rattle.std.proofs.lemmas.Bool.{lt-ltb, false≢true}
 use Rattle.std.proofs.lemmas.Bool.Decides.{nat_tests}
 use Rattle.std.specs.List.{AllByRecursion}
 use Rattle.lexical_util.specs.Additions.ByteRoles as bytes
 use Rattle.lexical_util.specs.Ascii.{ByteSet, allowed_ascii}
 use Rattle.lexical_util.specs.Layout as layout
-use Rattle.lexical_util.specs.Record.{raw}
+use Rattle.lexical_util.specs.Record.{Record, raw}
 use Rattle.lexical_util.specs.Roles as sets
 use Rattle.lexical_util.specs.Options.{OptionsFit, OptionsHaveOneRole}
 use Rattle.lexical_util.specs.Unfoldable.{cased, Disjoint, Lawful, Holds, byte_value}
@@ -16,7 +16,8 @@ use Rattle.lexical_util.specs.declared.format_flags.Part.TheVariants as parts
 use Rattle.lexical_util.specs.declared.format_flags.Part.{Part}
 use Rattle.lexical_util.proofs.ByteRoleLemmas.{AreApart, apart_from, one_role}
 use Rattle.lexical_literal.specs.Notation.{notation_of, radix_of, set_of_role, point_of, exponent_character_of, lacks_options}
-use Rattle.lexical_literal.specs.Syntax.{IsSyntax, FitIfAny}
+use Rattle.lexical_literal.specs.Syntax.{IsSyntax, FitIfAny, contradiction}
+use Rattle.lexical_literal.specs.declared.syntax.Conditions.{Conditions}
 use Rattle.lexical_literal.specs.declared.syntax.Options.{Options}
 use Rattle.lexical_literal.specs.declared.syntax.Grammar.{Grammar}
 use Rattle.lexical_literal.proofs.ScanLemmas.{IsReady}
@@ -31,25 +32,42 @@ point_byte None = 0
 point_byte (Some options) = options.point
 
 -- A byte that plays a role of a syntax plays it in the format with the options.
-own : (word : ℕ) → Lawful word → (o : Option Options) (role : Role) (byte : ℕ)
-    → IsTrue (set_of_role (notation_of (record { word = word; options = o })) role byte)
+own : (word : ℕ) → Lawful word → (o : Option Options) (conditions : Conditions) (role : Role) (byte : ℕ)
+    → IsTrue (set_of_role (notation_of (record { word = word; options = o; conditions = conditions })) role byte)
     → IsTrue (bytes.role_set (raw word) (exponent_byte o) (point_byte o) role byte)
 unfolding Lawful
-own word lawful o roles.Digit byte is = grind (arith, nat_tests)
-own word lawful None roles.Exponent byte is = absurd (false≢true is)
-own word lawful None roles.Point byte is = absurd (false≢true is)
-own word lawful o _ byte is = is
+own word lawful o conditions roles.Digit byte is = grind (arith, nat_tests)
+own word lawful None conditions roles.Exponent byte is = absurd (false≢true is)
+own word lawful None conditions roles.Point byte is = absurd (false≢true is)
+own word lawful o conditions _ byte is = is
 
 -- A byte that is not 0 plays the role for which it is chosen.
 cased_own : (counts : Bool) (own : ℕ) → IsTrue (allowed_ascii own) → cased counts own own ≡ true
 unfolding cased
 cased_own counts own is = grind (arith, nat_tests)
 
--- The two flags on the exponent agree.
+cased_present : (counts : Bool) (own : ℕ) → (own == 0) ≡ false → cased counts own own ≡ true
+unfolding cased
+cased_present counts own some = grind (arith, nat_tests)
+
+-- What the conditions require is possible.
+module _ (r : Record) (c : Conditions) (none : contradiction r c ≡ None) where
+  has_prefix : c.required_base_prefix ≡ true → (r.byte layout.base_prefix == 0) ≡ false
+  has_prefix set = grind arith
+
+  has_suffix : c.required_base_suffix ≡ true → (r.byte layout.base_suffix == 0) ≡ false
+  has_suffix set = grind arith
+
+-- The two flags on the exponent agree, and the two on the sign of the mantissa.
 exponent_flags_agree : (word : ℕ) → Lawful word
     → ((raw word).flag layout.no_exponent_notation && (raw word).flag layout.required_exponent_notation) ≡ false
 unfolding Lawful Holds
 exponent_flags_agree word lawful = lawful.flags.0
+
+sign_flags_agree : (word : ℕ) → Lawful word
+    → ((raw word).flag layout.no_positive_mantissa_sign && (raw word).flag layout.required_mantissa_sign) ≡ false
+unfolding Lawful Holds
+sign_flags_agree word lawful = lawful.flags.1.0
 
 -- In a lawful format, 0 is a digit of each part.
 zero_is_digit : (word : ℕ) → Lawful word → (part : Part) → nat_lt (byte_value 48) (radix_of (raw word) part) ≡ true
@@ -80,7 +98,7 @@ module _ (law : (A B : ByteSet) → Disjoint A B ↔ ((byte : ℕ) → byte < 25
   ready g is = record {
     roles = record {
       one = λ a b byte in_a in_b. one_role law g.word _ _ (apart_of g.word g.options is.lawful is.fit) byte a b
-          (own g.word is.lawful g.options a byte in_a) (own g.word is.lawful g.options b byte in_b);
+          (own g.word is.lawful g.options g.conditions a byte in_a) (own g.word is.lawful g.options g.conditions b byte in_b);
       zero_is_digit = zero_is_digit g.word is.lawful;
       one_mantissa = λ byte. refl;
       integers = integers g.options;
@@ -89,6 +107,13 @@ module _ (law : (A B : ByteSet) → Disjoint A B ↔ ((byte : ℕ) → byte < 25
     point = point_byte g.options;
     has_exponent = λ has. (chosen g.options is.fit has).0;
     has_point = λ has. (chosen g.options is.fit has).1;
+    prefix = (raw g.word).byte layout.base_prefix;
+    suffix = (raw g.word).byte layout.base_suffix;
+    has_prefix = λ set. cased_present ((raw g.word).flag layout.case_sensitive_base_prefix) ((raw g.word).byte layout.base_prefix)
+        (has_prefix (raw g.word) g.conditions is.conditions set);
+    has_suffix = λ set. cased_present ((raw g.word).flag layout.case_sensitive_base_suffix) ((raw g.word).byte layout.base_suffix)
+        (has_suffix (raw g.word) g.conditions is.conditions set);
+    some_sign = sign_flags_agree g.word is.lawful;
     agree = exponent_flags_agree g.word is.lawful;
   } where
     integers : (o : Option Options) → lacks_options o ≡ true → (byte : ℕ) → (point_of o byte ≡ false) × (exponent_character_of (raw g.word) o byte ≡ false)

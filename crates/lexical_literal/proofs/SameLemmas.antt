@@ -7,8 +7,9 @@ use Rattle.lexical_util.specs.Record.{Record, raw}
 use Rattle.lexical_util.specs.Roles.{cased, used_separator}
 use Rattle.lexical_util.specs.declared.format_flags.Part.{Part}
 use Rattle.lexical_util.specs.declared.format_flags.Part.TheVariants as parts
+use Rattle.lexical_literal.specs.declared.syntax.Conditions.{Conditions}
 use Rattle.lexical_literal.specs.declared.syntax.Options.{Options}
-use Rattle.lexical_literal.specs.Notation.{notation_of, radix_of, point_of, exponent_character_of, lacks_options}
+use Rattle.lexical_literal.specs.Notation.{has, notation_of, radix_of, point_of, exponent_character_of, lacks_options}
 
 module _ (r s : Record) (same : SameFormat r s) where
   same_radix : (part : Part) → radix_of r part ≡ radix_of s part
@@ -22,10 +23,11 @@ module _ (r s : Record) (same : SameFormat r s) where
   same_character options byte = let flag = same.flags layout.case_sensitive_exponent in grind arith
 
 -- Equivalent words have the same notation.
-pub same_notation : (a b : ℕ) (options : Option Options) → SameFormat (raw a) (raw b)
-    → notation_of (record { word = a; options = options }) ≡ notation_of (record { word = b; options = options })
-same_notation a b options same = λ j. record {
+pub same_notation : (a b : ℕ) (options : Option Options) (conditions : Conditions) → SameFormat (raw a) (raw b)
+    → notation_of (record { word = a; options = options; conditions = conditions }) ≡ notation_of (record { word = b; options = options; conditions = conditions })
+same_notation a b options conditions same = λ j. record {
   flag = λ f. same.flags f j;
+  condition = has conditions;
   digit = λ part byte. nat_lt (byte_value byte) (same_radix (raw a) (raw b) same part j);
   separator = λ byte. same_separator (raw a) (raw b) same byte j;
   prefix = λ byte. cased (same.flags layout.case_sensitive_base_prefix j) (same.base_prefix j) byte;

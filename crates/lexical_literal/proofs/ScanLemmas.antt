@@ -8,10 +8,12 @@ use Rattle.lexical_util.specs.declared.feature_format.roles.Role.TheVariants as 
 use Rattle.lexical_util.specs.declared.format_flags.Part.{Part}
 use Rattle.lexical_util.specs.declared.format_flags.Part.TheVariants as parts
 use Rattle.lexical_literal.specs.Notation.{Notation, set_of_role, IsOnlyRole}
-use Rattle.lexical_literal.specs.Additions.Summary.{Cuts, add, byte_class, role_of, in_part, is_plus_class, is_zero, takes, after}
-use Rattle.lexical_literal.specs.Additions.Summary.{move, scan, step, is_accepted, count, tally}
+use Rattle.lexical_literal.specs.Additions.Summary.{Cuts, add, admits, byte_class, role_of, in_part, is_plus_class, is_zero, takes, after}
+use Rattle.lexical_literal.specs.Additions.Summary.{move_by, scan_by, step_by, accepted_by, count, no_condition, tally_by}
 use Rattle.lexical_literal.specs.declared.steps.Piece.{Piece}
 use Rattle.lexical_literal.specs.declared.steps.Summary.{Summary}
+use Rattle.lexical_literal.specs.declared.syntax.Condition.{Condition}
+use Rattle.lexical_literal.specs.declared.syntax.Condition.TheVariants as conditions
 
 -- `HasRoles m` holds if no byte plays two roles, 0 is a digit, the mantissa has one radix, and integers have neither a
 -- decimal point nor an exponent.
@@ -28,14 +30,20 @@ pub record IsReady (m : Notation) : Type 0 where
   pub point : ℕ
   pub has_exponent : m.integers_only ≡ false → m.exponent_character exponent ≡ true
   pub has_point : m.integers_only ≡ false → m.point point ≡ true
+  pub prefix : ℕ
+  pub suffix : ℕ
+  pub has_prefix : m.condition conditions.BasePrefix ≡ true → m.prefix prefix ≡ true
+  pub has_suffix : m.condition conditions.BaseSuffix ≡ true → m.suffix suffix ≡ true
+  pub some_sign : (m.flag layout.no_positive_mantissa_sign && m.flag layout.required_mantissa_sign) ≡ false
   pub agree : (m.flag layout.no_exponent_notation && m.flag layout.required_exponent_notation) ≡ false
 
-abbrev pub Accepts : Notation → Option Summary → List ℕ → Type 0
-Accepts m o text = is_accepted m (scan m o text) ≡ true
+-- `Accepts C m o text` holds if `text` is accepted with the conditions `C`.
+abbrev pub Accepts : (Condition → Bool) → Notation → Option Summary → List ℕ → Type 0
+Accepts C m o text = accepted_by C m (scan_by C m o text) ≡ true
 
--- `Arrives m o c text d` holds if `text` is accepted, and has the parts with the lengths `d`, begun with `c`.
-abbrev pub Arrives : Notation → Option Summary → Cuts → List ℕ → Cuts → Type 0
-Arrives m o c text d = Accepts m o text × (tally m o c text ≡ d)
+-- `Arrives C m o c text d` holds if `text` is accepted, and has the parts with the lengths `d`, begun with `c`.
+abbrev pub Arrives : (Condition → Bool) → Notation → Option Summary → Cuts → List ℕ → Cuts → Type 0
+Arrives C m o c text d = Accepts C m o text × (tally_by C m o c text ≡ d)
 
 -- `add_all c piece bytes` counts `bytes`, which belong to `piece`.
 abbrev pub add_all : Cuts → Piece → List ℕ → Cuts
@@ -46,31 +54,32 @@ add_all c piece (b ∷ bytes) = add_all (add c piece) piece bytes
 abbrev pub role_in : Notation → Part → ℕ → Option Role
 role_in m part b = in_part part (byte_class m b)
 
-module _ (m : Notation) where
-  pub scan_none : (text : List ℕ) → scan m None text ≡ None
+module _ (C : Condition → Bool) (m : Notation) where
+  pub scan_none : (text : List ℕ) → scan_by C m None text ≡ None
   scan_none [] = refl
   scan_none (b ∷ text) = refl
 
-  pub scan_append : (o : Option Summary) (x y : List ℕ) → scan m o (x ++ y) ≡ scan m (scan m o x) y
+  pub scan_append : (o : Option Summary) (x y : List ℕ) → scan_by C m o (x ++ y) ≡ scan_by C m (scan_by C m o x) y
   scan_append o [] y = refl
   scan_append None (b ∷ x) y = sym (scan_none y)
-  scan_append (Some s) (b ∷ x) y = scan_append (step m s (byte_class m b)) x y
+  scan_append (Some s) (b ∷ x) y = scan_append (step_by C m s (byte_class m b)) x y
 
-  pub tally_append : (o : Option Summary) (c : Cuts) (x y : List ℕ) → tally m o c (x ++ y) ≡ tally m (scan m o x) (tally m o c x) y
+  pub tally_append : (o : Option Summary) (c : Cuts) (x y : List ℕ) → tally_by C m o c (x ++ y) ≡ tally_by C m (scan_by C m o x) (tally_by C m o c x) y
   tally_append o c [] y = refl
   tally_append None c (b ∷ x) [] = refl
   tally_append None c (b ∷ x) (a ∷ y) = refl
-  tally_append (Some s) c (b ∷ x) y = tally_append (step m s (byte_class m b)) (count s.part (role_in m s.part b) c) x y
+  tally_append (Some s) c (b ∷ x) y = tally_append (step_by C m s (byte_class m b)) (count s.part (role_in m s.part b) c) x y
 
-  pub none_accepts : (text : List ℕ) → Accepts m None text → ⊥
-  none_accepts text is = false≢true (sym (ap (is_accepted m) (scan_none text)) ∙ is)
+  pub none_accepts : (text : List ℕ) → Accepts C m None text → ⊥
+  none_accepts text is = false≢true (sym (ap (accepted_by C m) (scan_none text)) ∙ is)
 
--- `Took m s b P` holds if `b` is taken after `s`, and `P` holds of what it makes of `s`.
-pub record Took (m : Notation) (s : Summary) (b : ℕ) (P : Option Summary → Type 0) : Type 0 where
+-- `Took C m s b P` holds if `b` is taken after `s` with the conditions `C`, and `P` holds of what it makes of `s`.
+pub record Took (C : Condition → Bool) (m : Notation) (s : Summary) (b : ℕ) (P : Option Summary → Type 0) : Type 0 where
   pub role : Role
   pub plays : role_in m s.part b ≡ Some role
   pub going : s.ended ≡ false
   pub taken : takes m s (b == 43) role ≡ true
+  pub admitted : admits C s (b == 43) (b == 48) role ≡ true
   pub rest : P (Some (after s (b == 48) role))
 
 module _ (m : Notation) (h : HasRoles m) where
@@ -113,23 +122,33 @@ module _ (m : Notation) (h : HasRoles m) where
   pub is_role : (part : Part) (r : Role) (b : ℕ) → (roles.Digit ≡ r → ⊥) → set_of_role m r b ≡ true → role_in m part b ≡ Some r
   is_role part r b other is = let only = (only_role b r).0 is in grind arith
 
+module _ (C : Condition → Bool) (m : Notation) (h : HasRoles m) where
   -- What a byte makes of a summary.
-  pub moved : (s : Summary) (b : ℕ) (o : Option Role) → role_in m s.part b ≡ o → step m s (byte_class m b) ≡ move m s (b == 43) (b == 48) o
-  moved s b o role = λ j. move m s (class_plus b j) (class_zero b j) (role j)
+  pub moved : (s : Summary) (b : ℕ) (o : Option Role) → role_in m s.part b ≡ o → step_by C m s (byte_class m b) ≡ move_by C m s (b == 43) (b == 48) o
+  moved s b o role = λ j. move_by C m s (class_plus m h b j) (class_zero m h b j) (role j)
 
-  pub took : (s : Summary) (b : ℕ) (P : Option Summary → Type 0) → (P None → ⊥) → P (step m s (byte_class m b)) → Took m s b P
+  pub took : (s : Summary) (b : ℕ) (P : Option Summary → Type 0) → (P None → ⊥) → P (step_by C m s (byte_class m b)) → Took C m s b P
   took s b P none is = go (role_in m s.part b) refl (subst P (moved s b _ refl) is) where
-    go : (o : Option Role) → role_in m s.part b ≡ o → P (move m s (b == 43) (b == 48) o) → Took m s b P
+    go : (o : Option Role) → role_in m s.part b ≡ o → P (move_by C m s (b == 43) (b == 48) o) → Took C m s b P
     go None plays is = absurd (none is)
-    go (Some r) plays is = take s.ended (takes m s (b == 43) r) refl refl is where
-      take : (e t : Bool) → s.ended ≡ e → takes m s (b == 43) r ≡ t → P (if not e && t then Some (after s (b == 48) r) else None) → Took m s b P
-      take false true going taken is = record { role = r; plays = plays; going = going; taken = taken; rest = is }
-      take _ _ going taken is = absurd (none is)
+    go (Some r) plays is = take s.ended (takes m s (b == 43) r) (admits C s (b == 43) (b == 48) r) refl refl refl is where
+      take : (e t a : Bool) → s.ended ≡ e → takes m s (b == 43) r ≡ t → admits C s (b == 43) (b == 48) r ≡ a
+          → P (if not e && (t && a) then Some (after s (b == 48) r) else None) → Took C m s b P
+      take false true true going taken admitted is =
+          record { role = r; plays = plays; going = going; taken = taken; admitted = admitted; rest = is }
+      take _ _ _ going taken admitted is = absurd (none is)
 
   pub arrives_byte : (s : Summary) (b : ℕ) (r : Role) (c : Cuts) (text : List ℕ) (d : Cuts) → s.ended ≡ false → role_in m s.part b ≡ Some r
-      → takes m s (b == 43) r ≡ true → Arrives m (Some (after s (b == 48) r)) (count s.part (Some r) c) text d → Arrives m (Some s) c (b ∷ text) d
-  arrives_byte s b r c text d going role taken more =
-      subst (λ r. Arrives m (step m s (byte_class m b)) (count s.part r c) text d) (sym role)
-      (subst (λ o. Arrives m o (count s.part (Some r) c) text d) (sym (moved s b (Some r) role ∙ is)) more) where
-        is : move m s (b == 43) (b == 48) (Some r) ≡ Some (after s (b == 48) r)
-        is = λ j. if not (going j) && taken j then Some (after s (b == 48) r) else None
+      → takes m s (b == 43) r ≡ true → admits C s (b == 43) (b == 48) r ≡ true
+      → Arrives C m (Some (after s (b == 48) r)) (count s.part (Some r) c) text d → Arrives C m (Some s) c (b ∷ text) d
+  arrives_byte s b r c text d going role taken admitted more =
+      subst (λ r. Arrives C m (step_by C m s (byte_class m b)) (count s.part r c) text d) (sym role)
+      (subst (λ o. Arrives C m o (count s.part (Some r) c) text d) (sym (moved s b (Some r) role ∙ is)) more) where
+        is : move_by C m s (b == 43) (b == 48) (Some r) ≡ Some (after s (b == 48) r)
+        is = λ j. if not (going j) && (taken j && admitted j) then Some (after s (b == 48) r) else None
+
+-- Without conditions, what is taken arrives.
+pub free_byte : (m : Notation) → HasRoles m → (s : Summary) (b : ℕ) (r : Role) (c : Cuts) (text : List ℕ) (d : Cuts) → s.ended ≡ false
+    → role_in m s.part b ≡ Some r → takes m s (b == 43) r ≡ true
+    → Arrives no_condition m (Some (after s (b == 48) r)) (count s.part (Some r) c) text d → Arrives no_condition m (Some s) c (b ∷ text) d
+free_byte m h s b r c text d going role taken more = arrives_byte no_condition m h s b r c text d going role taken refl more

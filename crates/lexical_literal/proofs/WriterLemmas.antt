@@ -1,17 +1,19 @@
 -- Which texts of mantissa digits are literals.
-use Rattle.std.proofs.Common.{ℕ, ◌≡◌, ◌≢◌, ◌↔◌, Bool, false, not, ◌==◌, ◌&&◌, ◌||◌, IsFalse, List, [], ◌∷◌, Some, refl, sym, ap, ◌∙◌, arith}
+use Rattle.std.proofs.Common.{ℕ, ◌≡◌, ◌≢◌, ◌↔◌, Bool, true, false, not, ◌==◌, ◌&&◌, ◌||◌, IsFalse, List, [], ◌∷◌, Some, None, refl, sym, ap, ◌∙◌, arith}
+use Rattle.std.proofs.lemmas.Bool.Decides.{nat_tests}
 use Rattle.lexical_util.specs.Layout as layout
 use Rattle.lexical_util.specs.declared.feature_format.roles.Role.TheVariants as roles
 use Rattle.lexical_util.specs.declared.format_flags.Part.TheVariants as parts
 use Rattle.lexical_literal.specs.Notation.{Notation}
 use Rattle.lexical_literal.specs.Literal.{Literal, Reads}
 use Rattle.lexical_literal.specs.Readings.{AllIn}
-use Rattle.lexical_literal.specs.Additions.Summary.{byte_class, needs_exponent, move, step, scan, is_accepted, start}
+use Rattle.lexical_literal.specs.Additions.Summary.{byte_class, needs_exponent, move_by, step, scan, is_accepted, start}
 use Rattle.lexical_literal.specs.declared.steps.Stage.{Stage}
 use Rattle.lexical_literal.specs.declared.steps.Stage.TheVariants as stages
 use Rattle.lexical_literal.proofs.ScanLemmas.{HasRoles, scan_none, moved, digit_role, is_role}
 use Rattle.lexical_literal.proofs.StepLemmas.{reading}
-use Rattle.lexical_literal.proofs.LiteralLemmas.{literal_from, literal_arrives}
+use Rattle.lexical_literal.specs.declared.syntax.Condition.TheVariants as conditions
+use Rattle.lexical_literal.proofs.ConditionLemmas.{literal_from, literal_arrives}
 
 module _ (m : Notation) (h : HasRoles m) where
   -- A text is a literal exactly if it is accepted.
@@ -24,25 +26,40 @@ module _ (m : Notation) (h : HasRoles m) where
 
   -- Digits that follow a digit that is not 0.
   more_digits : (digits : List ℕ) → AllIn (m.digit parts.Integer) digits
-      → is_accepted m (scan m (Some (reading parts.Integer stages.Digits false)) digits) ≡ not (needs_exponent m)
+      → is_accepted m (scan m (Some (reading parts.Integer stages.Digits false)) digits) ≡ not (m.condition conditions.BaseSuffix || needs_exponent m)
   more_digits [] all = grind arith
   more_digits (b ∷ digits) all =
-      ap (λ o. is_accepted m (scan m o digits)) (moved m h (reading parts.Integer stages.Digits false) b (Some roles.Digit)
-      (digit_role m h parts.Integer b all.0)) ∙ more_digits digits all.1
+      let is : move_by m.condition m (reading parts.Integer stages.Digits false) (b == 43) (b == 48) (Some roles.Digit)
+      ≡ Some (reading parts.Integer stages.Digits false) = grind arith in
+      ap (λ o. is_accepted m (scan m o digits)) (moved m.condition m h (reading parts.Integer stages.Digits false) b (Some roles.Digit)
+      (digit_role m h parts.Integer b all.0) ∙ is) ∙ more_digits digits all.1
 
   module _ (first : ℕ) (digits : List ℕ) (not_zero : first ≢ 48) (all : AllIn (m.digit parts.Integer) (first ∷ digits)) where
     -- The first digit, which is not 0.
-    first_digit : (stage : Stage) → let s = reading parts.Integer stage false in step m s (byte_class m first) ≡ move m s (first == 43) false (Some roles.Digit)
-    first_digit stage = grind arith
+    first_digit : (stage : Stage) → let s = reading parts.Integer stage false in step m s (byte_class m first) ≡ move_by m.condition m s (first == 43) false (Some roles.Digit)
+    first_digit stage =
+        let other : (first == 48) ≡ false = grind (arith, nat_tests) in
+        moved m.condition m h (reading parts.Integer stage false) first (Some roles.Digit) (digit_role m h parts.Integer first all.0)
+        ∙ ap (λ zero. move_by m.condition m (reading parts.Integer stage false) (first == 43) zero (Some roles.Digit)) other
 
     pub digits_read : ((l : Literal) × Reads m l (first ∷ digits))
-        ↔ IsFalse (m.flag layout.required_mantissa_sign || (m.flag layout.required_exponent_notation && not m.integers_only))
+        ↔ IsFalse ((m.condition conditions.BasePrefix || m.condition conditions.BaseSuffix)
+        || (m.flag layout.required_mantissa_sign || (m.flag layout.required_exponent_notation && not m.integers_only)))
     digits_read = literal_exactly (first ∷ digits) _ (ap (λ o. is_accepted m (scan m o digits)) (first_digit stages.Start)
-        ∙ (let none = scan_none m digits in let more = more_digits digits all.1 in grind arith))
+        ∙ (let none = scan_none m.condition m digits in let more = more_digits digits all.1 in grind arith))
 
-    pub negative_read : ((l : Literal) × Reads m l (45 ∷ first ∷ digits)) ↔ IsFalse (m.flag layout.required_exponent_notation && not m.integers_only)
-    negative_read =
-        let sign : move m start false false (Some roles.Sign) ≡ Some (reading parts.Integer stages.Empty false) = grind arith in
-        literal_exactly (45 ∷ first ∷ digits) _ (ap (λ o. is_accepted m (scan m o (first ∷ digits)))
-        (moved m h start 45 (Some roles.Sign) (is_role m h parts.Integer roles.Sign 45 (λ e. cc) refl) ∙ sign)
-        ∙ ap (λ o. is_accepted m (scan m o digits)) (first_digit stages.Empty) ∙ more_digits digits all.1)
+    pub negative_read : ((l : Literal) × Reads m l (45 ∷ first ∷ digits)) ↔ IsFalse ((m.condition conditions.BasePrefix || m.condition conditions.BaseSuffix)
+        || (m.condition conditions.NegativeSign || (m.flag layout.required_exponent_notation && not m.integers_only)))
+    negative_read = literal_exactly (45 ∷ first ∷ digits) _ (ap (λ o. is_accepted m (scan m o (first ∷ digits)))
+        (moved m.condition m h start 45 (Some roles.Sign) (is_role m h parts.Integer roles.Sign 45 (λ e. cc) refl)) ∙ go (m.condition conditions.NegativeSign) refl) where
+          go : (minus : Bool) → m.condition conditions.NegativeSign ≡ minus
+              → is_accepted m (scan m (move_by m.condition m start false false (Some roles.Sign)) (first ∷ digits))
+              ≡ not ((m.condition conditions.BasePrefix || m.condition conditions.BaseSuffix)
+              || (m.condition conditions.NegativeSign || (m.flag layout.required_exponent_notation && not m.integers_only)))
+          go true is =
+              let sign : move_by m.condition m start false false (Some roles.Sign) ≡ None = grind arith in
+              ap (λ o. is_accepted m (scan m o (first ∷ digits))) sign ∙ grind arith
+          go false is =
+              let sign : move_by m.condition m start false false (Some roles.Sign) ≡ Some (reading parts.Integer stages.Empty false) = grind arith in
+              ap (λ o. is_accepted m (scan m o (first ∷ digits))) sign ∙ ap (λ o. is_accepted m (scan m o digits)) (first_digit stages.Empty)
+              ∙ (let none = scan_none m.condition m digits in let more = more_digits digits all.1 in grind arith)

@@ -1,5 +1,5 @@
--- Why a text is not a literal: the cause, the flags that are to blame, and the bytes to show.
-use Rattle.std.specs.Prelude.{ℕ, ◌≡◌, ◌+◌, ◌==◌, ◌&&◌, ◌↔◌, ◌⊎◌, ◌||◌, not, Bool, false, if◌then◌else◌, IsTrue, List, [], ◌∷◌, ◌++◌, length, take}
+-- Why a text is not a literal: the cause, the flags and conditions that are to blame, and the bytes to show.
+use Rattle.std.specs.Prelude.{ℕ, ◌≡◌, ◌+◌, ◌==◌, ◌&&◌, ◌↔◌, ◌⊎◌, ◌||◌, not, Bool, true, false, if◌then◌else◌, IsTrue, List, [], ◌∷◌, ◌++◌, length, take}
 use Rattle.std.specs.Prelude.{slice_get, Option, Some, None}
 use Rattle.std.specs.Int.{w128, trailing_zeros}
 use Rattle.std.specs.List.{find, list_any}
@@ -16,7 +16,10 @@ use Rattle.lexical_util.specs.declared.format_flags.Part.{Part}
 use Rattle.lexical_util.specs.declared.format_flags.Part.TheVariants as parts
 use Rattle.lexical_literal.specs.Front.{IsFront, IsValidUpTo, NoLiteral}
 use Rattle.lexical_literal.specs.Literal.{Literal, Reads}
-use Rattle.lexical_literal.specs.Notation.{Notation}
+use Rattle.lexical_literal.specs.Notation.{Notation, has}
+use Rattle.lexical_literal.specs.declared.syntax.Condition.{Condition}
+use Rattle.lexical_literal.specs.declared.syntax.Condition.TheVariants as conditions
+use Rattle.lexical_literal.specs.declared.syntax.Conditions.{Conditions}
 use Rattle.lexical_literal.specs.declared.cause.Marks.{Marks}
 use Rattle.lexical_literal.specs.declared.cause.Place.{Place}
 use Rattle.lexical_literal.specs.declared.cause.Place.TheVariants as places
@@ -25,7 +28,7 @@ use Rattle.lexical_literal.specs.declared.cause.ReadErrorKind.TheVariants as cau
 use Rattle.lexical_literal.specs.declared.cause.Refusal.{Refusal}
 use Rattle.lexical_literal.specs.declared.cause.Spot.{Spot}
 
--- THE SAME NOTATION WITH OTHER FLAGS
+-- THE SAME NOTATION WITH OTHER FLAGS AND CONDITIONS
 
 -- `requirement_flags` lists the flags that require something of the parts of a literal.
 abbrev pub requirement_flags : List Flag
@@ -47,17 +50,28 @@ number_separator_flags =
 abbrev pub is_one_of : List Flag → Flag → Bool
 is_one_of fs f = list_any (λ g. bit g == bit f) fs
 
--- `with_flags m flag` is `m` with the flags for which `flag` is true, and no others.
-abbrev pub with_flags : Notation → (Flag → Bool) → Notation
-with_flags m flag = record m { flag = flag }
+-- `is_same c d` is true if `c` and `d` are the same condition.
+abbrev pub is_same : Condition → Condition → Bool
+is_same conditions.BasePrefix conditions.BasePrefix = true
+is_same conditions.BaseSuffix conditions.BaseSuffix = true
+is_same conditions.NegativeSign conditions.NegativeSign = true
+is_same _ _ = false
 
--- `bare m` is `m` without the flags that require something.
+-- `with_rules m flag condition` is `m` with the flags for which `flag` is true, the conditions for which `condition` is true,
+-- and no others.
+abbrev pub with_rules : Notation → (Flag → Bool) → (Condition → Bool) → Notation
+with_rules m flag condition = record m { flag = flag; condition = condition }
+
+-- `bare m` is `m` without the flags that require something, and without conditions.
 abbrev pub bare : Notation → Notation
-bare m = with_flags m (λ g. m.flag g && not (is_one_of requirement_flags g))
+bare m = with_rules m (λ g. m.flag g && not (is_one_of requirement_flags g)) (λ c. false)
 
--- `adding f m` is `m` with the flag `f`.
+-- `adding f m` is `m` with the flag `f`, and `requiring c m` is `m` with the condition `c`.
 abbrev pub adding : Flag → Notation → Notation
-adding f m = with_flags m (λ g. (bit g == bit f) || m.flag g)
+adding f m = with_rules m (λ g. (bit g == bit f) || m.flag g) m.condition
+
+abbrev pub requiring : Condition → Notation → Notation
+requiring c m = with_rules m m.flag (λ d. is_same c d || m.condition d)
 
 -- THE CAUSE
 
@@ -88,17 +102,26 @@ module _ (m : Notation) (front : List ℕ) (next : Option ℕ) where
   abbrev pub RefusesAlone : Flag → Type 0
   RefusesAlone f = IsTrue (binds m f) × (Allows (adding f (bare m)) front next → ⊥)
 
-  -- `RefusesJointly f` holds if no flag refuses `next` alone, and if `f` is on leading zeros and requires something.
+  -- `IsUnmet c` holds if `next` is allowed without requirements, and `c` is a condition that refuses it, even if it is the
+  -- only requirement.
+  pub record IsUnmet (c : Condition) : Type 0 where
+    pub set : IsTrue (m.condition c)
+    pub allowed : Allows (bare m) front next
+    pub refused : Allows (requiring c (bare m)) front next → ⊥
+
+  -- `RefusesJointly f` holds if no flag and no condition refuses `next` alone, and if `f` is on leading zeros and requires
+  -- something.
   pub record RefusesJointly (f : Flag) : Type 0 where
     pub none_alone : (g : Flag) → RefusesAlone g → ⊥
+    pub none_unmet : (c : Condition) → IsUnmet c → ⊥
     pub zeros : IsTrue (binds m f && is_one_of leading_zero_flags f)
 
   -- `IsRequirement blamed` holds if `next` is refused, and allowed without requirements, and if the flags that are `blamed`
-  -- are those that refuse it alone, or else those on leading zeros.
+  -- are those that refuse it alone, or else those on leading zeros. If none is, a condition refuses it.
   pub record IsRequirement (blamed : Flag → Bool) : Type 0 where
     pub refused : Allows m front next → ⊥
     pub allowed : Allows (bare m) front next
-    pub some : SomeFlag blamed
+    pub some : SomeFlag blamed ⊎ ((c : Condition) × IsUnmet c)
     pub each : (f : Flag) → IsTrue (blamed f) ↔ (RefusesAlone f ⊎ RefusesJointly f)
 
 -- `is_at place part f` is true if the flag `f` allows a digit separator in `part` at `place`.
@@ -216,13 +239,27 @@ requirement_span layout.no_positive_exponent_sign m k next = (k.size, k.size + 1
 requirement_span layout.no_exponent_without_fraction m k next = (k.size, k.size + 1)
 requirement_span _ m k next = (k.size, k.size)
 
--- `span_of m k next cause f` has the first index and the end of the bytes to show for `cause` and its lowest flag `f`.
-abbrev pub span_of : Notation → Marks → Option ℕ → ReadErrorKind → Flag → ℕ × ℕ
-span_of m k next causes.Requirement f = requirement_span f m k next
-span_of m k next (causes.Separator part places.Consecutive) f = (k.size, k.size + 1)
-span_of m k next (causes.Separator part place) f = (k.run, if is_in m.separator next then k.size + 1 else k.size)
-span_of m k next (causes.Missing part) f = (k.size, k.size)
-span_of m k next _ f = (k.size, k.size + 1)
+-- `condition_span c k` has the first index and the end of the bytes to show for the condition `c`: none, where the prefix
+-- belongs or at the end, or the sign.
+abbrev pub condition_span : Condition → Marks → ℕ × ℕ
+condition_span conditions.BasePrefix k = (k.first, k.first)
+condition_span conditions.BaseSuffix k = (k.size, k.size)
+condition_span conditions.NegativeSign k = (k.size, k.size + 1)
+
+-- `first_unmet mask unmet` is the first of the conditions `unmet` if no flag of `mask` is to blame, and `None` otherwise.
+abbrev pub first_unmet : ℕ → Conditions → Option Condition
+first_unmet mask unmet =
+    if mask == 0 then find (has unmet) (conditions.BasePrefix ∷ conditions.BaseSuffix ∷ conditions.NegativeSign ∷ []) else None
+
+-- `span_of m k next cause f c` has the first index and the end of the bytes to show for `cause` and its lowest flag `f`, or
+-- its first condition `c` if no flag is to blame.
+abbrev pub span_of : Notation → Marks → Option ℕ → ReadErrorKind → Flag → Option Condition → ℕ × ℕ
+span_of m k next causes.Requirement f None = requirement_span f m k next
+span_of m k next causes.Requirement f (Some c) = condition_span c k
+span_of m k next (causes.Separator part places.Consecutive) f c = (k.size, k.size + 1)
+span_of m k next (causes.Separator part place) f c = (k.run, if is_in m.separator next then k.size + 1 else k.size)
+span_of m k next (causes.Missing part) f c = (k.size, k.size)
+span_of m k next _ f c = (k.size, k.size + 1)
 
 -- `sign_error f m start` is the error for the flag `f` if it is on signs, and otherwise that for leading zeros.
 abbrev pub sign_error : Flag → Notation → ℕ → Error
@@ -244,11 +281,13 @@ requirement_error layout.no_exponent_without_fraction m start size = errors.Expo
 requirement_error layout.required_exponent_notation m start size = errors.MissingExponent start
 requirement_error f m start size = sign_error f m start
 
--- `error_of m k cause f start` is the error for `cause` and its lowest flag `f`, where the bytes to show begin at `start`.
-abbrev pub error_of : Notation → Marks → ReadErrorKind → Flag → ℕ → Error
-error_of m k causes.Requirement f start = requirement_error f m start k.size
-error_of m k (causes.Missing parts.Integer) f start = if k.run == k.size then errors.Empty start else errors.InvalidDigit start
-error_of m k _ f start = errors.InvalidDigit start
+-- `error_of m k cause f c start` is the error for `cause` and its lowest flag `f`, or its first condition `c` if no flag is to
+-- blame, where the bytes to show begin at `start`.
+abbrev pub error_of : Notation → Marks → ReadErrorKind → Flag → Option Condition → ℕ → Error
+error_of m k causes.Requirement f None start = requirement_error f m start k.size
+error_of m k causes.Requirement f (Some conditions.NegativeSign) start = errors.InvalidNegativeSign start
+error_of m k (causes.Missing parts.Integer) f c start = if k.run == k.size then errors.Empty start else errors.InvalidDigit start
+error_of m k _ f c start = errors.InvalidDigit start
 
 -- `Explained` is an error as contracts see it: its answers, and where reading stopped, of which they are made.
 pub record Explained : Type 0 where
@@ -261,11 +300,13 @@ pub record IsRefusal (m : Notation) (text : List ℕ) (error : Refusal) : Type 0
   pub valid_up_to : IsValidUpTo m text error.valid_up_to
   pub byte : error.byte ≡ slice_get text error.valid_up_to
   pub cause : IsCause m (take error.valid_up_to text) (slice_get text error.valid_up_to) error.kind (raw error.mask).flag
+  pub conditions : (c : Condition) → IsTrue (has error.conditions c) ↔ IsUnmet m (take error.valid_up_to text) (slice_get text error.valid_up_to) c
   -- No bit of the mask is set but those of flags.
   pub mask : error.mask ≡ bits_of error.mask layout.flags
   pub span : (error.start, error.end)
-      ≡ span_of m (marks_of m (take error.valid_up_to text)) error.byte error.kind (lowest error.mask)
-  pub code : error.code ≡ error_of m (marks_of m (take error.valid_up_to text)) error.kind (lowest error.mask) error.start
+      ≡ span_of m (marks_of m (take error.valid_up_to text)) error.byte error.kind (lowest error.mask) (first_unmet error.mask error.conditions)
+  pub code : error.code
+      ≡ error_of m (marks_of m (take error.valid_up_to text)) error.kind (lowest error.mask) (first_unmet error.mask error.conditions) error.start
 
 -- `SameBlame c d a b` holds if the causes `c` and `d` are the same, and `a` and `b` are true of the same flags.
 pub record SameBlame (c d : ReadErrorKind) (a b : Flag → Bool) : Type 0 where

@@ -7,4 +7,6 @@ pub mod Readings
 pub mod Syntax
 pub mod Specials
 pub mod Cause
+pub mod Forms
+pub mod Groups
 pub mod Additions

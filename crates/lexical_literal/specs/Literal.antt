@@ -1,4 +1,4 @@
--- Literals: the parts of a number, how each part is spelled, and what each flag requires of the parts.
+-- Literals: the parts of a number, how each part is spelled, and what each flag and each condition requires of the parts.
 use Rattle.std.specs.Prelude.{ℕ, ◌≡◌, Bool, true, false, not, ◌==◌, ◌&&◌, ◌||◌, if◌then◌else◌, IsTrue, List, [], ◌∷◌, ◌++◌}
 use Rattle.std.specs.List.{list_any}
 use Rattle.lexical_util.specs.Ascii.{ByteSet}
@@ -7,6 +7,8 @@ use Rattle.lexical_util.specs.Layout.{Flag}
 use Rattle.lexical_util.specs.Roles.{signs}
 use Rattle.lexical_util.specs.declared.format_flags.Part.TheVariants as parts
 use Rattle.lexical_literal.specs.Notation.{Notation}
+use Rattle.lexical_literal.specs.declared.syntax.Condition.{Condition}
+use Rattle.lexical_literal.specs.declared.syntax.Condition.TheVariants as conditions
 use Rattle.lexical_literal.specs.Run.{is_run}
 
 -- `Literal` has the bytes of each part of a number, in the order of the text. An absent part has no bytes.
@@ -85,9 +87,15 @@ requirement layout.no_float_leading_zeros m l = not (is_float l) || not (is_zero
 requirement layout.required_exponent_notation m l = m.integers_only || is_present l.exponent_character
 requirement _ m l = true
 
--- `IsLiteral m l` holds if each part of `l` is spelled as the notation `m` allows, if the parts go together, and if they
+-- `condition c l` is true if the parts of `l` are as the condition `c` requires.
+abbrev pub condition : Condition → Literal → Bool
+condition conditions.BasePrefix l = is_present l.prefix
+condition conditions.BaseSuffix l = is_present l.suffix
+condition conditions.NegativeSign l = is_absent l.sign || is_plus l.sign
+
+-- `IsSpelled m l` holds if each part of `l` is spelled as the notation `m` allows, if the parts go together, and if they
 -- are as each flag that is set requires.
-pub record IsLiteral (m : Notation) (l : Literal) : Type 0 where
+pub record IsSpelled (m : Notation) (l : Literal) : Type 0 where
   pub sign : IsTrue (is_none_or_one signs l.sign)
   pub prefix : IsTrue (is_none_or_prefix m.prefix l.prefix)
   pub integer : IsTrue (is_run m parts.Integer l.integer)
@@ -101,6 +109,11 @@ pub record IsLiteral (m : Notation) (l : Literal) : Type 0 where
   pub after_character : IsTrue (is_absent l.exponent_character) → (l.exponent_sign ≡ []) × (l.exponent ≡ [])
   pub some_number : IsTrue (is_present l.integer || is_float l)
   pub requirements : (f : Flag) → IsTrue (m.flag f) → IsTrue (requirement f m l)
+
+-- `IsLiteral m l` holds if `l` is spelled as the notation `m` allows, and its parts are as each condition of `m` requires.
+pub record IsLiteral (m : Notation) (l : Literal) : Type 0 where
+  pub spelled : IsSpelled m l
+  pub conditions : (c : Condition) → IsTrue (m.condition c) → IsTrue (condition c l)
 
 -- `Reads m l text` holds if `text` is a literal with the parts of `l`.
 pub record Reads (m : Notation) (l : Literal) (text : List ℕ) : Type 0 where

@@ -1,4 +1,4 @@
--- How numbers are written: the bytes that play each role, and the flags.
+-- How numbers are written: the bytes that play each role, the flags, and the conditions.
 use Rattle.std.specs.Prelude.{ℕ, ◌≡◌, ◌↔◌, ◌||◌, Bool, true, false, IsTrue, nat_lt, Option, Some, None}
 use Rattle.lexical_util.specs.Ascii.{ByteSet}
 use Rattle.lexical_util.specs.Digits.{byte_value}
@@ -10,13 +10,17 @@ use Rattle.lexical_util.specs.declared.feature_format.roles.Role.{Role}
 use Rattle.lexical_util.specs.declared.feature_format.roles.Role.TheVariants as roles
 use Rattle.lexical_util.specs.declared.format_flags.Part.{Part}
 use Rattle.lexical_util.specs.declared.format_flags.Part.TheVariants as parts
+use Rattle.lexical_literal.specs.declared.syntax.Condition.{Condition}
+use Rattle.lexical_literal.specs.declared.syntax.Condition.TheVariants as conditions
+use Rattle.lexical_literal.specs.declared.syntax.Conditions.{Conditions}
 use Rattle.lexical_literal.specs.declared.syntax.Options.{Options}
 use Rattle.lexical_literal.specs.declared.syntax.Grammar.{Grammar}
 
--- `Notation` has the flags, the digits of each part, and the bytes that play each other role. If `integers_only` is
--- true, every literal is an integer.
+-- `Notation` has the flags, the conditions, the digits of each part, and the bytes that play each other role. If
+-- `integers_only` is true, every literal is an integer.
 pub record Notation : Type 0 where
   pub flag : Flag → Bool
+  pub condition : Condition → Bool
   pub digit : Part → ByteSet
   pub separator : ByteSet
   pub prefix : ByteSet
@@ -46,10 +50,21 @@ abbrev pub lacks_options : Option Options → Bool
 lacks_options None = true
 lacks_options (Some options) = false
 
--- `notation_of g` is the notation of the format and the options of `g`.
+-- `has c condition` is true if `condition` is one of the conditions `c`.
+abbrev pub has : Conditions → Condition → Bool
+has c conditions.BasePrefix = c.required_base_prefix
+has c conditions.BaseSuffix = c.required_base_suffix
+has c conditions.NegativeSign = c.no_negative_mantissa_sign
+
+-- `no_conditions` has no condition.
+abbrev pub no_conditions : Conditions
+no_conditions = record { required_base_prefix = false; required_base_suffix = false; no_negative_mantissa_sign = false }
+
+-- `notation_of g` is the notation of the format, the options and the conditions of `g`.
 abbrev pub notation_of : Grammar → Notation
 notation_of g = record {
   flag = (raw g.word).flag;
+  condition = has g.conditions;
   digit = λ part byte. nat_lt (byte_value byte) (radix_of (raw g.word) part);
   separator = sets.used_separator (raw g.word);
   prefix = sets.prefix (raw g.word);

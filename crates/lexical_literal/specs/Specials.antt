@@ -6,6 +6,7 @@ use Rattle.lexical_util.specs.Ascii.{ByteSet}
 use Rattle.lexical_util.specs.Layout as layout
 use Rattle.lexical_literal.specs.Literal.{is_absent, is_present}
 use Rattle.lexical_literal.specs.Notation.{Notation}
+use Rattle.lexical_literal.specs.declared.syntax.Condition.TheVariants as conditions
 use Rattle.lexical_literal.specs.declared.specials.Sign.{Sign}
 use Rattle.lexical_literal.specs.declared.specials.Sign.TheVariants as signs
 use Rattle.lexical_literal.specs.declared.specials.Special.{Special}
@@ -23,11 +24,11 @@ abbrev pub behind_sign : List ℕ → List ℕ
 behind_sign [] = []
 behind_sign (byte ∷ rest) = if (byte == 43) || (byte == 45) then rest else byte ∷ rest
 
--- `allows m sign` is true if the format allows special values, and allows them to have `sign`, or no sign if it is `None`.
+-- `allows m sign` is true if the notation allows special values, and allows them to have `sign`, or no sign if it is `None`.
 abbrev pub allows : Notation → Option Sign → Bool
 allows m None = not (m.flag layout.no_special) && not (m.flag layout.required_mantissa_sign)
 allows m (Some signs.Plus) = not (m.flag layout.no_special) && not (m.flag layout.no_positive_mantissa_sign)
-allows m (Some signs.Minus) = not (m.flag layout.no_special)
+allows m (Some signs.Minus) = not (m.flag layout.no_special) && not (m.condition conditions.NegativeSign)
 
 -- `special_separator m` is the digit separator if special values may have it, and the empty set otherwise.
 abbrev pub special_separator : Notation → ByteSet

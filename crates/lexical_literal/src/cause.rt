@@ -5,18 +5,19 @@ ghost use Rattle.lexical_util.specs.Layout.{Flag, bit, part, separators_in};
 ghost use Rattle.lexical_util.specs.Record.{raw};
 ghost use Rattle.lexical_util.specs.Roles.{other_case};
 ghost use Rattle.lexical_literal.specs.Additions.Causes.{allows, class_of_next, is_role, place_of, role_of_next};
-ghost use Rattle.lexical_literal.specs.Additions.Explained.{blame, cases, mask_of, requirements, separators, wrong};
+ghost use Rattle.lexical_literal.specs.Additions.Explained.{blame, cases, conditions_of, mask_of, requirements, separators, unmet, wrong};
 ghost use Rattle.lexical_literal.specs.Additions.Summary.{byte_class};
 ghost use Rattle.lexical_literal.specs.Additions.Tables.{summary_at};
-ghost use Rattle.lexical_literal.specs.Cause.{SomeFlag, adding, bare, binds, case_set, is_one_of, requirement_flags, with_flags};
-ghost use Rattle.lexical_literal.specs.Notation.{notation_of};
+ghost use Rattle.lexical_literal.specs.Cause.{SomeFlag, adding, bare, binds, case_set, first_unmet, is_one_of, is_same, requirement_flags};
+ghost use Rattle.lexical_literal.specs.Cause.{requiring, with_rules};
+ghost use Rattle.lexical_literal.specs.Notation.{has, notation_of};
 ghost use Rattle.lexical_literal.specs.declared.tables.TheConstants.{ROWS};
 
 use crate::span::{error, span};
 use crate::steps::{
     self, Class, Summary, byte_class, has_digit, in_part, is_exponent_character, needs_exponent,
 };
-use crate::syntax::Grammar;
+use crate::syntax::{Condition, Conditions, Grammar};
 use crate::tables::summary_at;
 use lexical_util::error::Error;
 use lexical_util::format as masks;
@@ -34,11 +35,11 @@ pub enum Place {
     Consecutive,
 }
 
-/// The kind of a [`ReadError`]: the cause, without the flags that are to blame. Another cause may follow when this one is
+/// The kind of a [`ReadError`]: the cause, without the flags and conditions that are to blame. Another cause may follow when this one is
 /// mended.
 #[derive(Debug, Clone, Copy, PartialEq, Eq, Hash)]
 pub enum ReadErrorKind {
-    /// Flags are set whose requirements the text does not satisfy.
+    /// Flags are set, or the syntax has conditions, whose requirements the text does not satisfy.
     Requirement,
     /// A digit separator is not allowed in this part at this place.
     Separator(Part, Place),
@@ -78,6 +79,7 @@ pub struct Refusal {
     pub(crate) byte: Option<u8>,
     pub(crate) kind: ReadErrorKind,
     pub(crate) mask: u128,
+    pub(crate) conditions: Conditions,
     pub(crate) start: usize,
     pub(crate) end: usize,
     pub(crate) code: Error,
@@ -137,12 +139,21 @@ impl ReadError {
         self.explain().kind
     }
 
-    /// Returns the mask of the flags in a format word that are to blame. It is 0 for a wrong byte and for missing digits.
+    /// Returns the mask of the flags in a format word that are to blame. It is 0 for a wrong byte, for missing digits, and
+    /// where conditions alone are to blame.
     #[must_use]
     pub const fn mask(&self) -> u128
         ensures { result ≡ self.now.refusal.mask }
     {
         self.explain().mask
+    }
+
+    /// Returns the conditions of the syntax that are to blame for a requirement: those that refuse the text alone.
+    #[must_use]
+    pub const fn conditions(&self) -> Conditions
+        ensures { result ≡ self.now.refusal.conditions }
+    {
+        self.explain().conditions
     }
 
     /// Returns the first index and the end of the bytes to show. They may be none.
@@ -173,16 +184,19 @@ impl ReadError {
             ..
         } = self.spot;
         let Blame { kind, mask } = self.spot.blame();
+        let conditions = self.spot.stop().unmet();
         let number = mask.trailing_zeros();
-        let (start, end) = span(grammar, marks, byte, kind, number);
+        let unmet = first_unmet(mask, conditions);
+        let (start, end) = span(grammar, marks, byte, kind, number, unmet);
         Refusal {
             valid_up_to: marks.size,
             byte,
             kind,
             mask,
+            conditions,
             start,
             end,
-            code: error(grammar, marks, kind, number, start),
+            code: error(grammar, marks, kind, number, unmet, start),
         }
     }
 }
@@ -194,17 +208,54 @@ impl Spot {
         ensures kind { result.kind ≡ (blame (notation_of self.grammar) (summary_at self.row) self.byte).kind }
         ensures mask { result.mask ≡ mask_of (blame (notation_of self.grammar) (summary_at self.row) self.byte).flags }
     {
-        let stop = Stop {
-            grammar: self.grammar,
-            read: summary_at(self.row),
-            next: class_of_next(self.grammar, self.byte),
-        };
-        let Blame { kind, mask } = stop.blame(self.byte);
+        let Blame { kind, mask } = self.stop().blame(self.byte);
         // No bit of the mask is set but those of flags.
         Blame {
             kind,
             mask: mask & masks::FLAG_MASK,
         }
+    }
+
+    // Returns what has been read, and what cannot follow.
+    const fn stop(self) -> Stop
+        requires { self.row < ROWS }
+        ensures grammar { result.grammar ≡ self.grammar }
+        ensures read { result.read ≡ summary_at self.row }
+        ensures next { result.next ≡ class_of_next (notation_of self.grammar) self.byte }
+    {
+        Stop {
+            grammar: self.grammar,
+            read: summary_at(self.row),
+            next: class_of_next(self.grammar, self.byte),
+        }
+    }
+}
+
+// Returns the first of the conditions `unmet` if no flag of `mask` is to blame.
+pub(crate) const fn first_unmet(mask: u128, unmet: Conditions) -> Option<Condition>
+    ensures { result ≡ first_unmet mask unmet }
+{
+    if mask != 0 {
+        None
+    } else if unmet.required_base_prefix {
+        Some(Condition::BasePrefix)
+    } else if unmet.required_base_suffix {
+        Some(Condition::BaseSuffix)
+    } else if unmet.no_negative_mantissa_sign {
+        Some(Condition::NegativeSign)
+    } else {
+        None
+    }
+}
+
+// Returns one condition, and no others.
+const fn alone(condition: Condition) -> Conditions
+    ensures { (d : Condition) → has result d ≡ is_same condition d }
+{
+    Conditions {
+        required_base_prefix: matches!(condition, Condition::BasePrefix),
+        required_base_suffix: matches!(condition, Condition::BaseSuffix),
+        no_negative_mantissa_sign: matches!(condition, Condition::NegativeSign),
     }
 }
 
@@ -252,13 +303,21 @@ struct Stop {
 }
 
 impl Stop {
-    // Returns whether the text could go on if the flags of the format were `mask`.
+    // Returns whether the text could go on if the flags of the format were `mask`, without conditions.
     const fn allows(self, mask: u128) -> bool
-        ensures { result ≡ allows (with_flags (notation_of self.grammar) (raw mask).flag) self.read self.next }
+        ensures { result ≡ allows (with_rules (notation_of self.grammar) (raw mask).flag (λ c. false)) self.read self.next }
+    {
+        self.allows_with(mask, Conditions::NONE)
+    }
+
+    // Returns whether the text could go on if the flags of the format were `mask`, with other conditions.
+    const fn allows_with(self, mask: u128, conditions: Conditions) -> bool
+        ensures { result ≡ allows (with_rules (notation_of self.grammar) (raw mask).flag (has conditions)) self.read self.next }
     {
         let other = Grammar {
             word: mask,
             options: self.grammar.options,
+            conditions,
         };
         match self.next {
             None => steps::is_complete(other, self.read),
@@ -314,7 +373,40 @@ impl Stop {
     {
         let binding = self.binding();
         let alone = self.refusing() & binding;
-        if alone != 0 { alone } else { binding & ZEROS }
+        if alone != 0 {
+            return alone;
+        }
+        if self.unmet().is_none() {
+            binding & ZEROS
+        } else {
+            0
+        }
+    }
+
+    // Returns the conditions to blame for a requirement: those that refuse alone.
+    const fn unmet(self) -> Conditions
+        ensures { result ≡ conditions_of (unmet (notation_of self.grammar) self.read self.next) }
+    {
+        let set = self.grammar.conditions;
+        if set.is_none() {
+            return Conditions::NONE;
+        }
+        if !self.allows(self.bare()) {
+            return Conditions::NONE;
+        }
+        Conditions {
+            required_base_prefix: self.is_unmet(Condition::BasePrefix),
+            required_base_suffix: self.is_unmet(Condition::BaseSuffix),
+            no_negative_mantissa_sign: self.is_unmet(Condition::NegativeSign),
+        }
+    }
+
+    // Returns whether the syntax has a condition, and it alone refuses what cannot follow.
+    const fn is_unmet(self, condition: Condition) -> bool
+        ensures { result ≡ ((notation_of self.grammar).condition condition
+            && not (allows (requiring condition (bare (notation_of self.grammar))) self.read self.next)) }
+    {
+        self.grammar.conditions.has(condition) && !self.allows_with(self.bare(), alone(condition))
     }
 
     // Returns whether what cannot follow is a separator, or is behind one.

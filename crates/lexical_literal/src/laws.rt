@@ -6,12 +6,14 @@ ghost use Rattle.lexical_util.specs.Layout.{Flag};
 ghost use Rattle.lexical_util.specs.NormalForm.{normal_form_of};
 ghost use Rattle.lexical_util.specs.declared.format_flags.Part.{Part};
 ghost use Rattle.lexical_literal.specs.Cause.{IsCause, IsRefusal, SameBlame};
-ghost use Rattle.lexical_literal.specs.Literal.{Literal, Reads, requirement};
-ghost use Rattle.lexical_literal.specs.Notation.{Notation, notation_of};
+ghost use Rattle.lexical_literal.specs.Literal.{Literal, Reads, condition, requirement};
+ghost use Rattle.lexical_literal.specs.Notation.{Notation, has, notation_of};
 ghost use Rattle.lexical_literal.specs.Readings.{AllIn, PartsHaveRoles};
 ghost use Rattle.lexical_literal.specs.Syntax.{IsSyntax};
 ghost use Rattle.lexical_literal.specs.declared.cause.ReadErrorKind.{ReadErrorKind};
 ghost use Rattle.lexical_literal.specs.declared.cause.Refusal.{Refusal};
+ghost use Rattle.lexical_literal.specs.declared.syntax.Condition.{Condition};
+ghost use Rattle.lexical_literal.specs.declared.syntax.Conditions.{Conditions};
 ghost use Rattle.lexical_literal.specs.declared.syntax.Grammar.{Grammar};
 ghost use Rattle.lexical_literal.specs.declared.syntax.Options.{Options};
 
@@ -29,8 +31,8 @@ pub fn literal_facts()
 
     // Equivalent words have the same literals. The words and the options may be any.
     ensures same_literals { (a b : ℕ) → normal_form_of a ≡ normal_form_of b → (options : Option Options)
-        → (l : Literal) → (text : List ℕ) → Reads (notation_of (record { word = a; options = options })) l text
-        → Reads (notation_of (record { word = b; options = options })) l text }
+        → (conditions : Conditions) → (l : Literal) → (text : List ℕ) → Reads (notation_of (record { word = a; options = options; conditions = conditions })) l text
+        → Reads (notation_of (record { word = b; options = options; conditions = conditions })) l text }
 
     // Each byte of a literal has the role of its part, or is the zero of a prefix. Digits are those of the radix of
     // their own part.
@@ -48,18 +50,27 @@ pub fn literal_facts()
     ensures requirements { (g : Grammar) → (l : Literal) → (text : List ℕ) → Reads (notation_of g) l text
         → (f : Flag) → IsTrue ((notation_of g).flag f) → IsTrue (requirement f (notation_of g) l) }
 
-    // Mantissa digits that do not begin with 0 are a literal if and only if no flag requires a sign or an exponent.
+    // The parts of a literal are as each condition requires.
+    ensures conditions { (g : Grammar) → (l : Literal) → (text : List ℕ) → Reads (notation_of g) l text
+        → (c : Condition) → IsTrue (has g.conditions c) → IsTrue (condition c l) }
+
+    // Mantissa digits that do not begin with 0 are a literal if and only if no flag requires a sign or an exponent, and no
+    // condition a prefix or a suffix.
     ensures digits { (g : Grammar) → IsSyntax g → (first : ℕ) → (digits : List ℕ) → first ≢ 48
         → AllIn ((notation_of g).digit Part.Integer) (first ∷ digits)
         → ((l : Literal) × Reads (notation_of g) l (first ∷ digits))
-        ↔ IsFalse ((notation_of g).flag layout.required_mantissa_sign
-        || ((notation_of g).flag layout.required_exponent_notation && not (notation_of g).integers_only)) }
+        ↔ IsFalse ((g.conditions.required_base_prefix || g.conditions.required_base_suffix)
+        || ((notation_of g).flag layout.required_mantissa_sign
+        || ((notation_of g).flag layout.required_exponent_notation && not (notation_of g).integers_only))) }
 
-    // After a minus sign, they are a literal if and only if no flag requires an exponent.
+    // After a minus sign, they are a literal if and only if no flag requires an exponent, and no condition refuses the sign
+    // or requires a prefix or a suffix.
     ensures negative { (g : Grammar) → IsSyntax g → (first : ℕ) → (digits : List ℕ) → first ≢ 48
         → AllIn ((notation_of g).digit Part.Integer) (first ∷ digits)
         → ((l : Literal) × Reads (notation_of g) l (45 ∷ first ∷ digits))
-        ↔ IsFalse ((notation_of g).flag layout.required_exponent_notation && not (notation_of g).integers_only) }
+        ↔ IsFalse ((g.conditions.required_base_prefix || g.conditions.required_base_suffix)
+        || (g.conditions.no_negative_mantissa_sign
+        || ((notation_of g).flag layout.required_exponent_notation && not (notation_of g).integers_only))) }
 {
     role_facts();
     normal_form_facts();

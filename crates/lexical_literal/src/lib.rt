@@ -6,7 +6,9 @@
 #![tactic(auto)]
 
 pub mod cause;
+mod groups;
 pub mod laws;
+pub mod list;
 pub mod number;
 pub mod read;
 mod span;

@@ -1,9 +1,11 @@
 //! Calls that read literals.
 
+ghost use Rattle.lexical_literal.specs.Forms.{IsFrontByForms, IsReadByForms};
 ghost use Rattle.lexical_literal.specs.Notation.{notation_of};
 ghost use Rattle.lexical_literal.specs.Parts.{IsRead, IsReadPrefix};
 
 use crate::cause::ReadError;
+use crate::list::{FormError, ReaderList};
 use crate::read::{Found, Parts, Reader, cut, front_of};
 
 /// A leading piece of a text that is a literal.
@@ -26,7 +28,7 @@ impl Reader {
     {
         match self.find(text) {
             Ok(counts) => Ok(cut(text, counts)),
-            Err(scanned) => Err(self.refuse(text, scanned)),
+            Err(error) => Err(error),
         }
     }
 
@@ -45,7 +47,67 @@ impl Reader {
                 let parts = cut(front_of(text, size), counts);
                 Ok(Front { parts, size })
             }
-            Err(scanned) => Err(self.refuse(text, scanned)),
+            Err(error) => Err(error),
+        }
+    }
+}
+
+/// A literal of one of several forms.
+#[derive(Debug, Clone, Copy, PartialEq, Eq, Hash)]
+pub struct FormParts<'a> {
+    /// The index of the form.
+    pub form: usize,
+    /// The parts of the literal.
+    pub parts: Parts<'a>,
+}
+
+/// A leading piece of a text that is a literal of one of several forms.
+#[derive(Debug, Clone, Copy, PartialEq, Eq, Hash)]
+pub struct FormFront<'a> {
+    /// The index of the form.
+    pub form: usize,
+    /// The parts of the literal.
+    pub parts: Parts<'a>,
+    /// The number of bytes of the literal.
+    pub size: usize,
+}
+
+impl<'r> ReaderList<'r> {
+    /// Returns the parts of `text`, and the index of the first form of which it is a literal.
+    ///
+    /// # Errors
+    ///
+    /// If `text` is not a literal of any form, returns the error of the form for which most of it is right, the first of
+    /// equals.
+    pub fn read<'a>(&self, text: &'a [u8]) -> Result<FormParts<'a>, FormError>
+        ensures { IsReadByForms self.now text.now result }
+    {
+        match self.find(text) {
+            Ok(found) => {
+                let (form, counts) = found;
+                let parts = cut(text, counts);
+                Ok(FormParts { form, parts })
+            }
+            Err(error) => Err(error),
+        }
+    }
+
+    /// Returns the longest front of `text` that is a literal of any form, the first of equals. What follows it may be
+    /// anything.
+    ///
+    /// # Errors
+    ///
+    /// If no front of `text` is a literal of any form, returns the error of [`read`][Self::read].
+    pub fn read_prefix<'a>(&self, text: &'a [u8]) -> Result<FormFront<'a>, FormError>
+        ensures { IsFrontByForms self.now text.now result }
+    {
+        match self.find_front(text) {
+            Ok((form, found)) => {
+                let Found { size, counts } = found;
+                let parts = cut(front_of(text, size), counts);
+                Ok(FormFront { form, parts, size })
+            }
+            Err(error) => Err(error),
         }
     }
 }

@@ -2,10 +2,11 @@
 
 ghost use Rattle.std.specs.Prelude.{◌≡◌, ◌++◌, ◌∷◌, ◌&&◌, ◌<◌, ◌≤◌, Bool, ℕ, List, [], false, length, slice_get, take};
 ghost use Rattle.lexical_literal.specs.Additions.Explained.{tail_byte, tail_size};
-ghost use Rattle.lexical_literal.specs.Additions.Longest.{IsFound, IsFoundFront, IsScanned, IsStopped};
+ghost use Rattle.lexical_literal.specs.Additions.Longest.{HasStopped, IsFound, IsFoundFront, IsMeasured, IsMeasuredFront, IsScanned};
 ghost use Rattle.lexical_literal.specs.Additions.Summary.{HasLengths, is_complete};
 ghost use Rattle.lexical_literal.specs.Additions.Tables.{cuts_of, summary_at};
 ghost use Rattle.lexical_literal.specs.Cause.{IsRefusal};
+ghost use Rattle.lexical_literal.specs.Front.{NoLiteral};
 ghost use Rattle.lexical_literal.specs.Literal.{Literal, text_of};
 ghost use Rattle.lexical_literal.specs.Notation.{notation_of};
 ghost use Rattle.lexical_literal.specs.Parts.{literal_of};
@@ -90,10 +91,32 @@ impl Reader {
         self.syntax
     }
 
+    // Returns the lengths of the parts of the literal `text`, or why it is not one.
+    #[inline(always)]
+    pub(crate) const fn find(&self, text: &[u8]) -> Result<[usize; 9], ReadError>
+        ensures { IsFound (notation_of self.now) text.now result }
+    {
+        match self.lengths(text) {
+            Ok(counts) => Ok(counts),
+            Err(stopped) => Err(self.refuse(text, stopped)),
+        }
+    }
+
+    // Returns the longest front of `text` that is a literal, or why there is none.
+    #[inline(always)]
+    pub(crate) fn find_front(&self, text: &[u8]) -> Result<Found, ReadError>
+        ensures { IsFoundFront (notation_of self.now) text.now result }
+    {
+        match self.front(text) {
+            Ok(found) => Ok(found),
+            Err(stopped) => Err(self.refuse(text, stopped)),
+        }
+    }
+
     // Returns the lengths of the parts of the literal `text`, or where reading stopped if it is not one.
     #[inline(always)]
-    pub(crate) const fn find(&self, text: &[u8]) -> Result<[usize; 9], Scanned>
-        ensures { IsFound (notation_of self.now) text.now result }
+    pub(crate) const fn lengths(&self, text: &[u8]) -> Result<[usize; 9], Scanned>
+        ensures { IsMeasured (notation_of self.now) text.now result }
     {
         let scanned = self.scan(text, false);
         if scanned.valid_up_to == text.len() && self.is_complete(scanned.row) {
@@ -105,8 +128,8 @@ impl Reader {
 
     // Returns the longest front of `text` that is a literal, or where reading stopped if there is none.
     #[inline(always)]
-    pub(crate) fn find_front(&self, text: &[u8]) -> Result<Found, Scanned>
-        ensures { IsFoundFront (notation_of self.now) text.now result }
+    pub(crate) fn front(&self, text: &[u8]) -> Result<Found, Scanned>
+        ensures { IsMeasuredFront (notation_of self.now) text.now result }
     {
         let scanned = self.scan(text, true);
         let Some(size) = scanned.literal else {
@@ -116,10 +139,20 @@ impl Reader {
             let counts = scanned.counts;
             return Ok(Found { size, counts });
         }
-        match self.find(front_of(text, size)) {
+        match self.lengths(front_of(text, size)) {
             Ok(counts) => Ok(Found { size, counts }),
-            Err(scanned) => Err(scanned),
+            Err(_) => Err(scanned),
         }
+    }
+
+    // Returns why `text`, which is not a literal, is none.
+    #[cold]
+    pub(crate) const fn explain(&self, text: &[u8]) -> ReadError
+        requires { NoLiteral (notation_of self.now) text.now }
+        ensures { IsRefusal (notation_of self.now) text.now result.refusal }
+    {
+        let scanned = self.scan(text, false);
+        self.refuse(text, scanned)
     }
 
     // Reads `text` until no literal begins with what has been read. Seeks the longest front that is a literal if `seeks`
@@ -177,9 +210,9 @@ impl Reader {
     }
 
     // Returns why `text` is not a literal.
-    #[inline(always)]
-    pub(crate) const fn refuse(&self, text: &[u8], scanned: Scanned) -> ReadError
-        requires { IsStopped (notation_of self.now) text.now scanned }
+    #[cold]
+    const fn refuse(&self, text: &[u8], scanned: Scanned) -> ReadError
+        requires { HasStopped (notation_of self.now) text.now scanned }
         ensures { IsRefusal (notation_of self.now) text.now result.refusal }
     {
         role_facts();
@@ -202,7 +235,7 @@ impl Reader {
 // a literal, if it was sought, and the lengths of the parts of what has been read.
 #[derive(Clone, Copy)]
 pub(crate) struct Scanned {
-    valid_up_to: usize,
+    pub(crate) valid_up_to: usize,
     row: u8,
     literal: Option<usize>,
     counts: [usize; 9],

@@ -2,13 +2,13 @@
 
 ghost use Rattle.std.specs.Prelude.{◌≡◌, ◌≤◌, ◌<◌, ◌^◌, length, take};
 ghost use Rattle.lexical_literal.specs.Additions.Causes.{kind_set};
-ghost use Rattle.lexical_literal.specs.Cause.{behind, error_of, first_in, flag_at, is_in, marks_of, requirement_error};
+ghost use Rattle.lexical_literal.specs.Cause.{behind, condition_span, error_of, first_in, flag_at, is_in, marks_of, requirement_error};
 ghost use Rattle.lexical_literal.specs.Cause.{requirement_span, span_of};
 ghost use Rattle.lexical_literal.specs.Notation.{notation_of};
 
 use crate::cause::{Marks, Place, ReadErrorKind};
 use crate::steps::is_digit;
-use crate::syntax::Grammar;
+use crate::syntax::{Condition, Grammar};
 use lexical_util::error::Error;
 use lexical_util::format::Part;
 
@@ -120,20 +120,37 @@ const fn requirement_span(
     }
 }
 
-// Returns the first index and the end of the bytes to show for a kind of error and its lowest flag.
+// Returns the first index and the end of the bytes to show for a condition.
+const fn condition_span(marks: Marks, condition: Condition) -> (usize, usize)
+    requires { marks.size < 2 ^ 63 }
+    ensures { result ≡ condition_span condition marks }
+{
+    match condition {
+        Condition::BasePrefix => (marks.first, marks.first),
+        Condition::BaseSuffix => (marks.size, marks.size),
+        Condition::NegativeSign => (marks.size, marks.size + 1),
+    }
+}
+
+// Returns the first index and the end of the bytes to show for a kind of error and its lowest flag, or its first condition if
+// no flag is to blame.
 pub(crate) const fn span(
     grammar: Grammar,
     marks: Marks,
     next: Option<u8>,
     kind: ReadErrorKind,
     number: u32,
+    unmet: Option<Condition>,
 ) -> (usize, usize)
     requires { marks.size < 2 ^ 63 }
-    ensures { result ≡ span_of (notation_of grammar) marks next kind (flag_at number) }
+    ensures { result ≡ span_of (notation_of grammar) marks next kind (flag_at number) unmet }
 {
     let size = marks.size;
     match kind {
-        ReadErrorKind::Requirement => requirement_span(grammar, marks, next, number),
+        ReadErrorKind::Requirement => match unmet {
+            None => requirement_span(grammar, marks, next, number),
+            Some(condition) => condition_span(marks, condition),
+        },
         ReadErrorKind::Separator(_, Place::Consecutive)
         | ReadErrorKind::Case
         | ReadErrorKind::Byte => (size, size + 1),
@@ -166,18 +183,24 @@ const fn requirement_error(grammar: Grammar, number: u32, start: usize, size: us
     }
 }
 
-// Returns the error for a kind of error and its lowest flag, where the bytes to show begin at `start`.
+// Returns the error for a kind of error and its lowest flag, or its first condition if no flag is to blame, where the bytes to
+// show begin at `start`.
 pub(crate) const fn error(
     grammar: Grammar,
     marks: Marks,
     kind: ReadErrorKind,
     number: u32,
+    unmet: Option<Condition>,
     start: usize,
 ) -> Error
-    ensures { result ≡ error_of (notation_of grammar) marks kind (flag_at number) start }
+    ensures { result ≡ error_of (notation_of grammar) marks kind (flag_at number) unmet start }
 {
     match kind {
-        ReadErrorKind::Requirement => requirement_error(grammar, number, start, marks.size),
+        ReadErrorKind::Requirement => match unmet {
+            None => requirement_error(grammar, number, start, marks.size),
+            Some(Condition::NegativeSign) => Error::InvalidNegativeSign(start),
+            Some(_) => Error::InvalidDigit(start),
+        },
         ReadErrorKind::Missing(Part::Integer) if marks.run == marks.size => Error::Empty(start),
         _ => Error::InvalidDigit(start),
     }

@@ -1,16 +1,18 @@
 //! A lawful format with the bytes that a format does not define.
 
-ghost use Rattle.std.specs.Prelude.{◌≡◌, IfErr, Some, None};
+ghost use Rattle.std.specs.Prelude.{◌≡◌, ◌||◌, not, IfErr, Some, None};
+ghost use Rattle.lexical_util.specs.Record.{raw};
 ghost use Rattle.std.specs.Result.{OkIff};
 ghost use Rattle.lexical_util.specs.NormalForm.{normal_form_of};
 ghost use Rattle.lexical_util.specs.Options.{OptionsFit, IsOptionsError};
 ghost use Rattle.lexical_util.specs.declared.lawful.Rejected.TheVariants as rejected;
 ghost use Rattle.lexical_literal.specs.declared.syntax.Options.{Options};
-ghost use Rattle.lexical_literal.specs.Notation.{notation_of, IsOnlyRole};
-ghost use Rattle.lexical_literal.specs.Syntax.{IsSyntax};
+ghost use Rattle.lexical_literal.specs.Notation.{has, no_conditions, notation_of, IsOnlyRole};
+ghost use Rattle.lexical_literal.specs.Syntax.{IsSyntax, contradiction};
 
 use crate::steps::{byte_class, role_of};
 use lexical_util::format::{Format, FormatError, NumberFormat, Role};
+use lexical_util::format_flags::{base_prefix, base_suffix};
 use lexical_util::laws::flags::role_facts;
 use std::marker::Model;
 
@@ -23,11 +25,69 @@ pub struct Options {
     pub point: u8,
 }
 
-// Any format, with any options. Without options, literals are integers alone.
+/// What a syntax requires of its literals beside what the flags of its format require.
+#[derive(Debug, Clone, Copy, PartialEq, Eq, PartialOrd, Ord, Hash, Default)]
+pub struct Conditions {
+    /// A literal has the base prefix.
+    pub required_base_prefix: bool,
+    /// A literal has the base suffix.
+    pub required_base_suffix: bool,
+    /// The sign of a literal is not `-`. The sign of its exponent may be.
+    pub no_negative_mantissa_sign: bool,
+}
+
+impl Conditions {
+    /// No conditions.
+    pub const NONE: Conditions = Conditions {
+        required_base_prefix: false,
+        required_base_suffix: false,
+        no_negative_mantissa_sign: false,
+    };
+
+    // Returns whether `condition` is one of them.
+    pub(crate) const fn has(self, condition: Condition) -> bool
+        ensures { result ≡ has self condition }
+    {
+        match condition {
+            Condition::BasePrefix => self.required_base_prefix,
+            Condition::BaseSuffix => self.required_base_suffix,
+            Condition::NegativeSign => self.no_negative_mantissa_sign,
+        }
+    }
+
+    /// Returns whether there are no conditions.
+    #[must_use]
+    pub const fn is_none(self) -> bool
+        ensures { result ≡ not (has self Condition.BasePrefix || (has self Condition.BaseSuffix || has self Condition.NegativeSign)) }
+    {
+        !(self.required_base_prefix | self.required_base_suffix | self.no_negative_mantissa_sign)
+    }
+}
+
+// One of `Conditions`.
+#[derive(Debug, Clone, Copy, PartialEq, Eq, Hash)]
+pub enum Condition {
+    BasePrefix,
+    BaseSuffix,
+    NegativeSign,
+}
+
+/// Why a syntax cannot have [`Conditions`]: no text could satisfy both them and the format. A lawful format that requires a
+/// sign allows `+`, so it can forbid `-`.
+#[derive(Debug, Clone, Copy, PartialEq, Eq, Hash)]
+pub enum ConditionsError {
+    /// The base prefix is required, and the format has none.
+    NoBasePrefix,
+    /// The base suffix is required, and the format has none.
+    NoBaseSuffix,
+}
+
+// Any format, with any options and conditions. Without options, literals are integers alone.
 #[derive(Debug, Clone, Copy, PartialEq, Eq, Hash)]
 pub struct Grammar {
     pub(crate) word: u128,
     pub(crate) options: Option<Options>,
+    pub(crate) conditions: Conditions,
 }
 
 impl Grammar {
@@ -40,13 +100,15 @@ impl Grammar {
 }
 
 /// What a literal is read by: a lawful format, with an exponent character and a decimal point that fit it, or without
-/// both. Without both, literals are integers.
+/// both, and conditions. Without both, literals are integers.
 ///
-/// Syntaxes are ordered by the words of their formats, and then by the options. Integers alone come first.
+/// Syntaxes are ordered by the words of their formats, then by the options, and then by the conditions. Integers alone
+/// come first.
 #[derive(Clone, Copy, PartialEq, Eq, PartialOrd, Ord, Hash)]
 pub struct Syntax {
     format: Format,
     options: Option<Options>,
+    conditions: Conditions,
 }
 
 impl Model for Syntax {
@@ -56,11 +118,11 @@ impl Model for Syntax {
 
     ghost use Rattle.lexical_literal.specs.Syntax.{IsSyntax};
 
-    ghost view = { λ syntax. record { word = syntax.format; options = syntax.options } };
+    ghost view = { λ syntax. record { word = syntax.format; options = syntax.options; conditions = syntax.conditions } };
 
-    ghost invariant = { λ syntax. IsSyntax (record { word = syntax.format; options = syntax.options }) };
+    ghost invariant = { λ syntax. IsSyntax (record { word = syntax.format; options = syntax.options; conditions = syntax.conditions }) };
 
-    ghost inverse = { λ grammar. record { format = grammar.word; options = grammar.options } };
+    ghost inverse = { λ grammar. record { format = grammar.word; options = grammar.options; conditions = grammar.conditions } };
 }
 
 impl Syntax {
@@ -77,6 +139,7 @@ impl Syntax {
         ensures accepted { OkIff result (OptionsFit (normal_form_of format) exponent point) (record {
           word = normal_form_of format;
           options = Some (record { exponent = exponent; point = point });
+          conditions = no_conditions;
         }) }
         ensures error { IfErr result (λ error. IsOptionsError (normal_form_of format) exponent point error.code) }
         ensures rejected { IfErr result (λ error.
@@ -87,6 +150,7 @@ impl Syntax {
             Ok(()) => Ok(Syntax {
                 format: normal,
                 options: Some(Options { exponent, point }),
+                conditions: Conditions::NONE,
             }),
             Err(error) => Err(error),
         }
@@ -95,11 +159,31 @@ impl Syntax {
     /// Returns the syntax of the integers of a format. Equivalent formats have the same syntax.
     #[must_use]
     pub const fn integers(format: Format) -> Syntax
-        ensures { result ≡ record { word = normal_form_of format; options = None } }
+        ensures { result ≡ record { word = normal_form_of format; options = None; conditions = no_conditions } }
     {
         Syntax {
             format: format.normal_form(),
             options: None,
+            conditions: Conditions::NONE,
+        }
+    }
+
+    /// Returns the same syntax with `conditions`, and no others.
+    ///
+    /// # Errors
+    ///
+    /// If the format contradicts the conditions, returns the first error in the order of [`ConditionsError`].
+    pub const fn with(self, conditions: Conditions) -> Result<Syntax, ConditionsError>
+        ensures accepted { OkIff result (contradiction (raw self.word) conditions ≡ None) (record self { conditions = conditions }) }
+        ensures error { IfErr result (λ error. contradiction (raw self.word) conditions ≡ Some error) }
+    {
+        match contradiction(self.grammar(), conditions) {
+            None => Ok(Syntax {
+                format: self.format,
+                options: self.options,
+                conditions,
+            }),
+            Some(error) => Err(error),
         }
     }
 
@@ -120,6 +204,14 @@ impl Syntax {
         self.options
     }
 
+    /// Returns the conditions.
+    #[must_use]
+    pub const fn conditions(&self) -> Conditions
+        ensures { result ≡ self.now.conditions }
+    {
+        self.conditions
+    }
+
     /// Returns the only role of `byte`, or `None` if it plays no role.
     #[must_use]
     pub const fn role_of(&self, byte: u8) -> Option<Role>
@@ -129,7 +221,7 @@ impl Syntax {
         role_of(byte_class(self.grammar(), byte))
     }
 
-    // Returns the format and the options.
+    // Returns the format, the options and the conditions.
     pub(crate) const fn grammar(&self) -> Grammar
         ensures value { result ≡ self.now }
         ensures lawful { IsSyntax self.now }
@@ -137,6 +229,20 @@ impl Syntax {
         Grammar {
             word: self.format.word(),
             options: self.options,
+            conditions: self.conditions,
         }
+    }
+}
+
+// Returns the first error of `conditions` with the format of `grammar`.
+const fn contradiction(grammar: Grammar, conditions: Conditions) -> Option<ConditionsError>
+    ensures { result ≡ contradiction (raw grammar.word) conditions }
+{
+    if conditions.required_base_prefix && base_prefix(grammar.word) == 0 {
+        Some(ConditionsError::NoBasePrefix)
+    } else if conditions.required_base_suffix && base_suffix(grammar.word) == 0 {
+        Some(ConditionsError::NoBaseSuffix)
+    } else {
+        None
     }
 }

@@ -1,8 +1,8 @@
 //! Integer types, and the values of theirs that digits with a sign represent.
 
-ghost use Rattle.std.specs.Prelude.{option_map};
+ghost use Rattle.std.specs.Prelude.{◌≡◌, ◌<◌, option_map, true};
 ghost use Rattle.std.specs.Option.{SomeIff};
-ghost use Rattle.lexical_number.specs.Numeral.{Fits, Range, signed, unsigned, value_of};
+ghost use Rattle.lexical_number.specs.Numeral.{Fits, Range, signed, unsigned, value_of, with_sign};
 
 use crate::numeral::{Numeral, signed};
 
@@ -14,6 +14,19 @@ pub trait Integer: Copy {
     /// Returns the value of `numeral`, or `None` if it is not a value of this type.
     fn from_numeral(numeral: &Numeral) -> Option<Self>
         ensures { SomeIff (option_map range.value result) (Fits range.least range.largest numeral.now) (value_of numeral.now) };
+
+    /// Returns whether the value is below 0, and the value without its sign.
+    fn sign_and_size(self) -> (bool, u128)
+        ensures value { with_sign result.0 result.1 ≡ range.value self }
+        ensures zero { result.0 ≡ true → 0 < result.1 };
+}
+
+// Returns whether a value is below 0, and the value without its sign.
+const fn split(value: i128) -> (bool, u128)
+    ensures value { with_sign result.0 result.1 ≡ value }
+    ensures zero { result.0 ≡ true → 0 < result.1 }
+{
+    (value < 0, value.unsigned_abs())
 }
 
 // Returns the value of a numeral as a value of a type that has no sign.
@@ -42,6 +55,10 @@ impl Integer for u8 {
     fn from_numeral(numeral: &Numeral) -> Option<u8> {
         unsigned!(numeral as u8)
     }
+
+    fn sign_and_size(self) -> (bool, u128) {
+        (false, self as u128)
+    }
 }
 
 impl Integer for u16 {
@@ -49,6 +66,10 @@ impl Integer for u16 {
 
     fn from_numeral(numeral: &Numeral) -> Option<u16> {
         unsigned!(numeral as u16)
+    }
+
+    fn sign_and_size(self) -> (bool, u128) {
+        (false, self as u128)
     }
 }
 
@@ -58,6 +79,10 @@ impl Integer for u32 {
     fn from_numeral(numeral: &Numeral) -> Option<u32> {
         unsigned!(numeral as u32)
     }
+
+    fn sign_and_size(self) -> (bool, u128) {
+        (false, self as u128)
+    }
 }
 
 impl Integer for u64 {
@@ -65,6 +90,10 @@ impl Integer for u64 {
 
     fn from_numeral(numeral: &Numeral) -> Option<u64> {
         numeral.as_u64()
+    }
+
+    fn sign_and_size(self) -> (bool, u128) {
+        (false, self as u128)
     }
 }
 
@@ -74,6 +103,10 @@ impl Integer for usize {
     fn from_numeral(numeral: &Numeral) -> Option<usize> {
         unsigned!(numeral as usize)
     }
+
+    fn sign_and_size(self) -> (bool, u128) {
+        (false, self as u128)
+    }
 }
 
 impl Integer for u128 {
@@ -81,6 +114,10 @@ impl Integer for u128 {
 
     fn from_numeral(numeral: &Numeral) -> Option<u128> {
         numeral.as_u128()
+    }
+
+    fn sign_and_size(self) -> (bool, u128) {
+        (false, self)
     }
 }
 
@@ -90,6 +127,10 @@ impl Integer for i8 {
     fn from_numeral(numeral: &Numeral) -> Option<i8> {
         signed!(numeral as i8)
     }
+
+    fn sign_and_size(self) -> (bool, u128) {
+        split(self as i128)
+    }
 }
 
 impl Integer for i16 {
@@ -97,6 +138,10 @@ impl Integer for i16 {
 
     fn from_numeral(numeral: &Numeral) -> Option<i16> {
         signed!(numeral as i16)
+    }
+
+    fn sign_and_size(self) -> (bool, u128) {
+        split(self as i128)
     }
 }
 
@@ -106,6 +151,10 @@ impl Integer for i32 {
     fn from_numeral(numeral: &Numeral) -> Option<i32> {
         signed!(numeral as i32)
     }
+
+    fn sign_and_size(self) -> (bool, u128) {
+        split(self as i128)
+    }
 }
 
 impl Integer for i64 {
@@ -113,6 +162,10 @@ impl Integer for i64 {
 
     fn from_numeral(numeral: &Numeral) -> Option<i64> {
         numeral.as_i64()
+    }
+
+    fn sign_and_size(self) -> (bool, u128) {
+        split(self as i128)
     }
 }
 
@@ -122,6 +175,10 @@ impl Integer for isize {
     fn from_numeral(numeral: &Numeral) -> Option<isize> {
         signed!(numeral as isize)
     }
+
+    fn sign_and_size(self) -> (bool, u128) {
+        split(self as i128)
+    }
 }
 
 impl Integer for i128 {
@@ -129,5 +186,9 @@ impl Integer for i128 {
 
     fn from_numeral(numeral: &Numeral) -> Option<i128> {
         numeral.as_i128()
+    }
+
+    fn sign_and_size(self) -> (bool, u128) {
+        split(self)
     }
 }

@@ -1,5 +1,5 @@
 -- Digits alone, in each part that is announced, are a literal of a decimal format that requires no more.
-use Rattle.std.proofs.Common.{◌≡◌, ◌≢◌, ℕ, ◌<◌, ◌++◌, true, false, IsTrue, List, [], ◌∷◌, length, slice_index, refl, ap, ◌∙◌, arith, Some, None, Option, IfSome}
+use Rattle.std.proofs.Common.{◌≡◌, ◌≢◌, ℕ, ◌<◌, ◌++◌, true, false, IsTrue, List, [], ◌∷◌, length, slice_index, refl, sym, ap, ◌∙◌, arith, Some, None, Option, IfSome}
 use Rattle.std.specs.Float.{Float}
 use Rattle.std.specs.Str.Parse.{AllDigits}
 use Rattle.core.proofs.str.DigitBytes.{digit_from_value}
@@ -12,13 +12,15 @@ use Rattle.lexical_util.specs.Ascii.{ByteSet}
 use Rattle.lexical_util.specs.declared.format_flags.Part.{Part}
 use Rattle.lexical_util.specs.declared.format_flags.Part.TheVariants as parts
 use Rattle.lexical_literal.specs.Literal.{Literal, IsLiteral, has_leading_zero, is_absent, is_none_or_one, is_none_or_prefix, is_plus, is_present, requirement, text_of}
-use Rattle.lexical_literal.specs.Notation.{Notation, notation_of}
+use Rattle.lexical_literal.specs.Notation.{Notation, no_conditions, notation_of}
 use Rattle.lexical_literal.specs.Readings.{AllIn}
 use Rattle.lexical_literal.specs.Run.{are_fit}
 use Rattle.lexical_literal.specs.declared.syntax.Options.{Options}
 use Rattle.lexical_value.specs.Private.{IsPlain, TakesPlain}
 use Rattle.lexical_value.specs.Value.{is_minus}
 use Rattle.lexical_value.proofs.DigitLemmas.{are_digits}
+use Rattle.lexical_value.proofs.PlainLemmas.{none_set}
+use Rattle.std.proofs.lemmas.Bool.{false≢true}
 
 -- Digits fit wherever they are.
 pub all_fit : (m : Notation) (part : Part) (before digits : List ℕ) → AllIn (m.digit part) digits → are_fit m part before digits ≡ true
@@ -41,7 +43,7 @@ present (byte ∷ bytes) some = refl
 
 module _ (word : ℕ) (options : Options) (decimal : TakesPlain (raw word)) (l : Literal) (plain : IsPlain l) where
   abbrev m : Notation
-  m = notation_of (record { word = word; options = Some options })
+  m = notation_of (record { word = word; options = Some options; conditions = no_conditions })
 
   met : (IsTrue (m.flag layout.no_positive_mantissa_sign) → is_plus l.sign ≡ false) → (IsTrue (m.flag layout.no_positive_exponent_sign)
       → is_plus l.exponent_sign ≡ false) → (f : Flag) → IsTrue (m.flag f) → IsTrue (requirement f m l)
@@ -69,7 +71,7 @@ module _ (word : ℕ) (options : Options) (decimal : TakesPlain (raw word)) (l :
       → IsTrue (is_none_or_one (sets.exponent (raw word) options.exponent) l.exponent_character)
       → IsTrue (is_none_or_one sets.signs l.exponent_sign) → (IsTrue (m.flag layout.no_positive_exponent_sign) → is_plus l.exponent_sign ≡ false)
       → IsLiteral m l
-  plain_literal sign plus point character exponent_sign exponent_plus = record {
+  plain_literal sign plus point character exponent_sign exponent_plus = record { conditions = λ c set. absurd (false≢true (sym (none_set c) ∙ set)); spelled = record {
     sign = sign;
     prefix = no_prefix l.prefix plain.prefix;
     integer = all_fit m parts.Integer [] l.integer (are_digits _ l.integer decimal.radix plain.integer);
@@ -83,7 +85,7 @@ module _ (word : ℕ) (options : Options) (decimal : TakesPlain (raw word)) (l :
     after_character = no_exponent;
     some_number = let some = present l.integer plain.spelled.integer in grind arith;
     requirements = met plus exponent_plus;
-  }
+  } }
     where
       no_prefix : (bytes : List ℕ) → bytes ≡ [] → IsTrue (is_none_or_prefix m.prefix bytes)
       no_prefix bytes is = ap (is_none_or_prefix m.prefix) is

@@ -1,6 +1,7 @@
 -- Digits that do not begin with 0 are a literal, also after a minus sign, if no flag requires a plus sign or an exponent.
-use Rattle.std.proofs.Common.{ℕ, ◌≡◌, ◌≢◌, Bool, true, false, IsTrue, IsSome, List, [], ◌∷◌, ◌++◌, refl, sym, ap, ◌∙◌, arith, append-nil}
+use Rattle.std.proofs.Common.{ℕ, ◌≡◌, ◌≢◌, Bool, true, false, not, ◌||◌, IsTrue, IsSome, List, [], ◌∷◌, ◌++◌, refl, sym, ap, ◌∙◌, arith, append-nil}
 use Rattle.std.proofs.Common.{◌≤◌, length, slice_index_or, nat_lt, cond, subst, ℤ, Option, Some, None, IfSome, option_map}
+use Rattle.std.proofs.lemmas.Bool.{false≢true}
 use Rattle.std.specs.List.{AllByRecursion}
 use Rattle.std.specs.Option.{SomeIff}
 use Rattle.lexical_util.specs.Digits.{byte_value, digit_of}
@@ -10,9 +11,12 @@ use Rattle.lexical_util.specs.Record.{raw}
 use Rattle.lexical_util.specs.Roles.{signs}
 use Rattle.lexical_util.specs.declared.format_flags.Part.TheVariants as parts
 use Rattle.lexical_literal.specs.Literal.{Literal, IsLiteral, Reads, has_leading_zero, is_none_or_one, requirement}
-use Rattle.lexical_literal.specs.Notation.{Notation, notation_of}
+use Rattle.lexical_literal.specs.Notation.{Notation, has, no_conditions, notation_of}
 use Rattle.lexical_literal.specs.Readings.{AllIn}
 use Rattle.lexical_literal.specs.Run.{are_fit}
+use Rattle.lexical_literal.specs.declared.syntax.Condition.{Condition}
+use Rattle.lexical_literal.specs.declared.syntax.Condition.TheVariants as conditions
+use Rattle.lexical_literal.specs.declared.syntax.Conditions.{Conditions}
 use Rattle.lexical_literal.specs.declared.syntax.Options.{Options}
 use Rattle.lexical_number.specs.Number.{number}
 use Rattle.lexical_number.specs.Numeral.{with_sign}
@@ -34,7 +38,21 @@ plain negative digits = record {
   suffix = [];
 }
 
-module _ (m : Notation) (no_sign : m.flag layout.required_mantissa_sign ≡ false) (no_exponent : m.flag layout.required_exponent_notation ≡ false) where
+-- Without conditions, none is set.
+pub none_set : (c : Condition) → has no_conditions c ≡ false
+none_set conditions.BasePrefix = refl
+none_set _ = refl
+
+-- If none is set, there are no conditions.
+pub no_more : (c : Conditions) → not (has c conditions.BasePrefix || (has c conditions.BaseSuffix || has c conditions.NegativeSign)) ≡ true → no_conditions ≡ c
+no_more c is =
+    let prefix : false ≡ c.required_base_prefix = grind arith in
+    let suffix : false ≡ c.required_base_suffix = grind arith in
+    let sign : false ≡ c.no_negative_mantissa_sign = grind arith in
+    λ j. record { required_base_prefix = prefix j; required_base_suffix = suffix j; no_negative_mantissa_sign = sign j }
+
+module _ (m : Notation) (no_sign : m.flag layout.required_mantissa_sign ≡ false) (no_exponent : m.flag layout.required_exponent_notation ≡ false)
+    (none : (c : Condition) → m.condition c ≡ false) where
   -- Digits fit wherever they are.
   all_fit : (before digits : List ℕ) → AllIn (m.digit parts.Integer) digits → are_fit m parts.Integer before digits ≡ true
   all_fit before [] all = refl
@@ -51,7 +69,7 @@ module _ (m : Notation) (no_sign : m.flag layout.required_mantissa_sign ≡ fals
 
     -- A sign and these digits are a literal.
     is : (negative : Bool) → IsTrue (is_none_or_one signs (minus_if negative)) → IsLiteral m (plain negative (first ∷ digits))
-    is negative sign = record {
+    is negative sign = record { conditions = λ c set. absurd (false≢true (sym (none c) ∙ set)); spelled = record {
       sign = sign;
       prefix = refl;
       integer = all_fit [] (first ∷ digits) all;
@@ -65,7 +83,7 @@ module _ (m : Notation) (no_sign : m.flag layout.required_mantissa_sign ≡ fals
       after_character = λ absent. (refl, refl);
       some_number = refl;
       requirements = met negative;
-    }
+    } }
 
     -- The text is that literal.
     reads : (negative : Bool) → Reads m (plain negative (first ∷ digits)) (minus_if negative ++ first ∷ digits)
@@ -89,13 +107,13 @@ pub plain_value : {T : Type 0} (value : T → ℤ) (word : ℕ) (negative : Bool
     → (Fits : Type 0) → (Fits → AllByRecursion (λ byte. IsSome (digit_of byte radix)) bytes)
     → SomeIff (option_map value result) Fits (with_sign negative (number radix bytes))
     → IfSome result (λ x. (options : Option Options) → (l : Literal)
-    × Reads (notation_of (record { word = word; options = options })) l (minus_if negative ++ bytes) × IsInteger (raw word) l (value x))
+    × Reads (notation_of (record { word = word; options = options; conditions = no_conditions })) l (minus_if negative ++ bytes) × IsInteger (raw word) l (value x))
 plain_value value word negative radix bytes None no_sign no_exponent some not_zero same Fits digits s = tt
 plain_value value word negative radix (first ∷ digits) (Some x) no_sign no_exponent some not_zero same Fits alone s =
     let all = subst (λ r. AllByRecursion (λ byte. IsTrue (nat_lt (byte_value byte) r)) (first ∷ digits)) same
     (are_digits radix (first ∷ digits) (alone s.0)) in
     let value = s.1 ∙ (λ i. with_sign (sym (minus negative) i) (number (same i) (first ∷ digits))) in
-    λ options. (plain negative (first ∷ digits), reads _ no_sign no_exponent first digits not_zero all negative, (refl, value))
+    λ options. (plain negative (first ∷ digits), reads _ no_sign no_exponent none_set first digits not_zero all negative, (refl, value))
   where
     minus : (negative : Bool) → is_minus (minus_if negative) ≡ negative
     minus true = refl

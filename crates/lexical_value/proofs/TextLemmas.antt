@@ -224,8 +224,8 @@ as_written f r m l text decimal reads plain dot e =
     ++ plain.suffix i))))))))
     ∙ ap (λ x. l.sign ++ (l.integer ++ (l.point ++ (l.fraction ++ (l.exponent_character ++ (l.exponent_sign ++ x)))))) (append-nil l.exponent) in
     ap (parse_float f) whole
-    ∙ read_all f l.sign body _ reads.literal.sign
+    ∙ read_all f l.sign body _ reads.literal.spelled.sign
     (scanned l.integer l.point l.fraction l.exponent_character l.exponent_sign l.exponent plain.integer plain.fraction plain.exponent dot
-    plain.spelled.fraction e reads.literal.exponent_sign plain.spelled.exponent plain.spelled.exponent_sign)
+    plain.spelled.fraction e reads.literal.spelled.exponent_sign plain.spelled.exponent plain.spelled.exponent_sign)
     refl plain.spelled.integer (first_digit l.integer _ plain.integer plain.spelled.integer)
     ∙ ap Some (same_value f r l decimal plain)

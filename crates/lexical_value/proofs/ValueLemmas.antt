@@ -86,8 +86,8 @@ module _ (r : Record) (m : Notation) (l k : Literal) (same : SameDigits m l k)
 pub integer_numerator : (m : Notation) (r : Record) (l : Literal) (text : List ℕ) → Reads m l text → IsFalse (is_float l)
     → numerator r l ≡ integer_size r l
 integer_numerator m r l text reads whole =
-    let fraction : l.fraction ≡ [] = reads.literal.after_point (grind arith) in
-    let exponent : l.exponent ≡ [] = (reads.literal.after_character (grind arith)).1 in
+    let fraction : l.fraction ≡ [] = reads.literal.spelled.after_point (grind arith) in
+    let exponent : l.exponent ≡ [] = (reads.literal.spelled.after_character (grind arith)).1 in
     let same : mantissa r l ≡ integer_size r l =
     ap (number (r.byte layout.mantissa_radix)) (ap (λ bytes. l.integer ++ bytes) fraction ∙ append-nil l.integer) in
     let base = effective_exponent_base r in

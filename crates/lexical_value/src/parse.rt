@@ -29,9 +29,12 @@ pub enum ParseError {
 pub fn parse_integer<T: Integer>(reader: &Reader, text: &[u8]) -> Result<T, ParseError>
     ensures { IsParsed T.range reader.now text.now result }
 {
-    let format = reader.syntax().format().view();
-    if let Some(value) = plain_integer(format, text) {
-        return Ok(value);
+    let syntax = reader.syntax();
+    let format = syntax.format().view();
+    if syntax.conditions().is_none() {
+        if let Some(value) = plain_integer(format, text) {
+            return Ok(value);
+        }
     }
     match reader.read(text) {
         Ok(parts) => match to_integer(format, &parts) {

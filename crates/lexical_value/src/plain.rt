@@ -3,7 +3,7 @@
 ghost use Rattle.std.specs.Prelude.{◌≡◌, ◌++◌, IfSome, Option};
 ghost use Rattle.lexical_util.specs.Record.{raw};
 ghost use Rattle.lexical_literal.specs.Literal.{Literal, Reads};
-ghost use Rattle.lexical_literal.specs.Notation.{notation_of};
+ghost use Rattle.lexical_literal.specs.Notation.{no_conditions, notation_of};
 ghost use Rattle.lexical_literal.specs.declared.syntax.Options.{Options};
 ghost use Rattle.lexical_value.specs.Integer.{IsInteger};
 ghost use Rattle.lexical_value.specs.Private.{minus_if};
@@ -13,11 +13,11 @@ use lexical_number::numeral::Numeral;
 use lexical_util::format::NumberFormat;
 
 // Returns the value of the literal `text` if it has digits alone, of which the first is not 0, after `-` or no sign. For
-// some of these texts, and for all others, returns `None`.
+// some of these texts, and for all others, returns `None`. Literals have no conditions.
 #[inline(always)]
 pub(crate) fn plain_integer<T: Integer>(format: NumberFormat, text: &[u8]) -> Option<T>
     ensures { IfSome result (λ value. (options : Option Options) → (l : Literal)
-        × Reads (notation_of (record { word = format; options = options })) l text.now
+        × Reads (notation_of (record { word = format; options = options; conditions = no_conditions })) l text.now
         × IsInteger (raw format) l (T.range.value value)) }
 {
     if format.required_mantissa_sign() || format.required_exponent_notation() {

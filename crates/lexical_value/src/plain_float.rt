@@ -7,7 +7,7 @@ ghost use Rattle.lexical_util.specs.Layout as layout;
 ghost use Rattle.lexical_util.specs.Record.{Record, raw};
 ghost use Rattle.lexical_util.specs.Roles as sets;
 ghost use Rattle.lexical_literal.specs.Literal.{Literal, Reads, is_none_or_one, is_plus};
-ghost use Rattle.lexical_literal.specs.Notation.{Notation, notation_of};
+ghost use Rattle.lexical_literal.specs.Notation.{Notation, no_conditions, notation_of};
 ghost use Rattle.lexical_literal.specs.Parts.{literal_of};
 ghost use Rattle.lexical_number.specs.Binary.{format_of};
 ghost use Rattle.lexical_value.specs.Float.{nearest};
@@ -46,6 +46,9 @@ pub(crate) fn plain_float<F: Float>(syntax: Syntax, text: &[u8]) -> Option<F>
 {
     let options = syntax.options()?;
     let format = syntax.format().view();
+    if !syntax.conditions().is_none() {
+        return None;
+    }
     if !takes_plain(format) {
         return None;
     }
@@ -91,12 +94,12 @@ const fn takes_plain(format: NumberFormat) -> bool
         && !format.no_exponent_without_fraction()
 }
 
-// Returns the parts of `text` if it is a literal with digits in each part, without leading zeros.
+// Returns the parts of `text` if it is a literal with digits in each part, without leading zeros. There are no conditions.
 #[inline(always)]
 fn read_plain<'a>(format: NumberFormat, options: Options, text: &'a [u8]) -> Option<Plain<'a>>
     requires { TakesPlain (raw format) }
     ensures reads { IfSome result (λ plain.
-        Reads (notation_of (record { word = format; options = Some options })) (literal_of plain.parts) text.now) }
+        Reads (notation_of (record { word = format; options = Some options; conditions = no_conditions })) (literal_of plain.parts) text.now) }
     ensures plain { IfSome result (λ plain. IsPlain (literal_of plain.parts)) }
     ensures values { IfSome result (λ plain. HasValues plain) }
 {

@@ -1,5 +1,5 @@
-//! Times `peltzivar_read` beside `Reader::read` and `strtod`, and prints the nanoseconds of a text, the least of 2,000
-//! passes. From the top folder, after `make -C c`:
+//! Times `peltzivar_read`, alone and with `peltzivar_to_f64`, beside the calls in Rust and `strtod`, and prints the
+//! nanoseconds of a text, the least of 2,000 passes. From the top folder, after `make -C c`:
 //!
 //!     RUSTFLAGS="-L rust/target/make/release" cargo run --release -p peltzivar-capi --features speed --example speed
 
@@ -13,34 +13,63 @@ use std::time::Instant;
 #[link(name = "peltzivar_c", kind = "static")]
 extern "C" {
     fn peltzivar_language(name: *const u8, len: usize, specials: *mut c_void) -> *const c_void;
-    fn peltzivar_read(reader: *const c_void, text: *const u8, len: usize, to: *mut u8, error: *mut c_void) -> bool;
+    fn peltzivar_read(reader: *const c_void, text: *const u8, len: usize, to: *mut u128, error: *mut c_void) -> bool;
+    fn peltzivar_to_f64(literal: *const u128, value: *mut f64) -> u8;
     fn strtod(text: *const c_char, end: *mut *mut c_char) -> f64;
 }
 
-/// Literals of TOML. A null byte ends each.
+/// Literals of JSON, which `strtod` reads, too. A null byte ends each.
 const TEXTS: [&str; 8] =
-    ["1\0", "-17\0", "1_000\0", "3.25\0", "-12345.678e-9\0", "+0.5\0", "1_000.5e-3\0", "9007199254740993\0"];
+    ["1\0", "-17\0", "1000\0", "3.25\0", "-12345.678e-9\0", "0.5\0", "1000.5e-3\0", "9007199254740993\0"];
 
 fn main() {
-    let reader = Language::TOML.reader();
+    let reader = &Language::JSON.readers().as_slice()[0];
     // SAFETY: the name has four bytes, and the spellings may be null.
-    let reader_of_c = unsafe { peltzivar_language(b"TOML".as_ptr(), 4, null_mut()) };
-    let read = |text: &str| black_box(&mut reader.read(&text.as_bytes()[..text.len() - 1])).is_ok();
-    let read_by_c = |text: &str| {
-        let mut literal = MaybeUninit::<[u64; 20]>::uninit();
-        let (to, len) = (black_box(&mut literal).as_mut_ptr().cast(), text.len() - 1);
-        // SAFETY: a `peltzivar_literal` has 160 bytes, the text has `len`, and the error may be null.
-        unsafe { peltzivar_read(reader_of_c, text.as_ptr(), len, to, null_mut()) }
+    let reader_of_c = unsafe { peltzivar_language(b"JSON".as_ptr(), 4, null_mut()) };
+    let bytes = |text: &'static str| &text.as_bytes()[..text.len() - 1];
+    let read = |text| black_box(&mut reader.read(bytes(text))).is_ok();
+    let parse = |text| black_box(&mut reader.parse::<f64>(bytes(text))).is_ok();
+    // A `peltzivar_literal` has 288 bytes.
+    let read_by_c = |text, literal: &mut MaybeUninit<[u128; 18]>| {
+        // SAFETY: the literal is large enough and aligned, the text has this length, and the error may be null.
+        unsafe {
+            peltzivar_read(
+                reader_of_c,
+                bytes(text).as_ptr(),
+                bytes(text).len(),
+                literal.as_mut_ptr().cast(),
+                null_mut(),
+            )
+        }
+    };
+    let read_in_c = |text| read_by_c(text, black_box(&mut MaybeUninit::uninit()));
+    let parse_in_c = |text| {
+        let (mut literal, mut value) = (MaybeUninit::uninit(), 0.0);
+        // SAFETY: `peltzivar_read` has made the literal.
+        let status = read_by_c(text, black_box(&mut literal))
+            && unsafe { peltzivar_to_f64(literal.as_ptr().cast(), &mut value) } == 0;
+        black_box(value);
+        status
     };
     // SAFETY: a null byte ends the text.
-    let parsed = |text: &str| unsafe { strtod(text.as_ptr().cast(), null_mut()) }.is_finite();
-    let least = |call: &dyn Fn(&str) -> bool| {
-        let pass = |_| {
+    let strtod_in_c = |text: &'static str| black_box(unsafe { strtod(text.as_ptr().cast(), null_mut()) }).is_finite();
+
+    let calls: [(&str, &dyn Fn(&'static str) -> bool); 5] = [
+        ("Reader::read", &read),
+        ("peltzivar_read", &read_in_c),
+        ("Reader::parse::<f64>", &parse),
+        ("peltzivar_read and peltzivar_to_f64", &parse_in_c),
+        ("strtod", &strtod_in_c),
+    ];
+    let mut least = [u128::MAX; 5];
+    for _ in 0..2_000 {
+        for (least, (_, call)) in least.iter_mut().zip(calls) {
             let start = Instant::now();
             assert!((0..8_000).all(|index| call(black_box(TEXTS[index % 8]))));
-            start.elapsed().as_nanos() / 8_000
-        };
-        (0..2_000).map(pass).min().unwrap_or_default()
-    };
-    println!("Reader::read {}, peltzivar_read {}, strtod {}", least(&read), least(&read_by_c), least(&parsed));
+            *least = (start.elapsed().as_nanos() / 8_000).min(*least);
+        }
+    }
+    for (least, (name, _)) in least.iter().zip(calls) {
+        println!("{least:4} {name}");
+    }
 }

@@ -30,6 +30,7 @@ pub unsafe fn input<'a, T>(start: *const T, len: usize) -> Option<&'a [T]> {
 /// No code here creates an `Out`, since each one is an argument that a C caller passes. The header requires a pointer
 /// to an object of type `T` that nothing else reads or writes during the call, or a null pointer.
 #[repr(transparent)]
+#[derive(Clone, Copy)]
 pub struct Out<T>(*mut T);
 
 impl<T> Out<T> {

@@ -1,11 +1,11 @@
 //! Calls that find languages, and that read special values.
 
 use crate::arguments::{input, Out};
-use crate::literals::{given, reader, Reader};
+use crate::literals::{given, reader_of, Forms, Reader, Syntax};
 use crate::names::{at, texts};
 use core::ffi::CStr;
 use core::ptr;
-use peltzivar::literal::{self, Language, Sign, Special, Spelling};
+use peltzivar::literal::{self, Form, Language, Sign, Special, Spelling};
 
 /// The spellings of special values, as null-terminated strings. A null pointer is an absent one.
 #[repr(C)]
@@ -49,13 +49,40 @@ const COUNT: usize = Language::ALL.len();
 
 /// The readers of the languages.
 static READERS: [Reader; COUNT] = {
-    let (mut readers, mut index) = ([const { reader(Language::JSON.syntax()) }; COUNT], 0);
+    let (mut readers, mut index) = ([const { reader_of(Language::JSON) }; COUNT], 0);
     while index < COUNT {
-        readers[index] = reader(Language::ALL[index].syntax());
+        readers[index] = reader_of(Language::ALL[index]);
         index += 1;
     }
     readers
 };
+
+/// Returns the number of forms that the languages before one have.
+const fn forms_before(language: usize) -> usize {
+    let (mut count, mut index) = (0, 0);
+    while index < language {
+        count += Language::ALL[index].forms().len();
+        index += 1;
+    }
+    count
+}
+
+/// Returns the name of a form by its index among those of all languages.
+const fn form_name(index: usize) -> &'static str {
+    let mut language = 0;
+    while forms_before(language + 1) <= index {
+        language += 1;
+    }
+    Language::ALL[language].forms()[index - forms_before(language)].name
+}
+
+/// Returns the index of the language that a reader reads, and its forms.
+fn language_of(reader: Option<&Reader>) -> Option<(usize, &'static [Form])> {
+    match reader.and_then(Reader::value)? {
+        Forms::Language(language) => Some((Language::ALL.iter().position(|it| it == language)?, language.forms())),
+        Forms::Syntax(_) => None,
+    }
+}
 
 const fn or_empty(spelling: Option<&'static [u8]>) -> &'static [u8] {
     match spelling {
@@ -66,6 +93,7 @@ const fn or_empty(spelling: Option<&'static [u8]>) -> &'static [u8] {
 
 texts! {
     NAMES: [32; COUNT] = |index| Language::ALL[index].name().as_bytes();
+    FORM_NAMES: [32; forms_before(COUNT)] = |index| form_name(index).as_bytes();
     NAN: [16; COUNT] = |index| or_empty(Language::ALL[index].specials().nan);
     INF: [16; COUNT] = |index| or_empty(Language::ALL[index].specials().inf);
     INFINITY: [16; COUNT] = |index| or_empty(Language::ALL[index].specials().infinity);
@@ -78,7 +106,7 @@ calls! {
         let (nan, inf, infinity) = (spelling(specials.nan), spelling(specials.inf), spelling(specials.infinity));
         let specials = literal::Specials { nan, inf, infinity };
         let given = given(reader, text, len).ok();
-        out.write_some(given.and_then(|(reader, text)| specials.read(&reader.syntax(), text)))
+        out.write_some(given.and_then(|(readers, text)| specials.read(&readers[0].syntax(), text)))
     }
 
     fn peltzivar_language(name: *const u8, len: usize, specials: Out<Specials>) -> *const Reader {
@@ -89,4 +117,14 @@ calls! {
     }
 
     fn peltzivar_language_name(index: usize) -> *const u8 { at(&NAMES, index) }
+
+    fn peltzivar_form_name(reader: Option<&Reader>, form: usize) -> *const u8 {
+        let language = language_of(reader).filter(|(_, forms)| form < forms.len());
+        at(&FORM_NAMES, language.map_or(usize::MAX, |(language, _)| forms_before(language) + form))
+    }
+
+    fn peltzivar_form_syntax(reader: Option<&Reader>, form: usize, out: Out<Syntax>) -> bool {
+        let form = language_of(reader).and_then(|(_, forms)| forms.get(form));
+        out.write_some(form.map(|form| form.syntax))
+    }
 }

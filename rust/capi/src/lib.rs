@@ -33,7 +33,9 @@ mod numbers;
 mod reasons;
 mod settings;
 mod texts;
+mod values;
 mod words;
+mod writing;
 
 /// Ends the program. No call panics, so this function is never called.
 #[cfg(not(test))]

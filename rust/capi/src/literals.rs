@@ -5,25 +5,35 @@ use crate::numbers::{error_number, ErrorNumber, Setter, Word, NO_PART, NO_SETTER
 use core::fmt::Display;
 use core::mem::ManuallyDrop;
 use core::ops::Range;
-use peltzivar::literal::{self, ReadErrorKind};
+use core::slice;
+use peltzivar::literal::{self, Conditions, FormError, Language, Number, ReadErrorKind, Readers};
 use peltzivar::{Error, Format, FormatError};
 
-/// A word with an exponent character and a decimal point, which may be refused. If both are 0, literals are integers.
+/// A word with an exponent character, a decimal point and conditions, which may be refused. If both are 0, literals are
+/// integers. A condition is 0 if there is none.
 #[repr(C)]
 pub struct Syntax {
     format: Word,
     exponent: u8,
     decimal_point: u8,
+    required_base_prefix: u8,
+    required_base_suffix: u8,
+    no_negative_mantissa_sign: u8,
 }
 
 impl Syntax {
     /// Returns the checked syntax.
     fn checked(&self) -> Result<literal::Syntax, FormatError> {
         let format = Format::new(self.format.number())?;
-        match (self.exponent, self.decimal_point) {
-            (0, 0) => Ok(literal::Syntax::integers(format)),
-            (exponent, point) => literal::Syntax::new(format, exponent, point),
-        }
+        let syntax = match (self.exponent, self.decimal_point) {
+            (0, 0) => literal::Syntax::integers(format),
+            (exponent, point) => literal::Syntax::new(format, exponent, point)?,
+        };
+        let conditions = Conditions::NONE
+            .required_base_prefix(self.required_base_prefix != 0)
+            .required_base_suffix(self.required_base_suffix != 0)
+            .no_negative_mantissa_sign(self.no_negative_mantissa_sign != 0);
+        Ok(syntax.with(conditions)?)
     }
 
     /// Returns the numbers of a syntax.
@@ -32,7 +42,15 @@ impl Syntax {
             (Some(exponent), Some(point)) => (exponent, point),
             _ => (0, 0),
         };
-        Syntax { format: Word::of(syntax.format().word()), exponent, decimal_point }
+        let conditions = syntax.conditions();
+        Syntax {
+            format: Word::of(syntax.format().word()),
+            exponent,
+            decimal_point,
+            required_base_prefix: conditions.required_base_prefix as u8,
+            required_base_suffix: conditions.required_base_suffix as u8,
+            no_negative_mantissa_sign: conditions.no_negative_mantissa_sign as u8,
+        }
     }
 }
 
@@ -65,21 +83,49 @@ impl<Shown, T, const WORDS: usize> Made<Shown, T, WORDS> {
     }
 
     /// Returns the value, or `None` if no call has made it.
-    fn value(&self) -> Option<&T> {
+    pub fn value(&self) -> Option<&T> {
         // SAFETY: with this number, `new` made the value, as the header requires.
         (self.magic == Self::MAGIC).then(|| unsafe { &*self.words.value })
     }
 }
 
-/// A reader. It has no pointer, so a copy is a reader, too.
-pub type Reader = Made<Syntax, literal::Reader, 508>;
+/// A reader. It has no pointer to itself, so a copy is a reader, too.
+pub type Reader = Made<Syntax, Forms, 508>;
 
-/// Where reading stopped, with the length of what is valid.
-pub type ReadError = Made<usize, Refusal, 12>;
+/// What a reader reads: the literals of a syntax, or those of a language.
+#[allow(clippy::large_enum_variant, reason = "C has the memory of a reader, and nothing is allocated")]
+pub enum Forms {
+    Syntax(literal::Reader),
+    Language(Language),
+}
+
+impl Forms {
+    /// Returns the readers, at least one.
+    pub fn readers(&self) -> &[literal::Reader] {
+        match self {
+            Forms::Syntax(reader) => slice::from_ref(reader),
+            Forms::Language(language) => language.readers().as_slice(),
+        }
+    }
+}
+
+/// Where reading stopped: the length of what is valid, and the index of the form that goes so far.
+#[repr(C)]
+pub struct Stop {
+    valid_up_to: usize,
+    form: usize,
+}
+
+/// Where reading stopped, and why.
+pub type ReadError = Made<Stop, Refusal, 12>;
+
+/// A literal, with its parts. It borrows its text.
+pub type Literal<'a> = Made<Parts, literal::Literal<'a>, 14>;
 
 // The sizes and the alignment in the header.
 const _: () = assert!(size_of::<Reader>() == 4096 && align_of::<Reader>() <= 16);
-const _: () = assert!(size_of::<ReadError>() == 112 && align_of::<ReadError>() <= 16);
+const _: () = assert!(size_of::<ReadError>() == 128 && align_of::<ReadError>() <= 16);
+const _: () = assert!(size_of::<Literal>() == 288 && align_of::<Literal>() <= 16);
 
 /// Why a call refuses a text: a sentence on its other arguments, or where reading stopped.
 pub enum Refusal {
@@ -87,9 +133,9 @@ pub enum Refusal {
     Text(literal::ReadError),
 }
 
-/// Returns the reader of a syntax.
-pub const fn reader(syntax: literal::Syntax) -> Reader {
-    Made::new(Syntax::of(syntax), literal::Reader::new(syntax))
+/// Returns the reader of a language.
+pub const fn reader_of(language: Language) -> Reader {
+    Made::new(Syntax::of(language.forms()[0].syntax), Forms::Language(language))
 }
 
 /// The range of a piece of a text.
@@ -99,17 +145,19 @@ pub struct Span {
     end: usize,
 }
 
-/// The ranges of the parts of a literal, in the order of the text, and its length.
+/// The text of a literal, the ranges of its parts, in the order of the text, and its length.
 #[repr(C)]
-pub struct Literal {
+pub struct Parts {
+    text: *const u8,
     parts: [Span; 9],
     size: usize,
     is_float: bool,
+    form: u8,
 }
 
-impl From<literal::Literal<'_>> for Literal {
+impl<'a> Literal<'a> {
     #[inline(always)]
-    fn from(literal: literal::Literal<'_>) -> Literal {
+    fn of(literal: literal::Literal<'a>, form: usize) -> Literal<'a> {
         let mut size = 0;
         let parts = [
             literal.sign(),
@@ -129,7 +177,7 @@ impl From<literal::Literal<'_>> for Literal {
         });
         // `is_float` is not inlined.
         let is_float = !literal.point().is_empty() || !literal.exponent_character().is_empty();
-        Literal { parts, size, is_float }
+        Made::new(Parts { text: literal.as_bytes().as_ptr(), parts, size, is_float, form: form as u8 }, literal)
     }
 }
 
@@ -143,6 +191,7 @@ pub struct Explanation {
     kind: u8,
     number: Setter,
     part: u8,
+    conditions: u8,
 }
 
 impl From<literal::ReadError> for Explanation {
@@ -156,6 +205,9 @@ impl From<literal::ReadError> for Explanation {
             _ => (0, None),
         };
         let (Range { start, end }, code, mask) = (error.span(), error.code(), error.mask());
+        let Conditions { required_base_prefix, required_base_suffix, no_negative_mantissa_sign, .. } =
+            error.conditions();
+        let conditions = [required_base_prefix, required_base_suffix, no_negative_mantissa_sign];
         Explanation {
             span: Span { start, end },
             index: code.index().copied().unwrap_or(0),
@@ -164,47 +216,59 @@ impl From<literal::ReadError> for Explanation {
             kind,
             number: if mask == 0 { NO_SETTER } else { mask.trailing_zeros() as Setter },
             part: part.map_or(NO_PART, |part| part as u8),
+            conditions: conditions.iter().rev().fold(0, |bits, condition| bits << 1 | *condition as u8),
         }
     }
 }
 
-/// Returns the reader and the text, or why there are none.
+/// Returns the readers of the forms, at least one, and the text, or why there are none.
 ///
 /// # Safety
 ///
 /// As that of [`input`].
-pub unsafe fn given(
+pub unsafe fn given<'a>(
     reader: Option<&Reader>,
     text: *const u8,
     len: usize,
-) -> Result<(&literal::Reader, &[u8]), Refusal> {
-    let reader = reader.and_then(Reader::value).ok_or(Refusal::Argument("no call has made this reader"))?;
-    Ok((reader, input(text, len).ok_or(Refusal::Argument("the text has more than PTRDIFF_MAX bytes"))?))
+) -> Result<(&[literal::Reader], &'a [u8]), Refusal> {
+    let forms = reader.and_then(Reader::value).ok_or(Refusal::Argument("no call has made this reader"))?;
+    Ok((forms.readers(), input(text, len).ok_or(Refusal::Argument("the text has more than PTRDIFF_MAX bytes"))?))
 }
 
-/// Writes what `read` returns for a text, and returns whether it is a literal.
+/// Writes what `read` or, of several forms, `read_forms` returns for a text, and returns whether it is a literal.
 unsafe fn read_by<'a>(
-    (reader, text, len): (Option<&'a Reader>, *const u8, usize),
-    (literal, error): (Out<Literal>, Out<ReadError>),
-    read: impl Fn(&'a literal::Reader, &'a [u8]) -> Result<literal::Literal<'a>, literal::ReadError>,
+    (reader, text, len): (Option<&Reader>, *const u8, usize),
+    (literal, error): (Out<Literal<'a>>, Out<ReadError>),
+    read: impl Fn(&literal::Reader, &'a [u8]) -> Result<literal::Literal<'a>, literal::ReadError>,
+    read_forms: impl Fn(&Readers<'_>, &'a [u8]) -> Result<Number<'a>, FormError>,
 ) -> bool {
-    let (valid_up_to, refusal) = match given(reader, text, len) {
+    let (form, refusal) = match given(reader, text, len) {
         Err(refusal) => (0, refusal),
-        Ok((reader, text)) => match read(reader, text) {
-            Err(error) => (error.valid_up_to(), Refusal::Text(error)),
+        Ok(([reader], text)) => match read(reader, text) {
             Ok(found) => {
-                literal.write(found.into());
+                literal.write(Literal::of(found, 0));
                 return true;
             }
+            Err(error) => (0, Refusal::Text(error)),
+        },
+        Ok((readers, text)) => match Readers::new(readers).map(|readers| read_forms(&readers, text)) {
+            Some(Ok(Number::Literal { literal: found, form })) => {
+                literal.write(Literal::of(found, form));
+                return true;
+            }
+            Some(Err(FormError { form, error, .. })) => (form, Refusal::Text(error)),
+            _ => (0, Refusal::Argument("a number that is not a literal")),
         },
     };
-    error.write(Made::new(valid_up_to, refusal));
+    let valid_up_to = if let Refusal::Text(error) = &refusal { error.valid_up_to() } else { 0 };
+    error.write(Made::new(Stop { valid_up_to, form }, refusal));
     false
 }
 
 calls! {
     fn peltzivar_reader_init(reader: Out<Reader>, syntax: &Syntax) -> ErrorNumber {
-        reader.write_ok(syntax.checked().map(self::reader).map_err(Error::from))
+        let made = |syntax| Reader::new(Syntax::of(syntax), Forms::Syntax(literal::Reader::new(syntax)));
+        reader.write_ok(syntax.checked().map(made).map_err(Error::from))
     }
 
     fn peltzivar_syntax_error_text(syntax: &Syntax, text: *mut u8, len: usize) -> usize {
@@ -214,13 +278,14 @@ calls! {
     fn peltzivar_read(
         reader: Option<&Reader>, text: *const u8, len: usize, literal: Out<Literal>, error: Out<ReadError>
     ) -> bool {
-        read_by((reader, text, len), (literal, error), |reader, text| reader.read(text))
+        read_by((reader, text, len), (literal, error), |it, text| it.read(text), |it, text| it.read(text))
     }
 
     fn peltzivar_read_prefix(
         reader: Option<&Reader>, text: *const u8, len: usize, literal: Out<Literal>, error: Out<ReadError>
     ) -> bool {
-        read_by((reader, text, len), (literal, error), |reader, text| Ok(reader.read_prefix(text)?.0))
+        let read = |reader: &literal::Reader, text| Ok(reader.read_prefix(text)?.0);
+        read_by((reader, text, len), (literal, error), read, |it, text| Ok(it.read_prefix(text)?.0))
     }
 
     fn peltzivar_explain(error: &ReadError, out: Out<Explanation>) -> bool {

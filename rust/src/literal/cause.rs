@@ -7,7 +7,7 @@ use crate::literal::span::{error, span};
 use crate::literal::steps::{
     self, byte_class, has_digit, in_part, is_exponent_character, needs_exponent, Class, Summary,
 };
-use crate::literal::syntax::Grammar;
+use crate::literal::syntax::{Condition, Conditions, Grammar};
 use crate::literal::tables::summary_at;
 use crate::word as masks;
 use crate::word::{Part, Role};
@@ -24,12 +24,12 @@ pub enum Place {
     Consecutive,
 }
 
-/// The kind of a [`ReadError`]: the cause, without the flags that are to blame. Another cause may follow when this one is
+/// The kind of a [`ReadError`]: the cause, without the flags and conditions that are to blame. Another cause may follow when this one is
 /// mended.
 #[derive(Debug, Clone, Copy, PartialEq, Eq, Hash)]
 #[non_exhaustive]
 pub enum ReadErrorKind {
-    /// Flags are set whose requirements the text does not satisfy.
+    /// Flags are set, or the syntax has conditions, whose requirements the text does not satisfy.
     Requirement,
     /// A digit separator is not allowed in this part at this place.
     Separator(Part, Place),
@@ -69,6 +69,7 @@ pub struct Refusal {
     pub(crate) byte: Option<u8>,
     pub(crate) kind: ReadErrorKind,
     pub(crate) mask: u128,
+    pub(crate) conditions: Conditions,
     pub(crate) start: usize,
     pub(crate) end: usize,
     pub(crate) code: Error,
@@ -106,10 +107,17 @@ impl ReadError {
         self.explain().kind
     }
 
-    /// Returns the mask of the flags in a format word that are to blame. It is 0 for a wrong byte and for missing digits.
+    /// Returns the mask of the flags in a format word that are to blame. It is 0 for a wrong byte, for missing digits, and
+    /// where conditions alone are to blame.
     #[must_use]
     pub const fn mask(&self) -> u128 {
         self.explain().mask
+    }
+
+    /// Returns the conditions of the syntax that are to blame for a requirement: those that refuse the text alone.
+    #[must_use]
+    pub const fn conditions(&self) -> Conditions {
+        self.explain().conditions
     }
 
     /// Returns the first index and the end of the bytes to show. They may be none.
@@ -130,16 +138,19 @@ impl ReadError {
     pub(crate) const fn explain(&self) -> Refusal {
         let Spot { grammar, byte, marks, .. } = self.spot;
         let Blame { kind, mask } = self.spot.blame();
+        let conditions = self.spot.stop().unmet();
         let number = mask.trailing_zeros();
-        let (start, end) = span(grammar, marks, byte, kind, number);
+        let unmet = first_unmet(mask, conditions);
+        let (start, end) = span(grammar, marks, byte, kind, number, unmet);
         Refusal {
             valid_up_to: marks.size,
             byte,
             kind,
             mask,
+            conditions,
             start,
             end,
-            code: error(grammar, marks, kind, number, start),
+            code: error(grammar, marks, kind, number, unmet, start),
         }
     }
 }
@@ -147,11 +158,38 @@ impl ReadError {
 impl Spot {
     // Returns the kind, and the mask of the flags that are to blame.
     const fn blame(self) -> Blame {
-        let stop =
-            Stop { grammar: self.grammar, read: summary_at(self.row), next: class_of_next(self.grammar, self.byte) };
-        let Blame { kind, mask } = stop.blame(self.byte);
+        let Blame { kind, mask } = self.stop().blame(self.byte);
         // No bit of the mask is set but those of flags.
         Blame { kind, mask: mask & masks::FLAG_MASK }
+    }
+
+    // Returns what has been read, and what cannot follow.
+    const fn stop(self) -> Stop {
+        Stop { grammar: self.grammar, read: summary_at(self.row), next: class_of_next(self.grammar, self.byte) }
+    }
+}
+
+// Returns the first of the conditions `unmet` if no flag of `mask` is to blame.
+pub(crate) const fn first_unmet(mask: u128, unmet: Conditions) -> Option<Condition> {
+    if mask != 0 {
+        None
+    } else if unmet.required_base_prefix {
+        Some(Condition::BasePrefix)
+    } else if unmet.required_base_suffix {
+        Some(Condition::BaseSuffix)
+    } else if unmet.no_negative_mantissa_sign {
+        Some(Condition::NegativeSign)
+    } else {
+        None
+    }
+}
+
+// Returns one condition, and no others.
+const fn alone(condition: Condition) -> Conditions {
+    Conditions {
+        required_base_prefix: matches!(condition, Condition::BasePrefix),
+        required_base_suffix: matches!(condition, Condition::BaseSuffix),
+        no_negative_mantissa_sign: matches!(condition, Condition::NegativeSign),
     }
 }
 
@@ -197,9 +235,14 @@ struct Stop {
 }
 
 impl Stop {
-    // Returns whether the text could go on if the flags of the format were `mask`.
+    // Returns whether the text could go on if the flags of the format were `mask`, without conditions.
     const fn allows(self, mask: u128) -> bool {
-        let other = Grammar { word: mask, options: self.grammar.options };
+        self.allows_with(mask, Conditions::NONE)
+    }
+
+    // Returns whether the text could go on if the flags of the format were `mask`, with other conditions.
+    const fn allows_with(self, mask: u128, conditions: Conditions) -> bool {
+        let other = Grammar { word: mask, options: self.grammar.options, conditions };
         match self.next {
             None => steps::is_complete(other, self.read),
             Some(class) => matches!(steps::step(other, self.read, class), Some(_)),
@@ -242,10 +285,34 @@ impl Stop {
         let binding = self.binding();
         let alone = self.refusing() & binding;
         if alone != 0 {
-            alone
-        } else {
-            binding & ZEROS
+            return alone;
         }
+        if self.unmet().is_none() {
+            binding & ZEROS
+        } else {
+            0
+        }
+    }
+
+    // Returns the conditions to blame for a requirement: those that refuse alone.
+    const fn unmet(self) -> Conditions {
+        let set = self.grammar.conditions;
+        if set.is_none() {
+            return Conditions::NONE;
+        }
+        if !self.allows(self.bare()) {
+            return Conditions::NONE;
+        }
+        Conditions {
+            required_base_prefix: self.is_unmet(Condition::BasePrefix),
+            required_base_suffix: self.is_unmet(Condition::BaseSuffix),
+            no_negative_mantissa_sign: self.is_unmet(Condition::NegativeSign),
+        }
+    }
+
+    // Returns whether the syntax has a condition, and it alone refuses what cannot follow.
+    const fn is_unmet(self, condition: Condition) -> bool {
+        self.grammar.conditions.has(condition) && !self.allows_with(self.bare(), alone(condition))
     }
 
     // Returns whether what cannot follow is a separator, or is behind one.

@@ -5,7 +5,7 @@ use core::{iter::FusedIterator, slice};
 
 use crate::digit::char_to_valid_digit_const;
 use crate::format_flags::Part;
-use crate::literal::read::{cut, Found, Parts, Scanned};
+use crate::literal::read::{cut, Found, Parts};
 use crate::literal::{ReadError, Reader, Syntax};
 use crate::view::FormatView;
 
@@ -39,14 +39,8 @@ impl Reader {
         let view = self.syntax.format().view();
         match self.find(text) {
             Ok(counts) => Ok(Literal { text, counts, view }),
-            Err(scanned) => self.refused(text, scanned),
+            Err(error) => Err(error),
         }
-    }
-
-    /// Returns the error of a text, which is not copied, since this has the type of the caller.
-    #[cold]
-    const fn refused<T: Copy>(&self, text: &[u8], scanned: Scanned) -> Result<T, ReadError> {
-        Err(self.refuse(text, scanned))
     }
 
     /// Returns the longest literal that `text` begins with, and the rest of `text`, which may be anything. It looks at
@@ -80,7 +74,7 @@ impl Reader {
                 let (text, rest) = text.split_at(size);
                 Ok((Literal { text, counts, view }, rest))
             }
-            Err(scanned) => self.refused(text, scanned),
+            Err(error) => Err(error),
         }
     }
 }
@@ -112,22 +106,22 @@ impl Eq for Reader {}
 /// ```
 /// use peltzivar::literal::{Language, ParseError, ValueErrorKind};
 ///
-/// let literal = Language::TOML.reader().read(b"-9_223_372_036_854_775_808")?;
+/// let literal = Language::TOML.read(b"-9_223_372_036_854_775_808")?.literal().unwrap();
 /// assert_eq!(i64::try_from(literal), Ok(i64::MIN));
 /// assert_eq!(i32::try_from(literal).unwrap_err().to_string(), "below -2147483648, the least i32");
-/// assert_eq!(Language::RUST_HEX_INTEGER.reader().parse::<u16>("0xFFFF")?, u16::MAX);
+/// assert_eq!(Language::RUST.parse::<u16>("0xFFFF")?, u16::MAX);
 ///
 /// // A float is no integer, even if its value is whole.
-/// let literal = Language::SPREADSHEET_CSV.reader().read(b"1,234.50")?;
+/// let literal = Language::CSV_EN.read(b"1,234.50")?.literal().unwrap();
 /// assert_eq!(literal.to_i64().unwrap_err().kind(), ValueErrorKind::Float);
 /// assert_eq!(f64::try_from(literal)?, 1234.5);
 /// # Ok::<(), ParseError>(())
 /// ```
 #[derive(Clone, Copy, PartialEq, Eq, Hash)]
 pub struct Literal<'a> {
-    text: &'a [u8],
+    pub(super) text: &'a [u8],
     /// The lengths of the parts, by which [`cut`] finds a part when it is asked for.
-    counts: [usize; 9],
+    pub(super) counts: [usize; 9],
     /// The format, in normal form.
     pub(super) view: FormatView,
 }
@@ -241,17 +235,26 @@ impl AsRef<[u8]> for Literal<'_> {
 /// Prints the text that was read, with the width and the fill of the formatter. A precision is ignored.
 impl fmt::Display for Literal<'_> {
     fn fmt(&self, f: &mut fmt::Formatter<'_>) -> fmt::Result {
-        let missing = f.width().unwrap_or(0).saturating_sub(self.text.len());
-        let before = match f.align() {
-            Some(fmt::Alignment::Right) => missing,
-            Some(fmt::Alignment::Center) => missing / 2,
-            Some(fmt::Alignment::Left) | None => 0,
-        };
-        let fill = f.fill();
-        (0..before).try_for_each(|_| f.write_char(fill))?;
-        f.write_str(self.as_str())?;
-        (before..missing).try_for_each(|_| f.write_char(fill))
+        pad(f, self.text.len(), |f| f.write_str(self.as_str()))
     }
+}
+
+/// Prints a text of `length` characters with the width and the fill of the formatter.
+pub(super) fn pad(
+    f: &mut fmt::Formatter<'_>,
+    length: usize,
+    print: impl FnOnce(&mut fmt::Formatter<'_>) -> fmt::Result,
+) -> fmt::Result {
+    let missing = f.width().unwrap_or(0).saturating_sub(length);
+    let before = match f.align() {
+        Some(fmt::Alignment::Right) => missing,
+        Some(fmt::Alignment::Center) => missing / 2,
+        Some(fmt::Alignment::Left) | None => 0,
+    };
+    let fill = f.fill();
+    (0..before).try_for_each(|_| f.write_char(fill))?;
+    print(f)?;
+    (before..missing).try_for_each(|_| f.write_char(fill))
 }
 
 /// Writes the parts that are present, such as `Literal { integer: "1", point: ".", fraction: "5" }`.

@@ -58,9 +58,27 @@ impl Reader {
         self.syntax
     }
 
+    // Returns the lengths of the parts of the literal `text`, or why it is not one.
+    #[inline(always)]
+    pub(crate) const fn find(&self, text: &[u8]) -> Result<[usize; 9], ReadError> {
+        match self.lengths(text) {
+            Ok(counts) => Ok(counts),
+            Err(stopped) => Err(self.refuse(text, stopped)),
+        }
+    }
+
+    // Returns the longest front of `text` that is a literal, or why there is none.
+    #[inline(always)]
+    pub(crate) const fn find_front(&self, text: &[u8]) -> Result<Found, ReadError> {
+        match self.front(text) {
+            Ok(found) => Ok(found),
+            Err(stopped) => Err(self.refuse(text, stopped)),
+        }
+    }
+
     // Returns the lengths of the parts of the literal `text`, or where reading stopped if it is not one.
     #[inline(always)]
-    pub(crate) const fn find(&self, text: &[u8]) -> Result<[usize; 9], Scanned> {
+    pub(crate) const fn lengths(&self, text: &[u8]) -> Result<[usize; 9], Scanned> {
         let scanned = self.scan(text, false);
         if scanned.valid_up_to == text.len() && self.is_complete(scanned.row) {
             Ok(scanned.counts)
@@ -71,7 +89,7 @@ impl Reader {
 
     // Returns the longest front of `text` that is a literal, or where reading stopped if there is none.
     #[inline(always)]
-    pub(crate) const fn find_front(&self, text: &[u8]) -> Result<Found, Scanned> {
+    pub(crate) const fn front(&self, text: &[u8]) -> Result<Found, Scanned> {
         let scanned = self.scan(text, true);
         let Some(size) = scanned.literal else {
             return Err(scanned);
@@ -80,10 +98,17 @@ impl Reader {
             let counts = scanned.counts;
             return Ok(Found { size, counts });
         }
-        match self.find(front_of(text, size)) {
+        match self.lengths(front_of(text, size)) {
             Ok(counts) => Ok(Found { size, counts }),
-            Err(scanned) => Err(scanned),
+            Err(_) => Err(scanned),
         }
+    }
+
+    // Returns why `text`, which is not a literal, is none.
+    #[cold]
+    pub(crate) const fn explain(&self, text: &[u8]) -> ReadError {
+        let scanned = self.scan(text, false);
+        self.refuse(text, scanned)
     }
 
     // Reads `text` until no literal begins with what has been read. Seeks the longest front that is a literal if `seeks`
@@ -122,8 +147,8 @@ impl Reader {
     }
 
     // Returns why `text` is not a literal.
-    #[inline(always)]
-    pub(crate) const fn refuse(&self, text: &[u8], scanned: Scanned) -> ReadError {
+    #[cold]
+    const fn refuse(&self, text: &[u8], scanned: Scanned) -> ReadError {
         let grammar = self.syntax.grammar();
         let size = scanned.valid_up_to;
         let byte = byte_at(text, size);
@@ -143,7 +168,7 @@ impl Reader {
 // a literal, if it was sought, and the lengths of the parts of what has been read.
 #[derive(Clone, Copy)]
 pub(crate) struct Scanned {
-    valid_up_to: usize,
+    pub(crate) valid_up_to: usize,
     row: u8,
     literal: Option<usize>,
     counts: [usize; 9],

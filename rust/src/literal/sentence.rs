@@ -3,8 +3,9 @@
 use core::{fmt, ops::Range, str};
 
 use crate::edits::{Edit, FlagSetter};
-use crate::format_flags::{NO_FLOAT_LEADING_ZEROS, NO_INTEGER_LEADING_ZEROS};
-use crate::literal::cause::Refusal;
+use crate::format_flags::{base_prefix, base_suffix, NO_FLOAT_LEADING_ZEROS, NO_INTEGER_LEADING_ZEROS};
+use crate::literal::cause::{first_unmet, Refusal};
+use crate::literal::syntax::Condition;
 use crate::literal::{Place, ReadError, ReadErrorKind};
 use crate::short_text::ShortText;
 
@@ -36,7 +37,7 @@ impl ReadError {
     /// Returns the edits that end the cause, one for each flag to blame. Each edit that sets a separator flag ends it
     /// alone, and edits that clear other flags end it together. Another cause may follow. If two bytes of the syntax are
     /// the two cases of one letter, check the edited format again: they may no longer fit. The iterator is empty for a
-    /// wrong byte and for missing digits.
+    /// wrong byte, for missing digits and for [conditions][Self::conditions].
     ///
     /// ```
     /// use peltzivar::literal::{Reader, Syntax};
@@ -73,7 +74,10 @@ impl ReadError {
     /// ```
     #[must_use]
     pub const fn text(&self) -> ShortText {
-        let Refusal { kind, mask, .. } = self.explain();
+        let Refusal { kind, mask, conditions, .. } = self.explain();
+        if let Some(condition) = first_unmet(mask, conditions) {
+            return self.unmet(condition);
+        }
         match kind {
             ReadErrorKind::Requirement | ReadErrorKind::Case => requirement(mask),
             ReadErrorKind::Separator(part, place) => {
@@ -83,6 +87,32 @@ impl ReadError {
             ReadErrorKind::Missing(part) => ShortText::of("expected a digit of the ").and(part.name()),
             ReadErrorKind::Byte => unexpected(first_character(&self.wrong())),
         }
+    }
+}
+
+impl ReadError {
+    /// Returns the sentence for a condition.
+    const fn unmet(&self, condition: Condition) -> ShortText {
+        let view = self.spot.grammar.view();
+        match condition {
+            Condition::BasePrefix => {
+                let text = shown(ShortText::of("expected the prefix 0"), base_prefix(view.word()));
+                text.and(", which required_base_prefix requires")
+            }
+            Condition::BaseSuffix => {
+                let text = shown(ShortText::of("expected the suffix "), base_suffix(view.word()));
+                text.and(", which required_base_suffix requires")
+            }
+            Condition::NegativeSign => ShortText::of("unexpected minus sign, which no_negative_mantissa_sign forbids"),
+        }
+    }
+}
+
+/// Appends a byte as it is or, if it is not visible, in decimal.
+const fn shown(text: ShortText, byte: u8) -> ShortText {
+    match str::from_utf8(&[byte]) {
+        Ok(character) if byte.is_ascii_graphic() => text.and(character),
+        _ => text.and(" and the byte ").decimal(byte as usize),
     }
 }
 
@@ -119,7 +149,7 @@ impl core::error::Error for ReadError {}
 
 /// Prints `expected` and what is missing, or `unexpected` and what must not be there, and then the flags to blame, such as
 /// `unexpected plus sign, which no_positive_mantissa_sign forbids`. If several flags are to blame for a requirement, the
-/// sentence names the lowest, or both flags on leading zeros. For users of a language, who know no flags, `{:#}` leaves
+/// sentence names the lowest, or both flags on leading zeros. If only conditions are, it names the first. For users of a language, who know no flags, `{:#}` leaves
 /// out the flags, as in `unexpected plus sign` or `unexpected digit separator in the fraction after another`.
 impl fmt::Display for ReadError {
     fn fmt(&self, f: &mut fmt::Formatter<'_>) -> fmt::Result {

@@ -5,7 +5,7 @@
 use crate::error::Error;
 use crate::literal::cause::{Marks, Place, ReadErrorKind};
 use crate::literal::steps::is_digit;
-use crate::literal::syntax::Grammar;
+use crate::literal::syntax::{Condition, Grammar};
 use crate::word::Part;
 
 // A set of bytes.
@@ -93,17 +93,31 @@ const fn requirement_span(grammar: Grammar, marks: Marks, next: Option<u8>, numb
     }
 }
 
-// Returns the first index and the end of the bytes to show for a kind of error and its lowest flag.
+// Returns the first index and the end of the bytes to show for a condition.
+const fn condition_span(marks: Marks, condition: Condition) -> (usize, usize) {
+    match condition {
+        Condition::BasePrefix => (marks.first, marks.first),
+        Condition::BaseSuffix => (marks.size, marks.size),
+        Condition::NegativeSign => (marks.size, marks.size + 1),
+    }
+}
+
+// Returns the first index and the end of the bytes to show for a kind of error and its lowest flag, or its first condition if
+// no flag is to blame.
 pub(crate) const fn span(
     grammar: Grammar,
     marks: Marks,
     next: Option<u8>,
     kind: ReadErrorKind,
     number: u32,
+    unmet: Option<Condition>,
 ) -> (usize, usize) {
     let size = marks.size;
     match kind {
-        ReadErrorKind::Requirement => requirement_span(grammar, marks, next, number),
+        ReadErrorKind::Requirement => match unmet {
+            None => requirement_span(grammar, marks, next, number),
+            Some(condition) => condition_span(marks, condition),
+        },
         ReadErrorKind::Separator(_, Place::Consecutive) | ReadErrorKind::Case | ReadErrorKind::Byte => (size, size + 1),
         ReadErrorKind::Separator(_, _) if is_separator_next(grammar, next) => (marks.run, size + 1),
         ReadErrorKind::Separator(_, _) => (marks.run, size),
@@ -132,10 +146,22 @@ const fn requirement_error(grammar: Grammar, number: u32, start: usize, size: us
     }
 }
 
-// Returns the error for a kind of error and its lowest flag, where the bytes to show begin at `start`.
-pub(crate) const fn error(grammar: Grammar, marks: Marks, kind: ReadErrorKind, number: u32, start: usize) -> Error {
+// Returns the error for a kind of error and its lowest flag, or its first condition if no flag is to blame, where the bytes to
+// show begin at `start`.
+pub(crate) const fn error(
+    grammar: Grammar,
+    marks: Marks,
+    kind: ReadErrorKind,
+    number: u32,
+    unmet: Option<Condition>,
+    start: usize,
+) -> Error {
     match kind {
-        ReadErrorKind::Requirement => requirement_error(grammar, number, start, marks.size),
+        ReadErrorKind::Requirement => match unmet {
+            None => requirement_error(grammar, number, start, marks.size),
+            Some(Condition::NegativeSign) => Error::InvalidNegativeSign(start),
+            Some(_) => Error::InvalidDigit(start),
+        },
         ReadErrorKind::Missing(Part::Integer) if marks.run == marks.size => Error::Empty(start),
         _ => Error::InvalidDigit(start),
     }

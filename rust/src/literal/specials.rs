@@ -53,7 +53,8 @@ impl<'a> Specials<'a> {
     /// the spelling `+oo` matches `++oo`, and not `+oo`. The flags of the format decide the rest:
     ///
     /// - With `no_special`, no text is a special value.
-    /// - With `no_positive_mantissa_sign`, the sign is not `+`. With `required_mantissa_sign`, there is a sign.
+    /// - With `no_positive_mantissa_sign`, the sign is not `+`. With `required_mantissa_sign`, there is a sign. With the
+    ///   condition `no_negative_mantissa_sign`, the sign is not `-`. Other conditions do not matter.
     /// - The case of ASCII letters does not matter, unless `case_sensitive_special` is set.
     /// - With `special_digit_separator`, digit separators may be anywhere behind the sign: a text matches if what is
     ///   left of it, when some separators are left out, is the spelling. So a separator can also be a letter of the
@@ -96,14 +97,14 @@ const fn split_sign(text: &[u8]) -> (Option<Sign>, &[u8]) {
     }
 }
 
-// Returns whether the format allows special values with this sign.
+// Returns whether the format and the conditions allow special values with this sign.
 const fn allows(grammar: Grammar, sign: Option<Sign>) -> bool {
     let format = grammar.view();
     !format.no_special()
         && match sign {
             None => !format.required_mantissa_sign(),
             Some(Sign::Plus) => !format.no_positive_mantissa_sign(),
-            Some(Sign::Minus) => true,
+            Some(Sign::Minus) => !grammar.conditions.no_negative_mantissa_sign,
         }
 }
 

@@ -2,7 +2,7 @@
 
 //! The steps of a reader: what has been read of a number, changed by the class of one byte.
 
-use crate::literal::syntax::Grammar;
+use crate::literal::syntax::{Conditions, Grammar};
 use crate::word::{Part, Role};
 
 // A class of bytes: bytes of one class mean the same in a number.
@@ -231,7 +231,51 @@ const fn continues(grammar: Grammar, part: Part, stage: Stage, role: Role) -> bo
 
 // Returns whether what has been read is a literal.
 pub(crate) const fn is_complete(grammar: Grammar, read: Summary) -> bool {
-    read.ended || (ends(grammar, read) && continues(grammar, read.part, read.stage, Role::Suffix))
+    (read.ended || (ends(grammar, read) && continues(grammar, read.part, read.stage, Role::Suffix)))
+        && finishes(grammar.conditions, read)
+}
+
+// Returns whether the base prefix may still follow, or what is left of it.
+const fn lacks_prefix(stage: Stage) -> bool {
+    matches!(stage, Stage::Start | Stage::Empty | Stage::Bare)
+}
+
+// Returns whether a byte with the role `role`, the digit 0 if `zero` is true, is the sign before a base prefix, or one of its
+// own bytes.
+const fn leads_to_prefix(stage: Stage, zero: bool, role: Role) -> bool {
+    match (stage, role) {
+        (Stage::Bare, role) => matches!(role, Role::Prefix),
+        (_, Role::Sign) => true,
+        (_, Role::Digit) => zero,
+        _ => false,
+    }
+}
+
+// Returns whether a byte with the role `role`, which is a plus sign if `plus` is true, is a minus sign of the mantissa.
+const fn is_negative(part: Part, plus: bool, role: Role) -> bool {
+    matches!(role, Role::Sign) && !matches!(part, Part::Exponent) && !plus
+}
+
+// Returns whether the conditions let a byte with the role `role` follow.
+#[inline(always)]
+const fn admits(conditions: Conditions, read: Summary, plus: bool, zero: bool, role: Role) -> bool {
+    if conditions.is_none() {
+        return true;
+    }
+    some_admit(conditions, read, plus, zero, role)
+}
+
+// Returns the same. It is not inlined, so that steps without conditions take no longer.
+#[cold]
+const fn some_admit(conditions: Conditions, read: Summary, plus: bool, zero: bool, role: Role) -> bool {
+    let needs_prefix = conditions.required_base_prefix && lacks_prefix(read.stage);
+    (!needs_prefix || leads_to_prefix(read.stage, zero, role))
+        && !(conditions.no_negative_mantissa_sign && is_negative(read.part, plus, role))
+}
+
+// Returns whether the conditions let a literal end.
+const fn finishes(conditions: Conditions, read: Summary) -> bool {
+    !(conditions.required_base_prefix && lacks_prefix(read.stage)) && (!conditions.required_base_suffix || read.ended)
 }
 
 // Returns whether some literal goes on with a byte that has the role `role`, and is a plus sign if `plus` is true.
@@ -289,7 +333,11 @@ pub(crate) const fn step(grammar: Grammar, read: Summary, class: Class) -> Optio
     let plus = matches!(class, Class::Plus);
     let zero = matches!(class, Class::Zero);
     match in_part(read.part, class) {
-        Some(role) if !read.ended && takes(grammar, read, plus, role) => {
+        Some(role)
+            if !read.ended
+                && takes(grammar, read, plus, role)
+                && admits(grammar.conditions, read, plus, zero, role) =>
+        {
             Some(Move { summary: after(read, zero, role), piece: piece_of(read.part, role) })
         }
         _ => None,

@@ -2,6 +2,7 @@
 
 //! A lawful format with the bytes that a format does not define.
 
+use crate::format_flags::{base_prefix, base_suffix};
 use crate::literal::steps::{byte_class, role_of};
 use crate::word::{Format, FormatError, FormatView, Role};
 
@@ -14,11 +15,64 @@ pub struct Options {
     pub point: u8,
 }
 
-// Any format, with any options. Without options, literals are integers alone.
+/// What a syntax requires of its literals beside what the flags of its format require.
+#[derive(Debug, Clone, Copy, PartialEq, Eq, PartialOrd, Ord, Hash, Default)]
+#[non_exhaustive]
+pub struct Conditions {
+    /// A literal has the base prefix.
+    pub required_base_prefix: bool,
+    /// A literal has the base suffix.
+    pub required_base_suffix: bool,
+    /// The sign of a literal is not `-`. The sign of its exponent may be.
+    pub no_negative_mantissa_sign: bool,
+}
+
+impl Conditions {
+    /// No conditions.
+    pub const NONE: Conditions =
+        Conditions { required_base_prefix: false, required_base_suffix: false, no_negative_mantissa_sign: false };
+
+    // Returns whether `condition` is one of them.
+    pub(crate) const fn has(self, condition: Condition) -> bool {
+        match condition {
+            Condition::BasePrefix => self.required_base_prefix,
+            Condition::BaseSuffix => self.required_base_suffix,
+            Condition::NegativeSign => self.no_negative_mantissa_sign,
+        }
+    }
+
+    /// Returns whether there are no conditions.
+    #[must_use]
+    pub const fn is_none(self) -> bool {
+        !(self.required_base_prefix | self.required_base_suffix | self.no_negative_mantissa_sign)
+    }
+}
+
+// One of `Conditions`.
+#[derive(Debug, Clone, Copy, PartialEq, Eq, Hash)]
+pub enum Condition {
+    BasePrefix,
+    BaseSuffix,
+    NegativeSign,
+}
+
+/// Why a syntax cannot have [`Conditions`]: no text could satisfy both them and the format. A lawful format that requires a
+/// sign allows `+`, so it can forbid `-`.
+#[derive(Debug, Clone, Copy, PartialEq, Eq, Hash)]
+#[non_exhaustive]
+pub enum ConditionsError {
+    /// The base prefix is required, and the format has none.
+    NoBasePrefix,
+    /// The base suffix is required, and the format has none.
+    NoBaseSuffix,
+}
+
+// Any format, with any options and conditions. Without options, literals are integers alone.
 #[derive(Debug, Clone, Copy, PartialEq, Eq, Hash)]
 pub struct Grammar {
     pub(crate) word: u128,
     pub(crate) options: Option<Options>,
+    pub(crate) conditions: Conditions,
 }
 
 impl Grammar {
@@ -29,13 +83,15 @@ impl Grammar {
 }
 
 /// What a literal is read by: a lawful format, with an exponent character and a decimal point that fit it, or without
-/// both. Without both, literals are integers.
+/// both, and conditions. Without both, literals are integers.
 ///
-/// Syntaxes are ordered by the words of their formats, and then by the options. Integers alone come first.
+/// Syntaxes are ordered by the words of their formats, then by the options, and then by the conditions. Integers alone
+/// come first.
 #[derive(Clone, Copy, PartialEq, Eq, PartialOrd, Ord, Hash)]
 pub struct Syntax {
     format: Format,
     options: Option<Options>,
+    conditions: Conditions,
 }
 
 impl Syntax {
@@ -51,7 +107,9 @@ impl Syntax {
     pub const fn new(format: Format, exponent: u8, point: u8) -> Result<Syntax, FormatError> {
         let normal = format.normal_form();
         match normal.check_options(exponent, point) {
-            Ok(()) => Ok(Syntax { format: normal, options: Some(Options { exponent, point }) }),
+            Ok(()) => {
+                Ok(Syntax { format: normal, options: Some(Options { exponent, point }), conditions: Conditions::NONE })
+            }
             Err(error) => Err(error),
         }
     }
@@ -59,7 +117,19 @@ impl Syntax {
     /// Returns the syntax of the integers of a format. Equivalent formats have the same syntax.
     #[must_use]
     pub const fn integers(format: Format) -> Syntax {
-        Syntax { format: format.normal_form(), options: None }
+        Syntax { format: format.normal_form(), options: None, conditions: Conditions::NONE }
+    }
+
+    /// Returns the same syntax with `conditions`, and no others.
+    ///
+    /// # Errors
+    ///
+    /// If the format contradicts the conditions, returns the first error in the order of [`ConditionsError`].
+    pub const fn with(self, conditions: Conditions) -> Result<Syntax, ConditionsError> {
+        match contradiction(self.grammar(), conditions) {
+            None => Ok(Syntax { format: self.format, options: self.options, conditions }),
+            Some(error) => Err(error),
+        }
     }
 
     /// Returns the format, which is in [normal form][Format::normal_form].
@@ -74,14 +144,31 @@ impl Syntax {
         self.options
     }
 
+    /// Returns the conditions.
+    #[must_use]
+    pub const fn conditions(&self) -> Conditions {
+        self.conditions
+    }
+
     /// Returns the only role of `byte`, or `None` if it plays no role.
     #[must_use]
     pub const fn role_of(&self, byte: u8) -> Option<Role> {
         role_of(byte_class(self.grammar(), byte))
     }
 
-    // Returns the format and the options.
+    // Returns the format, the options and the conditions.
     pub(crate) const fn grammar(&self) -> Grammar {
-        Grammar { word: self.format.word(), options: self.options }
+        Grammar { word: self.format.word(), options: self.options, conditions: self.conditions }
+    }
+}
+
+// Returns the first error of `conditions` with the format of `grammar`.
+const fn contradiction(grammar: Grammar, conditions: Conditions) -> Option<ConditionsError> {
+    if conditions.required_base_prefix && base_prefix(grammar.word) == 0 {
+        Some(ConditionsError::NoBasePrefix)
+    } else if conditions.required_base_suffix && base_suffix(grammar.word) == 0 {
+        Some(ConditionsError::NoBaseSuffix)
+    } else {
+        None
     }
 }

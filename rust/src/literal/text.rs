@@ -1,6 +1,7 @@
 //! Syntaxes as constants, and their text.
 
-use crate::{edits::Setter, lawful::Rejected, literal::Syntax, short_text::ShortText, word_text::word_text};
+use crate::literal::{Conditions, Syntax};
+use crate::{edits::Setter, lawful::Rejected, short_text::ShortText, word_text::word_text};
 use crate::{Error, Format, FormatError};
 use core::{fmt, str::FromStr};
 
@@ -20,8 +21,9 @@ impl Syntax {
     }
 }
 
-/// Prints the word of the normal form and, unless literals are integers, the exponent character and the decimal point
-/// in decimal, such as `0x0A0A0A0000000000000000000000000C 101 46`. [`FromStr`] parses this text into the same syntax.
+/// Prints the word of the normal form, unless literals are integers the exponent character and the decimal point in
+/// decimal, and the conditions as settings, such as `0x0A0A0A0000000000000000000000000C 101 46` or
+/// `0x00000A00780000000000000000000000 required_base_prefix=true`. [`FromStr`] parses this text into the same syntax.
 impl fmt::Display for Syntax {
     fn fmt(&self, f: &mut fmt::Formatter<'_>) -> fmt::Result {
         let word = word_text(self.format().word());
@@ -29,33 +31,43 @@ impl fmt::Display for Syntax {
         if let (Some(exponent), Some(point)) = (self.exponent(), self.point()) {
             text = text.and(" ").decimal(exponent.into()).and(" ").decimal(point.into());
         }
-        f.pad(text.as_str())
+        f.pad(self.conditions().append_to(text).as_str())
     }
 }
 
 /// Parses a lawful word, as [`Format`] does, alone or with two options, with a space before each. An option is what the
 /// setter `digit_separator` [takes][crate::Setter::parse], such as `'e'` or 101. If both are `none`, literals are
 /// integers. For an option that is missing or not a byte, the error's [`code`][FormatError::code] has the index at which
-/// it begins.
+/// it begins. Conditions may follow, with a space before each, as `Display` prints them.
 impl FromStr for Syntax {
     type Err = FormatError;
 
     fn from_str(text: &str) -> Result<Self, FormatError> {
-        let Some((word, options)) = text.split_once(' ') else {
-            return text.parse().map(Syntax::integers);
-        };
-        let format = word.parse()?;
-        let (exponent, point) = match options.strip_prefix("' ' ") {
-            Some(point) => ("' '", point),
-            None => options.split_once(' ').unwrap_or((options, "")),
-        };
-        let byte = |option: &str, rest: &str| match Setter::DigitSeparator.parse(option) {
-            Ok(edit) => Ok(edit.argument_byte()),
-            Err(_) => Err(FormatError::new(Error::InvalidDigit(text.len() - rest.len()), Rejected::Bytes)),
-        };
-        match (byte(exponent, options)?, byte(point, point)?) {
-            (0, 0) => Ok(Syntax::integers(format)),
-            (exponent, point) => Syntax::new(format, exponent, point),
+        let (mut front, mut conditions) = (text, Conditions::NONE);
+        while let Some((rest, setting)) = front.rsplit_once(' ') {
+            let Some(more) = conditions.with_setting(setting) else { break };
+            (front, conditions) = (rest, more);
         }
+        Ok(unconditional(front)?.with(conditions)?)
+    }
+}
+
+/// Parses a syntax without conditions.
+fn unconditional(text: &str) -> Result<Syntax, FormatError> {
+    let Some((word, options)) = text.split_once(' ') else {
+        return text.parse().map(Syntax::integers);
+    };
+    let format = word.parse()?;
+    let (exponent, point) = match options.strip_prefix("' ' ") {
+        Some(point) => ("' '", point),
+        None => options.split_once(' ').unwrap_or((options, "")),
+    };
+    let byte = |option: &str, rest: &str| match Setter::DigitSeparator.parse(option) {
+        Ok(edit) => Ok(edit.argument_byte()),
+        Err(_) => Err(FormatError::new(Error::InvalidDigit(text.len() - rest.len()), Rejected::Bytes)),
+    };
+    match (byte(exponent, options)?, byte(point, point)?) {
+        (0, 0) => Ok(Syntax::integers(format)),
+        (exponent, point) => Syntax::new(format, exponent, point),
     }
 }

@@ -28,7 +28,9 @@ use plain_float::{plain_float, text_to_float};
 pub trait FromLiteral: Sealed {}
 
 /// The conversions of a type, which only this crate calls.
-pub trait Sealed: for<'a> TryFrom<Literal<'a>, Error = ValueError> {
+pub trait Sealed:
+    for<'a> TryFrom<Literal<'a>, Error = ValueError> + for<'a> TryFrom<Number<'a>, Error = ValueError>
+{
     /// Returns the value of some literals that need no tables, and `None` for all other texts.
     fn from_plain(reader: &Reader, text: &[u8]) -> Option<Self>;
 }
@@ -39,8 +41,7 @@ impl Reader {
     /// ```
     /// use peltzivar::literal::Language;
     ///
-    /// assert_eq!(Language::C_HEX_FLOAT.reader().parse::<f64>("0x1.8p3"), Ok(12.0));
-    /// let reader = Language::TOML.reader();
+    /// let reader = &Language::TOML.readers().as_slice()[0];
     /// assert_eq!(reader.parse::<u16>("65_535"), Ok(65535));
     /// let error = reader.parse::<u16>("65_536").unwrap_err();
     /// assert_eq!(error.to_string(), "above 65535, the largest u16");
@@ -70,9 +71,9 @@ impl<'a> Literal<'a> {
     /// ```
     /// use peltzivar::literal::Language;
     ///
-    /// let literal = Language::RUST_HEX_INTEGER.reader().read(b"0xFF")?;
+    /// let literal = Language::RUST.read(b"0xFF")?.literal().unwrap();
     /// assert_eq!(u128::from_str_radix(&literal.plain().unwrap().to_string(), 16), Ok(255));
-    /// # Ok::<(), peltzivar::literal::ReadError>(())
+    /// # Ok::<(), peltzivar::literal::FormError>(())
     /// ```
     #[must_use]
     pub fn plain(&self) -> Option<impl fmt::Display + Clone + 'a> {
@@ -194,7 +195,12 @@ macro_rules! integers {
             impl Sealed for $type {
                 #[inline]
                 fn from_plain(reader: &Reader, text: &[u8]) -> Option<$type> {
-                    plain_integer(reader.syntax.format().view(), text)
+                    let syntax = reader.syntax;
+                    if syntax.conditions().is_none() {
+                        plain_integer(syntax.format().view(), text)
+                    } else {
+                        None
+                    }
                 }
             }
 
@@ -215,7 +221,7 @@ macro_rules! integers {
 
                 fn try_from(number: Number<'_>) -> Result<$type, ValueError> {
                     match number {
-                        Number::Literal(literal) => literal.try_into(),
+                        Number::Literal { literal, .. } => literal.try_into(),
                         Number::Special(_) => {
                             Err(ValueError { kind: ValueErrorKind::Special, target: Target::$Target })
                         }
@@ -317,7 +323,7 @@ macro_rules! floats {
 
                 fn try_from(number: Number<'_>) -> Result<$type, ValueError> {
                     match number {
-                        Number::Literal(literal) => literal.$to_float(),
+                        Number::Literal { literal, .. } => literal.$to_float(),
                         Number::Special(special) => Ok(special.$to_float()),
                     }
                 }
@@ -397,7 +403,7 @@ impl Number<'_> {
     ///
     /// assert_eq!(Language::TOML.read(b"6.022_140_76e23")?.to_f64(), 6.02214076e23);
     /// assert_eq!(Language::TOML.read(b"-inf")?.to_f64(), f64::NEG_INFINITY);
-    /// # Ok::<(), peltzivar::literal::ReadError>(())
+    /// # Ok::<(), peltzivar::literal::FormError>(())
     /// ```
     #[must_use]
     pub fn to_f64(&self) -> f64 {

@@ -8,6 +8,14 @@ use crate::number::numeral::{signed, Numeral};
 pub trait Integer: Copy {
     /// Returns the value of `numeral`, or `None` if it is not a value of this type.
     fn from_numeral(numeral: &Numeral) -> Option<Self>;
+
+    /// Returns whether the value is below 0, and the value without its sign.
+    fn sign_and_size(self) -> (bool, u128);
+}
+
+// Returns whether a value is below 0, and the value without its sign.
+const fn split(value: i128) -> (bool, u128) {
+    (value < 0, value.unsigned_abs())
 }
 
 // Returns the value of a numeral as a value of a type that has no sign.
@@ -34,11 +42,19 @@ impl Integer for u8 {
     fn from_numeral(numeral: &Numeral) -> Option<u8> {
         unsigned!(numeral as u8)
     }
+
+    fn sign_and_size(self) -> (bool, u128) {
+        (false, self as u128)
+    }
 }
 
 impl Integer for u16 {
     fn from_numeral(numeral: &Numeral) -> Option<u16> {
         unsigned!(numeral as u16)
+    }
+
+    fn sign_and_size(self) -> (bool, u128) {
+        (false, self as u128)
     }
 }
 
@@ -46,11 +62,19 @@ impl Integer for u32 {
     fn from_numeral(numeral: &Numeral) -> Option<u32> {
         unsigned!(numeral as u32)
     }
+
+    fn sign_and_size(self) -> (bool, u128) {
+        (false, self as u128)
+    }
 }
 
 impl Integer for u64 {
     fn from_numeral(numeral: &Numeral) -> Option<u64> {
         numeral.as_u64()
+    }
+
+    fn sign_and_size(self) -> (bool, u128) {
+        (false, self as u128)
     }
 }
 
@@ -58,11 +82,19 @@ impl Integer for usize {
     fn from_numeral(numeral: &Numeral) -> Option<usize> {
         unsigned!(numeral as usize)
     }
+
+    fn sign_and_size(self) -> (bool, u128) {
+        (false, self as u128)
+    }
 }
 
 impl Integer for u128 {
     fn from_numeral(numeral: &Numeral) -> Option<u128> {
         numeral.as_u128()
+    }
+
+    fn sign_and_size(self) -> (bool, u128) {
+        (false, self)
     }
 }
 
@@ -70,11 +102,19 @@ impl Integer for i8 {
     fn from_numeral(numeral: &Numeral) -> Option<i8> {
         signed!(numeral as i8)
     }
+
+    fn sign_and_size(self) -> (bool, u128) {
+        split(self as i128)
+    }
 }
 
 impl Integer for i16 {
     fn from_numeral(numeral: &Numeral) -> Option<i16> {
         signed!(numeral as i16)
+    }
+
+    fn sign_and_size(self) -> (bool, u128) {
+        split(self as i128)
     }
 }
 
@@ -82,11 +122,19 @@ impl Integer for i32 {
     fn from_numeral(numeral: &Numeral) -> Option<i32> {
         signed!(numeral as i32)
     }
+
+    fn sign_and_size(self) -> (bool, u128) {
+        split(self as i128)
+    }
 }
 
 impl Integer for i64 {
     fn from_numeral(numeral: &Numeral) -> Option<i64> {
         numeral.as_i64()
+    }
+
+    fn sign_and_size(self) -> (bool, u128) {
+        split(self as i128)
     }
 }
 
@@ -94,10 +142,18 @@ impl Integer for isize {
     fn from_numeral(numeral: &Numeral) -> Option<isize> {
         signed!(numeral as isize)
     }
+
+    fn sign_and_size(self) -> (bool, u128) {
+        split(self as i128)
+    }
 }
 
 impl Integer for i128 {
     fn from_numeral(numeral: &Numeral) -> Option<i128> {
         numeral.as_i128()
+    }
+
+    fn sign_and_size(self) -> (bool, u128) {
+        split(self)
     }
 }

@@ -7,7 +7,7 @@ use Rattle.lexical_util.specs.declared.feature_format.roles.Role.{Role}
 use Rattle.lexical_util.specs.declared.feature_format.roles.Role.TheVariants as roles
 use Rattle.lexical_util.specs.declared.format_flags.Part.{Part}
 use Rattle.lexical_util.specs.declared.format_flags.Part.TheVariants as parts
-use Rattle.lexical_literal.specs.Cause.{Allows, is_at, is_one_of, last_part, requirement_flags, with_flags}
+use Rattle.lexical_literal.specs.Cause.{Allows, is_at, is_one_of, last_part, requirement_flags, with_rules}
 use Rattle.lexical_literal.specs.Notation.{Notation}
 use Rattle.lexical_literal.specs.Additions.Summary.{byte_class, has_digit, in_part, is_complete, is_plus_class, step}
 use Rattle.lexical_literal.specs.declared.span.Kind.{Kind}
@@ -15,6 +15,7 @@ use Rattle.lexical_literal.specs.declared.span.Kind.TheVariants as kinds
 use Rattle.lexical_literal.specs.declared.cause.Place.{Place}
 use Rattle.lexical_literal.specs.declared.cause.Place.TheVariants as places
 use Rattle.lexical_literal.specs.declared.steps.Class.{Class}
+use Rattle.lexical_literal.specs.declared.syntax.Condition.{Condition}
 use Rattle.lexical_literal.specs.declared.steps.Summary.{Summary}
 
 -- `allows m s next` is true if a byte of the class `next` may follow, or if a literal has been read, where `next` is `None`.
@@ -37,15 +38,18 @@ is_role roles.Point (Some roles.Point) = true
 is_role roles.Separator (Some roles.Separator) = true
 is_role _ _ = false
 
--- `IsWeaker m A` holds if the flags for which `A` is true require no more than those of `m`, and are no less otherwise.
-pub record IsWeaker (m : Notation) (A : Flag → Bool) : Type 0 where
+-- `IsWeaker m A D` holds if the flags for which `A` is true require no more than those of `m`, and are no less otherwise, and
+-- if each condition for which `D` is true is one of `m`.
+pub record IsWeaker (m : Notation) (A : Flag → Bool) (D : Condition → Bool) : Type 0 where
   pub no_more : (f : Flag) → IsTrue (A f && is_one_of requirement_flags f) → IsTrue (m.flag f)
   pub no_less : (f : Flag) → IsTrue (m.flag f) → IsTrue (A f || is_one_of requirement_flags f)
+  pub conditions : (c : Condition) → IsTrue (D c) → IsTrue (m.condition c)
 
 -- `Decides m s class front next` holds if what is allowed after `s` is what is allowed after `front`, with fewer
 -- requirements too.
 abbrev pub Decides : Notation → Summary → Option Class → List ℕ → Option ℕ → Type 0
-Decides m s class front next = (A : Flag → Bool) → IsWeaker m A → (allows (with_flags m A) s class ≡ true) ↔ Allows (with_flags m A) front next
+Decides m s class front next = (A : Flag → Bool) → (D : Condition → Bool) → IsWeaker m A D
+    → (allows (with_rules m A D) s class ≡ true) ↔ Allows (with_rules m A D) front next
 
 -- `class_of_next m next` is the class of the byte `next`, if there is one.
 abbrev pub class_of_next : Notation → Option ℕ → Option Class

@@ -8,13 +8,17 @@ use Rattle.lexical_util.specs.declared.feature_format.roles.Role.TheVariants as 
 use Rattle.lexical_literal.specs.Additions.Causes.{allows, class_of_next, is_own, is_role, place_of, role_of_next}
 use Rattle.lexical_literal.specs.Additions.Summary.{byte_class}
 use Rattle.lexical_literal.specs.Additions.Tables.{summary_at}
-use Rattle.lexical_literal.specs.Cause.{Explained, adding, bare, binds, case_set, error_of, is_one_of, leading_zero_flags, lowest, span_of}
+use Rattle.lexical_literal.specs.Cause.{Explained, adding, bare, binds, case_set, error_of, first_unmet, is_one_of, leading_zero_flags, lowest}
+use Rattle.lexical_literal.specs.Cause.{requiring, span_of}
 use Rattle.lexical_literal.specs.Notation.{Notation, notation_of}
 use Rattle.lexical_literal.specs.declared.cause.ReadErrorKind.{ReadErrorKind}
 use Rattle.lexical_literal.specs.declared.cause.ReadErrorKind.TheVariants as causes
 use Rattle.lexical_literal.specs.declared.cause.Refusal.{Refusal}
 use Rattle.lexical_literal.specs.declared.cause.Spot.{Spot}
 use Rattle.lexical_literal.specs.declared.steps.Class.{Class}
+use Rattle.lexical_literal.specs.declared.syntax.Condition.{Condition}
+use Rattle.lexical_literal.specs.declared.syntax.Condition.TheVariants as conditions
+use Rattle.lexical_literal.specs.declared.syntax.Conditions.{Conditions}
 use Rattle.lexical_literal.specs.declared.steps.Summary.{Summary}
 
 -- `mask_of flag` is the mask of the flags for which `flag` is true.
@@ -25,9 +29,26 @@ mask_of flag = word_of (record { flag = flag; byte = λ b. 0 })
 abbrev pub alone : Notation → Summary → Option Class → Flag → Bool
 alone m s next f = binds m f && not (allows (adding f (bare m)) s next)
 
+-- `unmet m s next c` is true if the condition `c` alone refuses what cannot follow `s`.
+abbrev pub unmet : Notation → Summary → Option Class → Condition → Bool
+unmet m s next c = m.condition c && (allows (bare m) s next && not (allows (requiring c (bare m)) s next))
+
+-- `some_unmet m s next` is true if some condition alone refuses what cannot follow `s`.
+abbrev pub some_unmet : Notation → Summary → Option Class → Bool
+some_unmet m s next = unmet m s next conditions.BasePrefix || (unmet m s next conditions.BaseSuffix || unmet m s next conditions.NegativeSign)
+
+-- `conditions_of C` has the conditions for which `C` is true.
+abbrev pub conditions_of : (Condition → Bool) → Conditions
+conditions_of C = record {
+  required_base_prefix = C conditions.BasePrefix;
+  required_base_suffix = C conditions.BaseSuffix;
+  no_negative_mantissa_sign = C conditions.NegativeSign;
+}
+
 -- `requirements m s next f` is true if the flag `f` is to blame for a requirement.
 abbrev pub requirements : Notation → Summary → Option Class → Flag → Bool
-requirements m s next f = if list_any (alone m s next) flags then alone m s next f else binds m f && is_one_of leading_zero_flags f
+requirements m s next f =
+    if list_any (alone m s next) flags || some_unmet m s next then alone m s next f else binds m f && is_one_of leading_zero_flags f
 
 -- `separators m s next f` is true if the flag `f` would allow a separator that is not allowed.
 abbrev pub separators : Notation → Summary → Option Class → Flag → Bool
@@ -62,21 +83,27 @@ blame m s next =
     if allows (bare m) s (class_of_next m next)
     then record { kind = causes.Requirement; flags = requirements m s (class_of_next m next) } else otherwise m s next
 
--- `answers m spot b f` has the answers for the cause of `b`, its flags, and the lowest of them, which is `f`.
-abbrev pub answers : Notation → Spot → Blamed → Flag → Refusal
-answers m spot b f = record {
+-- `answers m spot b unmet f c` has the answers for the cause of `b`, its flags, the lowest of them, which is `f`, and the
+-- conditions `unmet`, the first of which is `c` if no flag is to blame.
+abbrev pub answers : Notation → Spot → Blamed → Conditions → Flag → Option Condition → Refusal
+answers m spot b unmet f c = record {
   valid_up_to = spot.marks.size;
   byte = spot.byte;
   kind = b.kind;
   mask = mask_of b.flags;
-  start = (span_of m spot.marks spot.byte b.kind f).0;
-  end = (span_of m spot.marks spot.byte b.kind f).1;
-  code = error_of m spot.marks b.kind f (span_of m spot.marks spot.byte b.kind f).0;
+  conditions = unmet;
+  start = (span_of m spot.marks spot.byte b.kind f c).0;
+  end = (span_of m spot.marks spot.byte b.kind f c).1;
+  code = error_of m spot.marks b.kind f c (span_of m spot.marks spot.byte b.kind f c).0;
 }
 
 -- `refusal_of m spot` is what an error answers that was made at `spot`.
 abbrev pub refusal_of : Notation → Spot → Refusal
-refusal_of m spot = let b = blame m (summary_at spot.row) spot.byte in answers m spot b (lowest (mask_of b.flags))
+refusal_of m spot =
+    let b = blame m (summary_at spot.row) spot.byte in
+    let mask = mask_of b.flags in
+    let conditions = conditions_of (unmet m (summary_at spot.row) (class_of_next m spot.byte)) in
+    answers m spot b conditions (lowest mask) (first_unmet mask conditions)
 
 -- `explained spot` is the error that was made at `spot`.
 abbrev pub explained : Spot → Explained

@@ -4,6 +4,7 @@ use Rattle.std.specs.Prelude.{◌≡◌, ◌<◌, ◌≤◌}
 use Rattle.std.specs.Option.{ForSome}
 use Rattle.lexical_literal.specs.Notation.{Notation}
 use Rattle.lexical_literal.specs.Literal.{Literal, Reads}
+use Rattle.lexical_literal.specs.Cause.{Explained, IsRefusal}
 use Rattle.lexical_literal.specs.Front.{IsValidUpTo, NoLiteral, ReadsFront}
 use Rattle.lexical_literal.specs.Additions.Causes.{allows, class_of_next}
 use Rattle.lexical_literal.specs.Additions.Summary.{HasLengths, is_complete, scan, start}
@@ -32,25 +33,37 @@ pub record IsScanned (m : Notation) (seeks : Bool) (text : List ℕ) (scanned : 
   pub longest : IsTrue seeks → IsLongest m text (length text) scanned.literal
   pub counted : (l : Literal) → Reads m l (take scanned.valid_up_to text) → HasLengths l (cuts_of scanned.counts)
 
--- `IsStopped m text scanned` holds if `scanned` has the length of the longest front of `text` that some literal begins with,
--- and its summary, which does not allow what follows, so that `text` is not a literal.
-pub record IsStopped (m : Notation) (text : List ℕ) (scanned : Scanned) : Type 0 where
-  pub error : IsValidUpTo m text scanned.valid_up_to
-  pub row : scanned.row < ROWS
-  pub read : scan m (Some start) (take scanned.valid_up_to text) ≡ Some (summary_at scanned.row)
+-- `HasStopped m text scanned` holds if `scanned` is where reading `text` stopped, and the byte that follows is not allowed
+-- there, or no byte follows and what has been read is not a literal.
+pub record HasStopped (m : Notation) (text : List ℕ) (scanned : Scanned) : Type 0 where
+  pub seeks : Bool
+  pub is : IsScanned m seeks text scanned
   pub refused : allows m (summary_at scanned.row) (class_of_next m (slice_get text scanned.valid_up_to)) ≡ false
-  pub none : NoLiteral m text
 
--- `IsFound m text result` holds if `result` has the lengths of the parts of the literal `text`, or where reading stopped in
--- a text that is not a literal.
-pub record IsFound (m : Notation) (text : List ℕ) (result : Result (List ℕ) Scanned) : Type 0 where
+-- `IsMeasured m text result` holds if `result` has the lengths of the parts of the literal `text`, or is where reading a
+-- text that is not a literal stopped.
+pub record IsMeasured (m : Notation) (text : List ℕ) (result : Result (List ℕ) Scanned) : Type 0 where
   pub found : IfOk result (λ counts. (l : Literal) × Reads m l text)
   pub counted : (l : Literal) → Reads m l text → IsOkAnd result (λ counts. HasLengths l (cuts_of counts))
-  pub error : IfErr result (λ scanned. IsStopped m text scanned)
+  pub stopped : IfErr result (HasStopped m text)
 
--- `IsFoundFront m text result` holds if `result` has the length of the longest front of `text` that is a literal and the
--- lengths of its parts, or where reading stopped in a text of which no front is a literal.
-pub record IsFoundFront (m : Notation) (text : List ℕ) (result : Result Found Scanned) : Type 0 where
+-- `IsMeasuredFront m text result` holds if `result` has the length of the longest front of `text` that is a literal and
+-- the lengths of its parts, or is where reading a text of which no front is a literal stopped.
+pub record IsMeasuredFront (m : Notation) (text : List ℕ) (result : Result Found Scanned) : Type 0 where
   pub found : IfOk result (λ found. (l : Literal) × ReadsFront m l text found.size × HasLengths l (cuts_of found.counts))
   pub none : IsErr result → (size : ℕ) → size ≤ length text → NoLiteral m (take size text)
-  pub error : IfErr result (λ scanned. IsStopped m text scanned)
+  pub stopped : IfErr result (HasStopped m text)
+
+-- `IsFound m text result` holds if `result` has the lengths of the parts of the literal `text`, or is the error of a text
+-- that is not a literal.
+pub record IsFound (m : Notation) (text : List ℕ) (result : Result (List ℕ) Explained) : Type 0 where
+  pub found : IfOk result (λ counts. (l : Literal) × Reads m l text)
+  pub counted : (l : Literal) → Reads m l text → IsOkAnd result (λ counts. HasLengths l (cuts_of counts))
+  pub error : IfErr result (λ error. IsRefusal m text error.refusal)
+
+-- `IsFoundFront m text result` holds if `result` has the length of the longest front of `text` that is a literal and the
+-- lengths of its parts, or is the error of a text of which no front is a literal.
+pub record IsFoundFront (m : Notation) (text : List ℕ) (result : Result Found Explained) : Type 0 where
+  pub found : IfOk result (λ found. (l : Literal) × ReadsFront m l text found.size × HasLengths l (cuts_of found.counts))
+  pub none : IsErr result → (size : ℕ) → size ≤ length text → NoLiteral m (take size text)
+  pub error : IfErr result (λ error. IsRefusal m text error.refusal)

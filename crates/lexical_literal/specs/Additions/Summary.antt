@@ -19,6 +19,8 @@ use Rattle.lexical_literal.specs.declared.steps.Piece.TheVariants as pieces
 use Rattle.lexical_literal.specs.declared.steps.Stage.{Stage}
 use Rattle.lexical_literal.specs.declared.steps.Stage.TheVariants as stages
 use Rattle.lexical_literal.specs.declared.steps.Summary.{Summary}
+use Rattle.lexical_literal.specs.declared.syntax.Condition.{Condition}
+use Rattle.lexical_literal.specs.declared.syntax.Condition.TheVariants as conditions
 
 -- `byte_class m byte` is the class of `byte`.
 abbrev pub byte_class : Notation → ℕ → Class
@@ -177,9 +179,49 @@ continues m part stage role = false
 abbrev pub ends : Notation → Summary → Bool
 ends m s = is_signed m s.part s.stage && (gap_fits m s.part (has_digit s.stage) s.gap false && digits_suffice m s.part s.stage)
 
--- `is_complete m s` is true if what has been read is a literal.
+-- `lacks_prefix stage` is true if the base prefix may still follow, or what is left of it.
+abbrev pub lacks_prefix : Stage → Bool
+lacks_prefix stages.Start = true
+lacks_prefix stages.Empty = true
+lacks_prefix stages.Bare = true
+lacks_prefix _ = false
+
+-- `leads_to_prefix stage zero role` is true if a byte with the role `role`, the digit 0 if `zero` is true, is the sign before
+-- a base prefix, or one of its own bytes.
+abbrev pub leads_to_prefix : Stage → Bool → Role → Bool
+leads_to_prefix stages.Bare zero roles.Prefix = true
+leads_to_prefix stages.Bare zero _ = false
+leads_to_prefix stage zero roles.Sign = true
+leads_to_prefix stage zero roles.Digit = zero
+leads_to_prefix stage zero _ = false
+
+-- `is_negative part plus role` is true if a byte with the role `role`, which is a plus sign if `plus` is true, is a minus sign of the mantissa.
+abbrev pub is_negative : Part → Bool → Role → Bool
+is_negative parts.Exponent plus role = false
+is_negative part plus roles.Sign = not plus
+is_negative part plus role = false
+
+-- `no_condition` is true of no condition.
+abbrev pub no_condition : Condition → Bool
+no_condition c = false
+
+-- `admits C s plus zero role` is true if the conditions `C` let a byte with the role `role` follow.
+abbrev pub admits : (Condition → Bool) → Summary → Bool → Bool → Role → Bool
+admits C s plus zero role =
+    implies (C conditions.BasePrefix && lacks_prefix s.stage) (leads_to_prefix s.stage zero role)
+    && not (C conditions.NegativeSign && is_negative s.part plus role)
+
+-- `finishes C s` is true if the conditions `C` let a literal end.
+abbrev pub finishes : (Condition → Bool) → Summary → Bool
+finishes C s = not (C conditions.BasePrefix && lacks_prefix s.stage) && implies (C conditions.BaseSuffix) s.ended
+
+-- `complete_by C m s` is true if what has been read is a literal of the format of `m` and the conditions `C`, and
+-- `is_complete m s` if it is one of `m`.
+abbrev pub complete_by : (Condition → Bool) → Notation → Summary → Bool
+complete_by C m s = (s.ended || (ends m s && continues m s.part s.stage roles.Suffix)) && finishes C s
+
 abbrev pub is_complete : Notation → Summary → Bool
-is_complete m s = s.ended || (ends m s && continues m s.part s.stage roles.Suffix)
+is_complete m s = complete_by m.condition m s
 
 -- `takes m s plus role` is true if some literal goes on with a byte that has the role `role`, and is a plus sign if `plus` is true.
 abbrev pub takes : Notation → Summary → Bool → Role → Bool
@@ -204,14 +246,20 @@ after s zero roles.Point = record s { part = parts.Fraction; stage = after_point
 after s zero roles.Exponent = record s { part = parts.Exponent; stage = stages.Mark; gap = false }
 after s zero roles.Suffix = record s { ended = true }
 
--- `move m s plus zero role` is the summary after a byte with this role, or `None` if no literal begins so.
-abbrev pub move : Notation → Summary → Bool → Bool → Option Role → Option Summary
-move m s plus zero None = None
-move m s plus zero (Some role) = if not s.ended && takes m s plus role then Some (after s zero role) else None
+-- `move_by C m s plus zero role` is the summary after a byte with this role, or `None` if no literal of the format of `m` and
+-- the conditions `C` begins so.
+abbrev pub move_by : (Condition → Bool) → Notation → Summary → Bool → Bool → Option Role → Option Summary
+move_by C m s plus zero None = None
+move_by C m s plus zero (Some role) =
+    if not s.ended && (takes m s plus role && admits C s plus zero role) then Some (after s zero role) else None
 
--- `step m s class` is the summary after one more byte of `class`, or `None` if no literal begins so.
+-- `step_by C m s class` is the summary after one more byte of `class`, or `None` if no such literal begins so, and
+-- `step m s class` if no literal of `m` does.
+abbrev pub step_by : (Condition → Bool) → Notation → Summary → Class → Option Summary
+step_by C m s class = move_by C m s (is_plus_class class) (is_zero class) (in_part s.part class)
+
 abbrev pub step : Notation → Summary → Class → Option Summary
-step m s class = move m s (is_plus_class class) (is_zero class) (in_part s.part class)
+step m s class = step_by m.condition m s class
 
 -- `digits_piece part` is the piece of the digits of `part`.
 abbrev pub digits_piece : Part → Piece
@@ -261,26 +309,38 @@ IsMove m s class None = step m s class ≡ None
 IsMove m s class (Some next) =
     (step m s class ≡ Some next.summary) × ((c : Cuts) → count s.part (in_part s.part class) c ≡ add c next.piece)
 
--- `scan m s text` is the summary after the bytes of `text`.
-abbrev pub scan : Notation → Option Summary → List ℕ → Option Summary
-scan m s [] = s
-scan m None (byte ∷ text) = None
-scan m (Some s) (byte ∷ text) = scan m (step m s (byte_class m byte)) text
+-- `scan_by C m s text` is the summary after the bytes of `text`, with the conditions `C`, and `scan m s text` with those of `m`.
+abbrev pub scan_by : (Condition → Bool) → Notation → Option Summary → List ℕ → Option Summary
+scan_by C m s [] = s
+scan_by C m None (byte ∷ text) = None
+scan_by C m (Some s) (byte ∷ text) = scan_by C m (step_by C m s (byte_class m byte)) text
 
--- `is_accepted m s` is true if a text that ends with the summary `s` is a literal.
+abbrev pub scan : Notation → Option Summary → List ℕ → Option Summary
+scan m s text = scan_by m.condition m s text
+
+-- `accepted_by C m s` is true if a text that ends with the summary `s` is a literal, with the conditions `C`, and
+-- `is_accepted m s` with those of `m`.
+abbrev pub accepted_by : (Condition → Bool) → Notation → Option Summary → Bool
+accepted_by C m None = false
+accepted_by C m (Some s) = complete_by C m s
+
 abbrev pub is_accepted : Notation → Option Summary → Bool
-is_accepted m None = false
-is_accepted m (Some s) = is_complete m s
+is_accepted m s = accepted_by m.condition m s
 
 -- `start` is the summary before any byte.
 abbrev pub start : Summary
 start = record { part = parts.Integer; stage = stages.Start; gap = false; ended = false }
 
--- `tally m s c text` has the lengths of the parts after the bytes of `text`.
+-- `tally_by C m s c text` has the lengths of the parts after the bytes of `text`, with the conditions `C`, and `tally m s c text`
+-- with those of `m`.
+abbrev pub tally_by : (Condition → Bool) → Notation → Option Summary → Cuts → List ℕ → Cuts
+tally_by C m s c [] = c
+tally_by C m None c (byte ∷ text) = c
+tally_by C m (Some s) c (byte ∷ text) =
+    tally_by C m (step_by C m s (byte_class m byte)) (count s.part (in_part s.part (byte_class m byte)) c) text
+
 abbrev pub tally : Notation → Option Summary → Cuts → List ℕ → Cuts
-tally m s c [] = c
-tally m None c (byte ∷ text) = c
-tally m (Some s) c (byte ∷ text) = tally m (step m s (byte_class m byte)) (count s.part (in_part s.part (byte_class m byte)) c) text
+tally m s c text = tally_by m.condition m s c text
 
 -- `no_cuts` counts no bytes.
 abbrev pub no_cuts : Cuts

@@ -7,7 +7,7 @@ use crate::number::numeral::Numeral;
 use crate::word::FormatView;
 
 // Returns the value of the literal `text` if it has digits alone, of which the first is not 0, after `-` or no sign. For
-// some of these texts, and for all others, returns `None`.
+// some of these texts, and for all others, returns `None`. Literals have no conditions.
 #[inline(always)]
 pub(crate) fn plain_integer<T: Integer>(format: FormatView, text: &[u8]) -> Option<T> {
     if format.required_mantissa_sign() || format.required_exponent_notation() {

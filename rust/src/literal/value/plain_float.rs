@@ -31,6 +31,9 @@ struct Run<'a> {
 pub(crate) fn plain_float<F: Float>(syntax: Syntax, text: &[u8]) -> Option<F> {
     let options = syntax.options()?;
     let format = syntax.format().view();
+    if !syntax.conditions().is_none() {
+        return None;
+    }
     if !takes_plain(format) {
         return None;
     }
@@ -67,7 +70,7 @@ const fn takes_plain(format: FormatView) -> bool {
         && !format.no_exponent_without_fraction()
 }
 
-// Returns the parts of `text` if it is a literal with digits in each part, without leading zeros.
+// Returns the parts of `text` if it is a literal with digits in each part, without leading zeros. There are no conditions.
 #[inline(always)]
 fn read_plain<'a>(format: FormatView, options: Options, text: &'a [u8]) -> Option<Plain<'a>> {
     let (sign, unsigned) = split_sign(text, !format.no_positive_mantissa_sign());

@@ -13,11 +13,11 @@ returns-clause-one_reading c g is l k text first second =
     one_reading (notation_of g) (ready c.role_facts.ensures.disjoint c.role_facts.ensures.five c.role_facts.ensures.lawful g is) text l k first second
 
 pub returns-clause-same_literals : goal.returns-clause-same_literals
-returns-clause-same_literals c a b same options l text reads =
-    rw (← same_notation a b options ((c.normal_form_facts.ensures.equal a b).0 same)) reads
+returns-clause-same_literals c a b same options conditions l text reads =
+    rw (← same_notation a b options conditions ((c.normal_form_facts.ensures.equal a b).0 same)) reads
 
 pub returns-clause-roles : goal.returns-clause-roles
-returns-clause-roles c g l text reads = parts_have_roles (notation_of g) l reads.literal
+returns-clause-roles c g l text reads = parts_have_roles (notation_of g) l reads.literal.spelled
 
 pub returns-clause-one_cause : goal.returns-clause-one_cause
 returns-clause-one_cause c m front next cause other a b = one_cause m front a b next cause other
@@ -26,7 +26,10 @@ pub returns-clause-one_refusal : goal.returns-clause-one_refusal
 returns-clause-one_refusal c = one_refusal
 
 pub returns-clause-requirements : goal.returns-clause-requirements
-returns-clause-requirements c g l text reads = reads.literal.requirements
+returns-clause-requirements c g l text reads = reads.literal.spelled.requirements
+
+pub returns-clause-conditions : goal.returns-clause-conditions
+returns-clause-conditions c g l text reads = reads.literal.conditions
 
 pub returns-clause-digits : goal.returns-clause-digits
 returns-clause-digits c g is first digits not_zero all =

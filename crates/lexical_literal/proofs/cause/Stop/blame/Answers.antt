@@ -3,7 +3,7 @@ use Rattle.std.proofs.Common.{ℕ, ◌≡◌, ◌∙◌, Bool, true, false, if�
 use Rattle.lexical_util.specs.Layout.{Flag}
 use Rattle.lexical_literal.specs.Additions.Causes.{allows, class_of_next}
 use Rattle.lexical_literal.specs.Additions.Explained.{Blamed, blame, otherwise, requirements}
-use Rattle.lexical_literal.specs.Cause.{bare, with_flags}
+use Rattle.lexical_literal.specs.Cause.{bare, with_rules}
 use Rattle.lexical_util.specs.Record.{raw}
 use Rattle.lexical_literal.specs.declared.cause.Stop.{Stop}
 use Rattle.lexical_literal.specs.Notation.{Notation, notation_of}
@@ -17,7 +17,7 @@ module _ (stop : Stop) (next : Option ℕ) (is_next : stop.next ≡ class_of_nex
   abbrev m : Notation
   m = notation_of stop.grammar
 
-  by_test : (t : Bool) → t ≡ allows (with_flags m (raw bits).flag) stop.read stop.next → (o : Option ℕ) → next ≡ o
+  by_test : (t : Bool) → t ≡ allows (with_rules m (raw bits).flag (λ c. false)) stop.read stop.next → (o : Option ℕ) → next ≡ o
       → blame m stop.read next
       ≡ (if t then record { kind = causes.Requirement; flags = requirements m stop.read (class_of_next m next) } else otherwise m stop.read o)
   by_test t is o same = λ j. if sym (is ∙ (λ j. allows (as_bare m bits each j) stop.read (is_next j))) j

@@ -1,10 +1,10 @@
-use Rattle.std.proofs.Common.{◌≡◌, ◌^◌, ◌*◌, ◌%◌, ◌&&◌, ◌==◌, ◌||◌, if◌then◌else◌, Bool, bit_or, inl, inr, sym, ap, subst, ◌∙◌, arith}
+use Rattle.std.proofs.Common.{◌≡◌, ◌^◌, ◌*◌, ◌%◌, ◌&&◌, ◌==◌, ◌||◌, if◌then◌else◌, Bool, false, bit_or, inl, inr, sym, ap, subst, ◌∙◌, arith}
 use Rattle.std.proofs.lemmas.Bool.{cases_Bool, eqb-true}
 use Rattle.std.proofs.lemmas.Bool.Decides.{nat_tests}
 use Rattle.lexical_util.specs.Layout.{Flag, bit}
 use Rattle.lexical_util.specs.Record.{raw}
 use Rattle.lexical_literal.specs.Additions.Causes.{allows}
-use Rattle.lexical_literal.specs.Cause.{adding, bare, with_flags}
+use Rattle.lexical_literal.specs.Cause.{adding, bare, with_rules}
 use Rattle.lexical_literal.specs.Notation.{notation_of}
 use Rattle.lexical_literal.proofs.CauseLemmas.{flag_or, flag_pow, has_one, one_flag, shifted}
 use Rattle.lexical_literal.proofs.CauseLemmas.{same_flag}
@@ -24,7 +24,7 @@ is_flag c g is =
     let flag = shifted c.args.number c.requires ∙ ap (λ k. 2 ^ k) (sym is) in
     let one : (f : Flag) → (raw (bit_or (1 * 2 ^ c.args.number % 2 ^ 128) c.bare.result)).flag f ≡ ((bit f == bit g) || (bare m).flag f) =
     λ f. flag_or f (1 * 2 ^ c.args.number % 2 ^ 128) c.bare.result ∙ (λ j. (ap (λ n. (raw n).flag f) flag ∙ flag_pow f (bit g)) j || c.bare.ensures f j) in
-    let allowed = c.allows.ensures ∙ (λ j. allows (with_flags m (λ f. one f j)) c.args.self.read c.args.self.next) in
+    let allowed = c.allows.ensures ∙ (λ j. allows (with_rules m (λ f. one f j) (λ c. false)) c.args.self.read c.args.self.next) in
     c.flag_if.ensures ∙ (λ j. if allowed j then flag j else 0)
 
 pub returns-clause-each : goal.returns-clause-each

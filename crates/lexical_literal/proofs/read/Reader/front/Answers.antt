@@ -1,7 +1,7 @@
 -- The longest front that is a literal, and the lengths of its parts.
 use Rattle.std.proofs.lemmas.Bool.{false≢true}
-use Rattle.lexical_literal.proofs.LongestLemmas.{front_literal, front_counted, no_front, not_whole, stopped_there}
-use Rattle.lexical_literal.proofs.read.Reader.find_front.Goals as goal
+use Rattle.lexical_literal.proofs.LongestLemmas.{front_literal, front_counted, no_front, not_whole, stops}
+use Rattle.lexical_literal.proofs.read.Reader.front.Goals as goal
 
 pub returns-then-size-scanned : goal.returns-then-size-scanned
 returns-then-size-scanned c =
@@ -10,7 +10,7 @@ returns-then-size-scanned c =
     record {
       found = (l.0, l.1, front_counted _ _ _ is c.in-Some.size c.if-size-scanned.true l.0 l.1.reads);
       none = λ err. absurd (false≢true err);
-      error = tt;
+      stopped = tt;
     }
 
 pub returns-in-Ok : goal.returns-in-Ok
@@ -19,7 +19,7 @@ returns-in-Ok c =
     record {
       found = (l.0, l.1, c.in-Ok.ensures.counted l.0 (rw (c.front_of.ensures) l.1.reads));
       none = λ err. absurd (false≢true err);
-      error = tt;
+      stopped = tt;
     }
 
 pub returns-in-Err : goal.returns-in-Err
@@ -33,5 +33,5 @@ returns-in_default c =
     record {
       found = tt;
       none = λ err. no_front _ _ _ is c.in_default.not-Some;
-      error = stopped_there _ _ _ _ is (not_whole _ _ _ is c.in_default.not-Some);
+      stopped = stops _ _ _ _ is (not_whole _ _ _ is c.in_default.not-Some);
     }

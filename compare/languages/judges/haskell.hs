@@ -1,0 +1,29 @@
+-- The judge of Haskell: the lexer of GHC. Reads texts on standard input, and prints `-`, or `+` and the value.
+module Main (main) where
+
+import Control.Monad.IO.Class (liftIO)
+import Data.Maybe (fromMaybe)
+import GHC (getSessionDynFlags, runGhc)
+import GHC.Data.FastString (fsLit)
+import GHC.Data.StringBuffer (stringToStringBuffer)
+import GHC.Driver.Session (DynFlags, Language (Haskell2010), lang_set)
+import GHC.Parser.Lexer (ParseResult (..), Token (..), getMessages, lexTokenStream)
+import GHC.Types.Basic (FractionalLit (..), IntegralLit (..))
+import GHC.Data.Bag (isEmptyBag)
+import GHC.Types.SrcLoc (mkRealSrcLoc, unLoc)
+import System.Process (readProcess)
+
+judge :: DynFlags -> String -> String
+judge flags text = case lexTokenStream (stringToStringBuffer text) (mkRealSrcLoc (fsLit "") 1 1) flags of
+  POk state [token] | isEmptyBag (snd (getMessages state flags)) -> case unLoc token of
+    ITinteger (IL _ _ value) -> "+ " ++ show value
+    ITrational (FL _ _ value) -> "+ " ++ show (fromRational value :: Double)
+    _ -> "-"
+  _ -> "-"
+
+main :: IO ()
+main = do
+  folder <- init <$> readProcess "ghc" ["--print-libdir"] ""
+  runGhc (Just folder) $ do
+    flags <- getSessionDynFlags
+    liftIO $ interact (unlines . map (judge (lang_set flags (Just Haskell2010))) . lines)

@@ -1,0 +1,40 @@
+"""Judges of Python: `ast`, `tomllib` and `sqlite3`. Reads texts on standard input, and prints `-`, or `+` and the value."""
+import ast
+import sqlite3
+import sys
+import tomllib
+import warnings
+
+warnings.simplefilter("ignore")
+sys.set_int_max_str_digits(0)
+DATABASE = sqlite3.connect(":memory:")
+
+
+def python(text):
+    node = ast.parse(text, mode="eval").body
+    return node.value if isinstance(node, ast.Constant) and node.end_col_offset == len(text) else None
+
+
+def toml(text):
+    return tomllib.loads(f"x = {text}")["x"]
+
+
+def sqlite(text):
+    """A sign and a token, which is not an expression with a blank."""
+    for at in range(2 if text[:1] in ("+", "-") else 1, len(text)):
+        try:
+            DATABASE.execute(f"SELECT ({text[:at]} {text[at:]})")
+        except sqlite3.Error:
+            continue
+        return None
+    return DATABASE.execute(f"SELECT ({text})").fetchone()[0]
+
+
+judge = {"python": python, "toml": toml, "sqlite": sqlite}[sys.argv[1]]
+for line in sys.stdin:
+    try:
+        value = judge(line.rstrip("\n"))
+    except (SyntaxError, ValueError, sqlite3.Error):
+        value = None
+    is_number = isinstance(value, (int, float, complex)) and not isinstance(value, bool)
+    print(f"+ {value!r}" if is_number else "-")

@@ -1,0 +1,35 @@
+// The judge of C#: the tokenizer of mcs. Reads texts on standard input, and prints `-`, or `+` and the value.
+using System;
+using System.Collections.Generic;
+using System.Globalization;
+using System.IO;
+using System.Text;
+using Mono.CSharp;
+
+static class Judge {
+    const int EndOfFile = 257; // Mono.CSharp.Token.EOF
+
+    static string Answer(string text) {
+        var context = new CompilerContext(new CompilerSettings(), new StreamReportPrinter(TextWriter.Null));
+        var file = new SourceFile("", "", 0);
+        Location.Initialize(new List<SourceFile> { file });
+        var source = new CompilationSourceFile(new ModuleContainer(context), file);
+        var reader = new SeekableStreamReader(new MemoryStream(Encoding.ASCII.GetBytes(text + "\n")), Encoding.ASCII);
+        var tokenizer = new Tokenizer(reader, source, new ParserSession(), context.Report);
+        try {
+            tokenizer.token();
+            var value = (tokenizer.Value as Constant)?.GetValue();
+            bool isNumber = value is IConvertible && !(value is char || value is string);
+            return isNumber && tokenizer.token() == EndOfFile && context.Report.Errors == 0
+                ? "+ " + Convert.ToDouble(value).ToString("R", CultureInfo.InvariantCulture) : "-";
+        } catch (FormatException) {
+            return "-";
+        }
+    }
+
+    static void Main() {
+        var output = new StringBuilder();
+        for (string text; (text = Console.ReadLine()) != null; ) output.Append(Answer(text)).Append('\n');
+        Console.Write(output);
+    }
+}

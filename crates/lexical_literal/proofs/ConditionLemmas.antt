@@ -1,0 +1,265 @@
+-- The texts that are accepted with the conditions of a notation are its literals.
+use Rattle.std.proofs.Common.{ℕ, ◌≡◌, Bool, true, false, not, ◌==◌, ◌&&◌, ◌||◌, ◌+◌, inl, inr, if◌then◌else◌, nat_lt, List, [], ◌∷◌, ◌++◌, length}
+use Rattle.std.proofs.Common.{Option, Some, None, refl, sym, ap, subst, ◌∙◌, arith}
+use Rattle.std.proofs.lemmas.Bool.{false≢true, and_parts, and_from, cases_Bool, eqb-true}
+use Rattle.std.proofs.lemmas.Bool.Decides.{nat_tests}
+use Rattle.lexical_util.specs.Roles.{signs}
+use Rattle.lexical_util.specs.declared.feature_format.roles.Role.{Role}
+use Rattle.lexical_util.specs.declared.feature_format.roles.Role.TheVariants as roles
+use Rattle.lexical_util.specs.declared.format_flags.Part.TheVariants as parts
+use Rattle.lexical_literal.specs.Notation.{Notation}
+use Rattle.lexical_literal.specs.Literal.{Literal, IsLiteral, IsSpelled, Reads, condition, is_absent, is_none_or_one, is_none_or_prefix, is_plus, is_present}
+use Rattle.lexical_literal.specs.Literal.{text_of}
+use Rattle.lexical_literal.specs.Additions.Summary.{Cuts, HasLengths, add, admits, after, count, finishes, implies, is_fresh, is_negative}
+use Rattle.lexical_literal.specs.Additions.Summary.{lacks_prefix, no_condition, no_cuts, piece_number, piece_of, start, step_by, byte_class, takes, tally_by}
+use Rattle.lexical_literal.specs.declared.steps.Piece.{Piece}
+use Rattle.lexical_literal.specs.declared.steps.Piece.TheVariants as pieces
+use Rattle.lexical_literal.specs.declared.steps.Stage.{Stage}
+use Rattle.lexical_literal.specs.declared.steps.Stage.TheVariants as stages
+use Rattle.lexical_literal.specs.declared.steps.Summary.{Summary}
+use Rattle.lexical_literal.specs.declared.syntax.Condition.{Condition}
+use Rattle.lexical_literal.specs.declared.syntax.Condition.TheVariants as conditions
+use Rattle.lexical_literal.proofs.LiteralLemmas.{all_cuts, is_tail, spelled_arrives, spelled_from}
+use Rattle.lexical_literal.proofs.ScanLemmas.{Accepts, Arrives, HasRoles, Took, add_all, arrives_byte, digit_role, is_role, moved, none_accepts, role_in, took}
+use Rattle.lexical_literal.proofs.StepLemmas.{begins, reading}
+
+-- LENGTHS
+
+added : (c : Cuts) (piece other : Piece) (bytes : List ℕ)
+    → add_all c piece bytes other ≡ (if piece_number other == piece_number piece then c other + length bytes else c other)
+added c piece other [] = grind (arith, nat_tests)
+added c piece other (b ∷ bytes) = let rest = added (add c piece) piece other bytes in grind (arith, nat_tests)
+
+-- The lengths that are counted are those of the parts.
+pub has_lengths : (m : Notation) (l : Literal) → IsSpelled m l → HasLengths l (all_cuts l)
+has_lengths m l is = let twice = prefix l.prefix is.prefix in record {
+  sign = simp added (omega arith);
+  prefix = simp added (omega arith);
+  integer = simp added (omega arith);
+  point = simp added (omega arith);
+  fraction = simp added (omega arith);
+  exponent_character = simp added (omega arith);
+  exponent_sign = simp added (omega arith);
+  exponent = simp added (omega arith);
+} where
+  prefix : (x : List ℕ) → is_none_or_prefix m.prefix x ≡ true → length x ≡ length (is_tail x) + length (is_tail x)
+  prefix x one = grind arith
+
+suffix_length : (l : Literal) → all_cuts l pieces.Suffix ≡ length l.suffix
+suffix_length l = simp added (omega arith)
+
+-- A part with bytes is there.
+some_bytes : (x : List ℕ) → nat_lt 0 (length x) ≡ is_present x
+some_bytes [] = refl
+some_bytes (b ∷ x) = grind (arith, nat_tests)
+
+some_twice : (x : List ℕ) (n : ℕ) → length x ≡ n + n → nat_lt 0 n ≡ is_present x
+some_twice [] n is = grind (arith, nat_tests)
+some_twice (b ∷ x) n is = grind (arith, nat_tests)
+
+still : (c : Cuts) (p q : Piece) → nat_lt 0 (c q) ≡ true → nat_lt 0 (add c p q) ≡ true
+still c p q some = grind (arith, nat_tests)
+
+module _ (m : Notation) (h : HasRoles m) where
+  abbrev C : Condition → Bool
+  C = m.condition
+
+  abbrev O : Condition → Bool
+  O = no_condition
+
+  -- No piece gets shorter.
+  stays : (o : Option Summary) (c : Cuts) (text : List ℕ) (q : Piece) → nat_lt 0 (c q) ≡ true → nat_lt 0 (tally_by O m o c text q) ≡ true
+  stays o c [] q some = some
+  stays None c (b ∷ text) q some = some
+  stays (Some s) c (b ∷ text) q some = go (role_in m s.part b) (λ c. stays (step_by O m s (byte_class m b)) c text q) where
+    go : (r : Option Role) → ((c : Cuts) → nat_lt 0 (c q) ≡ true → nat_lt 0 (tally_by O m (step_by O m s (byte_class m b)) c text q) ≡ true)
+        → nat_lt 0 (tally_by O m (step_by O m s (byte_class m b)) (count s.part r c) text q) ≡ true
+    go None more = more c some
+    go (Some r) more = more (add c (piece_of s.part r)) (still c (piece_of s.part r) q some)
+
+  -- WHAT IS ACCEPTED IS AS THE CONDITIONS REQUIRE
+
+  -- `Shows s c` holds if the lengths `c` show whether the prefix and the suffix have been read.
+  record Shows (s : Summary) (c : Cuts) : Type 0 where
+    prefix : C conditions.BasePrefix ≡ true → (if lacks_prefix s.stage then not s.gap else nat_lt 0 (c pieces.Prefix)) ≡ true
+    suffix : nat_lt 0 (c pieces.Suffix) ≡ s.ended
+
+  shows_after : (s : Summary) (c : Cuts) (plus zero : Bool) (r : Role) → s.ended ≡ false → admits C s plus zero r ≡ true → Shows s c
+      → Shows (after s zero r) (add c (piece_of s.part r))
+  shows_after s c plus zero r going admitted shows = record {
+    prefix = λ set.
+        let some = still c (piece_of s.part r) pieces.Prefix in let before = shows.prefix set in grind (arith, nat_tests);
+    suffix = let before = shows.suffix in grind (arith, nat_tests);
+  }
+
+  counted : {P : Option Summary → Type 0} (s : Summary) (b : ℕ) (c : Cuts) (text : List ℕ) (t : Took C m s b P)
+      → tally_by O m (Some s) c (b ∷ text) ≡ tally_by O m (Some (after s (b == 48) t.role)) (add c (piece_of s.part t.role)) text
+  counted s b c text t = λ j. tally_by O m (is j) (count s.part (t.plays j) c) text where
+    is : step_by O m s (byte_class m b) ≡ Some (after s (b == 48) t.role)
+    is = moved O m h s b (Some t.role) t.plays ∙ (λ j. if not (t.going j) && (t.taken j && true) then Some (after s (b == 48) t.role) else None)
+
+  -- `Meets d` holds if the lengths `d` are as the conditions on the prefix and the suffix require.
+  abbrev Meets : Cuts → Type 0
+  Meets d = (C conditions.BasePrefix ≡ true → nat_lt 0 (d pieces.Prefix) ≡ true) × (C conditions.BaseSuffix ≡ true → nat_lt 0 (d pieces.Suffix) ≡ true)
+
+  meets : (s : Summary) (c : Cuts) (text : List ℕ) → Shows s c → Accepts C m (Some s) text → Meets (tally_by O m (Some s) c text)
+  meets s c [] shows is =
+      let end : finishes C s ≡ true = (and_parts _ (finishes C s) is).1 in (
+        λ set. let here = shows.prefix set in grind arith,
+        λ set. let here = shows.suffix in grind arith,
+      )
+  meets s c (b ∷ text) shows is =
+      let t = took C m h s b (λ o. Accepts C m o text) (none_accepts C m text) is in
+      subst Meets (sym (counted s b c text t))
+      (meets (after s (b == 48) t.role) (add c (piece_of s.part t.role)) text (shows_after s c (b == 43) (b == 48) t.role t.going t.admitted shows) t.rest)
+
+  positive : (sign rest : List ℕ) → is_none_or_one signs sign ≡ true → C conditions.NegativeSign ≡ true → Accepts C m (Some start) (sign ++ rest)
+      → (is_absent sign || is_plus sign) ≡ true
+  positive [] rest one set is = refl
+  positive (b ∷ []) rest one set is =
+      let t = took C m h start b (λ o. Accepts C m o rest) (none_accepts C m rest) is in
+      let same : t.role ≡ roles.Sign = let a = t.plays in let b = is_role m h parts.Integer roles.Sign b (λ e. cc) one in cc in
+      let admitted = subst (λ r. admits C start (b == 43) (b == 48) r ≡ true) same t.admitted in grind arith
+  positive (b ∷ x ∷ sign) rest one set is = absurd (false≢true one)
+
+  -- What is accepted is a literal.
+  pub literal_from : (text : List ℕ) → Accepts C m (Some start) text → (l : Literal) × Reads m l text
+  literal_from text is =
+      let found = spelled_from m h C text is in
+      let l = found.0 in
+      let spelled = found.2 in
+      let lengths = has_lengths m l spelled in
+      let tallied : tally_by O m (Some start) no_cuts text ≡ all_cuts l =
+      ap (tally_by O m (Some start) no_cuts) found.1 ∙ (spelled_arrives m h l spelled).1 in
+      let met = subst Meets tallied (meets start no_cuts text (record { prefix = λ set. refl; suffix = refl }) is) in
+      (l, record { whole = found.1; literal = record { spelled = spelled; conditions = each l text found.1 spelled is lengths met } }) where
+        each : (l : Literal) (text : List ℕ) → text ≡ text_of l → IsSpelled m l → Accepts C m (Some start) text → HasLengths l (all_cuts l)
+            → Meets (all_cuts l) → (c : Condition) → C c ≡ true → condition c l ≡ true
+        each l text whole spelled is lengths met conditions.BasePrefix set =
+            sym (some_twice l.prefix (all_cuts l pieces.Prefix) lengths.prefix) ∙ met.0 set
+        each l text whole spelled is lengths met conditions.BaseSuffix set =
+            sym (some_bytes l.suffix) ∙ ap (nat_lt 0) (sym (suffix_length l)) ∙ met.1 set
+        each l text whole spelled is lengths met conditions.NegativeSign set =
+            positive l.sign _ spelled.sign set (subst (Accepts C m (Some start)) whole is)
+
+  -- A LITERAL IS ACCEPTED
+
+  -- `Calm s` holds if the conditions refuse no byte that may follow otherwise.
+  record Calm (s : Summary) : Type 0 where
+    prefix : (C conditions.BasePrefix && lacks_prefix s.stage) ≡ false
+    sign : (C conditions.NegativeSign && (is_fresh s.stage && is_negative s.part false roles.Sign)) ≡ false
+
+  calm_admits : (s : Summary) (plus zero : Bool) (r : Role) → Calm s → takes m s plus r ≡ true → admits C s plus zero r ≡ true
+  calm_admits s plus zero roles.Sign calm taken = let a = calm.prefix in let b = calm.sign in grind arith
+  calm_admits s plus zero _ calm taken = let a = calm.prefix in grind arith
+
+  calm_after : (s : Summary) (zero : Bool) (r : Role) → Calm s → Calm (after s zero r)
+  calm_after s zero r calm = record { prefix = let a = calm.prefix in grind arith; sign = let b = calm.sign in grind arith }
+
+  peel : (s : Summary) (b : ℕ) (c : Cuts) (text : List ℕ) (d : Cuts) → Arrives O m (Some s) c (b ∷ text) d
+      → Took O m s b (λ o. Arrives O m o (count s.part (role_in m s.part b) c) text d)
+  peel s b c text d is = took O m h s b (λ o. Arrives O m o (count s.part (role_in m s.part b) c) text d) (λ none. none_accepts O m text none.0) is
+
+  module _ (d : Cuts) (has_suffix : C conditions.BaseSuffix ≡ true → nat_lt 0 (d pieces.Suffix) ≡ true) where
+    finished : (s : Summary) (c : Cuts) → (C conditions.BasePrefix && lacks_prefix s.stage) ≡ false → nat_lt 0 (c pieces.Suffix) ≡ s.ended
+        → Arrives O m (Some s) c [] d → Arrives C m (Some s) c [] d
+    finished s c prefix suffix is =
+        let same : c pieces.Suffix ≡ d pieces.Suffix = ap (λ (c : Cuts). c pieces.Suffix) is.1 in
+        (let done = is.0 in let need = has_suffix in grind arith, is.1)
+
+    shown : (s : Summary) (c : Cuts) (zero : Bool) (r : Role) → s.ended ≡ false → nat_lt 0 (c pieces.Suffix) ≡ s.ended
+        → nat_lt 0 (add c (piece_of s.part r) pieces.Suffix) ≡ (after s zero r).ended
+    shown s c zero r going suffix = grind (arith, nat_tests)
+
+    -- What arrives without conditions arrives with them, where they refuse nothing.
+    lift : (s : Summary) (c : Cuts) (text : List ℕ) → Calm s → nat_lt 0 (c pieces.Suffix) ≡ s.ended → Arrives O m (Some s) c text d
+        → Arrives C m (Some s) c text d
+    lift s c [] calm suffix is = finished s c calm.prefix suffix is
+    lift s c (b ∷ text) calm suffix is =
+        let t = peel s b c text d is in
+        let more = subst (λ o. Arrives O m (Some (after s (b == 48) t.role)) (count s.part o c) text d) t.plays t.rest in
+        arrives_byte C m h s b t.role c text d t.going t.plays t.taken (calm_admits s (b == 43) (b == 48) t.role calm t.taken)
+        (lift (after s (b == 48) t.role) (add c (piece_of s.part t.role)) text (calm_after s (b == 48) t.role calm)
+        (shown s c (b == 48) t.role t.going suffix) more)
+
+    -- One byte whose role is known, and what follows it.
+    one_byte : (s : Summary) (b : ℕ) (r : Role) (c : Cuts) (text : List ℕ) → role_in m s.part b ≡ Some r → admits C s (b == 43) (b == 48) r ≡ true
+        → (Arrives O m (Some (after s (b == 48) r)) (add c (piece_of s.part r)) text d → Arrives C m (Some (after s (b == 48) r)) (add c (piece_of s.part r)) text d)
+        → Arrives O m (Some s) c (b ∷ text) d → Arrives C m (Some s) c (b ∷ text) d
+    one_byte s b r c text role admitted more is =
+        let t = peel s b c text d is in
+        let same : t.role ≡ r = let a = t.plays in cc in
+        let rest = subst (λ r. Arrives O m (Some (after s (b == 48) r)) (add c (piece_of s.part r)) text d) same
+        (subst (λ o. Arrives O m (Some (after s (b == 48) t.role)) (count s.part o c) text d) t.plays t.rest) in
+        arrives_byte C m h s b r c text d t.going role (subst (λ r. takes m s (b == 43) r ≡ true) same t.taken) admitted (more rest)
+
+    -- The first byte behind the sign, which is none, where no prefix is required.
+    first_byte : (stage : Stage) (c : Cuts) (text : List ℕ) → C conditions.BasePrefix ≡ false → begins stage ≡ true → nat_lt 0 (c pieces.Suffix) ≡ false
+        → (is_fresh stage ≡ true → nat_lt 0 (d pieces.Sign) ≡ false)
+        → Arrives O m (Some (reading parts.Integer stage false)) c text d → Arrives C m (Some (reading parts.Integer stage false)) c text d
+    first_byte stage c [] none begin suffix unsigned is = finished (reading parts.Integer stage false) c (grind arith) suffix is
+    first_byte stage c (b ∷ text) none begin suffix unsigned is =
+        let s = reading parts.Integer stage false in
+        let t = peel s b c text d is in
+        let more = subst (λ o. Arrives O m (Some (after s (b == 48) t.role)) (count parts.Integer o c) text d) t.plays t.rest in
+        let other : (t.role ≡ roles.Sign) → ⊥ = λ sign.
+            let fresh : is_fresh stage ≡ true = let taken = subst (λ r. takes m s (b == 43) r ≡ true) sign t.taken in grind arith in
+            let counted = subst (λ r. Arrives O m (Some (after s (b == 48) r)) (add c (piece_of parts.Integer r)) text d) sign more in
+            false≢true (sym (unsigned fresh) ∙ ap (λ (c : Cuts). nat_lt 0 (c pieces.Sign)) (sym counted.1)
+            ∙ stays (Some (after s (b == 48) roles.Sign)) (add c pieces.Sign) text pieces.Sign (grind (arith, nat_tests))) in
+        arrives_byte C m h s b t.role c text d t.going t.plays t.taken (admitted t.role other)
+        (lift (after s (b == 48) t.role) (add c (piece_of parts.Integer t.role)) text (calm t.role other t.taken)
+        (shown s c (b == 48) t.role refl suffix) more) where
+          admitted : (r : Role) → (r ≡ roles.Sign → ⊥) → admits C (reading parts.Integer stage false) (b == 43) (b == 48) r ≡ true
+          admitted roles.Sign other = absurd (other refl)
+          admitted _ other = grind arith
+
+          calm : (r : Role) → (r ≡ roles.Sign → ⊥) → takes m (reading parts.Integer stage false) (b == 43) r ≡ true
+              → Calm (after (reading parts.Integer stage false) (b == 48) r)
+          calm roles.Sign other taken = absurd (other refl)
+          calm _ other taken = record { prefix = grind arith; sign = grind arith }
+
+    module _ (prefix rest : List ℕ) (is_prefix : is_none_or_prefix m.prefix prefix ≡ true) (has_prefix : C conditions.BasePrefix ≡ true → is_present prefix ≡ true) where
+      -- The prefix, where it is required.
+      prefixed : (stage : Stage) (c : Cuts) (x : List ℕ) → C conditions.BasePrefix ≡ true → begins stage ≡ true → nat_lt 0 (c pieces.Suffix) ≡ false
+          → is_none_or_prefix m.prefix x ≡ true → is_present x ≡ true
+          → Arrives O m (Some (reading parts.Integer stage false)) c (x ++ rest) d → Arrives C m (Some (reading parts.Integer stage false)) c (x ++ rest) d
+      prefixed stage c (z ∷ b ∷ []) set begin suffix one some is =
+          let both = and_parts (z == 48) _ one in
+          let zero = eqb-true z 48 both.0 in
+          let s = reading parts.Integer stage false in
+          let bare : after s true roles.Digit ≡ reading parts.Integer stages.Bare false = grind arith in
+          subst (λ z. Arrives C m (Some s) c (z ∷ b ∷ rest) d) (sym zero)
+          (one_byte s 48 roles.Digit c (b ∷ rest) (digit_role m h parts.Integer 48 (h.zero_is_digit parts.Integer)) (grind arith)
+          (λ more. subst (λ s. Arrives C m (Some s) (add c pieces.Integer) (b ∷ rest) d) (sym bare)
+          (one_byte (reading parts.Integer stages.Bare false) b roles.Prefix (add c pieces.Integer) rest
+          (is_role m h parts.Integer roles.Prefix b (λ e. cc) both.1) (grind arith)
+          (λ more. lift (reading parts.Integer stages.Free false) (add (add c pieces.Integer) pieces.Prefix) rest
+          (record { prefix = grind arith; sign = grind arith }) (grind (arith, nat_tests)) more)
+          (subst (λ s. Arrives O m (Some s) (add c pieces.Integer) (b ∷ rest) d) bare more)))
+          (subst (λ z. Arrives O m (Some s) c (z ∷ b ∷ rest) d) zero is))
+      prefixed stage c _ set begin suffix one some is = absurd (grind arith)
+
+      begun : (stage : Stage) (c : Cuts) → begins stage ≡ true → nat_lt 0 (c pieces.Suffix) ≡ false → (is_fresh stage ≡ true → nat_lt 0 (d pieces.Sign) ≡ false)
+          → Arrives O m (Some (reading parts.Integer stage false)) c (prefix ++ rest) d → Arrives C m (Some (reading parts.Integer stage false)) c (prefix ++ rest) d
+      begun stage c begin suffix unsigned is = elim (cases_Bool (C conditions.BasePrefix)) [
+        | inl set ↦ prefixed stage c prefix set begin suffix is_prefix (has_prefix set) is
+        | inr none ↦ first_byte stage c (prefix ++ rest) none begin suffix unsigned is
+      ]
+
+      signed : (sign : List ℕ) → is_none_or_one signs sign ≡ true → (C conditions.NegativeSign ≡ true → (is_absent sign || is_plus sign) ≡ true)
+          → nat_lt 0 (d pieces.Sign) ≡ is_present sign
+          → Arrives O m (Some start) no_cuts (sign ++ (prefix ++ rest)) d → Arrives C m (Some start) no_cuts (sign ++ (prefix ++ rest)) d
+      signed [] one plus count is = begun stages.Start no_cuts refl refl (λ fresh. count) is
+      signed (b ∷ []) one plus count is =
+          one_byte start b roles.Sign no_cuts (prefix ++ rest) (is_role m h parts.Integer roles.Sign b (λ e. cc) one) (let need = plus in grind arith)
+          (begun stages.Empty (add no_cuts pieces.Sign) refl refl (λ fresh. absurd (false≢true fresh))) is
+      signed (b ∷ x ∷ sign) one plus count is = absurd (false≢true one)
+
+  -- A literal is accepted, and its parts are counted.
+  pub literal_arrives : (l : Literal) → IsLiteral m l → Arrives C m (Some start) no_cuts (text_of l) (all_cuts l)
+  literal_arrives l is =
+      let lengths = has_lengths m l is.spelled in
+      signed (all_cuts l) (λ set. ap (nat_lt 0) (suffix_length l) ∙ some_bytes l.suffix ∙ is.conditions conditions.BaseSuffix set)
+      l.prefix _ is.spelled.prefix (is.conditions conditions.BasePrefix) l.sign is.spelled.sign (is.conditions conditions.NegativeSign)
+      (ap (nat_lt 0) (sym lengths.sign) ∙ some_bytes l.sign) (spelled_arrives m h l is.spelled)

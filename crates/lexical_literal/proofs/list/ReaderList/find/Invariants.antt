@@ -1,0 +1,14 @@
+use Rattle.std.proofs.Common.{All, length, take, ◌-◌}
+use Rattle.lexical_literal.specs.Front.{NoLiteral}
+use Rattle.lexical_literal.specs.Notation.{notation_of}
+use Rattle.lexical_literal.proofs.FormLemmas.{IsBest}
+use Rattle.lexical_literal.proofs.list.ReaderList.find.Given as goal
+
+abbrev pub invariant-loop-form : goal.invariant-loop-form
+invariant-loop-form l = record {
+  none : All (λ g. NoLiteral (notation_of g) l.text) (take l.form l.self-inside.readers.now);
+  best : IsBest l.self-inside.readers.now l.text l.form l.furthest;
+}
+
+abbrev pub decreases-loop-form : goal.decreases-loop-form
+decreases-loop-form l = length l.self-inside.readers.now - l.form

@@ -1,0 +1,14 @@
+use Rattle.std.proofs.Common.{◌≡◌, None, sym, ap, subst, ◌∙◌}
+use Rattle.lexical_util.specs.Record.{raw}
+use Rattle.lexical_literal.specs.Syntax.{contradiction}
+use Rattle.lexical_literal.specs.declared.syntax.Grammar.{Grammar}
+use Rattle.lexical_literal.proofs.syntax.Syntax.with.Goals as goal
+
+pub invariant_of-result : goal.invariant_of-result
+invariant_of-result c = record {
+  lawful = c.self.invariant.lawful;
+  normal = c.self.invariant.normal;
+  fit = c.self.invariant.fit;
+  conditions = subst (λ w. contradiction (raw w) c.args.conditions ≡ None) (ap (λ (g : Grammar). g.word) (c.grammar.ensures.value ∙ sym c.self.view_is))
+      (sym c.contradiction.ensures ∙ c.in-None.is);
+}

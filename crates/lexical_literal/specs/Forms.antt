@@ -1,0 +1,53 @@
+-- Several forms of one language: which form has a text, and which error a text has that is of no form.
+use Rattle.std.specs.Prelude.{ℕ, ◌<◌, ◌≤◌, IfErr, IfOk, IsErr, IsSomeAnd, List, Result, All, length, slice_get, take}
+use Rattle.lexical_literal.specs.Cause.{IsRefusal}
+use Rattle.lexical_literal.specs.Front.{IsValidUpTo, NoLiteral, ReadsFront}
+use Rattle.lexical_literal.specs.Literal.{Literal, Reads}
+use Rattle.lexical_literal.specs.Notation.{notation_of}
+use Rattle.lexical_literal.specs.Parts.{literal_of}
+use Rattle.lexical_literal.specs.declared.list.FormError.{FormError}
+use Rattle.lexical_literal.specs.declared.number.FormFront.{FormFront}
+use Rattle.lexical_literal.specs.declared.number.FormParts.{FormParts}
+use Rattle.lexical_literal.specs.declared.syntax.Grammar.{Grammar}
+
+-- `IsFirst forms text form l` holds if the form with the index `form` reads `text` with the parts of `l`, and no form before
+-- it reads `text`.
+pub record IsFirst (forms : List Grammar) (text : List ℕ) (form : ℕ) (l : Literal) : Type 0 where
+  pub reads : IsSomeAnd (slice_get forms form) (λ g. Reads (notation_of g) l text)
+  pub before : All (λ g. NoLiteral (notation_of g) text) (take form forms)
+
+-- `IsGreatest P forms form size` holds if `P` holds of the form with the index `form` and of `size`, of no form before it and
+-- of as great a number, and of no form and of a greater one.
+pub record IsGreatest (P : Grammar → ℕ → Type 0) (forms : List Grammar) (form size : ℕ) : Type 0 where
+  pub here : IsSomeAnd (slice_get forms form) (λ g. P g size)
+  pub before : All (λ g. (other : ℕ) → P g other → other < size) (take form forms)
+  pub others : All (λ g. (other : ℕ) → P g other → other ≤ size) forms
+
+-- `GoesTo text g size` holds if some literal of the form `g` begins with the first `size` bytes of `text`, and none with more.
+abbrev pub GoesTo : List ℕ → Grammar → ℕ → Type 0
+GoesTo text g size = IsValidUpTo (notation_of g) text size
+
+-- `HasFront text g size` holds if the longest front of `text` that is a literal of the form `g` has `size` bytes.
+abbrev pub HasFront : List ℕ → Grammar → ℕ → Type 0
+HasFront text g size = (l : Literal) × ReadsFront (notation_of g) l text size
+
+-- `IsFormError forms text error` holds if `error` is that of the form that goes furthest in `text`, the first of equals.
+pub record IsFormError (forms : List Grammar) (text : List ℕ) (error : FormError) : Type 0 where
+  pub furthest : IsGreatest (GoesTo text) forms error.form error.error.refusal.valid_up_to
+  pub refusal : IsSomeAnd (slice_get forms error.form) (λ g. IsRefusal (notation_of g) text error.error.refusal)
+
+-- `IsReadByForms forms text result` holds if `result` has the first form that reads `text`, with the parts, or the error of a
+-- text that no form reads.
+pub record IsReadByForms (forms : List Grammar) (text : List ℕ) (result : Result FormParts FormError) : Type 0 where
+  pub found : IfOk result (λ number. IsFirst forms text number.form (literal_of number.parts))
+  pub none : IsErr result → All (λ g. NoLiteral (notation_of g) text) forms
+  pub error : IfErr result (IsFormError forms text)
+
+-- `IsFrontByForms forms text result` holds if `result` has the longest front of `text` that is a literal of a form, the first
+-- of equals, with its parts, or the error of a text of which no front is a literal of a form.
+pub record IsFrontByForms (forms : List Grammar) (text : List ℕ) (result : Result FormFront FormError) : Type 0 where
+  pub longest : IfOk result (λ front. IsGreatest (HasFront text) forms front.form front.size)
+  pub found : IfOk result (λ front.
+      IsSomeAnd (slice_get forms front.form) (λ g. ReadsFront (notation_of g) (literal_of front.parts) text front.size))
+  pub none : IsErr result → All (λ g. (size : ℕ) → size ≤ length text → NoLiteral (notation_of g) (take size text)) forms
+  pub error : IfErr result (IsFormError forms text)

@@ -1,0 +1,5 @@
+mod DigitLemmas
+mod GroupLemmas
+mod LiteralLemmas
+mod ValueLemmas
+mod ConversionLemmas

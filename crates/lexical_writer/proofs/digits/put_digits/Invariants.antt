@@ -1,0 +1,19 @@
+use Rattle.std.proofs.Common.{length, drop, ◌-◌, ◌++◌, ◌≡◌, ◌≤◌, List, ℕ}
+use Rattle.lexical_number.specs.Number.{digits_in, places}
+use Rattle.lexical_writer.specs.Digits.{grouped}
+use Rattle.lexical_writer.specs.contracts.digits.put_digits.{S-type}
+use Rattle.lexical_writer.proofs.digits.put_digits.Given as goal
+
+-- What has been written, and what is to be written of the digits that are left, are the whole.
+abbrev pub invariant-loop-index : goal.invariant-loop-index
+invariant-loop-index g l = record {
+  within : l.index ≤ length l.bytes;
+  left : l.left ≡ places l.run.radix (drop l.index l.bytes);
+  written : (start : S-type g.row.S) → (text : List ℕ) → g.S.Sink.has start l.initial.sink text
+      → (middle : List ℕ) × g.S.Sink.has start l.sink middle
+      × (middle ++ grouped l.run.separator l.run.group (digits_in l.run.radix (drop l.index l.bytes))
+      ≡ text ++ grouped l.run.separator l.run.group (digits_in l.run.radix l.bytes));
+}
+
+abbrev pub decreases-loop-index : goal.decreases-loop-index
+decreases-loop-index g l = length l.bytes - l.index

@@ -1,0 +1,56 @@
+//! Integers are written.
+
+ghost use Rattle.std.specs.Prelude.{◌≡◌, IfErr, IfOk};
+ghost use Rattle.lexical_util.specs.Record.{raw};
+ghost use Rattle.lexical_literal.specs.Literal.{IsLiteral};
+ghost use Rattle.lexical_literal.specs.Notation.{notation_of};
+ghost use Rattle.lexical_value.specs.Integer.{IsInteger};
+ghost use Rattle.lexical_writer.specs.Layout.{IsNotWritten, IsWhole, literal_of, needs_exponent};
+
+use crate::layout::{Amount, Layout, Style, WriteError};
+use crate::run::Source;
+use lexical_literal::syntax::Syntax;
+use lexical_number::integer::Integer;
+use lexical_util::laws::byte_facts;
+use lexical_util::laws::flags::role_facts;
+
+/// Returns how the value of an integer is written as a literal of `syntax`.
+///
+/// # Errors
+///
+/// [`WriteError::Float`] if each literal of `syntax` has an exponent, and [`WriteError::Negative`] if the value is
+/// below 0 and no literal has the sign `-`.
+pub fn format_integer<T: Integer>(
+    syntax: &Syntax,
+    value: T,
+    style: Style,
+) -> Result<Layout<'static>, WriteError>
+    // What is written is a literal with neither a decimal point nor an exponent, and its value is that of the integer.
+    ensures literal { IfOk result (λ layout. IsLiteral (notation_of syntax.now) (literal_of layout)) }
+    ensures value { IfOk result (λ layout. IsInteger (raw syntax.now.word) (literal_of layout) (T.range.value value)) }
+    ensures parts { IfOk result (λ layout. IsWhole syntax.now style (T.range.value value) (literal_of layout)) }
+    // Each integer can be written, unless each literal has an exponent, or no literal is below 0.
+    ensures error { IfErr result (IsNotWritten syntax.now (T.range.value value)) }
+{
+    role_facts();
+    byte_facts();
+    if needs_exponent(syntax) {
+        return Err(WriteError::Float);
+    }
+    let (negative, size) = value.sign_and_size();
+    let amount = Amount {
+        negative,
+        integer: Source::Number(size),
+        fraction: None,
+        exponent: None,
+    };
+    amount.lay_out(syntax, style)
+}
+
+// Returns whether each literal has an exponent.
+fn needs_exponent(syntax: &Syntax) -> bool
+    ensures { result ≡ needs_exponent syntax.now }
+{
+    let required = syntax.format().view().required_exponent_notation();
+    required && syntax.options().is_some()
+}

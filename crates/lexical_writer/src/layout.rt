@@ -1,0 +1,420 @@
+//! Numbers are laid out as literals.
+
+ghost use Rattle.std.specs.Prelude.{◌≡◌, ◌++◌, ◌≤◌, ◌==◌, ◌&&◌, not, if◌then◌else◌, [], ℕ, IfOk, List, None, Some, option_to_list};
+ghost use Rattle.lexical_util.specs.Layout as layout;
+ghost use Rattle.lexical_util.specs.Record.{raw, effective_exponent_radix};
+ghost use Rattle.lexical_util.specs.Rules.{IsRadix, Lawful};
+ghost use Rattle.lexical_literal.specs.Literal.{IsLiteral, is_present, text_of};
+ghost use Rattle.lexical_literal.specs.Notation.{lacks_options, notation_of};
+ghost use Rattle.lexical_literal.specs.Syntax.{IsSyntax};
+ghost use Rattle.lexical_writer.specs.Digits.{grouped, or_zero, run_text, values_of, without_zeros};
+ghost use Rattle.lexical_writer.specs.Layout.{after_zero, exponent_byte, fraction_digits, group_of, has_exponent, has_point, has_zero};
+ghost use Rattle.lexical_writer.specs.Layout.{IsLaidOut, is_negative, laid_out, literal_of};
+ghost use Rattle.lexical_writer.specs.Layout.{only_if, point_byte, power_digits, refusal, sign_of};
+ghost use Rattle.lexical_writer.specs.declared.layout.WriteError.TheVariants as errors;
+ghost use Rattle.lexical_writer.specs.Private.{IsTaken};
+
+use crate::digits::{count, without_zeros};
+use crate::run::{Run, Source};
+use crate::sink::{Sink, Window};
+use lexical_literal::syntax::{Options, Syntax};
+use lexical_util::format::{NumberFormat, base_prefix, base_suffix, digit_separator};
+use lexical_util::laws::byte_facts;
+use lexical_util::laws::flags::role_facts;
+
+/// How numbers are written where a syntax leaves a choice.
+#[derive(Debug, Clone, Copy, PartialEq, Eq, Hash)]
+pub struct Style {
+    /// The number of integer digits of a group, or 0 for digits without groups. Where the format does not allow
+    /// separators between integer digits, there are no groups.
+    pub group: usize,
+    /// Whether the base prefix is written, if the format has one.
+    pub prefix: bool,
+    /// Whether the base suffix is written, if the format has one.
+    pub suffix: bool,
+}
+
+/// Why a number cannot be written as a literal of a syntax.
+#[derive(Debug, Clone, Copy, PartialEq, Eq, Hash)]
+pub enum WriteError {
+    /// The mantissa radixes differ or, for a number with an exponent, the exponent bases.
+    Radix,
+    /// The number is below 0, or -0, and no literal has the sign `-`.
+    Negative,
+    /// The number has a fraction, and the literals of the syntax are integers.
+    Fraction,
+    /// The number has an exponent, and no literal has one, or its exponent digits have another radix and are too many.
+    Exponent,
+    /// The number is an integer of Rust, and each literal has an exponent.
+    Float,
+    /// The number is NaN or infinity, which no literal is.
+    Special,
+    /// The buffer is too short for the text, which has this number of bytes.
+    Buffer(usize),
+}
+
+/// The exponent of a number.
+#[derive(Debug, Clone, Copy, PartialEq, Eq)]
+pub struct Power<'a> {
+    /// Whether the sign is `-`.
+    pub negative: bool,
+    /// The digits, in the exponent radix of the syntax.
+    pub source: Source<'a>,
+}
+
+/// A number that is to be written, by its digits.
+#[derive(Debug, Clone, Copy, PartialEq, Eq)]
+pub struct Amount<'a> {
+    /// Whether the sign is `-`.
+    pub negative: bool,
+    /// The integer digits, in the mantissa radix of the syntax.
+    pub integer: Source<'a>,
+    /// The bytes with the fraction digits, or `None` for a number without a decimal point.
+    pub fraction: Option<&'a [u8]>,
+    /// The exponent, or `None` for a number without one.
+    pub exponent: Option<Power<'a>>,
+}
+
+/// The parts of a literal that is to be written.
+#[derive(Debug, Clone, Copy)]
+pub struct Layout<'a> {
+    pub(crate) sign: Option<u8>,
+    pub(crate) prefix: Option<u8>,
+    pub(crate) integer: Run<'a>,
+    pub(crate) point: Option<u8>,
+    pub(crate) fraction: Run<'a>,
+    pub(crate) exponent_character: Option<u8>,
+    pub(crate) exponent_sign: Option<u8>,
+    pub(crate) exponent: Run<'a>,
+    pub(crate) suffix: Option<u8>,
+}
+
+impl Layout<'_> {
+    /// Writes the text to the beginning of a buffer, and returns its length, or `usize::MAX` if that is less. If the
+    /// buffer is shorter than the text, its content is unspecified.
+    pub fn write(&self, buffer: &mut [u8]) -> usize
+        ensures { IsTaken (text_of (literal_of self.now)) buffer.new result }
+    {
+        let mut window = Window {
+            bytes: buffer,
+            length: 0,
+        };
+        self.fill(&mut window);
+        window.length
+    }
+
+    // Writes the text to a buffer.
+    fn fill(&self, window: &mut Window)
+        requires { window.old.length ≡ 0 }
+        ensures same { window.new.bytes.ghost_name ≡ window.old.bytes.ghost_name }
+        ensures taken { IsTaken (text_of (literal_of self.now)) window.new.bytes.now window.new.length }
+    {
+        self.put(window);
+    }
+
+    // Writes the text.
+    pub(crate) fn put<S: Sink>(&self, sink: &mut S)
+        ensures { (start : S) → (text : List ℕ) → S.has start sink.old text
+            → S.has start sink.new (text ++ text_of (literal_of self.now)) }
+    {
+        put_if_any(sink, self.sign);
+        put_prefix(sink, self.prefix);
+        self.integer.put(sink);
+        put_if_any(sink, self.point);
+        self.fraction.put(sink);
+        put_if_any(sink, self.exponent_character);
+        put_if_any(sink, self.exponent_sign);
+        self.exponent.put(sink);
+        put_if_any(sink, self.suffix);
+    }
+}
+
+// Writes a byte, if there is one.
+fn put_if_any<S: Sink>(sink: &mut S, byte: Option<u8>)
+    ensures { (start : S) → (text : List ℕ) → S.has start sink.old text
+        → S.has start sink.new (text ++ option_to_list byte) }
+{
+    if let Some(byte) = byte {
+        sink.put(byte);
+    }
+}
+
+// Writes a zero and a byte, if there is one.
+fn put_prefix<S: Sink>(sink: &mut S, byte: Option<u8>)
+    ensures { (start : S) → (text : List ℕ) → S.has start sink.old text
+        → S.has start sink.new (text ++ after_zero byte) }
+{
+    if let Some(byte) = byte {
+        sink.put(b'0');
+        sink.put(byte);
+    }
+}
+
+// Returns `byte` if `condition` is true.
+const fn only_if(condition: bool, byte: u8) -> Option<u8>
+    ensures { result ≡ only_if condition byte }
+{
+    if condition { Some(byte) } else { None }
+}
+
+// Returns the first error whose condition is true.
+const fn first_error(negative: bool, fraction: bool, exponent: bool) -> Option<WriteError>
+    ensures { result ≡ (if negative then Some errors.Negative
+        else (if fraction then Some errors.Fraction else (if exponent then Some errors.Exponent else None))) }
+{
+    if negative {
+        Some(WriteError::Negative)
+    } else if fraction {
+        Some(WriteError::Fraction)
+    } else if exponent {
+        Some(WriteError::Exponent)
+    } else {
+        None
+    }
+}
+
+// Returns the sign of a number, if it has one.
+const fn sign_of(negative: bool, required: bool) -> Option<u8>
+    ensures { result ≡ sign_of negative required }
+{
+    if negative {
+        Some(b'-')
+    } else {
+        only_if(required, b'+')
+    }
+}
+
+// Returns a run without groups, and without digits if there are no bytes.
+const fn plain_run<'a>(source: Source<'a>, radix: u32, zero: bool) -> Run<'a>
+    requires { IsRadix radix }
+    ensures { run_text result ≡ grouped 0 0 (or_zero zero (values_of radix source.entry)) }
+{
+    Run {
+        source,
+        radix,
+        zero,
+        group: 0,
+        separator: 0,
+    }
+}
+
+// Returns the digits of a source without the zeros that they begin with.
+fn lean<'a>(source: Source<'a>, radix: u32) -> Source<'a>
+    requires { IsRadix radix }
+    ensures { values_of radix result ≡ without_zeros (values_of radix source.entry) }
+{
+    match source {
+        Source::Bytes(bytes) => Source::Bytes(without_zeros(bytes, radix)),
+        Source::Number(number) => Source::Number(number),
+    }
+}
+
+// Returns whether a source has digits.
+fn has_digits(source: Source, radix: u32) -> bool
+    requires { IsRadix radix }
+    ensures { result ≡ is_present (values_of radix source.entry) }
+{
+    match source {
+        Source::Bytes(bytes) => count(bytes, radix) > 0,
+        Source::Number(number) => number > 0,
+    }
+}
+
+impl<'a> Amount<'a> {
+    /// Returns how the number is written as a literal of `syntax`.
+    ///
+    /// # Errors
+    ///
+    /// If no literal has this form, returns why.
+    pub fn lay_out(&self, syntax: &Syntax, style: Style) -> Result<Layout<'a>, WriteError>
+        ensures parts { IsLaidOut syntax.now style self.now result }
+        ensures literal { IfOk result (λ layout. IsLiteral (notation_of syntax.now) (literal_of layout)) }
+        ensures lawful { IsSyntax syntax.now }
+    {
+        role_facts();
+        byte_facts();
+        self.plan(syntax, style)
+    }
+
+    // Returns the parts of the literal.
+    fn plan(&self, syntax: &Syntax, style: Style) -> Result<Layout<'a>, WriteError>
+        ensures lawful { IsSyntax syntax.now }
+        ensures parts { IsLaidOut syntax.now style self.now result }
+    {
+        let format = syntax.format().view();
+        if let Some(refusal) = self.refusal(syntax) {
+            return Err(refusal);
+        }
+        let options = syntax.options();
+        let has_exponent = self.has_exponent(syntax);
+        let has_point = self.has_point(syntax);
+        let conditions = syntax.conditions();
+        Ok(Layout {
+            sign: sign_of(self.negative, format.required_mantissa_sign()),
+            prefix: byte_if(
+                style.prefix || conditions.required_base_prefix,
+                base_prefix(format.word()),
+            ),
+            integer: self.integer_run(syntax, style),
+            point: only_if(has_point, point_byte(options)),
+            fraction: self.fraction_run(syntax, has_point),
+            exponent_character: only_if(has_exponent, exponent_byte(options)),
+            exponent_sign: self.exponent_sign(syntax, has_exponent),
+            exponent: self.exponent_run(syntax, has_exponent),
+            suffix: byte_if(
+                style.suffix || conditions.required_base_suffix,
+                base_suffix(format.word()),
+            ),
+        })
+    }
+
+    // Returns why the number cannot be written, if it cannot.
+    fn refusal(&self, syntax: &Syntax) -> Option<WriteError>
+        ensures { result ≡ refusal syntax.now self.now }
+    {
+        let integers = lacks_options(syntax.options());
+        let no_exponent = integers || syntax.format().view().no_exponent_notation();
+        let negative = self.negative && syntax.conditions().no_negative_mantissa_sign;
+        let fraction = integers && self.fraction.is_some();
+        let exponent = no_exponent && self.exponent.is_some();
+        first_error(negative, fraction, exponent)
+    }
+
+    // Returns whether an exponent is written.
+    fn has_exponent(&self, syntax: &Syntax) -> bool
+        ensures { result ≡ has_exponent syntax.now self.now }
+    {
+        let required = syntax.format().view().required_exponent_notation();
+        self.exponent.is_some() || (required && syntax.options().is_some())
+    }
+
+    // Returns whether a decimal point is written.
+    fn has_point(&self, syntax: &Syntax) -> bool
+        ensures { result ≡ has_point syntax.now self.now }
+    {
+        let required = syntax.format().view().no_exponent_without_fraction();
+        self.fraction.is_some() || (self.has_exponent(syntax) && required)
+    }
+
+    // Returns whether a 0 stands for absent integer digits.
+    fn has_zero(&self, format: NumberFormat) -> bool
+        requires { Lawful format }
+        ensures { result ≡ has_zero (raw format) self.now }
+    {
+        let radix = format.mantissa_radix();
+        format.required_integer_digits()
+            || has_digits(self.integer, radix)
+            || !has_digits(self.fraction_source(), radix)
+    }
+
+    // Returns the integer digits.
+    fn integer_run(&self, syntax: &Syntax, style: Style) -> Run<'a>
+        ensures { run_text result ≡ (laid_out syntax.now style self.now).integer }
+    {
+        let format = syntax.format().view();
+        let radix = format.mantissa_radix();
+        Run {
+            source: lean(self.integer, radix),
+            radix,
+            zero: self.has_zero(format),
+            group: group_of(format, style),
+            separator: digit_separator(format.word()),
+        }
+    }
+
+    // Returns the fraction digits.
+    fn fraction_run(&self, syntax: &Syntax, has_point: bool) -> Run<'a>
+        ensures { run_text result ≡ grouped 0 0 (or_zero (has_point && (raw syntax.now.word).flag layout.required_fraction_digits)
+            (fraction_digits ((raw syntax.now.word).byte layout.mantissa_radix) self.now.fraction)) }
+    {
+        let format = syntax.format().view();
+        let zero = has_point && format.required_fraction_digits();
+        plain_run(self.fraction_source(), format.mantissa_radix(), zero)
+    }
+
+    // Returns the exponent digits.
+    fn exponent_run(&self, syntax: &Syntax, has_exponent: bool) -> Run<'a>
+        ensures { run_text result ≡ grouped 0 0 (or_zero has_exponent
+            (without_zeros (power_digits (effective_exponent_radix (raw syntax.now.word)) self.now.exponent))) }
+    {
+        let radix = syntax.format().view().exponent_radix();
+        let source = match self.exponent {
+            Some(power) => power.source,
+            None => Source::Bytes(&[]),
+        };
+        plain_run(lean(source, radix), radix, has_exponent)
+    }
+
+    // Returns the sign of the exponent.
+    fn exponent_sign(&self, syntax: &Syntax, has_exponent: bool) -> Option<u8>
+        ensures { option_to_list result ≡ (if has_exponent
+            then option_to_list (sign_of (is_negative self.now.exponent) ((raw syntax.now.word).flag layout.required_exponent_sign)) else []) }
+    {
+        if !has_exponent {
+            return None;
+        }
+        let negative = match self.exponent {
+            Some(power) => power.negative,
+            None => false,
+        };
+        sign_of(negative, syntax.format().view().required_exponent_sign())
+    }
+
+    // Returns the fraction digits, if there are any.
+    fn fraction_source(&self) -> Source<'a>
+        ensures { (radix : ℕ) → values_of radix result ≡ fraction_digits radix self.now.fraction }
+    {
+        match self.fraction {
+            Some(bytes) => Source::Bytes(bytes),
+            None => Source::Bytes(&[]),
+        }
+    }
+}
+
+// Returns the number of digits of a group, or 0 if there are no groups.
+const fn group_of(format: NumberFormat, style: Style) -> usize
+    ensures { result ≡ group_of (raw format) style }
+{
+    if format.integer_internal_digit_separator() && digit_separator(format.word()) != 0 {
+        style.group
+    } else {
+        0
+    }
+}
+
+// Returns `byte` if `condition` is true, unless it is absent.
+const fn byte_if(condition: bool, byte: u8) -> Option<u8>
+    ensures { result ≡ only_if (condition && not (byte == 0)) byte }
+{
+    only_if(condition && byte != 0, byte)
+}
+
+// Returns whether literals are integers.
+const fn lacks_options(options: Option<Options>) -> bool
+    ensures { result ≡ lacks_options options }
+{
+    match options {
+        Some(_) => false,
+        None => true,
+    }
+}
+
+// Returns the decimal point.
+const fn point_byte(options: Option<Options>) -> u8
+    ensures { result ≡ point_byte options }
+{
+    match options {
+        Some(options) => options.point,
+        None => 0,
+    }
+}
+
+// Returns the exponent character.
+const fn exponent_byte(options: Option<Options>) -> u8
+    ensures { result ≡ exponent_byte options }
+{
+    match options {
+        Some(options) => options.exponent,
+        None => 0,
+    }
+}

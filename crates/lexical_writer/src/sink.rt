@@ -1,0 +1,47 @@
+//! What texts are written to, byte by byte.
+
+ghost use Rattle.std.specs.Prelude.{◌++◌, ◌∷◌, ℕ, List, []};
+
+/// What takes the bytes of a text.
+pub trait Sink {
+    // From the state `start`, this has taken `text`.
+    ghost has: { Self → Self → List ℕ → Type 0 };
+
+    /// Takes one more byte.
+    fn put(&mut self, byte: u8)
+        ensures { (start : Self) → (text : List ℕ) → has start self.old text → has start self.new (text ++ byte ∷ []) };
+
+    /// Takes more bytes.
+    fn put_all(&mut self, bytes: &[u8])
+        ensures { (start : Self) → (text : List ℕ) → has start self.old text → has start self.new (text ++ bytes.now) };
+}
+
+// A buffer, and the number of bytes that it would have taken if it were long enough.
+#[derive(Drop)]
+pub(crate) struct Window<'a> {
+    pub(crate) bytes: &'a mut [u8],
+    pub(crate) length: usize,
+}
+
+impl Sink for Window<'_> {
+    ghost use Rattle.std.specs.Prelude.{length};
+    ghost use Rattle.lexical_writer.specs.Private.{Takes};
+
+    ghost has = { λ start window text. Takes start.bytes.ghost_name (length start.bytes.now)
+        window.bytes.ghost_name window.bytes.now window.length text };
+
+    fn put(&mut self, byte: u8) {
+        if self.length < self.bytes.len() {
+            self.bytes[self.length] = byte;
+        }
+        self.length = self.length.saturating_add(1);
+    }
+
+    fn put_all(&mut self, bytes: &[u8]) {
+        let end = self.length.saturating_add(bytes.len());
+        if end <= self.bytes.len() {
+            self.bytes[self.length..end].copy_from_slice(bytes);
+        }
+        self.length = end;
+    }
+}

@@ -1,0 +1,74 @@
+//! The forms of the numbers that are read, such as decimal and hexadecimal, and the values of numbers.
+
+use core::str::FromStr;
+
+use peltzivar::literal::{Number, Reader, Readers, ValueError};
+
+use crate::suggest::{State, SPECIALS};
+
+/// How many forms a language has.
+const MOST: usize = 24;
+
+/// The states of forms, and their readers.
+pub struct Forms {
+    states: [State; MOST],
+    readers: [Reader; MOST],
+    size: usize,
+}
+
+impl Forms {
+    /// Returns the forms of states, or `None` if a word is not lawful.
+    pub fn new(mut all: impl Iterator<Item = State>) -> Option<Self> {
+        let first = all.next()?;
+        let reader = first.syntax().map(Reader::new)?;
+        let mut forms = Self { states: [first; MOST], readers: core::array::from_fn(|_| reader.clone()), size: 1 };
+        for state in all.take(MOST - 1) {
+            forms.readers[forms.size] = Reader::new(state.syntax()?);
+            forms.states[forms.size] = state;
+            forms.size += 1;
+        }
+        Some(forms)
+    }
+
+    pub fn states(&self) -> impl ExactSizeIterator<Item = State> {
+        self.states[..self.size].iter().copied()
+    }
+
+    pub fn readers(&self) -> Readers<'_> {
+        Readers::new_or_panic(&self.readers[..self.size]).with_specials(SPECIALS)
+    }
+}
+
+/// Reads the states of a line. Each is its word and, behind a colon, a number of three bytes: the exponent character, above
+/// it the decimal point, and then the conditions.
+pub fn states_of(line: &str) -> impl Iterator<Item = State> {
+    line.split(' ').map(|state| {
+        let (word, options) = state.split_once(':').unwrap_or((state, ""));
+        let [exponent, point, conditions, _] = u32::from_str(options).unwrap_or(0).to_le_bytes();
+        State { word: u128::from_str(word).unwrap_or(0), exponent, point, conditions }
+    })
+}
+
+/// The value of a number: an integer by its sign and size, and a float by its bits.
+#[derive(Clone, Copy, PartialEq)]
+pub enum Value {
+    Integer(bool, u128),
+    Float(u64),
+    Unknown(ValueError),
+}
+
+/// Returns the value of a number.
+pub fn value_of(number: Number<'_>) -> Value {
+    let literal = match number {
+        Number::Special(special) => return Value::Float(special.to_f64().to_bits()),
+        Number::Literal { literal, .. } => literal,
+    };
+    let value = match literal.is_float() {
+        true => literal.to_f64().map(|it| Value::Float(it.to_bits())),
+        false => match literal.to_i128() {
+            Ok(value) => Ok(Value::Integer(value < 0, value.unsigned_abs())),
+            Err(error) => literal.to_u128().map(|it| Value::Integer(false, it)).map_err(|_| error),
+        },
+    };
+    value.unwrap_or_else(Value::Unknown)
+}

@@ -1,0 +1,150 @@
+//! Calls that write numbers.
+
+use crate::arguments::{write_text, Out};
+use crate::literals::{Literal, Reader};
+use crate::names::{at, texts};
+use crate::values::I128;
+use core::fmt::{self, Write};
+use peltzivar::format::STANDARD;
+use peltzivar::literal::{self, Syntax, WriteError, Written};
+use peltzivar::Format;
+
+/// Whether a number is written: the index of one of [`DESCRIPTIONS`].
+type WriteStatus = u8;
+
+const EXPONENT: WriteStatus = 4;
+const BUFFER: WriteStatus = 7;
+const NOT_MADE: WriteStatus = 8;
+
+texts! {
+    DESCRIPTIONS: [96; 9] = |status| match status {
+        1 => b"the digits or the exponent have another radix or base",
+        2 => b"no literal has the sign '-'",
+        3 => b"literals are integers, and the number has a decimal point",
+        4 => b"no literal has this exponent",
+        5 => b"each literal has an exponent, and an integer has none",
+        6 => b"no literal is NaN or infinity",
+        7 => b"the buffer is too short",
+        8 => b"no call has made this reader or this literal",
+        _ => b"",
+    };
+}
+
+/// How numbers are written where a syntax leaves a choice. With zeros, they have a base, and no groups.
+#[repr(C)]
+pub struct Style {
+    group: u8,
+    without_base: u8,
+}
+
+/// The text of a float.
+struct Shortest {
+    bytes: [u8; 400],
+    len: usize,
+}
+
+impl Shortest {
+    /// Returns a text of at most 400 bytes.
+    fn of(text: fmt::Arguments<'_>) -> Shortest {
+        let mut shortest = Shortest { bytes: [0; 400], len: 0 };
+        // A float has at most 325 digits, and nothing else can fail.
+        let _ = shortest.write_fmt(text);
+        shortest
+    }
+}
+
+impl Write for Shortest {
+    fn write_str(&mut self, piece: &str) -> fmt::Result {
+        let room = self.bytes.get_mut(self.len..self.len + piece.len()).ok_or(fmt::Error)?;
+        room.copy_from_slice(piece.as_bytes());
+        self.len += piece.len();
+        Ok(())
+    }
+}
+
+/// The reader of the texts of floats.
+static FLOATS: literal::Reader = literal::Reader::new(Syntax::new_or_panic(Format::of::<STANDARD>(), b'e', b'.'));
+
+/// Returns the syntax of the first form of a reader, and the style.
+fn given(reader: Option<&Reader>, style: Option<&Style>) -> Option<(Syntax, literal::Style)> {
+    let syntax = reader.and_then(Reader::value)?.readers()[0].syntax();
+    let plain = literal::Style::PLAIN;
+    Some((
+        syntax,
+        style.map_or(plain, |style| {
+            let plain = if style.without_base != 0 { plain.without_base() } else { plain };
+            plain.group(style.group.into())
+        }),
+    ))
+}
+
+/// Writes what `format` returns for the syntax of a reader and a style, and the size that is enough.
+unsafe fn write<'a>(
+    (reader, style): (Option<&Reader>, Option<&Style>),
+    (text, len, needed): (*mut u8, usize, Out<usize>),
+    format: impl FnOnce(&Syntax, literal::Style) -> Result<Written<'a>, WriteError>,
+) -> WriteStatus {
+    let Some((syntax, style)) = given(reader, style) else { return NOT_MADE };
+    match format(&syntax, style) {
+        Ok(written) => {
+            let length = write_text(text, len, Some(written));
+            needed.write(length + 1);
+            if length < len {
+                0
+            } else {
+                BUFFER
+            }
+        }
+        Err(error) => match error {
+            WriteError::Radix => 1,
+            WriteError::Negative => 2,
+            WriteError::Fraction => 3,
+            WriteError::Exponent => EXPONENT,
+            WriteError::Float => 5,
+            _ => 6,
+        },
+    }
+}
+
+calls! {
+    fn peltzivar_format_i64(
+        reader: Option<&Reader>, value: i64, style: Option<&Style>, text: *mut u8, len: usize, needed: Out<usize>
+    ) -> WriteStatus {
+        write((reader, style), (text, len, needed), |syntax, style| syntax.format_integer(value, style))
+    }
+
+    fn peltzivar_format_u64(
+        reader: Option<&Reader>, value: u64, style: Option<&Style>, text: *mut u8, len: usize, needed: Out<usize>
+    ) -> WriteStatus {
+        write((reader, style), (text, len, needed), |syntax, style| syntax.format_integer(value, style))
+    }
+
+    fn peltzivar_format_i128(
+        reader: Option<&Reader>, value: I128, style: Option<&Style>, text: *mut u8, len: usize, needed: Out<usize>
+    ) -> WriteStatus {
+        write((reader, style), (text, len, needed), |syntax, style| syntax.format_integer(i128::from(value), style))
+    }
+
+    fn peltzivar_format_f64(
+        reader: Option<&Reader>, value: f64, style: Option<&Style>, text: *mut u8, len: usize, needed: Out<usize>
+    ) -> WriteStatus {
+        let format = |digits: Shortest| write((reader, style), (text, len, needed), |syntax, style| {
+            let literal = FLOATS.read(&digits.bytes[..digits.len]);
+            syntax.format_literal(&literal.map_err(|_| WriteError::Special)?, style)
+        });
+        // A float that is very large or very small has an exponent, if the syntax has one.
+        match format(Shortest::of(format_args!("{value:?}"))) {
+            EXPONENT => format(Shortest::of(format_args!("{value}"))),
+            status => status,
+        }
+    }
+
+    fn peltzivar_format_literal(
+        reader: Option<&Reader>, literal: &Literal, style: Option<&Style>, text: *mut u8, len: usize, needed: Out<usize>
+    ) -> WriteStatus {
+        let Some(literal) = literal.value() else { return NOT_MADE };
+        write((reader, style), (text, len, needed), |syntax, style| syntax.format_literal(literal, style))
+    }
+
+    fn peltzivar_write_description(status: WriteStatus) -> *const u8 { at(&DESCRIPTIONS, status) }
+}

@@ -1,0 +1,55 @@
+//! Literals of one language as literals of another one: `cargo run --example convert -- C PYTHON` reads literals of C on
+//! standard input, one on each line, and prints them as Python writes them, or says why it cannot.
+
+use peltzivar::literal::{Language, Number, Sign, Special, Spelling, Style, WriteError};
+use std::io::{self, BufRead, Write};
+
+/// Returns a number as the first form of a language that can have it. Without such a form, returns the last error.
+fn convert(number: Number<'_>, target: Language) -> Result<String, WriteError> {
+    let literal = match number {
+        Number::Literal { literal, .. } => literal,
+        Number::Special(special) => return spell(special, target),
+    };
+    let mut result = Err(WriteError::Radix);
+    for form in target.forms() {
+        result = form.syntax.format_literal(&literal, Style::PLAIN).map(|text| text.to_string());
+        if result.is_ok() {
+            break;
+        }
+    }
+    result
+}
+
+/// Returns a special value with the first spelling that a language has for it.
+fn spell(special: Special, target: Language) -> Result<String, WriteError> {
+    let specials = target.specials();
+    let word = match special.spelling {
+        Spelling::Nan => specials.nan,
+        _ => specials.inf.or(specials.infinity),
+    };
+    let sign = if special.sign == Some(Sign::Minus) { "-" } else { "" };
+    let text = format!("{sign}{}", String::from_utf8_lossy(word.ok_or(WriteError::Special)?));
+    target.read(text.as_bytes()).map_err(|_| WriteError::Special)?;
+    Ok(text)
+}
+
+fn main() -> io::Result<()> {
+    let language = |name: Option<String>| Language::ALL.iter().find(|it| Some(it.name()) == name.as_deref());
+    let mut names = std::env::args().skip(1);
+    let (Some(source), Some(target)) = (language(names.next()), language(names.next())) else {
+        eprintln!("usage: convert SOURCE TARGET, two of {:?}", Language::ALL);
+        std::process::exit(2);
+    };
+    let mut output = io::stdout().lock();
+    for line in io::stdin().lock().lines() {
+        let line = line?;
+        match source.read(line.as_bytes()) {
+            Ok(number) => match convert(number, *target) {
+                Ok(text) => writeln!(output, "{text}")?,
+                Err(error) => writeln!(output, "{line}: not in {target}: {error}")?,
+            },
+            Err(error) => writeln!(output, "{line}: not in {source}: {error}")?,
+        }
+    }
+    Ok(())
+}

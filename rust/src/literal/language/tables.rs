@@ -1,0 +1,342 @@
+//! The forms of each language. The comment of a setter has a text that is accepted or rejected because of the setter.
+
+use super::{is_before, readers, Definition, Form, Grammar, Language};
+use crate::literal::{Reader, Readers, Specials, Syntax};
+use crate::NumberFormatBuilder;
+use core::num::NonZeroU8;
+
+/// Numbers without signs, which are operators, and without NaN and infinity, which are names.
+const TOKENS: NumberFormatBuilder = NumberFormatBuilder::new()
+    .no_positive_mantissa_sign(true) // rejects `+1`
+    .no_special(true); // rejects `NaN` and `inf`
+
+/// The same with a digit separator between two digits.
+const fn separated(separator: u8) -> NumberFormatBuilder {
+    TOKENS
+        .digit_separator(NonZeroU8::new(separator)) // the byte, which the flag below allows
+        .internal_digit_separator(true) // accepts `1_0.0_1e1_0`, not `1__0`, `_1` or `1_`
+}
+
+/// Numbers that have no leading zeros: rejects `01` and `01.0`.
+const fn without_zeros(builder: NumberFormatBuilder) -> NumberFormatBuilder {
+    builder.no_integer_leading_zeros(true).no_float_leading_zeros(true)
+}
+
+/// Returns the syntax of numbers with an exponent character and a decimal point.
+const fn numbers(exponent: u8, point: u8, builder: NumberFormatBuilder) -> Syntax {
+    Syntax::new_or_panic(builder.build_format_or_panic(), exponent, point)
+}
+
+/// Returns the same syntax without the sign `-`: rejects `-1`.
+const fn unsigned(syntax: Syntax) -> Syntax {
+    syntax.with_or_panic(syntax.conditions().no_negative_mantissa_sign(true))
+}
+
+/// Returns the syntax of decimal floats and integers: `10` and `1.5e3`.
+const fn decimal(builder: NumberFormatBuilder) -> Syntax {
+    unsigned(numbers(b'e', b'.', builder))
+}
+
+/// Returns the syntax of integers of a radix, which stand behind decimal ones: `017`.
+const fn integers(radix: u8, builder: NumberFormatBuilder) -> Syntax {
+    let builder = builder.fraction_digit_separator_flags(false).exponent_digit_separator_flags(false);
+    unsigned(Syntax::integers(builder.mantissa_radix(radix).build_format_or_panic()))
+}
+
+/// Returns the same syntax with its prefix required: `0x1F` is accepted, and `1F` rejected.
+const fn required_prefix(syntax: Syntax) -> Syntax {
+    syntax.with_or_panic(syntax.conditions().required_base_prefix(true))
+}
+
+/// Returns the syntax of integers of a radix with a prefix, which is required.
+const fn prefixed(prefix: u8, radix: u8, builder: NumberFormatBuilder) -> Syntax {
+    required_prefix(integers(radix, builder.base_prefix(NonZeroU8::new(prefix))))
+}
+
+/// Returns the syntax of integers of a radix with a suffix, which is required: `1Fh` is accepted, and `1F` rejected.
+const fn suffixed(suffix: u8, radix: u8, builder: NumberFormatBuilder) -> Syntax {
+    let syntax = integers(radix, builder.base_suffix(NonZeroU8::new(suffix)));
+    syntax.with_or_panic(syntax.conditions().required_base_suffix(true))
+}
+
+/// Returns the syntax of floats, and of integers if no exponent is required, of a radix with a prefix, which is required.
+/// The exponent is decimal, and its base is 2: `0x1.8p3` is 1.5 × 2^3.
+const fn binary_floats(prefix: u8, radix: u8, builder: NumberFormatBuilder) -> Syntax {
+    let builder = builder.mantissa_radix(radix).base_prefix(NonZeroU8::new(prefix));
+    let builder = builder.exponent_base(NonZeroU8::new(2)).exponent_radix(NonZeroU8::new(10));
+    required_prefix(unsigned(numbers(b'p', b'.', builder)))
+}
+
+/// Returns the same syntax with the sign `-`, which `unsigned` forbids: accepts `-1`.
+const fn signed(syntax: Syntax) -> Syntax {
+    syntax.with_or_panic(syntax.conditions().no_negative_mantissa_sign(false))
+}
+
+/// Digits of Ruby, which are separated by one `_`, after a sign.
+const RUBY: NumberFormatBuilder = separated(b'_').no_positive_mantissa_sign(false); // accepts `+1`
+
+/// Digits of C and C++.
+const C: NumberFormatBuilder = separated(b'\''); // accepts `1'000`, not `1''0`
+
+/// Digits of C#, Java and Kotlin.
+const JAVA: NumberFormatBuilder = separated(b'_').consecutive_digit_separator(true); // accepts `1__0`
+
+/// Digits of Go and Python behind a prefix.
+const GO_PREFIXED: NumberFormatBuilder = separated(b'_').integer_leading_digit_separator(true); // accepts `0x_1F`
+
+/// Digits of OCaml, Rust and Swift.
+const RUST: NumberFormatBuilder = JAVA.trailing_digit_separator(true); // accepts `1_`
+
+/// Digits of Rust behind a prefix.
+const RUST_PREFIXED: NumberFormatBuilder = RUST
+    .case_sensitive_base_prefix(true) // rejects `0X1F`
+    .integer_leading_digit_separator(true); // accepts `0x_1F`
+
+/// Digits of Julia, which has no separator in an exponent.
+const JULIA: NumberFormatBuilder = separated(b'_').exponent_internal_digit_separator(false); // rejects `1e1_0`
+
+/// Cells of spreadsheets, in which separators make groups of three digits.
+const SPREADSHEET: NumberFormatBuilder = without_zeros(TOKENS)
+    .required_digits(true) // rejects `.50`, `1.` and `.`
+    .no_exponent_notation(true) // rejects `1.5e3`
+    .integer_internal_digit_separator(true); // accepts `1,234.50`, not `0.123,4`
+
+/// Digits of NASM, in which `_` may be anywhere behind the first one.
+const NASM: NumberFormatBuilder = separated(b'_')
+    .trailing_digit_separator(true) // accepts `1_h`
+    .consecutive_digit_separator(true) // accepts `1__0h`
+    .fraction_leading_digit_separator(true) // accepts `1._5`
+    .exponent_leading_digit_separator(true); // accepts `1.e_5`
+
+/// Digits of NASM behind a prefix.
+const NASM_PREFIXED: NumberFormatBuilder = NASM.integer_leading_digit_separator(true); // accepts `0x_1`
+
+languages! {
+    /// Ada's decimal literals (Reference Manual 2012, 2.4.1). A format cannot accept based literals, such as `16#FF#`, or
+    /// accept `1.0E-3` but reject `1E-3`.
+    ADA = { "decimal": decimal(separated(b'_')
+        .required_digits(true) // rejects `.5`, `1.`, `1e` and `.`
+    ) };
+
+    /// C's integer and floating constants (C23, 6.4.4.1 and 6.4.4.2). A format cannot accept `1u`, `1L` and `1.0f`.
+    C = {
+        "decimal": decimal(C.no_integer_leading_zeros(true)), // rejects `08`, not `08.5`
+        "octal": integers(8, C),
+        "hexadecimal": prefixed(b'x', 16, C),
+        "binary": prefixed(b'b', 2, C),
+        "hexadecimal float": binary_floats(b'x', 16, C.required_exponent_notation(true)), // rejects `0x1.8`
+    };
+
+    /// Numbers in CSV, as German spreadsheets write cells of the format `#.##0,00` (RFC 4180): `1.234,50`.
+    CSV_DE = { "decimal": numbers(b'e', b',', SPREADSHEET.digit_separator(NonZeroU8::new(b'.'))) };
+
+    /// Numbers in CSV, as English spreadsheets write cells of the format `#,##0.00`, in quotes (RFC 4180): `"1,234.50"`. A
+    /// format cannot accept the minus sign U+2212 of Gnumeric: replace it by `-`.
+    CSV_EN = { "decimal": numbers(b'e', b'.', SPREADSHEET.digit_separator(NonZeroU8::new(b','))) };
+
+    /// C++'s integer and floating literals (C++17, 5.13.2 and 5.13.4). A format cannot accept `1u`, `1L`, `1.0f` and suffixes
+    /// of users.
+    C_PLUS_PLUS = {
+        "decimal": decimal(C.no_integer_leading_zeros(true)), // rejects `08`, not `08.5`
+        "octal": integers(8, C),
+        "hexadecimal": prefixed(b'x', 16, C),
+        "binary": prefixed(b'b', 2, C),
+        "hexadecimal float": binary_floats(b'x', 16, C.required_exponent_notation(true)), // rejects `0x1.8`
+    };
+
+    /// C#'s integer and real literals (C# standard, 6.4.5.3 and 6.4.5.4). A format cannot accept `1L`, `1f` and `1m`.
+    C_SHARP = {
+        "decimal": decimal(JAVA.required_fraction_digits(true)), // rejects `1.`, not `.5`
+        "hexadecimal": prefixed(b'x', 16, JAVA.integer_leading_digit_separator(true)), // accepts `0x_1F`
+        "binary": prefixed(b'b', 2, JAVA.integer_leading_digit_separator(true)), // accepts `0b_1`
+    };
+
+    /// Fortran's signed integers and reals (ISO/IEC 1539-1:2018, 7.4.3). A format cannot accept a kind, as in `1.0_8`, or
+    /// binary, octal and hexadecimal constants, such as `Z'FF'`.
+    FORTRAN = {
+        "decimal": numbers(b'e', b'.', NumberFormatBuilder::new().no_special(true)), // rejects `NaN` and `inf`
+        "double precision": numbers(b'd', b'.', NumberFormatBuilder::new().no_special(true)),
+    };
+
+    /// Go's integer and floating-point literals (Language Specification). A format cannot accept `1i`.
+    GO = {
+        "decimal": decimal(separated(b'_').no_integer_leading_zeros(true)), // rejects `08`, not `08.5`
+        "octal": integers(8, separated(b'_')),
+        "hexadecimal": prefixed(b'x', 16, GO_PREFIXED),
+        "octal, 0o": prefixed(b'o', 8, GO_PREFIXED),
+        "binary": prefixed(b'b', 2, GO_PREFIXED),
+        "hexadecimal float": binary_floats(b'x', 16, GO_PREFIXED.required_exponent_notation(true)), // rejects `0x1.8`
+    };
+
+    /// Haskell's integers and floats (Haskell 2010 Report, 2.5).
+    HASKELL = {
+        "decimal": decimal(TOKENS.required_digits(true)), // rejects `.5`, `1.`, `1e` and `.`
+        "hexadecimal": prefixed(b'x', 16, TOKENS),
+        "octal": prefixed(b'o', 8, TOKENS),
+    };
+
+    /// Java's integer and floating-point literals (Language Specification 21, 3.10.1 and 3.10.2). A format cannot accept
+    /// `1L`, `1f` and `1d`.
+    JAVA = {
+        "decimal": decimal(JAVA.no_integer_leading_zeros(true)), // rejects `08`, not `08.5`
+        "octal": integers(8, JAVA),
+        "hexadecimal": prefixed(b'x', 16, JAVA),
+        "binary": prefixed(b'b', 2, JAVA),
+        "hexadecimal float": binary_floats(b'x', 16, JAVA.required_exponent_notation(true)), // rejects `0x1.8`
+    };
+
+    /// JavaScript's numeric literals in strict code (ECMA-262, Numeric Literals). A format cannot accept `1n`.
+    JAVASCRIPT = {
+        "decimal": decimal(without_zeros(separated(b'_'))),
+        "hexadecimal": prefixed(b'x', 16, separated(b'_')),
+        "octal": prefixed(b'o', 8, separated(b'_')),
+        "binary": prefixed(b'b', 2, separated(b'_')),
+    };
+
+    /// JSON's numbers (RFC 8259, 6. Numbers).
+    JSON = { "decimal": signed(decimal(without_zeros(TOKENS).required_digits(true))) }; // rejects `.5`, `1.`, `1e` and `.`
+
+    /// Julia's integers and floats (Manual 1.11, Integers and Floating-Point Numbers).
+    JULIA = {
+        "decimal": decimal(JULIA),
+        "32 bits": unsigned(numbers(b'f', b'.', JULIA.case_sensitive_exponent(true))), // accepts `1f3`, not `1F3`
+        "hexadecimal": prefixed(b'x', 16, JULIA.case_sensitive_base_prefix(true)), // rejects `0X1F`
+        "octal": prefixed(b'o', 8, JULIA.case_sensitive_base_prefix(true)), // rejects `0O17`
+        "binary": prefixed(b'b', 2, JULIA.case_sensitive_base_prefix(true)), // rejects `0B1`
+        "hexadecimal float": binary_floats(b'x', 16, JULIA
+            .case_sensitive_base_prefix(true) // rejects `0X1p3`
+            .required_exponent_notation(true) // rejects `0x1.8`
+        ),
+    };
+
+    /// Kotlin's integer and real literals (Kotlin language specification 1.9, Literals). A format cannot accept `1L`, `1f`
+    /// and `1u`.
+    KOTLIN = {
+        "decimal": decimal(JAVA
+            .required_fraction_digits(true) // rejects `1.`, not `.5`
+            .no_integer_leading_zeros(true) // rejects `01`, not `01.0`
+        ),
+        "hexadecimal": prefixed(b'x', 16, JAVA),
+        "binary": prefixed(b'b', 2, JAVA),
+    };
+
+    /// NASM's numeric constants (NASM manual, Numeric Constants and Floating-Point Constants). A format cannot accept `$0c8`,
+    /// or reject `ffh`, which is a name.
+    NASM = {
+        "decimal": decimal(NASM
+            .required_integer_digits(true) // rejects `.5`, not `1.`
+            .required_exponent_digits(false) // accepts `1e`
+        ),
+        "decimal, d": suffixed(b'd', 10, NASM),
+        "decimal, t": suffixed(b't', 10, NASM),
+        "hexadecimal, h": suffixed(b'h', 16, NASM),
+        "hexadecimal, x": suffixed(b'x', 16, NASM),
+        "octal, o": suffixed(b'o', 8, NASM),
+        "octal, q": suffixed(b'q', 8, NASM),
+        "binary, b": suffixed(b'b', 2, NASM),
+        "binary, y": suffixed(b'y', 2, NASM),
+        "decimal, 0d": required_prefix(decimal(NASM_PREFIXED
+            .base_prefix(NonZeroU8::new(b'd')) // accepts `0d1.5`
+            .required_exponent_digits(false) // accepts `0d1e`
+        )),
+        "decimal, 0t": required_prefix(decimal(NASM_PREFIXED
+            .base_prefix(NonZeroU8::new(b't')) // accepts `0t1.5`
+            .required_exponent_digits(false) // accepts `0t1e`
+        )),
+        "hexadecimal, 0h": binary_floats(b'h', 16, NASM_PREFIXED),
+        "hexadecimal, 0x": binary_floats(b'x', 16, NASM_PREFIXED),
+        "octal, 0o": binary_floats(b'o', 8, NASM_PREFIXED),
+        "octal, 0q": binary_floats(b'q', 8, NASM_PREFIXED),
+        "binary, 0b": binary_floats(b'b', 2, NASM_PREFIXED),
+        "binary, 0y": binary_floats(b'y', 2, NASM_PREFIXED),
+    };
+
+    /// OCaml's integers and floats (Manual 5.2, 11.1 Lexical conventions). A format cannot accept `1._`, whose fraction has a
+    /// separator alone, or `1l`, `1L` and `1n`.
+    OCAML = {
+        "decimal": decimal(RUST
+            .required_integer_digits(true) // rejects `.5`, not `1.`
+            .fraction_leading_digit_separator(true) // accepts `1._5`, not `_1` or `1e_5`
+        ),
+        "hexadecimal": binary_floats(b'x', 16, RUST
+            .required_integer_digits(true) // rejects `0x.8`, not `0x1.`
+            .fraction_leading_digit_separator(true) // accepts `0x1._8`, not `0x_1`
+        ),
+        "octal": prefixed(b'o', 8, RUST),
+        "binary": prefixed(b'b', 2, RUST),
+    };
+
+    /// Python's integers and floats (Language Reference 3.12, 2.4.5 and 2.4.6). A format cannot accept `00` and reject `01`,
+    /// or accept `1j`.
+    PYTHON = {
+        "decimal": decimal(separated(b'_').no_integer_leading_zeros(true)), // rejects `01`, not `01.0`
+        "hexadecimal": prefixed(b'x', 16, GO_PREFIXED),
+        "octal": prefixed(b'o', 8, GO_PREFIXED),
+        "binary": prefixed(b'b', 2, GO_PREFIXED),
+    };
+
+    /// Ruby's integers and floats (ISO/IEC 30170:2012, 8.7.6.2), with signs. A format cannot accept `1r` and `1i`.
+    RUBY = {
+        "decimal": signed(decimal(without_zeros(RUBY).required_digits(true))), // rejects `.5`, `1.`, `1e` and `.`
+        "octal": signed(integers(8, RUBY)),
+        "hexadecimal": signed(prefixed(b'x', 16, RUBY)),
+        "octal, 0o": signed(prefixed(b'o', 8, RUBY)),
+        "binary": signed(prefixed(b'b', 2, RUBY)),
+        "decimal, 0d": signed(prefixed(b'd', 10, RUBY)),
+    };
+
+    /// Rust's integers and floats (Reference, Integer literals and Floating-point literals). A format cannot accept the
+    /// suffixes in `0x1F_u8` and `1f32`.
+    RUST = {
+        "decimal": decimal(RUST
+            .required_integer_digits(true) // rejects `.5`
+            .required_fraction_digits(true) // rejects `1.` and `1.e5`
+            .exponent_leading_digit_separator(true) // accepts `1e_5`
+        ),
+        "with a point at the end": decimal(RUST
+            .exponent_digit_separator_flags(false)
+            .required_integer_digits(true) // rejects `.5`, not `1.`
+            .no_exponent_notation(true) // rejects `1.e5`
+        ),
+        "hexadecimal": prefixed(b'x', 16, RUST_PREFIXED),
+        "octal": prefixed(b'o', 8, RUST_PREFIXED),
+        "binary": prefixed(b'b', 2, RUST_PREFIXED),
+    };
+
+    /// SQL's signed numeric literals (ISO/IEC 9075-2:2016, 5.3 `<literal>`).
+    SQL = { "decimal": numbers(b'e', b'.', NumberFormatBuilder::new().no_special(true)) }; // rejects `NaN` and `inf`
+
+    /// Swift's numeric literals, with the sign `-` (The Swift Programming Language, Lexical Structure).
+    SWIFT = {
+        "decimal": signed(decimal(RUST.required_digits(true))), // rejects `.5`, `1.`, `1e` and `.`
+        "hexadecimal": signed(prefixed(b'x', 16, RUST.case_sensitive_base_prefix(true))), // rejects `0X1F`
+        "octal": signed(prefixed(b'o', 8, RUST.case_sensitive_base_prefix(true))), // rejects `0O17`
+        "binary": signed(prefixed(b'b', 2, RUST.case_sensitive_base_prefix(true))), // rejects `0B1`
+        "hexadecimal float": signed(binary_floats(b'x', 16, RUST
+            .case_sensitive_base_prefix(true) // rejects `0X1p3`
+            .required_digits(true) // rejects `0x.8p3`, `0x1.p3` and `0x1p`
+            .required_exponent_notation(true) // rejects `0x1.8`
+        )),
+    };
+
+    /// TOML's integers and floats (TOML 1.0.0, Integer and Float).
+    TOML = {
+        "decimal": numbers(b'e', b'.', without_zeros(separated(b'_'))
+            .required_digits(true) // rejects `.5`, `1.`, `1e` and `.`
+            .no_positive_mantissa_sign(false) // accepts `+1`
+            .no_special(false) // accepts `nan` and `inf`
+            .case_sensitive_special(true) // rejects `NaN` and `Inf`
+        ),
+        "hexadecimal": prefixed(b'x', 16, separated(b'_').case_sensitive_base_prefix(true)), // rejects `0X1F`
+        "octal": prefixed(b'o', 8, separated(b'_').case_sensitive_base_prefix(true)), // rejects `0O17`
+        "binary": prefixed(b'b', 2, separated(b'_').case_sensitive_base_prefix(true)), // rejects `0B1`
+    }, Specials { nan: Some(b"nan"), inf: Some(b"inf"), infinity: None };
+
+    /// YAML's integers and floats (YAML 1.2.2, 10.3.2 Tag Resolution). A format cannot accept `.inf` and `.INF` but reject
+    /// `.iNF`, or accept `-.inf` but reject `-.nan`.
+    YAML = {
+        "decimal": numbers(b'e', b'.', NumberFormatBuilder::new()),
+        "octal": prefixed(b'o', 8, TOKENS.case_sensitive_base_prefix(true)), // rejects `0O17`
+        "hexadecimal": prefixed(b'x', 16, TOKENS.case_sensitive_base_prefix(true)), // rejects `0X1F`
+    }, Specials { nan: Some(b".nan"), inf: Some(b".inf"), infinity: None };
+}

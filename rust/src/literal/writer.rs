@@ -1,0 +1,205 @@
+//! Numbers that are written as literals, which is written by hand around the proved layout.
+
+use core::fmt::{self, Write};
+use core::str;
+
+use crate::literal::number::pad;
+use crate::literal::{Literal, Syntax};
+use crate::number::integer::Integer;
+
+mod digits;
+mod integer;
+mod layout;
+#[allow(clippy::module_inception, clippy::needless_lifetimes, reason = "as it is proved")]
+mod literal;
+mod run;
+mod sink;
+
+pub use layout::{Style, WriteError};
+
+use layout::Layout;
+use sink::Sink;
+
+/// The number of bytes that [`Written::as_str`] can return.
+const CAPACITY: usize = 64;
+
+/// A type that can be [written][Syntax::format_integer]: each integer type of Rust.
+pub trait WriteInteger: Integer {}
+
+impl<T: Integer> WriteInteger for T {}
+
+impl Style {
+    /// The digits without groups, with the base prefix and the base suffix if the format has them.
+    pub const PLAIN: Style = Style { group: 0, prefix: true, suffix: true };
+
+    /// Writes the integer digits in groups of `size` digits, counted from the right, where the format allows separators
+    /// between them. For `0`, there are no groups.
+    #[must_use]
+    pub const fn group(mut self, size: usize) -> Style {
+        self.group = size;
+        self
+    }
+
+    /// Leaves out the base prefix and the base suffix, unless a condition of the syntax requires them.
+    #[must_use]
+    pub const fn without_base(mut self) -> Style {
+        (self.prefix, self.suffix) = (false, false);
+        self
+    }
+}
+
+/// [`Style::PLAIN`].
+impl Default for Style {
+    fn default() -> Self {
+        Style::PLAIN
+    }
+}
+
+impl Syntax {
+    /// Returns the value of an integer as a literal of this syntax. [Parsing][crate::literal::Reader::parse] the text returns
+    /// the same value.
+    ///
+    /// A `+` is written only where a sign is required. Digits are in uppercase.
+    ///
+    /// ```
+    /// use peltzivar::literal::{Language, Style, WriteError};
+    ///
+    /// let form = Language::C.forms().iter().find(|form| form.name == "hexadecimal").unwrap();
+    /// let text = form.syntax.format_integer(0xC0FFEE, Style::PLAIN.group(4))?;
+    /// assert_eq!(text.to_string(), "0xC0'FFEE");
+    /// assert_eq!(Language::C.parse(text.to_string()), Ok(0xC0FFEE));
+    /// # Ok::<(), WriteError>(())
+    /// ```
+    ///
+    /// # Errors
+    ///
+    /// [`WriteError::Float`] if each literal has an exponent, and [`WriteError::Negative`] if the value is below 0 and the
+    /// syntax forbids `-`.
+    pub fn format_integer<T: WriteInteger>(&self, value: T, style: Style) -> Result<Written<'static>, WriteError> {
+        integer::format_integer(self, value, style).map(Written::new)
+    }
+
+    /// Returns a literal, which may be of another syntax, as a literal of this syntax with the same value.
+    ///
+    /// Separators and leading zeros are left out, and groups are those of `style`. Where the format requires digits or an
+    /// exponent that the literal does not have, `0` and `e0` are added. Trailing zeros are kept, and so is the sign of `-0`.
+    ///
+    /// ```
+    /// use peltzivar::literal::{Reader, Style, Syntax};
+    /// use peltzivar::{format::STANDARD, Format, NumberFormatBuilder};
+    ///
+    /// const COMMA: NumberFormatBuilder = NumberFormatBuilder::new().required_digits(true);
+    /// static COMMAS: Reader = Reader::new(Syntax::new_or_panic(COMMA.build_format_or_panic(), b'e', b','));
+    /// let literal = COMMAS.read(b"-0012,50").unwrap();
+    /// let syntax = Syntax::new_or_panic(Format::of::<STANDARD>(), b'e', b'.');
+    /// assert_eq!(syntax.format_literal(&literal, Style::PLAIN).unwrap().to_string(), "-12.50");
+    /// ```
+    ///
+    /// # Errors
+    ///
+    /// If the literal cannot be written, returns why. The digits of a literal with an exponent are not moved, even where no
+    /// exponent is allowed.
+    pub fn format_literal<'a>(&self, literal: &Literal<'a>, style: Style) -> Result<Written<'a>, WriteError> {
+        literal::format_literal(literal.view, &literal.cut(), self, style).map(Written::new)
+    }
+}
+
+/// A number as a literal of a syntax, which prints the text. Nothing is allocated.
+#[derive(Clone, Copy)]
+pub struct Written<'a> {
+    layout: Layout<'a>,
+    text: [u8; CAPACITY],
+    length: usize,
+}
+
+impl<'a> Written<'a> {
+    fn new(layout: Layout<'a>) -> Self {
+        let mut text = [0; CAPACITY];
+        let length = layout.write(&mut text);
+        Written { layout, text, length }
+    }
+
+    /// Returns the text, or `None` if it has more than 64 bytes.
+    #[must_use]
+    pub fn as_str(&self) -> Option<&str> {
+        str::from_utf8(self.text.get(..self.length)?).ok()
+    }
+
+    /// Writes the text to the beginning of a buffer, and returns it.
+    ///
+    /// ```
+    /// use peltzivar::literal::{Style, Syntax, WriteError};
+    /// use peltzivar::{format::STANDARD, Format};
+    ///
+    /// let text = Syntax::integers(Format::of::<STANDARD>()).format_integer(u128::MAX, Style::PLAIN)?;
+    /// assert_eq!(text.write_into(&mut [0; 39])?, u128::MAX.to_string());
+    /// assert_eq!(text.write_into(&mut [0; 38]), Err(WriteError::Buffer(39)));
+    /// # Ok::<(), WriteError>(())
+    /// ```
+    ///
+    /// # Errors
+    ///
+    /// [`WriteError::Buffer`] with the length of the text if it does not fit. The content of the buffer is then
+    /// unspecified.
+    pub fn write_into<'b>(&self, buffer: &'b mut [u8]) -> Result<&'b str, WriteError> {
+        let length = self.layout.write(buffer);
+        let text = buffer.get(..length).and_then(|text| str::from_utf8(text).ok());
+        text.ok_or(WriteError::Buffer(length))
+    }
+}
+
+/// Prints the text, with the width and the fill of the formatter. A precision is ignored.
+impl fmt::Display for Written<'_> {
+    fn fmt(&self, f: &mut fmt::Formatter<'_>) -> fmt::Result {
+        pad(f, self.length, |f| match self.as_str() {
+            Some(text) => f.write_str(text),
+            None => {
+                let mut printer = Printer { f, result: Ok(()) };
+                self.layout.put(&mut printer);
+                printer.result
+            }
+        })
+    }
+}
+
+/// Prints the text in quotes.
+impl fmt::Debug for Written<'_> {
+    fn fmt(&self, f: &mut fmt::Formatter<'_>) -> fmt::Result {
+        write!(f, "\"{self}\"")
+    }
+}
+
+/// A formatter that takes a text byte by byte.
+struct Printer<'a, 'b> {
+    f: &'a mut fmt::Formatter<'b>,
+    result: fmt::Result,
+}
+
+impl Sink for Printer<'_, '_> {
+    fn put(&mut self, byte: u8) {
+        if self.result.is_ok() {
+            self.result = self.f.write_char(byte.into());
+        }
+    }
+
+    fn put_all(&mut self, bytes: &[u8]) {
+        bytes.iter().for_each(|byte| self.put(*byte));
+    }
+}
+
+/// Prints the reason, such as `no literal has the sign '-'`.
+impl fmt::Display for WriteError {
+    fn fmt(&self, f: &mut fmt::Formatter<'_>) -> fmt::Result {
+        f.pad(match self {
+            WriteError::Radix => "the digits or the exponent have another radix or base",
+            WriteError::Negative => "no literal has the sign '-'",
+            WriteError::Fraction => "literals are integers, and the number has a decimal point",
+            WriteError::Exponent => "no literal has this exponent",
+            WriteError::Float => "each literal has an exponent, and an integer of Rust has none",
+            WriteError::Special => "no literal is NaN or infinity",
+            WriteError::Buffer(length) => return write!(f, "the text has {length} bytes"),
+        })
+    }
+}
+
+impl core::error::Error for WriteError {}

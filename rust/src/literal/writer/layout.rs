@@ -1,0 +1,325 @@
+// Made by rust/tools/erase.py from crates/lexical_writer/src/layout.rt: change that file.
+
+//! Numbers are laid out as literals.
+
+use crate::literal::syntax::{Options, Syntax};
+use crate::literal::writer::digits::{count, without_zeros};
+use crate::literal::writer::run::{Run, Source};
+use crate::literal::writer::sink::{Sink, Window};
+use crate::word::{base_prefix, base_suffix, digit_separator, FormatView};
+
+/// How numbers are written where a syntax leaves a choice.
+#[derive(Debug, Clone, Copy, PartialEq, Eq, Hash)]
+#[non_exhaustive]
+pub struct Style {
+    /// The number of integer digits of a group, or 0 for digits without groups. Where the format does not allow
+    /// separators between integer digits, there are no groups.
+    pub group: usize,
+    /// Whether the base prefix is written, if the format has one.
+    pub prefix: bool,
+    /// Whether the base suffix is written, if the format has one.
+    pub suffix: bool,
+}
+
+/// Why a number cannot be written as a literal of a syntax.
+#[derive(Debug, Clone, Copy, PartialEq, Eq, Hash)]
+#[non_exhaustive]
+pub enum WriteError {
+    /// The mantissa radixes differ or, for a number with an exponent, the exponent bases.
+    Radix,
+    /// The number is below 0, or -0, and no literal has the sign `-`.
+    Negative,
+    /// The number has a fraction, and the literals of the syntax are integers.
+    Fraction,
+    /// The number has an exponent, and no literal has one, or its exponent digits have another radix and are too many.
+    Exponent,
+    /// The number is an integer of Rust, and each literal has an exponent.
+    Float,
+    /// The number is NaN or infinity, which no literal is.
+    Special,
+    /// The buffer is too short for the text, which has this number of bytes.
+    Buffer(usize),
+}
+
+/// The exponent of a number.
+#[derive(Debug, Clone, Copy, PartialEq, Eq)]
+pub struct Power<'a> {
+    /// Whether the sign is `-`.
+    pub negative: bool,
+    /// The digits, in the exponent radix of the syntax.
+    pub source: Source<'a>,
+}
+
+/// A number that is to be written, by its digits.
+#[derive(Debug, Clone, Copy, PartialEq, Eq)]
+pub struct Amount<'a> {
+    /// Whether the sign is `-`.
+    pub negative: bool,
+    /// The integer digits, in the mantissa radix of the syntax.
+    pub integer: Source<'a>,
+    /// The bytes with the fraction digits, or `None` for a number without a decimal point.
+    pub fraction: Option<&'a [u8]>,
+    /// The exponent, or `None` for a number without one.
+    pub exponent: Option<Power<'a>>,
+}
+
+/// The parts of a literal that is to be written.
+#[derive(Debug, Clone, Copy)]
+pub struct Layout<'a> {
+    pub(crate) sign: Option<u8>,
+    pub(crate) prefix: Option<u8>,
+    pub(crate) integer: Run<'a>,
+    pub(crate) point: Option<u8>,
+    pub(crate) fraction: Run<'a>,
+    pub(crate) exponent_character: Option<u8>,
+    pub(crate) exponent_sign: Option<u8>,
+    pub(crate) exponent: Run<'a>,
+    pub(crate) suffix: Option<u8>,
+}
+
+impl Layout<'_> {
+    /// Writes the text to the beginning of a buffer, and returns its length, or `usize::MAX` if that is less. If the
+    /// buffer is shorter than the text, its content is unspecified.
+    pub fn write(&self, buffer: &mut [u8]) -> usize {
+        let mut window = Window { bytes: buffer, length: 0 };
+        self.fill(&mut window);
+        window.length
+    }
+
+    // Writes the text to a buffer.
+    fn fill(&self, window: &mut Window) {
+        self.put(window);
+    }
+
+    // Writes the text.
+    pub(crate) fn put<S: Sink>(&self, sink: &mut S) {
+        put_if_any(sink, self.sign);
+        put_prefix(sink, self.prefix);
+        self.integer.put(sink);
+        put_if_any(sink, self.point);
+        self.fraction.put(sink);
+        put_if_any(sink, self.exponent_character);
+        put_if_any(sink, self.exponent_sign);
+        self.exponent.put(sink);
+        put_if_any(sink, self.suffix);
+    }
+}
+
+// Writes a byte, if there is one.
+fn put_if_any<S: Sink>(sink: &mut S, byte: Option<u8>) {
+    if let Some(byte) = byte {
+        sink.put(byte);
+    }
+}
+
+// Writes a zero and a byte, if there is one.
+fn put_prefix<S: Sink>(sink: &mut S, byte: Option<u8>) {
+    if let Some(byte) = byte {
+        sink.put(b'0');
+        sink.put(byte);
+    }
+}
+
+// Returns `byte` if `condition` is true.
+const fn only_if(condition: bool, byte: u8) -> Option<u8> {
+    if condition {
+        Some(byte)
+    } else {
+        None
+    }
+}
+
+// Returns the first error whose condition is true.
+const fn first_error(negative: bool, fraction: bool, exponent: bool) -> Option<WriteError> {
+    if negative {
+        Some(WriteError::Negative)
+    } else if fraction {
+        Some(WriteError::Fraction)
+    } else if exponent {
+        Some(WriteError::Exponent)
+    } else {
+        None
+    }
+}
+
+// Returns the sign of a number, if it has one.
+const fn sign_of(negative: bool, required: bool) -> Option<u8> {
+    if negative {
+        Some(b'-')
+    } else {
+        only_if(required, b'+')
+    }
+}
+
+// Returns a run without groups, and without digits if there are no bytes.
+const fn plain_run<'a>(source: Source<'a>, radix: u32, zero: bool) -> Run<'a> {
+    Run { source, radix, zero, group: 0, separator: 0 }
+}
+
+// Returns the digits of a source without the zeros that they begin with.
+fn lean<'a>(source: Source<'a>, radix: u32) -> Source<'a> {
+    match source {
+        Source::Bytes(bytes) => Source::Bytes(without_zeros(bytes, radix)),
+        Source::Number(number) => Source::Number(number),
+    }
+}
+
+// Returns whether a source has digits.
+fn has_digits(source: Source, radix: u32) -> bool {
+    match source {
+        Source::Bytes(bytes) => count(bytes, radix) > 0,
+        Source::Number(number) => number > 0,
+    }
+}
+
+impl<'a> Amount<'a> {
+    /// Returns how the number is written as a literal of `syntax`.
+    ///
+    /// # Errors
+    ///
+    /// If no literal has this form, returns why.
+    pub fn lay_out(&self, syntax: &Syntax, style: Style) -> Result<Layout<'a>, WriteError> {
+        self.plan(syntax, style)
+    }
+
+    // Returns the parts of the literal.
+    fn plan(&self, syntax: &Syntax, style: Style) -> Result<Layout<'a>, WriteError> {
+        let format = syntax.format().view();
+        if let Some(refusal) = self.refusal(syntax) {
+            return Err(refusal);
+        }
+        let options = syntax.options();
+        let has_exponent = self.has_exponent(syntax);
+        let has_point = self.has_point(syntax);
+        let conditions = syntax.conditions();
+        Ok(Layout {
+            sign: sign_of(self.negative, format.required_mantissa_sign()),
+            prefix: byte_if(style.prefix || conditions.required_base_prefix, base_prefix(format.word())),
+            integer: self.integer_run(syntax, style),
+            point: only_if(has_point, point_byte(options)),
+            fraction: self.fraction_run(syntax, has_point),
+            exponent_character: only_if(has_exponent, exponent_byte(options)),
+            exponent_sign: self.exponent_sign(syntax, has_exponent),
+            exponent: self.exponent_run(syntax, has_exponent),
+            suffix: byte_if(style.suffix || conditions.required_base_suffix, base_suffix(format.word())),
+        })
+    }
+
+    // Returns why the number cannot be written, if it cannot.
+    fn refusal(&self, syntax: &Syntax) -> Option<WriteError> {
+        let integers = lacks_options(syntax.options());
+        let no_exponent = integers || syntax.format().view().no_exponent_notation();
+        let negative = self.negative && syntax.conditions().no_negative_mantissa_sign;
+        let fraction = integers && self.fraction.is_some();
+        let exponent = no_exponent && self.exponent.is_some();
+        first_error(negative, fraction, exponent)
+    }
+
+    // Returns whether an exponent is written.
+    fn has_exponent(&self, syntax: &Syntax) -> bool {
+        let required = syntax.format().view().required_exponent_notation();
+        self.exponent.is_some() || (required && syntax.options().is_some())
+    }
+
+    // Returns whether a decimal point is written.
+    fn has_point(&self, syntax: &Syntax) -> bool {
+        let required = syntax.format().view().no_exponent_without_fraction();
+        self.fraction.is_some() || (self.has_exponent(syntax) && required)
+    }
+
+    // Returns whether a 0 stands for absent integer digits.
+    fn has_zero(&self, format: FormatView) -> bool {
+        let radix = format.mantissa_radix();
+        format.required_integer_digits()
+            || has_digits(self.integer, radix)
+            || !has_digits(self.fraction_source(), radix)
+    }
+
+    // Returns the integer digits.
+    fn integer_run(&self, syntax: &Syntax, style: Style) -> Run<'a> {
+        let format = syntax.format().view();
+        let radix = format.mantissa_radix();
+        Run {
+            source: lean(self.integer, radix),
+            radix,
+            zero: self.has_zero(format),
+            group: group_of(format, style),
+            separator: digit_separator(format.word()),
+        }
+    }
+
+    // Returns the fraction digits.
+    fn fraction_run(&self, syntax: &Syntax, has_point: bool) -> Run<'a> {
+        let format = syntax.format().view();
+        let zero = has_point && format.required_fraction_digits();
+        plain_run(self.fraction_source(), format.mantissa_radix(), zero)
+    }
+
+    // Returns the exponent digits.
+    fn exponent_run(&self, syntax: &Syntax, has_exponent: bool) -> Run<'a> {
+        let radix = syntax.format().view().exponent_radix();
+        let source = match self.exponent {
+            Some(power) => power.source,
+            None => Source::Bytes(&[]),
+        };
+        plain_run(lean(source, radix), radix, has_exponent)
+    }
+
+    // Returns the sign of the exponent.
+    fn exponent_sign(&self, syntax: &Syntax, has_exponent: bool) -> Option<u8> {
+        if !has_exponent {
+            return None;
+        }
+        let negative = match self.exponent {
+            Some(power) => power.negative,
+            None => false,
+        };
+        sign_of(negative, syntax.format().view().required_exponent_sign())
+    }
+
+    // Returns the fraction digits, if there are any.
+    fn fraction_source(&self) -> Source<'a> {
+        match self.fraction {
+            Some(bytes) => Source::Bytes(bytes),
+            None => Source::Bytes(&[]),
+        }
+    }
+}
+
+// Returns the number of digits of a group, or 0 if there are no groups.
+const fn group_of(format: FormatView, style: Style) -> usize {
+    if format.integer_internal_digit_separator() && digit_separator(format.word()) != 0 {
+        style.group
+    } else {
+        0
+    }
+}
+
+// Returns `byte` if `condition` is true, unless it is absent.
+const fn byte_if(condition: bool, byte: u8) -> Option<u8> {
+    only_if(condition && byte != 0, byte)
+}
+
+// Returns whether literals are integers.
+const fn lacks_options(options: Option<Options>) -> bool {
+    match options {
+        Some(_) => false,
+        None => true,
+    }
+}
+
+// Returns the decimal point.
+const fn point_byte(options: Option<Options>) -> u8 {
+    match options {
+        Some(options) => options.point,
+        None => 0,
+    }
+}
+
+// Returns the exponent character.
+const fn exponent_byte(options: Option<Options>) -> u8 {
+    match options {
+        Some(options) => options.exponent,
+        None => 0,
+    }
+}

@@ -1,0 +1,26 @@
+// Made by rust/tools/erase.py from crates/lexical_writer/src/run.rt: change that file.
+
+//! Digits that are to be written.
+
+/// Digits that are to be written.
+#[derive(Debug, Clone, Copy, PartialEq, Eq)]
+pub enum Source<'a> {
+    /// The digits among these bytes.
+    Bytes(&'a [u8]),
+    /// The digits of this number. The number 0 has none.
+    Number(u128),
+}
+
+/// Digits that are to be written in groups.
+#[derive(Debug, Clone, Copy)]
+pub struct Run<'a> {
+    pub(crate) source: Source<'a>,
+    /// The radix of the digits.
+    pub(crate) radix: u32,
+    /// Whether a 0 stands for digits that are absent.
+    pub(crate) zero: bool,
+    /// The number of digits of a group, or 0 for digits without groups.
+    pub(crate) group: usize,
+    /// What is written between groups.
+    pub(crate) separator: u8,
+}
