@@ -247,6 +247,28 @@ fn float(group: &Group) -> impl Fn(&str) -> bool + use<> {
     move |text| black_box(reader.parse::<f64>(text)).is_ok()
 }
 
+fn by_hand(_: &Group) -> impl Fn(&str) -> bool + use<> {
+    |text| black_box(hexadecimal_by_hand(text.as_bytes())).is_some()
+}
+
+/// Reads a hexadecimal float with at most 16 digits, without separators, as a program might that checks no more.
+fn hexadecimal_by_hand(text: &[u8]) -> Option<f64> {
+    let (mut digits, mut scale, mut is_fraction) = (0u64, 0, false);
+    let mut bytes = text.strip_prefix(b"0x")?.iter();
+    for byte in bytes.by_ref() {
+        match byte {
+            b'.' => is_fraction = true,
+            b'p' => break,
+            _ => {
+                digits = digits << 4 | char::from(*byte).to_digit(16)? as u64;
+                scale -= if is_fraction { 4 } else { 0 };
+            }
+        }
+    }
+    let exponent: i32 = std::str::from_utf8(bytes.as_slice()).ok()?.parse().ok()?;
+    Some(digits as f64 * f64::powi(2.0, exponent + scale))
+}
+
 fn parse_integer(_: &Group) -> impl Fn(&str) -> bool + use<> {
     |text| black_box(text.parse::<i64>()).is_ok()
 }
@@ -309,6 +331,7 @@ pub fn rows(texts: &Literals) -> Vec<Row<'_>> {
         "Reader::parse::<f64>, 17 digits, over parse", exponents.float, exponents.parse;
         "Reader::parse::<f64>, fractions, over parse", fractions.float, fractions.parse;
         "Reader::parse::<f64>, hexadecimal, over Reader::read", hexadecimal.float, hexadecimal.reader;
+        "Reader::parse::<f64>, hexadecimal, over a loop", hexadecimal.float, hexadecimal.by_hand;
     };
     #[cfg(regex)]
     rows.extend(rows! {
