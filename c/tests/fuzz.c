@@ -156,8 +156,7 @@ static void test_values(const peltzivar_literal *literal) {
 
 /* A literal can be written in its own syntax, and what is written has the same value. */
 static void test_written(const peltzivar_reader *reader, const peltzivar_literal *literal) {
-    const uint8_t group = reader->syntax.integer_group_size ? 0 : (uint8_t)(draw() % 5);
-    const peltzivar_style style = {group, draw() % 2};
+    const peltzivar_style style = {(uint8_t)(draw() % 5), draw() % 2};
     peltzivar_literal again;
     peltzivar_i128 values[2] = {{7, 7}, {7, 7}};
     double reals[2] = {7, 7};
