@@ -213,12 +213,6 @@ pub fn offers<'a>(state: State, lines: &'a [u8], line: Line<'_>) -> Found<'a> {
 }
 
 fn refusing(state: State, text: &[u8], found: &mut Found<'_>) {
-    for bits in [1, 2, 4, 3 << 4] {
-        let other = State { conditions: state.conditions | bits, ..state };
-        if other.exact().is_some_and(|it| read(&Reader::new(it), text).is_err()) {
-            found.push(other);
-        }
-    }
     for flag in bits_of(FLAG_MASK) {
         let other = State { word: state.word ^ flag, ..state };
         // Consecutive separators need another flag of their part.
@@ -226,6 +220,12 @@ fn refusing(state: State, text: &[u8], found: &mut Found<'_>) {
         let other = other.syntax().map_or(single, |_| other);
         let is_refused = other.syntax().is_some_and(|it| read(&Reader::new(it), text).is_err());
         if is_refused && problems(other).count() <= problems(state).count() {
+            found.push(other);
+        }
+    }
+    for bits in [1, 2, 4, 3 << 4] {
+        let other = State { conditions: state.conditions | bits, ..state };
+        if other.exact().is_some_and(|it| read(&Reader::new(it), text).is_err()) {
             found.push(other);
         }
     }
