@@ -73,6 +73,7 @@ mod span;
 mod specials;
 #[allow(clippy::redundant_pattern_matching, reason = "as it is proved")]
 mod steps;
+#[allow(clippy::redundant_pattern_matching, reason = "as it is proved")]
 mod syntax;
 mod tables;
 mod text;
