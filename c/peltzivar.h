@@ -34,8 +34,8 @@
  * satisfies all rules below. FORMAT.md, which is installed in share/doc/peltzivar, describes each byte and rule, and
  * each flag with texts that it accepts and rejects.
  *
- * If a call succeeds, a peltzivar_error is 0 (PELTZIVAR_SUCCESS), a peltzivar_value_status is 0 (PELTZIVAR_VALUE_OK), so
- * is a peltzivar_write_status, a bool is true, and peltzivar_read_settings returns 0. No function depends on the locale.
+ * If a call succeeds, a peltzivar_error, a peltzivar_value_status or a peltzivar_write_status is 0, a bool is true, and
+ * peltzivar_read_settings returns 0. No function depends on the locale.
  *
  * Each function that ends in _text, and peltzivar_source, write a null-terminated ASCII string to a buffer of len
  * bytes, as snprintf does. If the string and its null terminator do not fit, they write only the beginning of the
@@ -104,12 +104,14 @@ typedef struct {
 /* SETTINGS
  *
  * A syntax is a lawful word with an exponent character and a decimal point, or with 0 for both. Then numbers are
- * integers. The other members are conditions: that a number has the base prefix or the base suffix, and that its sign
- * is not `-`. Without initialisers, they are false. */
+ * integers. The other members are conditions: that a number has the base prefix or the base suffix, that its sign is
+ * not `-`, and that the digit separators of its integer, if it has any, make groups of 2 to 8 digits, as in `1,234`.
+ * Without initialisers, there are none. */
 typedef struct {
     peltzivar_word format;
     uint8_t exponent, decimal_point;
     bool required_base_prefix, required_base_suffix, no_negative_mantissa_sign;
+    uint8_t integer_group_size;
 } peltzivar_syntax;
 
 /* Settings build a syntax. A text, such as a file, has one setting a line, NAME=VALUE, of a field, a group, an option
@@ -290,7 +292,8 @@ typedef struct {
 enum {
     PELTZIVAR_CONDITION_REQUIRED_BASE_PREFIX = 1,
     PELTZIVAR_CONDITION_REQUIRED_BASE_SUFFIX = 2,
-    PELTZIVAR_CONDITION_NO_NEGATIVE_MANTISSA_SIGN = 4
+    PELTZIVAR_CONDITION_NO_NEGATIVE_MANTISSA_SIGN = 4,
+    PELTZIVAR_CONDITION_INTEGER_GROUP_SIZE = 8
 };
 
 /* Writes why a text is not a literal to *out and returns true. If no call has written *error, or if the reader or the
@@ -341,14 +344,14 @@ PELTZIVAR_MUST_USE bool peltzivar_form_syntax(const peltzivar_reader *reader, si
 
 /* WRITING
  *
- * Each call writes a number as a literal of a reader's syntax, which is that of the first form of a language, and a null
- * terminator to a buffer of len bytes. It writes to *needed how many bytes are enough, and returns PELTZIVAR_WRITE_OK if
- * len is. Otherwise, it writes only the beginning and a null terminator, and returns PELTZIVAR_WRITE_BUFFER. If the number
- * cannot be written, it leaves the memory unchanged and returns why. Reading the text returns the same value. */
+ * Each call writes a number as a literal of a reader's syntax, or of the first form of a language, and a null
+ * terminator to a buffer of len bytes. It writes to *needed how many bytes are enough, and returns PELTZIVAR_WRITE_OK
+ * if len is. Otherwise, it writes only the beginning and a null terminator, and returns PELTZIVAR_WRITE_BUFFER. If the
+ * number cannot be written, it leaves the memory unchanged and returns why. Reading the text returns the same value. */
 
 /* How numbers are written where a syntax leaves a choice: the number of integer digits in a group, if the format allows
- * separators between them, or 0 for no groups, and whether the base prefix and the base suffix are left out unless
- * conditions require them. A null pointer is the same as zeros. */
+ * separators between them, or 0 for no groups, and whether the base prefix and the base suffix are left out. Conditions
+ * come first. A null pointer is the same as zeros. */
 typedef struct {
     uint8_t group;
     bool without_base;
@@ -376,8 +379,8 @@ PELTZIVAR_MUST_USE peltzivar_write_status peltzivar_format_u64(const peltzivar_r
 PELTZIVAR_MUST_USE peltzivar_write_status peltzivar_format_i128(const peltzivar_reader *reader, peltzivar_i128 value,
     const peltzivar_style *style, char *text, size_t len, size_t *needed);
 
-/* Writes the shortest decimal digits that are read as this float. A very large or very small one has an exponent, if the
- * syntax has one. */
+/* Writes the shortest decimal digits that are read as this float. A very large or very small one has an exponent, if
+ * the syntax has one. */
 PELTZIVAR_MUST_USE peltzivar_write_status peltzivar_format_f64(const peltzivar_reader *reader, double value,
     const peltzivar_style *style, char *text, size_t len, size_t *needed);
 

@@ -113,9 +113,11 @@ def fields():
 def conditions():
     """Returns the conditions: the name of each, what it does, and a text that it refuses."""
     text = (TOP / "rust/src/literal/conditions.rs").read_text()
-    row = r"/// (.*?)\. If set, [^`]*(`[^`]*`).*\n    #\[must_use\]\n    pub const fn (\w+)\(mut self, \w+: bool\)"
-    found = re.findall(row, text) or sys.exit("rust/src/literal/conditions.rs: no conditions")
-    return [{"name": name, "meaning": does, "refuses": [text.strip("`")]} for does, text, name in found]
+    row = r"((?: +///.*\n)+) +#\[must_use\]\n +pub const fn (\w+)\(mut self, \w+: (\S+)\)"
+    for comment, name, kind in re.findall(row, text):
+        does, *_ = re.split(r"\. |, from ", " ".join(comment.replace("///", "").split()))
+        refused = re.findall(r"refuses `([^`]*)`", comment)
+        yield {"name": name, "meaning": does, "refuses": refused, "isNumber": kind != "bool"}
 
 
 def numbers(name, has_specials):
@@ -143,7 +145,7 @@ def data(forms):
     header = (TOP / "c/peltzivar.h").read_text()
     return {
         **fields(),
-        "conditions": conditions(),
+        "conditions": [*conditions()],
         "rules": rules(),
         "languages": [*languages(forms)],
         "version": re.search(r'^#define PELTZIVAR_VERSION "(.*)"$', header, re.M)[1],

@@ -35,7 +35,10 @@ class Code {
         const build = `NumberFormatBuilder::new()\n${calls.join("")}    .build_format_or_panic()`;
         const isFloat = exponent || point;
         const options = [exponent, point].map((it) => character(it, "b")).join(", ");
-        const conditions = this.library.conditions.filter(({ flag }) => state.conditions & flag).map(({ name }) => `.${name}(true)`);
+        const set = this.library.conditions.filter((field) => this.library.condition(state, field));
+        const conditions = set.map((field) => {
+            return `.${field.name}(${field.isNumber ? `Some(${this.library.condition(state, field)})` : "true"})`;
+        });
         const hasBytes = shown.isBuilt && calls.some((call) => call.includes("NonZeroU8"));
         const syntax = isFloat ? `Syntax::new_or_panic(FORMAT, ${options})` : "Syntax::integers(FORMAT)";
         const names = `${conditions.length ? "Conditions, " : ""}ParseError, Reader, Syntax`;

@@ -39,10 +39,13 @@ class Controls {
     /* Returns the check box of a flag or a group. */
     box(field) {
         const { name, meaning } = field;
-        const change = (event) => this.edit(name, Number(event.target.checked));
+        const change = ({ target }) => this.edit(name, Number(field.isNumber ? target.value : target.checked));
         const label = `${[meaning, examples(field)].filter(Boolean).join(": ")} (${name})`.replaceAll("`", "");
-        const box = element("input", { type: "checkbox", id: name, change, "aria-label": label });
-        this.boxes.set(name, box);
+        const attributes = { id: name, change, "aria-label": label };
+        const sizes = [0, 2, 3, 4, 5, 6, 7, 8].map((size) => element("option", { value: size }, size || "none"));
+        if (field.isNumber) return element("select", attributes, sizes);
+        const box = element("input", { type: "checkbox", ...attributes });
+        if (field.mask && typeof field.mask === "bigint") this.boxes.set(name, box);
         return box;
     }
 
@@ -164,9 +167,7 @@ class Controls {
     show(state) {
         this.shown = state;
         for (const [name, box] of this.boxes) {
-            const { mask, flag } = this.library.named.get(name) ?? this.library.conditions.find((it) => it.name === name);
-            if (flag) box.checked = Boolean(state.conditions & flag);
-            if (flag) continue;
+            const { mask } = this.library.named.get(name);
             box.checked = (state.word & mask) === mask;
             box.indeterminate = !box.checked && (state.word & mask) !== 0n;
         }
@@ -174,6 +175,11 @@ class Controls {
             this.showByte(name, this.library.get(state.word, name), this.library.effective(state.word, name));
         }
         for (const { name } of OPTIONS) this.showByte(name, state[name], state[name]);
+        for (const field of this.library.conditions) {
+            const value = this.library.condition(state, field);
+            if (field.isNumber) find(field.name).value = value;
+            else find(field.name).checked = Boolean(value);
+        }
     }
 
     /* Shows a byte. Beside it are its name and its numbers, or the number that takes the place of an absent byte. A

@@ -15,7 +15,10 @@ const STANDARD_OPTIONS = { exponent: 101, point: 46, conditions: 0 };
 class Library {
     constructor(calls, { flags, groups, bytes, conditions }) {
         this.calls = calls;
-        this.conditions = conditions.map((condition, index) => ({ ...condition, part: "option", flag: 1 << index }));
+        /* The conditions are the fields of a byte: flags from its lowest bit on, and a number in its upper half. */
+        this.conditions = conditions.map((condition, index) => {
+            return { ...condition, part: "option", ...(condition.isNumber ? { mask: 240, shift: 4 } : { mask: 1 << index, shift: index }) };
+        });
         this.flags = flags.map((flag) => ({ ...flag, mask: 1n << BigInt(flag.bit) }));
         this.bytes = bytes.map((byte) => ({ ...byte, isByte: true, mask: 255n << BigInt(byte.bit) }));
         this.groups = groups.map((group) => {
@@ -61,8 +64,8 @@ class Library {
         };
         const [reasons, options, notes] = ["reasons", "options", "notes"].map((name) => answer[name].map(named));
         if (answer.contradiction) {
-            const { name, flag } = this.conditions.find(({ name }) => answer.contradiction.startsWith(name));
-            const repairs = [{ ...state, conditions: state.conditions & ~flag }];
+            const { name, mask } = this.conditions.find(({ name }) => answer.contradiction.startsWith(name));
+            const repairs = [{ ...state, conditions: state.conditions & ~mask }];
             options.push({ text: answer.contradiction, fields: [name], rules: [], repairs });
         }
         return { ...answer, normal: BigInt(answer.normal), reasons, options, notes };
@@ -83,9 +86,26 @@ class Library {
      * conditions as settings. */
     stateOfSyntax(text) {
         const [word, exponent = 0, point = 0] = text.split(" ").filter((it) => !it.includes("="));
-        const set = this.conditions.filter(({ name }) => text.includes(`${name}=true`));
-        const conditions = set.reduce((all, { flag }) => all | flag, 0);
+        const conditions = this.withConditions(0, text);
         return { word: BigInt(word), exponent: Number(exponent), point: Number(point), conditions };
+    }
+
+    /* Returns conditions with those that are set in a text. */
+    withConditions(conditions, text) {
+        return this.conditions.reduce((all, { name, mask, shift }) => {
+            const [, value] = new RegExp(`\\b${name}=(\\w+)`).exec(text) ?? [];
+            return value ? (all & ~mask) | ((value === "true" ? 1 : Number(value) || 0) << shift) : all;
+        }, conditions);
+    }
+
+    /* Returns a condition of a state as a number, and as a setting. */
+    condition({ conditions }, { mask, shift }) {
+        return (conditions & mask) >> shift;
+    }
+
+    conditionText(state, field) {
+        const value = this.condition(state, field);
+        return `${field.name}=${field.isNumber ? value || "none" : Boolean(value)}`;
     }
 
     /* Returns {value}, or {error} if the setter does not take the text. A separator needs a flag that allows it. */
@@ -132,10 +152,10 @@ class Library {
             const [text, before] = [state, other].map((it) => `${name}=${it[name] ? quoted(it[name], "") : "none"}`);
             return { name, isByte: true, text, before, value: other[name] };
         });
-        const changed = this.conditions.filter(({ flag }) => (state.conditions ^ other.conditions) & flag);
-        const conditions = changed.map(({ name, flag }) => {
-            const [text, before] = [state, other].map(({ conditions }) => `${name}=${Boolean(conditions & flag)}`);
-            return { name, text, before, value: other.conditions & flag };
+        const changed = this.conditions.filter(({ mask }) => (state.conditions ^ other.conditions) & mask);
+        const conditions = changed.map((field) => {
+            const [text, before] = [state, other].map((it) => this.conditionText(it, field));
+            return { name: field.name, text, before, value: this.condition(other, field) };
         });
         return [...fields, ...options, ...conditions];
     }
@@ -160,9 +180,9 @@ class Library {
      * settings, in which # begins a comment. */
     read(text) {
         const [options, settings] = [{}, []];
-        const rest = this.conditions.reduce((rest, { name, flag }) => {
-            return rest.replace(new RegExp(`\\b${name}=(true|false)\\b[\\s,;]*`, "g"), (_, value) => {
-                options.conditions = (options.conditions & ~flag) | (value === "true" ? flag : 0);
+        const rest = this.conditions.reduce((rest, { name }) => {
+            return rest.replace(new RegExp(`\\b${name}=\\w+[\\s,;]*`, "g"), (setting) => {
+                options.conditions = this.withConditions(options.conditions ?? 0, setting);
                 return "";
             });
         }, text);

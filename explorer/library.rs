@@ -43,8 +43,8 @@ fn text_of(length: usize) -> (&'static str, &'static [u8]) {
     (core::str::from_utf8(&text[..end]).unwrap_or(""), text.get(end + 1..).unwrap_or_default())
 }
 
-/// Returns the word that settings, one a line behind an empty one, build, with the notes on fields without effect: `{"word", "notes"}`, or
-/// `{"error", "index"}` for the first that is none.
+/// Returns the word that settings, one a line behind an empty one, build, with the notes on fields without effect:
+/// `{"word", "notes"}`, or `{"error", "index"}` for the first that is none.
 #[unsafe(no_mangle)]
 pub extern "C" fn build(length: usize) -> usize {
     let text = core::str::from_utf8(text_of(length).1).unwrap_or("");

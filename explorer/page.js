@@ -5,7 +5,7 @@ const LANGUAGES = ["rust", "c", "python", "settings"];
 /* After how many milliseconds without an edit the fragment is written, and how many pixels are beside a hint. */
 const [PAUSE, GAP] = [400, 6];
 /* The parts of a fragment. */
-const FRAGMENT = /^#?(word|exponent|point|conditions|numbers|compare|tab)=/;
+const FRAGMENT = /^#?(word|exponent|point|conditions|language|numbers|compare|tab)=/;
 /* What is told for a while of a link that is copied from a file, which others cannot open. */
 const [TOLD, TOLD_FOR] = ["Copied from # on: paste it behind the address of the page.", 8000];
 
@@ -192,9 +192,9 @@ class Page {
 
     /* Changes a field or an option. Numbers are integers alone without both options, or floats with both. */
     edit(name, value, key) {
+        const condition = this.library.conditions.find((it) => it.name === name);
         const { conditions } = this.state;
-        const flag = this.library.conditions.find((it) => it.name === name)?.flag;
-        if (flag) return this.change({ conditions: value ? conditions | flag : conditions & ~flag }, key);
+        if (condition) return this.change({ conditions: (conditions & ~condition.mask) | (value << condition.shift) }, key);
         if (!(name in STANDARD_OPTIONS)) return this.change({ word: this.library.put(this.state.word, name, value) }, key);
         const other = name === "point" ? "exponent" : "point";
         const isAlone = (value === 0) !== (this.state[other] === 0);
@@ -227,11 +227,13 @@ class Page {
     }
 
     fragment() {
-        const { word, exponent, point, numbers, ...rest } = this.state;
-        const conditions = this.library.conditions.filter(({ flag }) => rest.conditions & flag).map(({ name }) => name).join(" ");
+        const { word, exponent, point, numbers } = this.state;
+        const set = this.library.conditions.filter((field) => this.library.condition(this.state, field));
+        const conditions = set.map((field) => this.library.conditionText(this.state, field)).join(" ");
         const compared = find("compare").value === "another" ? find("other").value : find("compare").value;
         const tab = this.language === LANGUAGES[0] ? "" : this.language;
-        const others = Object.entries({ conditions, numbers, compare: compared, tab }).filter(([, text]) => text);
+        const language = find("language").value;
+        const others = Object.entries({ conditions, language, numbers, compare: compared, tab }).filter(([, text]) => text);
         const all = others.map(([name, text]) => `&${name}=${encodeURIComponent(text)}`).join("");
         return `#word=${wordText(word)}&exponent=${exponent}&point=${point}${all}`;
     }
@@ -253,8 +255,7 @@ class Page {
         const parts = new URLSearchParams(FRAGMENT.test(hash) ? hash.replaceAll("+", "%2B") : { word: hash });
         const byte = (name) => (parts.has(name) ? this.library.byte(parts.get(name)) : STANDARD_OPTIONS[name]);
         const word = parts.get("word") ? this.library.read(parts.get("word")).word : this.library.standard;
-        const names = (parts.get("conditions") ?? "").split(" ");
-        const conditions = this.library.conditions.reduce((all, { name, flag }) => (names.includes(name) ? all | flag : all), 0);
+        const conditions = this.library.withConditions(0, parts.get("conditions") ?? "");
         const found = { word, exponent: byte("exponent"), point: byte("point"), conditions };
         const lost = Object.keys(found).filter((name) => found[name] === undefined);
         for (const name of lost) found[name] = this.library.usual[name];
@@ -263,6 +264,7 @@ class Page {
         this.state = { ...found, numbers: (parts.get("numbers") ?? "").replace(/\r\n?/g, "\n") };
         this.key = "";
         this.chooseTab(LANGUAGES.find((name) => name === parts.get("tab")) ?? LANGUAGES[0]);
+        find("language").value = parts.get("language") ?? "";
         this.showAnew();
         this.report.choose(parts.get("compare") ?? "");
         const titles = { word: "format word", exponent: "exponent character", point: "decimal point" };
@@ -288,7 +290,8 @@ class Page {
     showAll() {
         const { word, exponent, point } = this.state;
         this.shown = this.library.explain(this.state);
-        if (!exponent && !point) this.shown.options = [];
+        const { options, contradiction } = this.shown;
+        if (!exponent && !point) this.shown.options = options.filter(({ text }) => text === contradiction);
         const isKept = isRefused(find("word")) && this.told === word;
         if (document.activeElement !== find("word") && !isKept) this.showWord();
         find("undo").disabled = !this.past.length;

@@ -10,7 +10,7 @@ class Report {
         this.go = go;
         const others = [["", "nothing"], ["standard", "the standard format"], ["another", "this word, or another one"]];
         const all = data.languages.flatMap((language) => {
-            const forms = language.forms.map((form) => ({ name: `${language.name}:${form.name}`, about: `\u2014 ${form.name}` }));
+            const forms = language.forms.map(({ name }) => ({ name: `${language.name}:${name}`, title: `${language.name}: ${name}` }));
             return forms.length > 1 ? [language, ...forms] : [language];
         });
         find("compare").append(...choices([...others.map(([name, about]) => ({ name, about })), ...all]));
@@ -140,6 +140,6 @@ class Report {
 
 /* Returns the choices of a select for formats, each with the first words of its comment. */
 function choices(formats) {
-    const title = (about) => about.replace(/[:.]? \(.*|, as .*| with .*|\.$/, "");
-    return formats.map(({ name, about }) => element("option", { value: name }, title(about)));
+    const short = (about) => about.replace(/[:.]? \(.*|, as .*| with .*|\.$/, "");
+    return formats.map(({ name, about, title = short(about) }) => element("option", { value: name }, title));
 }

@@ -32,7 +32,8 @@ const NO_POINT: u8 = 12;
 /// The usual exponent characters.
 const EXPONENTS: [u8; 3] = [b'e', b'p', b'^'];
 
-/// A format word, the options of a parser, and a bit for each condition. If both options are 0, numbers are integers alone.
+/// A format word, the options of a parser, and the conditions: three flags and, in the upper half, the size of groups. If
+/// both options are 0, numbers are integers alone.
 #[derive(Clone, Copy, Debug, PartialEq, Eq)]
 pub struct State {
     pub word: u128,
@@ -125,15 +126,19 @@ pub fn read(reader: &Reader, text: &[u8]) -> Result<(), ReadError> {
     }
 }
 
-/// Returns the conditions of bits, and the bits of conditions.
+/// Returns the conditions of a byte.
 pub fn conditions_of(bits: u8) -> Conditions {
     let [prefix, suffix, sign] = [1, 2, 4].map(|bit| bits & bit != 0);
-    Conditions::NONE.required_base_prefix(prefix).required_base_suffix(suffix).no_negative_mantissa_sign(sign)
+    let flags =
+        Conditions::NONE.required_base_prefix(prefix).required_base_suffix(suffix).no_negative_mantissa_sign(sign);
+    flags.integer_group_size(Some(bits >> 4).filter(|&size| size > 0))
 }
 
-fn bits_of_conditions(it: Conditions) -> u8 {
-    let all = [it.required_base_prefix, it.required_base_suffix, it.no_negative_mantissa_sign];
-    all.iter().rev().fold(0, |bits, &is_set| bits << 1 | u8::from(is_set))
+/// Returns the bits that some conditions have in a byte.
+fn mask_of(it: Conditions) -> u8 {
+    let flags = [it.required_base_prefix, it.required_base_suffix, it.no_negative_mantissa_sign];
+    let flags = flags.iter().rev().fold(0, |bits, &is_set| bits << 1 | u8::from(is_set));
+    flags | it.integer_group_size.map_or(0, |_| 0xF0)
 }
 
 /// Returns each flag of a mask of flags, from the lowest.
@@ -208,12 +213,6 @@ pub fn offers<'a>(state: State, lines: &'a [u8], line: Line<'_>) -> Found<'a> {
 }
 
 fn refusing(state: State, text: &[u8], found: &mut Found<'_>) {
-    for bit in [1, 2, 4] {
-        let other = State { conditions: state.conditions | bit, ..state };
-        if other.exact().is_some_and(|it| read(&Reader::new(it), text).is_err()) {
-            found.push(other);
-        }
-    }
     for flag in bits_of(FLAG_MASK) {
         let other = State { word: state.word ^ flag, ..state };
         // Consecutive separators need another flag of their part.
@@ -221,6 +220,12 @@ fn refusing(state: State, text: &[u8], found: &mut Found<'_>) {
         let other = other.syntax().map_or(single, |_| other);
         let is_refused = other.syntax().is_some_and(|it| read(&Reader::new(it), text).is_err());
         if is_refused && problems(other).count() <= problems(state).count() {
+            found.push(other);
+        }
+    }
+    for bits in [1, 2, 4, 3 << 4] {
+        let other = State { conditions: state.conditions | bits, ..state };
+        if other.exact().is_some_and(|it| read(&Reader::new(it), text).is_err()) {
             found.push(other);
         }
     }
@@ -253,7 +258,7 @@ fn settled(mut state: State, text: &[u8]) -> Result<State, usize> {
         match error {
             Some(error) if matches!(error.kind(), ReadErrorKind::Requirement | ReadErrorKind::Case) => {
                 state.word &= !error.mask();
-                state.conditions &= !bits_of_conditions(error.conditions());
+                state.conditions &= !mask_of(error.conditions());
             }
             error => return Err(error.map_or(text.len(), |it| it.valid_up_to())),
         }

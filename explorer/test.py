@@ -38,7 +38,7 @@ MIXED = "0x0A0210687800005F00000FC70001441F"
 # Words with an exponent character, a decimal point and the normal form, also with bytes that need an escape or cannot be
 # seen, without options, with a condition, and a word that no builder makes. The last one has no reader.
 NORMAL = "0x0A0A0A0000000000000000000000000C"
-STATES = [(STANDARD, "e", ".", NORMAL), (MIXED, "p", ",", f"{MIXED} required_base_prefix"), (STANDARD, "\\", "'", NORMAL), (STANDARD, "", "", NORMAL),
+STATES = [(STANDARD, "e", ".", NORMAL), (MIXED, "p", ",", f"{MIXED} required_base_prefix=true"), (STANDARD, "\\", "'", NORMAL), (STANDARD, "", "", NORMAL),
           ("0x000002095C000027000000010000000C", "^", '"', "0x020202095C000027000000010000000C"),
           ("0x00000A000000005F000000000000000C", "e", ".", NORMAL), ("0x01FF257862000020800017FF8003FFFF", "e", ".", "")]
 # Returns those of the recorded results that the library in the page does not return.
@@ -354,11 +354,16 @@ class Walk(unittest.TestCase):
         self.assertTrue(self.find("#required_base_prefix").is_selected())
         self.click("#no_negative_mantissa_sign")
         self.assertIn("at index 0: unexpected minus sign", self.text("#read .unexpected p"))
-        self.wait(lambda: "&conditions=required_base_prefix%20no_negative" in self.run_script("return location.hash"))
+        self.wait(lambda: "&conditions=required_base_prefix%3Dtrue%20no_" in self.run_script("return location.hash"))
         self.type("#base_prefix", "")
         self.assertEqual(self.text("#verdict"), "A condition does not fit")
         self.click(".reason .use", "required_base_prefix=false")
         self.assertEqual((self.text("#verdict"), self.find("#required_base_prefix").is_selected()), ("Lawful", False))
+        self.load("#word=0x0A0A0A000000002C000000010000000C&numbers=1,234%0A!12,34")
+        self.click("#read .use", "set integer_group_size=3")
+        self.assertEqual((self.text("#count"), self.value("#integer_group_size")), ("2 of 2 as expected", "3"))
+        self.click("#tab-settings")
+        self.assertIn("integer_group_size=3", self.text("#code"))
 
     def test_groups_of_separator_flags_and_a_note(self):
         self.type("#digit_separator", "_")

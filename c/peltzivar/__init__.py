@@ -3,21 +3,22 @@
     >>> from peltzivar import Syntax, languages
     >>> languages.TOML.read("1_000.5").value, languages.RUST.read("0x1F").value
     (1000.5, 31)
-    >>> prices = Syntax.of(digit_separator=".", internal_digit_separator=True, point=",")
+    >>> prices = Syntax.of(digit_separator=".", internal_digit_separator=True, integer_group_size=3, point=",")
     >>> price = prices.read("1.234,50")
     >>> price.value, price.decimal()
     (1234.5, Decimal('1234.50'))
 
 `read` returns a `Literal`, or raises a LiteralError. A `Language` has the numbers of a language, and `Syntax.of` takes
-settings: a keyword argument for each field of a format, the exponent character and the decimal point. Each field is an
-attribute of `FormatView`. Settings can also be texts, such as the lines of a file. Wrong ones raise a SettingsError:
+settings: a keyword argument for each field of a format, the exponent character, the decimal point and the conditions of
+`Syntax`. Each field is an attribute of `FormatView`. Settings can also be texts, such as the lines of a file. Wrong
+ones raise a SettingsError:
 
     >>> Syntax.of("radix = 16", "base_prefix = 'b'")
     Traceback (most recent call last):
     peltzivar.SettingsError: the base prefix 'b' is a digit in radix 16
-    >>> prices.read("1.234,,50")
+    >>> prices.read("12.34")
     Traceback (most recent call last):
-    peltzivar.LiteralError: unexpected character ','
+    peltzivar.LiteralError: expected groups of 3 digits, which integer_group_size requires
 
 A format is a 128-bit word. It is lawful if it satisfies all rules. A `FormatView` holds any word, and a `Format` a lawful
 one. In the repository, docs/FORMAT.md describes fields, rules and literals, and docs/C-AND-PYTHON.md this module. A
@@ -261,6 +262,7 @@ class _Syntax(Structure):
         ("required_base_prefix", c_bool),
         ("required_base_suffix", c_bool),
         ("no_negative_mantissa_sign", c_bool),
+        ("integer_group_size", c_uint8),
     ]
 
 
@@ -1317,8 +1319,8 @@ class Syntax:
         >>> literal.value, literal.parts.fraction, literal.parts.exponent
         (-12.0, '8', '3')
 
-    The conditions are that a literal has the base prefix or the base suffix, and that its sign is not `-`. The format is
-    in normal form, so equivalent formats have the same syntax. Raises OptionsError if the exponent character or the
+    The conditions are that a literal has the base prefix or the base suffix, that its sign is not `-`, and that the
+    digit separators of its integer, if it has any, make groups of 2 to 8 digits, as in `1,234`. The format is in normal form, so equivalent formats have the same syntax. Raises OptionsError if the exponent character or the
     decimal point does not fit the normal form, if only one of them is None, or if the format contradicts a condition.
     """
 
@@ -1329,6 +1331,7 @@ class Syntax:
     required_base_prefix: bool = False
     required_base_suffix: bool = False
     no_negative_mantissa_sign: bool = False
+    integer_group_size: Optional[int] = None
     # End
     _reader: Any = field(init=False, repr=False, compare=False)
     _fields: Any = field(init=False, repr=False, compare=False)
@@ -1415,6 +1418,7 @@ class Syntax:
         required_base_prefix: bool = _KEPT,
         required_base_suffix: bool = _KEPT,
         no_negative_mantissa_sign: bool = _KEPT,
+        integer_group_size: Optional[int] = _KEPT,
         # End
     ) -> Syntax:
         """Returns the syntax that settings make, such as the lines of a file, and then keyword arguments. Raises
@@ -1491,6 +1495,7 @@ class Syntax:
         required_base_prefix: bool = _KEPT,
         required_base_suffix: bool = _KEPT,
         no_negative_mantissa_sign: bool = _KEPT,
+        integer_group_size: Optional[int] = _KEPT,
         # End
     ) -> Tuple[Note, ...]:
         """Returns the notes on settings that later ones override, the first 32 alone, and on those that have no effect,

@@ -151,13 +151,13 @@ static void test_readers(void) {
         peltzivar_syntax it;
         peltzivar_error error;
         const char *sentence;
-    } rows[] = {{{{0, 0}, 0, 0, false, false, false}, PELTZIVAR_INVALID_MANTISSA_RADIX, "the mantissa radix 0 is not between 2 and 36"},
-        {{PELTZIVAR_STANDARD_INIT, 'e', 0, false, false, false}, PELTZIVAR_INVALID_DECIMAL_POINT,
+    } rows[] = {{{{0, 0}, 0, 0, false, false, false, 0}, PELTZIVAR_INVALID_MANTISSA_RADIX, "the mantissa radix 0 is not between 2 and 36"},
+        {{PELTZIVAR_STANDARD_INIT, 'e', 0, false, false, false, 0}, PELTZIVAR_INVALID_DECIMAL_POINT,
             "only one of the exponent character and the decimal point is absent: for numbers without an exponent, keep both, "
             "and set no_exponent_notation"},
-        {{PELTZIVAR_STANDARD_INIT, '5', '.', false, false, false}, PELTZIVAR_INVALID_EXPONENT_SYMBOL,
+        {{PELTZIVAR_STANDARD_INIT, '5', '.', false, false, false, 0}, PELTZIVAR_INVALID_EXPONENT_SYMBOL,
             "the exponent character '5' is a digit in the mantissa radix 10 and the exponent radix 10"}};
-    static const peltzivar_syntax integers = {PELTZIVAR_STANDARD_INIT, 0, 0, false, false, false};
+    static const peltzivar_syntax integers = {PELTZIVAR_STANDARD_INIT, 0, 0, false, false, false, 0};
     static peltzivar_reader readers[3];
     static const peltzivar_specials specials = {"1", "1", "1"};
     peltzivar_reader *const out = &readers[1];
@@ -254,17 +254,20 @@ static void test_conditions(void) {
         {"required_base_prefix=true\nbase_prefix='x'", "0x1", "1", "expected the prefix 0x, which required_base_prefix requires", "required_base_prefix=true"},
         {"required_base_suffix=true\nbase_suffix='h'", "1h", "1", "expected the suffix h, which required_base_suffix requires", "required_base_suffix=true"},
         {"no_negative_mantissa_sign=true", "1e-1", "-1", "unexpected minus sign, which no_negative_mantissa_sign forbids",
-            "no_negative_mantissa_sign=true\nrequired_mantissa_sign=true\nno_positive_mantissa_sign=true"}};
+            "no_negative_mantissa_sign=true\nrequired_mantissa_sign=true\nno_positive_mantissa_sign=true"},
+        {"integer_group_size=3\ndigit_separator=','\ninteger_internal_digit_separator=true", "1,234.5", "12,34",
+            "expected groups of 3 digits, which integer_group_size requires", "integer_group_size=3"}};
     static const uint8_t bits[] = {PELTZIVAR_CONDITION_REQUIRED_BASE_PREFIX, PELTZIVAR_CONDITION_REQUIRED_BASE_SUFFIX,
-        PELTZIVAR_CONDITION_NO_NEGATIVE_MANTISSA_SIGN};
+        PELTZIVAR_CONDITION_NO_NEGATIVE_MANTISSA_SIGN, PELTZIVAR_CONDITION_INTEGER_GROUP_SIZE};
     peltzivar_syntax syntax;
     peltzivar_reader reader;
     peltzivar_read_error error;
     peltzivar_explanation why;
-    for (int i = 0; i < 3; i++) {
+    for (int i = 0; i < 4; i++) {
         CHECK(!peltzivar_read_settings(rows[i][0], strlen(rows[i][0]), &syntax) && !peltzivar_reader_init(&reader, &syntax));
         CHECK(syntax.required_base_prefix == (i == 0) && syntax.required_base_suffix == (i == 1) && syntax.no_negative_mantissa_sign == (i == 2));
-        CHECK(!memcmp(&syntax.exponent, &reader.syntax.exponent, 5));
+        CHECK(syntax.integer_group_size == (i == 3 ? 3 : 0));
+        CHECK(!memcmp(&syntax.exponent, &reader.syntax.exponent, 6));
         CHECK(peltzivar_read(&reader, rows[i][1], strlen(rows[i][1]), NULL, NULL));
         CHECK(!peltzivar_read(&reader, rows[i][2], strlen(rows[i][2]), NULL, &error) && peltzivar_explain(&error, &why));
         CHECK(why.conditions == bits[i] && !why.mask.low && why.kind == PELTZIVAR_KIND_REQUIREMENT);
@@ -342,11 +345,11 @@ static void test_languages(void) {
         size_t form = 0;
         for (; *peltzivar_form_name(reader, form); form++) {
             CHECK(peltzivar_form_syntax(reader, form, &syntax) && !peltzivar_reader_init(NULL, &syntax));
-            if (!form) CHECK(!memcmp(&syntax, &reader->syntax, 21));
+            if (!form) CHECK(!memcmp(&syntax, &reader->syntax, 22));
             CHECK(!*peltzivar_form_name(&same, form) && !peltzivar_form_syntax(&same, form, &syntax));
         }
         CHECK(form && !peltzivar_form_syntax(reader, form, &syntax) && !*peltzivar_form_name(reader, SIZE_MAX));
-        CHECK(!memcmp(&same.syntax, &reader->syntax, 21) && peltzivar_read_prefix(reader, "0x1p1h", 6, NULL, NULL));
+        CHECK(!memcmp(&same.syntax, &reader->syntax, 22) && peltzivar_read_prefix(reader, "0x1p1h", 6, NULL, NULL));
     }
     const peltzivar_reader *const json = peltzivar_language("JSON", 4, &specials);
     CHECK(json && !*specials.nan && !*specials.inf && !*specials.infinity && !peltzivar_read(json, "01", 2, NULL, NULL));
@@ -360,7 +363,7 @@ static void test_settings(void) {
         "expected NAME=VALUE, not `no_special`", "the base prefix 'b' is a digit in radix 16",
         "no flag allows the digit separator '_'", ""};
     static const size_t lines[][3] = {{1, 1, 7}, {1, 4, 7}, {2, 0, 2}, {1, 3, 7}, {0, 7, 7}};
-    peltzivar_syntax syntax = {{1, 2}, 3, 4, true, true, true};
+    peltzivar_syntax syntax = {{1, 2}, 3, 4, true, true, true, 7};
     char longest[64] = "digit_separator=";
     memset(longest + 16, 0xFF, 48);
     CHECK(peltzivar_settings_text(longest, sizeof longest, 0, NULL, 0) < PELTZIVAR_TEXT_SIZE);

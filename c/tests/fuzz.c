@@ -127,7 +127,8 @@ static bool draw_reader(peltzivar_word word, peltzivar_reader *reader) {
     static const uint8_t options[][2] = {{'e', '.'}, {'e', '.'}, {'p', '.'}, {'^', ','}, {0, 0}, {0, 0}, {'e', 0}, {'_', 'E'}};
     for (int tries = 0; peltzivar_check(word) && tries < 9; tries++) word = draw_word();
     const uint8_t *const drawn = options[draw() % 8];
-    peltzivar_syntax syntax = {word, drawn[0], drawn[1], draw() % 8 == 0, draw() % 8 == 0, draw() % 8 == 0};
+    peltzivar_syntax syntax = {word, drawn[0], drawn[1], draw() % 8 == 0, draw() % 8 == 0, draw() % 8 == 0,
+        (uint8_t)(draw() % 4 ? 0 : draw() % 5)};
     if (draw() % 16 == 0) for (size_t i = 0; i < sizeof syntax; i++) ((unsigned char *)&syntax)[i] = (unsigned char)draw();
     memset(reader, (int)draw(), sizeof *reader), reader->syntax = syntax;
     const peltzivar_error refused = peltzivar_reader_init(reader, &syntax);
@@ -244,7 +245,7 @@ static void test_lines(void) {
     if (len && draw() % 4 == 0) text[draw() % len] = (char)draw();
     for (size_t i = 0; i < len; i++) count += text[i] == '\n';
     char *const from = copy(len);
-    peltzivar_syntax syntax = {{1, 2}, 3, 4, true, true, true};
+    peltzivar_syntax syntax = {{1, 2}, 3, 4, true, true, true, 7};
     const size_t problems = peltzivar_read_settings(from, len, &syntax);
     CHECK(problems ? syntax.format.low == 1 && syntax.exponent == 3 && syntax.decimal_point == 4
                    : !peltzivar_reader_init(NULL, &syntax));

@@ -235,9 +235,11 @@ class Literals(unittest.TestCase):
 
     def test_conditions(self):
         rows = [("required_base_prefix", {"base_prefix": "x"}, "0x1", "1"), ("required_base_suffix", {"base_suffix": "h"}, "1h", "1")]
-        for name, fields, accepted, refused in [*rows, ("no_negative_mantissa_sign", {}, "1e-1", "-1")]:
-            syntax = Syntax.of(**fields, **{name: True})
-            copies = eval(repr(syntax)), pickle.loads(pickle.dumps(syntax)), Syntax(Format.of(**fields), **{name: True})
+        rows += [("no_negative_mantissa_sign", {}, "1e-1", "-1"), ("integer_group_size", {"digit_separator": ",", "internal_digit_separator": True}, "1,234.5", "12,34")]
+        for name, fields, accepted, refused in rows:
+            condition = {name: 3 if name == "integer_group_size" else True}
+            syntax = Syntax.of(**fields, **condition)
+            copies = eval(repr(syntax)), pickle.loads(pickle.dumps(syntax)), Syntax(Format.of(**fields), **condition)
             self.assertEqual({syntax, *copies} - {Syntax.of(**fields)}, {syntax})
             for it in copies:
                 self.assertEqual(it.read(accepted).text, accepted)

@@ -4,7 +4,7 @@
 //!     cargo run --example tokenizer -- 'x1 = 0xFF + 1_000'
 
 use core::num::NonZeroU8;
-use peltzivar::literal::{ReadError, Reader, Syntax};
+use peltzivar::literal::{Conditions, FormError, Reader, Readers, Syntax};
 use peltzivar::NumberFormatBuilder;
 
 const PLAIN: NumberFormatBuilder = NumberFormatBuilder::new()
@@ -13,27 +13,29 @@ const PLAIN: NumberFormatBuilder = NumberFormatBuilder::new()
     .no_float_leading_zeros(true)
     .digit_separator(NonZeroU8::new(b'_'))
     .internal_digit_separator(true);
-const SYNTAX: Syntax = Syntax::new_or_panic(PLAIN.build_format_or_panic(), b'e', b'.');
+const DECIMAL: Syntax = Syntax::new_or_panic(PLAIN.build_format_or_panic(), b'e', b'.');
 const PREFIXED: NumberFormatBuilder = PLAIN.mantissa_radix(16).base_prefix(NonZeroU8::new(b'x'));
+const HEXADECIMAL: Syntax =
+    Syntax::integers(PREFIXED.build_format_or_panic()).with_or_panic(Conditions::NONE.required_base_prefix(true));
 
-static DECIMAL: Reader = Reader::new(SYNTAX);
-static HEXADECIMAL: Reader = Reader::new(Syntax::integers(PREFIXED.build_format_or_panic()));
+static NUMBERS: Readers = Readers::new_or_panic(&[Reader::new(DECIMAL), Reader::new(HEXADECIMAL)]);
 
-/// Returns the length of the number that `text` begins with. Letters, digits, `_` and `.` behind a number belong to it.
-fn number(reader: &Reader, text: &[u8]) -> Result<usize, ReadError> {
-    let (literal, rest) = reader.read_prefix(text)?;
+/// Returns the kind and the length of the number that `text` begins with. Letters, digits, `_` and `.` behind a number
+/// belong to it.
+fn number(text: &[u8]) -> Result<(&str, usize), FormError> {
+    let (_, rest) = NUMBERS.read_prefix(text)?;
     let is_end = |it: &u8| it.is_ascii() && !it.is_ascii_alphanumeric() && !b"_.".contains(it);
     let more = rest.iter().position(is_end).unwrap_or(rest.len());
-    let all = &text[..literal.as_bytes().len() + more];
-    reader.read(all).map(|_| all.len())
+    let all = &text[..text.len() - rest.len() + more];
+    let form = NUMBERS.read(all)?.form();
+    Ok((if form == Some(1) { "integer" } else { "number" }, all.len()))
 }
 
 /// Returns the kind and the length of the token that `text` begins with.
-fn token(text: &str) -> Result<(&str, usize), ReadError> {
+fn token(text: &str) -> Result<(&str, usize), FormError> {
     let name = text.find(|it: char| !it.is_alphanumeric() && it != '_');
     match text.as_bytes() {
-        text @ [b'0', b'x', ..] => number(&HEXADECIMAL, text).map(|size| ("integer", size)),
-        text @ [b'0'..=b'9', ..] => number(&DECIMAL, text).map(|size| ("number", size)),
+        text @ [b'0'..=b'9', ..] => number(text),
         _ if name == Some(0) => Ok(("operator", text.chars().map(char::len_utf8).next().unwrap())),
         _ => Ok(("name", name.unwrap_or(text.len()))),
     }
@@ -51,7 +53,7 @@ fn main() {
                 start = end;
             }
             Err(error) => {
-                let (first, end) = (start + error.span().start, start + error.span().end);
+                let (first, end) = (start + error.error.span().start, start + error.error.span().end);
                 println!("{first}..{end}: {error}");
                 std::process::exit(1);
             }

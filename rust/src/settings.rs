@@ -3,7 +3,7 @@
 use core::fmt::{self, Write};
 use core::str::from_utf8;
 
-use crate::edits::{apply, likeness, Edit, EditError, EditErrorKind, Fault, FlagSetter, Setter, FIELD_COUNT};
+use crate::edits::{apply, likeness, Edit, EditError, EditErrorKind, Fault, Setter, FIELD_COUNT};
 use crate::format::{
     NumberFormatBuilder, BASE_PREFIX, BASE_SUFFIX, EXPONENT_BASE, EXPONENT_RADIX, INTEGER_INTERNAL_DIGIT_SEPARATOR,
     MANTISSA_RADIX,
@@ -15,9 +15,9 @@ use crate::reasons::{Byte, Cause, Note, Reason};
 use crate::{Format, FormatError};
 
 /// The settings of options, the exponent character and the decimal point, and then of conditions.
-const OPTIONS: [&str; 5] = {
-    let [prefix, suffix, sign] = Conditions::NAMES;
-    ["exponent", "point", prefix, suffix, sign]
+const OPTIONS: [&str; 6] = {
+    let [prefix, suffix, sign, groups] = Conditions::NAMES;
+    ["exponent", "point", prefix, suffix, sign, groups]
 };
 const DEFAULTS: [u8; 2] = *b"e.";
 
@@ -289,7 +289,7 @@ fn parse(index: usize, text: &[u8]) -> Result<(Option<usize>, Edit), LineError> 
     let argument = from_utf8(value).unwrap_or_default();
     let edit = match option {
         Some(0 | 1) => Setter::DigitSeparator.parse(argument),
-        Some(_) => Setter::Flag(FlagSetter::RequiredIntegerDigits).parse(argument),
+        Some(option) => Conditions::parse(option - 2, argument),
         None => Edit::from_setting(from_utf8(name).unwrap_or_default(), argument),
     };
     match edit {
@@ -433,6 +433,9 @@ impl fmt::Display for LineError {
         match (self.kind(), self.option) {
             (EditErrorKind::UnknownName, _) => f.write_str("unknown setting `")?,
             (_, None) => write!(f, "{}, not `", self.error)?,
+            (_, Some(option @ 2..)) if OPTIONS[option] == Conditions::GROUP_SIZE => {
+                write!(f, "{} takes a number from 2 to 8, or `none`, not `", OPTIONS[option])?;
+            }
             (_, Some(option @ 2..)) => write!(f, "{} takes `true` or `false`, not `", OPTIONS[option])?,
             (_, Some(option)) => {
                 let (name, default) = (OPTIONS[option], char::from(DEFAULTS[option]));

@@ -92,9 +92,15 @@ fn fronts_are_as_the_conditions_require() {
 fn conditions_are_printed_and_parsed() {
     const ALL: Conditions =
         Conditions::NONE.required_base_prefix(true).required_base_suffix(true).no_negative_mantissa_sign(true);
-    for syntax in
-        [hex(&[]), hex(&[]).with_or_panic(ALL), hex(&["required_base_suffix=true", "exponent='p'", "point='.'"])]
-    {
+    let groups = hex(&["digit_separator='_'", "internal_digit_separator=true", "integer_group_size=4"]);
+    assert!(groups.to_string().ends_with(" integer_group_size=4"), "{groups}");
+    for syntax in [
+        groups,
+        groups.with_or_panic(ALL.integer_group_size(Some(8))),
+        hex(&[]),
+        hex(&[]).with_or_panic(ALL),
+        hex(&["required_base_suffix=true", "exponent='p'", "point='.'"]),
+    ] {
         assert_eq!(syntax.to_string().parse(), Ok(syntax), "{syntax}");
     }
     let error = "0x0A0A0A0000000000000000000000000C ' ' '.' required_base_prefix=true".parse::<Syntax>().unwrap_err();

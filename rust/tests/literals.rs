@@ -2,9 +2,10 @@
 
 use peltzivar::format::{CASE_SENSITIVE_SPECIAL, DIGIT_SEPARATOR_FLAG_MASK, NO_SPECIAL};
 use peltzivar::literal::{
-    Language, Literal, Number, ReadError, ReadErrorKind, Reader, Readers, Sign, Special, Specials, Spelling, Syntax,
+    Conditions, Language, Literal, Number, ReadError, ReadErrorKind, Reader, Readers, Sign, Special, Specials,
+    Spelling, Syntax,
 };
-use peltzivar::{Edit, FlagSetter, Format, NumberFormatBuilder, Part, Settings};
+use peltzivar::{Edit, FlagSetter, Format, NumberFormatBuilder, Part};
 
 const FORMAT: &str = include_str!("../../docs/FORMAT.md");
 const EXPLANATIONS: &str = include_str!("../../docs/EXPLANATIONS.md");
@@ -144,15 +145,21 @@ fn flags_accept_and_reject_the_texts_of_the_page() {
 /// Each condition, by the texts in its row: all are literals without it.
 #[test]
 fn conditions_accept_and_reject_the_texts_of_the_page() {
-    let reader = |settings: &[&str]| Reader::new(Settings::read(settings).unwrap().build_syntax().unwrap());
     for row in table(FORMAT, "Conditions") {
-        let [condition, _, with, accepted, rejected, _] = row[..] else { panic!("{row:?}") };
-        let with = Vec::from_iter(with.split_whitespace());
-        let (plain, set) = (reader(&with), reader(&[with, vec![condition]].concat()));
+        let [setting, _, with, accepted, rejected, _] = row[..] else { panic!("{row:?}") };
+        let conditions = match setting {
+            "required_base_prefix=true" => Conditions::NONE.required_base_prefix(true),
+            "required_base_suffix=true" => Conditions::NONE.required_base_suffix(true),
+            "no_negative_mantissa_sign=true" => Conditions::NONE.no_negative_mantissa_sign(true),
+            "integer_group_size=3" => Conditions::NONE.integer_group_size(Some(3)),
+            _ => panic!("{setting}"),
+        };
+        let syntax = syntax(word(with));
+        let readers = [Reader::new(syntax), Reader::new(syntax.with(conditions).unwrap())];
         let texts = texts(accepted).map(|text| (text, true)).chain(texts(rejected).map(|text| (text, false)));
         for (text, is_accepted) in texts {
-            let results = [&plain, &set].map(|reader| read(reader, text.as_bytes()).is_ok());
-            assert_eq!(results, [true, is_accepted], "{condition}: {text}");
+            let results = [0, 1].map(|index| read(&readers[index], text.as_bytes()).is_ok());
+            assert_eq!(results, [true, is_accepted], "{setting}: {text}");
         }
     }
 }
@@ -334,6 +341,7 @@ fn any_bytes_are_read() {
                 assert_eq!(prefix, Ok((number, &[][..])), "{language}: {text:?}")
             }
             (Ok(Number::Special(_)), Err(_)) => (),
+            // The longest literal that the text begins with is not in groups.
             (Err(_), Err(other)) if other.error.conditions().integer_group_size.is_some() => (),
             (Err(error), Err(other)) => assert_eq!(error, other, "{language}: {text:?}"),
             (_, Ok((_, rest))) => assert!(!rest.is_empty(), "{language}: {text:?}"),

@@ -42,8 +42,8 @@ fn commands_print_what_pages_show() {
 fn examples_end_as_their_comments_state() {
     #[rustfmt::skip]
     let rows = [
-        ("languages -- 0x1'F.8p1", 0, "C++ hexadecimal accepts it: "),
-        ("languages -- -12", 0, "C++ hexadecimal rejects it: "),
+        ("languages -- 0x1'F.8p1", 0, "\nC_PLUS_PLUS: 63.0, hexadecimal float\n"),
+        ("languages -- -12", 0, "\nC_PLUS_PLUS: none: unexpected minus sign, decimal\n"),
         ("tokenizer -- x=0xFF*1_0.5", 0, "0..1: name x\n1..2: operator =\n2..6: integer 0xFF\n6..7: operator *\n7..12: number 1_0.5\n"),
         ("tokenizer -- x+12ab", 1, "0..1: name x\n1..2: operator +\n4..5: unexpected character 'a'\n"),
         ("tokenizer -- 2*1e+", 1, "\n4..4: expected a digit after the exponent character, which required_exponent_digits requires\n"),

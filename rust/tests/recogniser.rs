@@ -10,6 +10,7 @@ use peltzivar::literal::{
     self, Conditions, ConditionsError, Language, Literal, Place, ReadError, ReadErrorKind, Reader,
 };
 use peltzivar::{format::FLAG_MASK, Error, Format, Part, Role};
+use std::collections::BTreeSet;
 use {Error::*, Piece::*};
 
 #[rustfmt::skip]
@@ -30,11 +31,18 @@ type Failure = (usize, ReadErrorKind, u128, Conditions, Range<usize>, Error, Opt
 /// The number that the first condition has in a word of this file, as if it were a flag.
 const CONDITIONS: u32 = 45;
 const CONDITION_MASK: u128 = 7 << CONDITIONS;
+const GROUP_SIZE: u32 = CONDITIONS + 3;
 
 /// Returns the conditions in a mask.
 fn conditions(word: u128) -> Conditions {
     let [prefix, suffix, sign] = [0, 1, 2].map(|at| is_set(word, CONDITIONS + at));
-    Conditions::NONE.required_base_prefix(prefix).required_base_suffix(suffix).no_negative_mantissa_sign(sign)
+    let flags = Conditions::NONE.required_base_prefix(prefix).required_base_suffix(suffix);
+    flags.no_negative_mantissa_sign(sign).integer_group_size(group_size(word))
+}
+
+/// Returns the size of integer groups in a mask, whose four bits follow the conditions.
+fn group_size(word: u128) -> Option<u8> {
+    Some((word >> GROUP_SIZE) as u8 & 15).filter(|&size| size != 0)
 }
 
 fn is_set(word: u128, flag: u32) -> bool {
@@ -190,6 +198,23 @@ impl Syntax {
         found.pop()
     }
 
+    /// Returns why a text is not a literal that is one apart from its groups. The first group has up to as many digits as are
+    /// required, and each other group as many.
+    fn wrong_group(&self, text: &[u8], pieces: &Pieces) -> Option<Failure> {
+        let (size, integer) = (usize::from(group_size(self.word)?), &pieces[Integer as usize]);
+        let (mut start, mut least) = (integer.start, 1);
+        let groups = text[integer.clone()].split(|&byte| self.plays(byte, Role::Separator)).map(|group| {
+            let (own, is_right) = (start..start + group.len(), (least..=size).contains(&group.len()));
+            (start, least) = (own.end + 1, size);
+            (own, is_right)
+        });
+        let groups = Vec::from_iter(groups);
+        let (group, _) = groups.iter().find(|(_, is_right)| groups.len() > 1 && !is_right)?.clone();
+        let required = Conditions::NONE.integer_group_size(group_size(self.word));
+        let (end, code) = (pieces[Suffix as usize].end, InvalidDigit(group.start));
+        Some((end, ReadErrorKind::Requirement, 0, required, group, code, None))
+    }
+
     /// Returns a literal of `word` that is `front` and one of `more`, and its parts.
     fn begun(&self, word: u128, front: &[u8], more: &[Vec<u8>]) -> Option<(Vec<u8>, Pieces)> {
         let mut texts = more.iter().map(|rest| [front, rest].concat());
@@ -323,7 +348,10 @@ fn compare(
         let failure = if is_missing { Some(syntax.failure(&text, true)) } else { wrong.clone() };
         let (read, prefix) = (reader.read(&text), reader.read_prefix(&text));
         for (read, pieces) in [(read, literal), (prefix.map(|(literal, _)| literal), front.clone())] {
-            let wanted = pieces.map(|pieces| pieces.map(|piece| &text[piece])).ok_or(failure.clone());
+            let wanted = pieces.ok_or(failure.clone()).and_then(|pieces| match syntax.wrong_group(&text, &pieces) {
+                None => Ok(pieces.map(|piece| &text[piece])),
+                Some(failure) => Err(has_failures.then_some(failure)),
+            });
             assert_eq!(answer(read, has_failures), wanted, "{} in {name}", text.escape_ascii());
         }
         for &byte in bytes {
@@ -334,7 +362,7 @@ fn compare(
     }
 }
 
-/// Returns the conditions that a lawful word does not contradict, and compares them with those that the library takes.
+/// Returns the conditions that a lawful word does not contradict, with groups of two, and compares them with those that the library takes.
 fn possible(word: u128) -> u128 {
     let has_byte = |bit: u32| word >> bit & 0xFF != 0;
     let rows = [
@@ -346,16 +374,25 @@ fn possible(word: u128) -> u128 {
     for (at, (is_possible, error)) in (CONDITIONS..).zip(rows) {
         assert_eq!(syntax.with(conditions(1 << at)).err(), error.filter(|_| !is_possible), "{at} in {word:#034X}");
     }
+    for size in 0..=9 {
+        let error = match size {
+            0 | 1 | 9 => Some(ConditionsError::GroupSize),
+            _ => (!is_set(word, 32)).then_some(ConditionsError::NoInternalSeparator),
+        };
+        assert_eq!(syntax.with(Conditions::NONE.integer_group_size(Some(size))).err(), error, "{size} in {word:#034X}");
+    }
     mask(CONDITIONS..CONDITIONS + 3, |at| rows[(at - CONDITIONS) as usize].0)
+        | u128::from(is_set(word, 32)) << (GROUP_SIZE + 1)
 }
 
 /// Compares the syntaxes of the languages, with their conditions and with all that are possible, and random words with
 /// random conditions, and with random options and without.
-fn compare_all(language_eighths: u64, words: usize, eighths: u64) {
-    for syntax in Language::ALL.iter().flat_map(Language::forms).map(|form| form.syntax) {
+fn compare_all(longest: usize, language_eighths: u64, words: usize, eighths: u64) {
+    let syntaxes = Language::ALL.iter().flat_map(Language::forms).map(|form| form.syntax).collect::<BTreeSet<_>>();
+    for syntax in syntaxes {
         let (word, options) = (syntax.format().word(), syntax.exponent().zip(syntax.point()));
-        let own = (0..8).map(|set| set << CONDITIONS).find(|&set| conditions(set) == syntax.conditions()).unwrap();
-        for (required, longest) in [(own, 6), (possible(word), 5)] {
+        let own = (0..1 << 7).map(|set| set << CONDITIONS).find(|&set| conditions(set) == syntax.conditions()).unwrap();
+        for (required, longest) in [(own, longest), (possible(word), longest - 1)] {
             compare(word, options, required, &hostile_bytes(word, options)[..10], longest, true, language_eighths);
         }
     }
@@ -367,7 +404,7 @@ fn compare_all(language_eighths: u64, words: usize, eighths: u64) {
         let some_options = || (below(&mut random, 127) as u8, below(&mut random, 127) as u8);
         let options = iter::repeat_with(some_options).find(fits);
         for options in [options, None] {
-            let required = u128::from(below(&mut random, 8)) << CONDITIONS & possible(word);
+            let required = u128::from(below(&mut random, 32)) << CONDITIONS & possible(word);
             let mut pool = hostile_bytes(word, options);
             let bytes: [u8; 10] = array::from_fn(|_| pool.swap_remove(below(&mut random, pool.len() as u64) as usize));
             let (longest, has_failures) = if at < 100 { (3, true) } else { (4, false) };
@@ -378,11 +415,11 @@ fn compare_all(language_eighths: u64, words: usize, eighths: u64) {
 
 #[test]
 fn some_answers_are_those_of_the_recogniser() {
-    compare_all(2, 200, 3);
+    compare_all(5, 2, 200, 3);
 }
 
 #[test]
 #[ignore = "ten minutes in release"]
 fn all_answers_are_those_of_the_recogniser() {
-    compare_all(8, 2000, 8);
+    compare_all(6, 8, 2000, 8);
 }

@@ -4,7 +4,7 @@
 mod suggest;
 
 use peltzivar::format::{DIGIT_SEPARATOR, DIGIT_SEPARATOR_FLAG_MASK, REQUIRED_MANTISSA_SIGN, STANDARD};
-use peltzivar::literal::Reader;
+use peltzivar::literal::{Language, Reader};
 use peltzivar::{Edit, NumberFormatBuilder};
 use suggest::{lines_of, offers, problems, read, repairs, State};
 
@@ -86,8 +86,9 @@ fn the_first_offers_lead_to_a_format_of_each_language() {
     let languages = accepted.chunk_by(|first, second| first.0 == second.0);
     let numbers = |rows: &[(&str, &str)]| rows.iter().map(|row| row.1).collect::<Vec<_>>().join("\n");
     let failed: Vec<_> = languages.filter(|rows| walk(&numbers(rows)).is_none()).map(|rows| rows[0].0).collect();
-    // The special values of YAML begin with a point, and the page has other spellings.
-    assert_eq!(failed, ["YAML"]);
+    // A language of several forms has numbers that no one format accepts.
+    let has_one_form = |name: &&str| Language::ALL.iter().any(|it| it.name() == *name && it.forms().len() == 1);
+    assert_eq!(failed.into_iter().filter(has_one_form).collect::<Vec<_>>(), [""; 0]);
 }
 
 #[test]

@@ -186,3 +186,15 @@ fn the_style_and_conditions_decide_on_prefix_and_suffix() {
     assert_eq!(strict.format_integer(255u8, bare).unwrap().to_string(), "0xFF");
     assert_eq!(strict.format_integer(-1, bare).unwrap_err(), WriteError::Negative);
 }
+
+#[test]
+fn groups_have_the_size_that_a_syntax_requires() {
+    let builder = NumberFormatBuilder::new().digit_separator(std::num::NonZeroU8::new(b','));
+    let format = builder.integer_internal_digit_separator(true).build_format_or_panic();
+    let conditions = peltzivar::literal::Conditions::NONE.integer_group_size(Some(3));
+    let syntax = Syntax::integers(format).with(conditions).unwrap();
+    for (style, wanted) in [(Style::PLAIN, "1234567"), (Style::PLAIN.group(2), "1,234,567")] {
+        let text = syntax.format_integer(1_234_567, style).unwrap().to_string();
+        assert_eq!((text.as_str(), Reader::new(syntax).parse(&text)), (wanted, Ok(1_234_567)));
+    }
+}

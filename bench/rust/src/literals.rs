@@ -38,6 +38,8 @@ pub struct Literals {
     hexadecimal: Texts,
     /// A hundred texts.
     hundred: Texts,
+    /// As many numbers of each of the five forms of C.
+    forms: Texts,
 }
 
 const LANGUAGES: [Language; 3] = [Language::JSON, Language::TOML, Language::C];
@@ -78,6 +80,18 @@ impl Literals {
                 (0..100_000).map(|_| format!("0x1.{}p{}", fixed(random, 13), random.below(100))),
             )],
             hundred: vec![Group::new(Language::TOML, (0..100).map(|_| literal(random, Language::TOML)))],
+            forms: (0..5)
+                .map(|form| {
+                    let text = |number: u64| match form {
+                        0 => format!("{}.{}", number % 1000, number / 1000),
+                        1 => format!("0{number:o}"),
+                        2 => format!("0x{number:X}"),
+                        3 => format!("0b{:b}", number % 4096),
+                        _ => format!("0x1.{number:x}p{}", number % 100),
+                    };
+                    Group::of_form(Language::C, form, (0..20_000).map(|_| text(1 + random.below(1 << 24))))
+                })
+                .collect(),
             #[cfg(regex)]
             mixed,
         }
@@ -152,9 +166,9 @@ fn integer(random: &mut Random, separator: Option<char>) -> String {
 
 /// A literal of JSON, TOML or C. Half have a fraction, a third has an exponent, and in TOML and C, a quarter has separators.
 fn literal(random: &mut Random, language: Language) -> String {
-    let signs = match language {
-        Language::TOML => ["-", "", "+"],
-        Language::JSON => ["-", "", ""],
+    let signs = match language.name() {
+        "TOML" => ["-", "", "+"],
+        "JSON" => ["-", "", ""],
         _ => [""; 3],
     };
     let own = if language == Language::JSON { None } else { Some(if language == Language::TOML { '_' } else { '\'' }) };
@@ -198,6 +212,11 @@ fn reader(group: &Group) -> impl Fn(&str) -> bool + use<> {
     move |text| black_box(reader.read(text.as_bytes())).is_ok()
 }
 
+fn listed(group: &Group) -> impl Fn(&str) -> bool + use<> {
+    let readers = group.language.readers();
+    move |text| black_box(readers.read(text.as_bytes())).is_ok()
+}
+
 fn refuses(group: &Group) -> impl Fn(&str) -> bool + use<> {
     let reader = group.reader;
     move |text| black_box(reader.read(text.as_bytes())).is_err()
@@ -226,6 +245,28 @@ fn value(group: &Group) -> impl Fn(&str) -> bool + use<> {
 fn float(group: &Group) -> impl Fn(&str) -> bool + use<> {
     let reader = group.reader;
     move |text| black_box(reader.parse::<f64>(text)).is_ok()
+}
+
+fn by_hand(_: &Group) -> impl Fn(&str) -> bool + use<> {
+    |text| black_box(hexadecimal_by_hand(text.as_bytes())).is_some()
+}
+
+/// Reads a hexadecimal float with at most 16 digits, without separators, as a program might that checks no more.
+fn hexadecimal_by_hand(text: &[u8]) -> Option<f64> {
+    let (mut digits, mut scale, mut is_fraction) = (0u64, 0, false);
+    let mut bytes = text.strip_prefix(b"0x")?.iter();
+    for byte in bytes.by_ref() {
+        match byte {
+            b'.' => is_fraction = true,
+            b'p' => break,
+            _ => {
+                digits = digits << 4 | char::from(*byte).to_digit(16)? as u64;
+                scale -= if is_fraction { 4 } else { 0 };
+            }
+        }
+    }
+    let exponent: i32 = std::str::from_utf8(bytes.as_slice()).ok()?.parse().ok()?;
+    Some(digits as f64 * f64::powi(2.0, exponent + scale))
 }
 
 fn parse_integer(_: &Group) -> impl Fn(&str) -> bool + use<> {
@@ -278,6 +319,7 @@ pub fn rows(texts: &Literals) -> Vec<Row<'_>> {
         "Reader::read, literals.txt, over parse", rows.reader, rows.parse;
         "Reader::read, one shape, over parse", shape.reader, shape.parse;
         "Reader::new, over 100 Reader::read", hundred.new, hundred.reader;
+        "Readers::read, 5 forms of C, over Reader::read", forms.listed, forms.reader;
         "Reader::read, byte inserted, over accepted", inserted.refuses, accepted.reader;
         "Reader::read, byte appended, over accepted", appended.refuses, accepted.reader;
         "Reader::read and text, inserted, over accepted", inserted.prints, accepted.reader;
@@ -289,6 +331,7 @@ pub fn rows(texts: &Literals) -> Vec<Row<'_>> {
         "Reader::parse::<f64>, 17 digits, over parse", exponents.float, exponents.parse;
         "Reader::parse::<f64>, fractions, over parse", fractions.float, fractions.parse;
         "Reader::parse::<f64>, hexadecimal, over Reader::read", hexadecimal.float, hexadecimal.reader;
+        "Reader::parse::<f64>, hexadecimal, over a loop", hexadecimal.float, hexadecimal.by_hand;
     };
     #[cfg(regex)]
     rows.extend(rows! {

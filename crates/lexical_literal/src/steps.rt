@@ -318,7 +318,13 @@ const fn admits(conditions: Conditions, read: Summary, plus: bool, zero: bool, r
 
 // Returns the same. It is not inlined, so that steps without conditions take no longer.
 #[cold]
-const fn some_admit(conditions: Conditions, read: Summary, plus: bool, zero: bool, role: Role) -> bool
+const fn some_admit(
+    conditions: Conditions,
+    read: Summary,
+    plus: bool,
+    zero: bool,
+    role: Role,
+) -> bool
     ensures { result ≡ admits (has conditions) read plus zero role }
 {
     let needs_prefix = conditions.required_base_prefix && lacks_prefix(read.stage);

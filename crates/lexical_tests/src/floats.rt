@@ -5,6 +5,7 @@ use lexical_literal::syntax::Syntax;
 use lexical_util::format::Format;
 use lexical_value::float::to_float;
 use lexical_value::integer::ValueErrorKind;
+use lexical_value::parse::parse_float;
 
 // Formats of floats with `_` between digits and several in a row: decimal, hexadecimal with the exponent base 2, with the
 // exponent base 4, and ternary.
@@ -24,13 +25,14 @@ fn bits(word: u128, text: &str) -> Option<(u64, u32)> {
     let Ok(syntax) = Syntax::new(format, b'^', b'.') else {
         return None;
     };
-    let Ok(parts) = Reader::new(syntax).read(text.as_bytes()) else {
+    let reader = Reader::new(syntax);
+    let Ok(parts) = reader.read(text.as_bytes()) else {
         return None;
     };
     let Ok(double) = to_float::<f64>(format.view(), &parts) else {
         return None;
     };
-    let Ok(single) = to_float::<f32>(format.view(), &parts) else {
+    let Ok(single) = parse_float::<f32>(&reader, text.as_bytes()) else {
         return None;
     };
     Some((double.to_bits(), single.to_bits()))

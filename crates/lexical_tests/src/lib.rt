@@ -14,3 +14,4 @@ mod roles;
 mod rules;
 mod values;
 mod views;
+mod writers;

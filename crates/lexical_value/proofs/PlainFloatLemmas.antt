@@ -71,21 +71,24 @@ module _ (word : ℕ) (options : Options) (decimal : TakesPlain (raw word)) (l :
       → IsTrue (is_none_or_one (sets.exponent (raw word) options.exponent) l.exponent_character)
       → IsTrue (is_none_or_one sets.signs l.exponent_sign) → (IsTrue (m.flag layout.no_positive_exponent_sign) → is_plus l.exponent_sign ≡ false)
       → IsLiteral m l
-  plain_literal sign plus point character exponent_sign exponent_plus = record { conditions = λ c set. absurd (false≢true (sym (none_set c) ∙ set)); spelled = record {
-    sign = sign;
-    prefix = no_prefix l.prefix plain.prefix;
-    integer = all_fit m parts.Integer [] l.integer (are_digits _ l.integer decimal.radix plain.integer);
-    point = point;
-    fraction = all_fit m parts.Fraction [] l.fraction (are_digits _ l.fraction decimal.radix plain.fraction);
-    exponent_character = character;
-    exponent_sign = exponent_sign;
-    exponent = all_fit m parts.Exponent [] l.exponent (are_digits _ l.exponent decimal.exponent_radix plain.exponent);
-    suffix = no_suffix l.suffix plain.suffix;
-    after_point = λ is. absent l.fraction (plain.spelled.fraction ∙ is);
-    after_character = no_exponent;
-    some_number = let some = present l.integer plain.spelled.integer in grind arith;
-    requirements = met plus exponent_plus;
-  } }
+  plain_literal sign plus point character exponent_sign exponent_plus = record {
+    conditions = λ c set. absurd (false≢true (sym (none_set c) ∙ set));
+    spelled = record {
+      sign = sign;
+      prefix = no_prefix l.prefix plain.prefix;
+      integer = all_fit m parts.Integer [] l.integer (are_digits _ l.integer decimal.radix plain.integer);
+      point = point;
+      fraction = all_fit m parts.Fraction [] l.fraction (are_digits _ l.fraction decimal.radix plain.fraction);
+      exponent_character = character;
+      exponent_sign = exponent_sign;
+      exponent = all_fit m parts.Exponent [] l.exponent (are_digits _ l.exponent decimal.exponent_radix plain.exponent);
+      suffix = no_suffix l.suffix plain.suffix;
+      after_point = λ is. absent l.fraction (plain.spelled.fraction ∙ is);
+      after_character = no_exponent;
+      some_number = let some = present l.integer plain.spelled.integer in grind arith;
+      requirements = met plus exponent_plus;
+    };
+  }
     where
       no_prefix : (bytes : List ℕ) → bytes ≡ [] → IsTrue (is_none_or_prefix m.prefix bytes)
       no_prefix bytes is = ap (is_none_or_prefix m.prefix) is

@@ -76,21 +76,24 @@ module _ (m : Notation) (no_sign : m.flag layout.required_mantissa_sign ≡ fals
 
     -- A sign and these digits are a literal.
     is : (negative : Bool) → IsTrue (is_none_or_one signs (minus_if negative)) → IsLiteral m (plain negative (first ∷ digits))
-    is negative sign = record { conditions = λ c set. absurd (false≢true (sym (none c) ∙ set)); spelled = record {
-      sign = sign;
-      prefix = refl;
-      integer = all_fit [] (first ∷ digits) all;
-      point = refl;
-      fraction = refl;
-      exponent_character = refl;
-      exponent_sign = refl;
-      exponent = refl;
-      suffix = refl;
-      after_point = λ absent. refl;
-      after_character = λ absent. (refl, refl);
-      some_number = refl;
-      requirements = met negative;
-    } }
+    is negative sign = record {
+      conditions = λ c set. absurd (false≢true (sym (none c) ∙ set));
+      spelled = record {
+        sign = sign;
+        prefix = refl;
+        integer = all_fit [] (first ∷ digits) all;
+        point = refl;
+        fraction = refl;
+        exponent_character = refl;
+        exponent_sign = refl;
+        exponent = refl;
+        suffix = refl;
+        after_point = λ absent. refl;
+        after_character = λ absent. (refl, refl);
+        some_number = refl;
+        requirements = met negative;
+      };
+    }
 
     -- The text is that literal.
     reads : (negative : Bool) → Reads m (plain negative (first ∷ digits)) (minus_if negative ++ first ∷ digits)

@@ -41,7 +41,8 @@ cross : (m s q u d : ℕ) → (m * u) * ((s * q) * d) ≡ ((m * q) * u) * (s * d
 cross m s q u d = omega arith
 
 -- A 0 that stands for absent digits makes the number and the scale larger by the same factor.
-zero_scaled : (radix n : ℕ) (none : Bool) (digits : List ℕ) → (q : ℕ) × (number_from_digits_after radix n (or_zero none digits) ≡ number_from_digits_after radix n digits * q)
+zero_scaled : (radix n : ℕ) (none : Bool) (digits : List ℕ) → (q : ℕ) × (number_from_digits_after radix n
+    (or_zero none digits) ≡ number_from_digits_after radix n digits * q)
     × (radix ^ length (or_zero none digits) ≡ radix ^ length digits * q)
 zero_scaled radix n true [] = (radix, omega arith, pow-suc radix 0)
 zero_scaled radix n false [] = (1, omega arith, omega arith)
@@ -154,7 +155,8 @@ module _ (r : Record) (parts : Parts) (g : Grammar) (style : Style) (is : IsSynt
 
   fraction_is : digits_in radix l.fraction ≡ or_zero zero places_of
   fraction_is =
-      grouped_digits radix 0 0 (radixes g.word is.lawful kinds.Fraction).1 (λ some. absurd (omega (arith, some))) (or_zero zero (fraction_digits radix amount.fraction))
+      grouped_digits radix 0 0 (radixes g.word is.lawful kinds.Fraction).1 (λ some. absurd (omega (arith, some))) (or_zero zero
+      (fraction_digits radix amount.fraction))
       (zero_below radix zero (fraction_digits radix amount.fraction) (some_radix g style amount is apart accepted can kinds.Fraction)
       (fraction_below g style amount is apart accepted can))
       ∙ ap (or_zero zero) (fraction_same radix (is_absent parts.point.now) parts.fraction _ refl)
@@ -174,7 +176,8 @@ module _ (r : Record) (parts : Parts) (g : Grammar) (style : Style) (is : IsSynt
 
   written_mantissa : mantissa s l ≡ number_from_digits_after radix front places_of * factor.0
   written_mantissa =
-      both_parts radix l.integer l.fraction ∙ (λ i. number_from_digits_after radix (integer_number g style amount is apart accepted can i) (fraction_is i)) ∙ factor.1
+      both_parts radix l.integer l.fraction ∙ (λ i. number_from_digits_after radix (integer_number g style amount is apart accepted can i)
+      (fraction_is i)) ∙ factor.1
 
   written_scale : scale s l ≡ radix ^ length places_of * factor.0
   written_scale = ap (λ digits. radix ^ length digits) fraction_is ∙ factor.2

@@ -125,15 +125,18 @@ module _ (radix n start c : ℕ) (buffer : List ℕ) (two : 2 ≤ radix) (some :
       let front = map character (digits_of radix (n / radix)) in
       ap (λ t. front ++ t) (last ∙ ap (λ b. b ∷ drop start buffer) (sym (get_or_from_slice_get digit_characters (n % radix) c 0 is)))
       ∙ sym (append_assoc front (character (n % radix) ∷ []) (drop start buffer))
-      ∙ ap (λ t. t ++ drop start buffer) (sym (ap (map character) (digits_of_step radix n two some) ∙ map_push character (digits_of radix (n / radix)) (n % radix)))
+      ∙ ap (λ t. t ++ drop start buffer) (sym (ap (map character) (digits_of_step radix n two some)
+      ∙ map_push character (digits_of radix (n / radix)) (n % radix)))
 
 -- The digits of a number that have been written to the end of a buffer are those of the number.
 pub written_digits : (radix n start : ℕ) (buffer : List ℕ) → 2 ≤ radix → radix ≤ 36 → start ≤ 128 → length buffer ≡ 128
     → drop start buffer ≡ map character (digits_of radix n)
-    → (128 - start ≡ length (digits_in radix (take (128 - start) (drop start buffer)))) × (digits_in radix (take (128 - start) (drop start buffer)) ≡ digits_of radix n)
+    → (128 - start ≡ length (digits_in radix (take (128 - start) (drop start buffer)))) × (digits_in radix (take (128 - start)
+    (drop start buffer)) ≡ digits_of radix n)
 written_digits radix n start buffer two small within long is =
     let digits = digits_of radix n in
-    let whole : take (128 - start) (drop start buffer) ≡ drop start buffer = take_all (128 - start) (drop start buffer) (omega (arith, length-drop start buffer)) in
+    let whole : take (128 - start) (drop start buffer) ≡ drop start buffer = take_all (128 - start) (drop start buffer) (omega
+    (arith, length-drop start buffer)) in
     let same : digits_in radix (take (128 - start) (drop start buffer)) ≡ digits =
     ap (digits_in radix) (whole ∙ is) ∙ characters_digits radix digits small (all_below_base_digits_of radix n two) in
     (omega (arith, length-drop start buffer, ap length is, length-map digits character, ap length same), same)

@@ -1,5 +1,6 @@
 mod DigitLemmas
 mod GroupLemmas
+mod SizeLemmas
 mod LiteralLemmas
 mod ValueLemmas
 mod ConversionLemmas

@@ -1,9 +1,10 @@
 -- What is laid out is a literal.
 use Rattle.std.proofs.Common.{ℕ, ◌≡◌, ◌<◌, ◌≤◌, ◌==◌, ◌&&◌, ◌||◌, not, if◌then◌else◌, Bool, true, false, nat_lt, IsTrue, List, []}
-use Rattle.std.proofs.Common.{Option, Some, None, is_some, option_to_list, refl, sym, ap, ◌∙◌, arith}
-use Rattle.std.proofs.lemmas.Bool.{and_right, false≢true, lt-ltb, or_left, or_right}
+use Rattle.std.proofs.Common.{cond, ◌∷◌, Option, Some, None, is_some, option_to_list, refl, sym, ap, ◌∙◌, arith}
+use Rattle.std.proofs.lemmas.Bool.{and_parts, and_right, false_from_ne_true, false≢true, lt-ltb, or_left, or_right}
 use Rattle.std.proofs.lemmas.Bool.Decides.{nat_tests}
 use Rattle.std.specs.Borrow.{Bor}
+use Rattle.std.specs.List.{find}
 use Rattle.std.specs.Int.Digits.{AllBelowBase}
 use Rattle.lexical_util.specs.Ascii.{allowed_ascii}
 use Rattle.lexical_util.specs.Digits.{byte_value}
@@ -16,9 +17,11 @@ use Rattle.lexical_util.specs.Unfoldable.{cased, Lawful, Holds}
 use Rattle.lexical_util.specs.declared.format_flags.Part.{Part}
 use Rattle.lexical_util.specs.declared.format_flags.Part.TheVariants as parts
 use Rattle.lexical_base.proofs.ValueLemmas.{byte_value-digit_character}
-use Rattle.lexical_literal.specs.Literal.{IsLiteral, IsSpelled, condition, has_leading_zero, is_absent, is_none_or_one, is_none_or_prefix, is_plus, is_present, requirement}
+use Rattle.lexical_literal.specs.Literal.{IsLiteral, IsSpelled, condition, has_leading_zero, is_absent, is_none_or_one, is_none_or_prefix, is_plus}
+use Rattle.lexical_literal.specs.Literal.{is_present, requirement, text_of}
 use Rattle.lexical_literal.specs.Notation.{lacks_options, notation_of, point_of, exponent_character_of, radix_of}
-use Rattle.lexical_literal.specs.Syntax.{IsSyntax, FitIfAny}
+use Rattle.lexical_literal.specs.Syntax.{IsSyntax, FitIfAny, contradicts, is_group_size}
+use Rattle.lexical_literal.specs.Takes.{AreGroups, Takes}
 use Rattle.lexical_literal.specs.declared.syntax.Condition.{Condition}
 use Rattle.lexical_literal.specs.declared.syntax.Condition.TheVariants as conditions
 use Rattle.lexical_literal.specs.declared.syntax.ConditionsError.TheVariants as contradictions
@@ -32,6 +35,7 @@ use Rattle.lexical_writer.specs.declared.layout.Power.{Power}
 use Rattle.lexical_writer.specs.declared.layout.Style.{Style}
 use Rattle.lexical_writer.specs.declared.layout.WriteError.TheVariants as errors
 use Rattle.lexical_writer.proofs.DigitLemmas.{digits_present, grouped_present, lean_below, source_below, zero_below, zero_present, digits_below}
+use Rattle.lexical_writer.proofs.SizeLemmas.{right_groups}
 use Rattle.lexical_writer.proofs.GroupLemmas.{grouped_run, no_leading_zero}
 
 -- The flags of a lawful format agree.
@@ -101,11 +105,19 @@ none_refused false false true is = absurd (let apart : Some errors.Exponent ≡ 
 none_refused false false false is = (refl, refl, refl)
 
 -- Where a byte is required, it is there.
-none_lacks : (a b : Bool) → (if a then Some contradictions.NoBasePrefix else (if b then Some contradictions.NoBaseSuffix else None)) ≡ None
-    → (a ≡ false) × (b ≡ false)
-none_lacks true b is = absurd (let apart : Some contradictions.NoBasePrefix ≡ None = is in cc)
-none_lacks false true is = absurd (let apart : Some contradictions.NoBaseSuffix ≡ None = is in cc)
-none_lacks false false is = (refl, refl)
+first_three : {A : Type 0} (f : A → Bool) (a b c : A) (rest : List A) → find f (a ∷ b ∷ c ∷ rest) ≡ None
+    → (f a ≡ false) × (f b ≡ false) × (f c ≡ false)
+first_three f a b c rest is = go (f a) (f b) (f c) is
+  where
+    go : (s t u : Bool) → cond s (Some a) (cond t (Some b) (cond u (Some c) (find f rest))) ≡ None → (s ≡ false) × (t ≡ false) × (u ≡ false)
+    go true t u is = absurd (let apart : Some a ≡ None = is in cc)
+    go false true u is = absurd (let apart : Some b ≡ None = is in cc)
+    go false false true is = absurd (let apart : Some c ≡ None = is in cc)
+    go false false false is = (refl, refl, refl)
+
+double : (a : Bool) → not a ≡ false → a ≡ true
+double true is = refl
+double false is = sym is
 
 prefix_required : (style required absent : Bool) (byte : ℕ) → (required && absent) ≡ false → required ≡ true
     → is_present (after_zero (only_if ((style || required) && not absent) byte)) ≡ true
@@ -199,6 +211,12 @@ floats true fraction other byte exponent radix some = refl
 floats false None other byte exponent radix some = absurd (false≢true some)
 floats false (Some bytes) other byte exponent radix some = refl
 
+-- Where a separator is allowed between digits, it is in use.
+used : (g : Grammar) → (raw g.word).flag layout.integer_internal_digit_separator ≡ true
+    → sets.separator (raw g.word) ((raw g.word).byte layout.digit_separator) ≡ true
+    → sets.used_separator (raw g.word) ((raw g.word).byte layout.digit_separator) ≡ true
+used g internal own = grind arith
+
 module _ (g : Grammar) (style : Style) (amount : Amount) (is : IsSyntax g)
     (apart : (byte : ℕ) → byte_value byte < (raw g.word).byte layout.mantissa_radix → IsTrue (sets.used_separator (raw g.word) byte) → ⊥)
     (accepted : (word e p : ℕ) → Lawful word → OptionsFit word e p → OptionsHaveOneRole word e p) (can : refusal g amount ≡ None) where
@@ -212,19 +230,15 @@ module _ (g : Grammar) (style : Style) (amount : Amount) (is : IsSyntax g)
       lt-ltb (byte_value (character d)) (radix_of (raw g.word) part) (omega (arith, byte_value-digit_character d (omega arith)))
 
   -- Where there are groups, the separator is allowed between digits, and is not a digit.
-  pub between : 0 < group_of (raw g.word) style → ((notation_of g).separator ((raw g.word).byte layout.digit_separator) ≡ true)
-      × ((raw g.word).flag layout.integer_internal_digit_separator ≡ true) × ((notation_of g).digit parts.Integer ((raw g.word).byte layout.digit_separator) ≡ false)
+  pub between : 0 < group_of (raw g.word) g.conditions style → ((notation_of g).separator ((raw g.word).byte layout.digit_separator) ≡ true)
+      × ((raw g.word).flag layout.integer_internal_digit_separator ≡ true) × ((notation_of g).digit parts.Integer
+      ((raw g.word).byte layout.digit_separator) ≡ false)
   between some =
       let separator = (raw g.word).byte layout.digit_separator in
-      let has = some_group ((raw g.word).flag layout.integer_internal_digit_separator) (separator == 0) style.group some in
-      let in_use : sets.used_separator (raw g.word) separator ≡ true = used has.0 (own true separator has.1) in
+      let has = some_group ((raw g.word).flag layout.integer_internal_digit_separator) (separator == 0) _ some in
+      let in_use : sets.used_separator (raw g.word) separator ≡ true = used g has.0 (own true separator has.1) in
       (in_use, has.0, no_digit (nat_lt (byte_value separator) radix) refl in_use)
     where
-      used : (raw g.word).flag layout.integer_internal_digit_separator ≡ true
-          → sets.separator (raw g.word) ((raw g.word).byte layout.digit_separator) ≡ true
-          → sets.used_separator (raw g.word) ((raw g.word).byte layout.digit_separator) ≡ true
-      used internal own = grind arith
-
       no_digit : (test : Bool) → nat_lt (byte_value ((raw g.word).byte layout.digit_separator)) radix ≡ test
           → sets.used_separator (raw g.word) ((raw g.word).byte layout.digit_separator) ≡ true → test ≡ false
       no_digit true below used = absurd (apart _ (grind (arith, nat_tests)) used)
@@ -265,7 +279,8 @@ module _ (g : Grammar) (style : Style) (amount : Amount) (is : IsSyntax g)
           → (is_present (laid_out g style amount).integer || is_present (laid_out g style amount).fraction) ≡ true
       go true there = or_left _ _ there
       go false there =
-          or_right _ _ (fraction_there (either (is_present (laid_out g style amount).integer) (is_present (fraction_digits radix amount.fraction)) integer_or there))
+          or_right _ _ (fraction_there (either (is_present (laid_out g style amount).integer) (is_present
+          (fraction_digits radix amount.fraction)) integer_or there))
 
   allowed : ((amount.negative && g.conditions.no_negative_mantissa_sign) ≡ false) × ((lacks_options g.options && is_some amount.fraction) ≡ false)
       × (((lacks_options g.options || (raw g.word).flag layout.no_exponent_notation) && is_some amount.exponent) ≡ false)
@@ -273,11 +288,13 @@ module _ (g : Grammar) (style : Style) (amount : Amount) (is : IsSyntax g)
 
   -- No exponent is written where none is allowed, or where literals are integers.
   no_exponent : (lacks_options g.options || (raw g.word).flag layout.no_exponent_notation) ≡ true → has_exponent g amount ≡ false
-  no_exponent none = exponent_none (lacks_options g.options) ((raw g.word).flag layout.no_exponent_notation) _ (is_some amount.exponent) (agree g.word is.lawful).0
+  no_exponent none = exponent_none (lacks_options g.options) ((raw g.word).flag layout.no_exponent_notation) _ (is_some amount.exponent)
+      (agree g.word is.lawful).0
       allowed.2 none
 
   no_lead : has_leading_zero ((notation_of g).digit parts.Integer) (laid_out g style amount).integer ≡ false
-  no_lead = no_leading_zero (notation_of g) parts.Integer radix _ (group_of (raw g.word) style) (radixes g.word is.lawful parts.Integer).1 (digit parts.Integer) between
+  no_lead = no_leading_zero (notation_of g) parts.Integer radix _ (group_of (raw g.word) g.conditions style) (radixes g.word is.lawful parts.Integer).1
+      (digit parts.Integer) between
       (has_zero (raw g.word) amount) (values_of radix amount.integer) integer_below
 
   met : (f : Flag) → IsTrue ((notation_of g).flag f) → IsTrue (requirement f (notation_of g) (laid_out g style amount))
@@ -331,7 +348,9 @@ module _ (g : Grammar) (style : Style) (amount : Amount) (is : IsSyntax g)
   -- The conditions are met.
   there : ((g.conditions.required_base_prefix && ((raw g.word).byte layout.base_prefix == 0)) ≡ false)
       × ((g.conditions.required_base_suffix && ((raw g.word).byte layout.base_suffix == 0)) ≡ false)
-  there = none_lacks _ _ is.conditions
+      × (not (is_group_size g.conditions.integer_group_size) ≡ false)
+  there = first_three (λ error. contradicts error (raw g.word) g.conditions) contradictions.NoBasePrefix contradictions.NoBaseSuffix
+      contradictions.GroupSize (contradictions.NoInternalSeparator ∷ []) is.conditions
 
   conditions_met : (c : Condition) → IsTrue ((notation_of g).condition c) → IsTrue (condition c (laid_out g style amount))
   conditions_met conditions.BasePrefix set = prefix_required style.prefix _ _ _ there.0 set
@@ -342,22 +361,44 @@ module _ (g : Grammar) (style : Style) (amount : Amount) (is : IsSyntax g)
   spelled = record {
     sign = one_sign amount.negative _;
     prefix = prefix_there _ (but_not (style.prefix || g.conditions.required_base_prefix) ((raw g.word).byte layout.base_prefix == 0));
-    integer = grouped_run (notation_of g) parts.Integer radix _ (group_of (raw g.word) style) (radixes g.word is.lawful parts.Integer).1 (digit parts.Integer) between
+    integer = grouped_run (notation_of g) parts.Integer radix _ (group_of (raw g.word) g.conditions style) (radixes g.word is.lawful parts.Integer).1
+        (digit parts.Integer) between
         _ (zero_below radix (has_zero (raw g.word) amount) _ (some_radix parts.Integer) (lean_below radix _ integer_below));
     point = point_there g.options is.fit (has_point g amount) no_point;
-    fraction = grouped_run (notation_of g) parts.Fraction radix 0 0 (radixes g.word is.lawful parts.Fraction).1 (digit parts.Fraction) (λ some. absurd (omega (arith, some)))
+    fraction = grouped_run (notation_of g) parts.Fraction radix 0 0 (radixes g.word is.lawful parts.Fraction).1 (digit parts.Fraction) (λ some. absurd
+        (omega (arith, some)))
         _ (zero_below radix _ _ (some_radix parts.Fraction) fraction_below);
     exponent_character = character_there g.options is.fit (has_exponent g amount) (λ lacks. no_exponent (or_left _ _ lacks));
     exponent_sign = sign_if (has_exponent g amount) (is_negative amount.exponent) _;
-    exponent = grouped_run (notation_of g) parts.Exponent (effective_exponent_radix (raw g.word)) 0 0 (radixes g.word is.lawful parts.Exponent).1 (digit parts.Exponent)
+    exponent = grouped_run (notation_of g) parts.Exponent (effective_exponent_radix (raw g.word)) 0 0 (radixes g.word is.lawful parts.Exponent).1
+        (digit parts.Exponent)
         (λ some. absurd (omega (arith, some)))
         _ (zero_below _ (has_exponent g amount) _ (some_radix parts.Exponent) (lean_below _ _ power_below));
     suffix = suffix_there _ (but_not (style.suffix || g.conditions.required_base_suffix) ((raw g.word).byte layout.base_suffix == 0));
-    after_point = λ absent. no_fraction amount.fraction (has_exponent g amount && (raw g.word).flag layout.no_exponent_without_fraction) (point_byte g.options) _ radix absent;
+    after_point = λ absent. no_fraction amount.fraction (has_exponent g amount && (raw g.word).flag layout.no_exponent_without_fraction)
+        (point_byte g.options) _ radix absent;
     after_character = λ absent. no_power amount.exponent _ (exponent_byte g.options) _ _ absent;
     some_number = floats (is_present (laid_out g style amount).integer) amount.fraction _ (point_byte g.options) _ radix integer_or;
     requirements = met;
   }
 
-  pub literal : IsLiteral (notation_of g) (laid_out g style amount)
-  literal = record { spelled = spelled; conditions = conditions_met }
+  is_literal : IsLiteral (notation_of g) (laid_out g style amount)
+  is_literal = record { spelled = spelled; conditions = conditions_met }
+
+  -- The separator is no digit.
+  no_separator : (d : ℕ) → d < radix → (notation_of g).separator (character d) ≡ false
+  no_separator d below =
+      let radix_small : radix ≤ 36 = (radixes g.word is.lawful parts.Integer).1 in
+      false_from_ne_true _ (λ in_use. apart (character d) (omega (arith, byte_value-digit_character d (omega arith))) in_use)
+
+  in_groups : AreGroups g (laid_out g style amount)
+  in_groups =
+      let separator = (raw g.word).byte layout.digit_separator in
+      right_groups (notation_of g).separator radix separator no_separator g.conditions.integer_group_size (double _ there.2)
+      ((raw g.word).flag layout.integer_internal_digit_separator && not (separator == 0)) (style.group == 0) style.group
+      (λ allowed. let both = and_parts ((raw g.word).flag layout.integer_internal_digit_separator) (not (separator == 0)) allowed in
+      used g both.0 (own true separator (but_not ((raw g.word).flag layout.integer_internal_digit_separator) (separator == 0) allowed)))
+      _ (zero_below radix (has_zero (raw g.word) amount) _ (some_radix parts.Integer) (lean_below radix _ integer_below))
+
+  pub literal : Takes g (laid_out g style amount) (text_of (laid_out g style amount))
+  literal = record { reads = record { whole = refl; literal = is_literal }; groups = in_groups }

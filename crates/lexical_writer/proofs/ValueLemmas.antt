@@ -1,5 +1,6 @@
 -- The value of what is laid out.
-use Rattle.std.proofs.Common.{ℕ, ℤ, ◌≡◌, ◌<◌, Bool, true, false, cond, if◌then◌else◌, not, ◌&&◌, ◌||◌, nat_lt, IsTrue, IsFalse, Some, None, Result, Ok, Err, IsOk, IfOk, IfErr, option_to_list, refl, subst, sym, ap, ◌∙◌, arith}
+use Rattle.std.proofs.Common.{ℕ, ℤ, ◌≡◌, ◌<◌, Bool, true, false, cond, if◌then◌else◌, not, ◌&&◌, ◌||◌, nat_lt, IsTrue, IsFalse, Some, None, Result}
+use Rattle.std.proofs.Common.{Ok, Err, IfOk, IfErr, option_to_list, refl, subst, sym, ap, ◌∙◌, arith}
 use Rattle.std.proofs.lemmas.Bool.{and_parts}
 use Rattle.std.proofs.lemmas.Int.Digits.{number_digits_of}
 use Rattle.std.specs.Int.Digits.{number_from_digits}
@@ -11,7 +12,7 @@ use Rattle.lexical_util.specs.Roles as sets
 use Rattle.lexical_util.specs.Unfoldable.{Lawful}
 use Rattle.lexical_util.specs.declared.format_flags.Part.TheVariants as parts
 use Rattle.lexical_literal.specs.Literal.{is_present}
-use Rattle.lexical_literal.specs.Notation.{lacks_options, notation_of}
+use Rattle.lexical_literal.specs.Notation.{lacks_options}
 use Rattle.lexical_literal.specs.Syntax.{IsSyntax}
 use Rattle.lexical_literal.specs.declared.syntax.Grammar.{Grammar}
 use Rattle.lexical_number.specs.Number.{number}
@@ -19,7 +20,8 @@ use Rattle.lexical_number.specs.Numeral.{with_sign}
 use Rattle.lexical_value.specs.Integer.{IsInteger}
 use Rattle.lexical_value.specs.Value.{is_minus}
 use Rattle.lexical_writer.specs.Digits.{or_zero, values_of, without_zeros}
-use Rattle.lexical_writer.specs.Layout.{IsLaidOut, IsNotWritten, IsWhole, exponent_byte, group_of, has_zero, laid_out, literal_of, only_if, point_byte, refusal, sign_of, whole, needs_exponent}
+use Rattle.lexical_writer.specs.Layout.{IsLaidOut, IsNotWritten, IsWhole, exponent_byte, group_of, has_zero, laid_out, literal_of, only_if}
+use Rattle.lexical_writer.specs.Layout.{point_byte, refusal, sign_of, whole, needs_exponent}
 use Rattle.lexical_writer.specs.declared.layout.Amount.{Amount}
 use Rattle.lexical_writer.specs.declared.layout.Style.{Style}
 use Rattle.lexical_writer.specs.declared.layout.Layout.{Layout}
@@ -48,7 +50,7 @@ module _ (g : Grammar) (style : Style) (amount : Amount) (is : IsSyntax g)
   integer_number =
       let lean = without_zeros (values_of radix amount.integer) in
       let zero = has_zero (raw g.word) amount in
-      ap (number_from_digits radix) (grouped_digits radix _ (group_of (raw g.word) style) (radixes g.word is.lawful parts.Integer).1
+      ap (number_from_digits radix) (grouped_digits radix _ (group_of (raw g.word) g.conditions style) (radixes g.word is.lawful parts.Integer).1
       (λ some. no_digit _ radix (between g style amount is apart accepted can some).2)
       (or_zero zero lean) (zero_below radix zero lean (some_radix g style amount is apart accepted can parts.Integer)
       (lean_below radix (values_of radix amount.integer) (integer_below g style amount is apart accepted can))))

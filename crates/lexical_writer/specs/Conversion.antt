@@ -52,7 +52,11 @@ fraction_of parts = if is_absent parts.point.now && is_absent parts.fraction.now
 abbrev pub power_of : Record → Parts → Record → Option Power
 power_of r parts s =
     if has_power parts
-    then Some (record { negative = is_minus parts.exponent_sign.now; source = source_of parts.exponent (effective_exponent_radix r) (effective_exponent_radix s) })
+    then Some (record {
+      negative = is_minus parts.exponent_sign.now;
+      source = source_of parts.exponent (effective_exponent_radix r)
+          (effective_exponent_radix s);
+    })
     else None
 
 -- `amount_of r parts s` is the number that `parts` represents, with digits for the format `s`.

@@ -1,10 +1,12 @@
 -- How a number is laid out as a literal.
-use Rattle.std.specs.Prelude.{ℕ, ◌≡◌, ◌<◌, ℤ, ◌==◌, ◌&&◌, ◌||◌, not, Bool, true, false, if◌then◌else◌, List, [], ◌∷◌, Option, Some, None, Result, Ok, Err, is_some, option_to_list, IsTrue}
+use Rattle.std.specs.Prelude.{ℕ, ◌≡◌, ◌<◌, ℤ, ◌==◌, ◌&&◌, ◌||◌, not, Bool, true, false, if◌then◌else◌, List, [], ◌∷◌, Option, Some, None, Result, Ok}
+use Rattle.std.specs.Prelude.{Err, is_some, option_to_list, unwrap_or, IsTrue}
 use Rattle.std.specs.Borrow.{Bor}
 use Rattle.lexical_util.specs.Layout as layout
 use Rattle.lexical_util.specs.Record.{Record, raw, effective_exponent_radix}
 use Rattle.lexical_literal.specs.Literal.{Literal, is_absent, is_present}
 use Rattle.lexical_literal.specs.Notation.{lacks_options}
+use Rattle.lexical_literal.specs.declared.syntax.Conditions.{Conditions}
 use Rattle.lexical_literal.specs.declared.syntax.Grammar.{Grammar}
 use Rattle.lexical_literal.specs.declared.syntax.Options.{Options}
 use Rattle.lexical_number.specs.Number.{digits_in}
@@ -69,10 +71,12 @@ abbrev pub is_negative : Option Power → Bool
 is_negative None = false
 is_negative (Some power) = power.negative
 
--- `group_of r style` is the number of digits of a group, or 0 if there are no groups: where the format `r` does not allow
--- a separator between digits, or has none.
-abbrev pub group_of : Record → Style → ℕ
-group_of r style = if r.flag layout.integer_internal_digit_separator && not (r.byte layout.digit_separator == 0) then style.group else 0
+-- `group_of r c style` is the number of digits of a group: the one that the conditions `c` require, or that of `style`. It is 0 if
+-- there are no groups: if `style` has none, and where the format `r` does not allow a separator between digits, or has none.
+abbrev pub group_of : Record → Conditions → Style → ℕ
+group_of r c style =
+    if r.flag layout.integer_internal_digit_separator && not (r.byte layout.digit_separator == 0)
+    then (if style.group == 0 then 0 else unwrap_or c.integer_group_size style.group) else 0
 
 -- `needs_exponent g` is true if each literal of `g` has an exponent.
 abbrev pub needs_exponent : Grammar → Bool
@@ -101,14 +105,16 @@ laid_out g style amount =
     record {
       sign = option_to_list (sign_of amount.negative (r.flag layout.required_mantissa_sign));
       prefix = after_zero (only_if ((style.prefix || g.conditions.required_base_prefix) && not (r.byte layout.base_prefix == 0)) (r.byte layout.base_prefix));
-      integer = grouped (r.byte layout.digit_separator) (group_of r style) (or_zero (has_zero r amount) (without_zeros (values_of radix amount.integer)));
+      integer = grouped (r.byte layout.digit_separator) (group_of r g.conditions style) (or_zero (has_zero r amount) (without_zeros
+          (values_of radix amount.integer)));
       point = option_to_list (only_if (has_point g amount) (point_byte g.options));
       fraction = grouped 0 0 (or_zero (has_point g amount && r.flag layout.required_fraction_digits) (fraction_digits radix amount.fraction));
       exponent_character = option_to_list (only_if (has_exponent g amount) (exponent_byte g.options));
       exponent_sign =
           if has_exponent g amount then option_to_list (sign_of (is_negative amount.exponent) (r.flag layout.required_exponent_sign)) else [];
       exponent = grouped 0 0 (or_zero (has_exponent g amount) (without_zeros (power_digits (effective_exponent_radix r) amount.exponent)));
-      suffix = option_to_list (only_if ((style.suffix || g.conditions.required_base_suffix) && not (r.byte layout.base_suffix == 0)) (r.byte layout.base_suffix));
+      suffix = option_to_list (only_if ((style.suffix || g.conditions.required_base_suffix) && not (r.byte layout.base_suffix == 0))
+          (r.byte layout.base_suffix));
     }
 
 -- `refusal g amount` is why `amount` cannot be written as a literal of `g`, or `None` if it can.

@@ -4,9 +4,10 @@ ghost use Rattle.std.specs.Prelude.{◌≡◌, ◌++◌, ◌≤◌, ◌==◌, �
 ghost use Rattle.lexical_util.specs.Layout as layout;
 ghost use Rattle.lexical_util.specs.Record.{raw, effective_exponent_radix};
 ghost use Rattle.lexical_util.specs.Rules.{IsRadix, Lawful};
-ghost use Rattle.lexical_literal.specs.Literal.{IsLiteral, is_present, text_of};
-ghost use Rattle.lexical_literal.specs.Notation.{lacks_options, notation_of};
+ghost use Rattle.lexical_literal.specs.Literal.{is_present, text_of};
+ghost use Rattle.lexical_literal.specs.Notation.{lacks_options};
 ghost use Rattle.lexical_literal.specs.Syntax.{IsSyntax};
+ghost use Rattle.lexical_literal.specs.Takes.{Takes};
 ghost use Rattle.lexical_writer.specs.Digits.{grouped, or_zero, run_text, values_of, without_zeros};
 ghost use Rattle.lexical_writer.specs.Layout.{after_zero, exponent_byte, fraction_digits, group_of, has_exponent, has_point, has_zero};
 ghost use Rattle.lexical_writer.specs.Layout.{IsLaidOut, is_negative, laid_out, literal_of};
@@ -17,7 +18,7 @@ ghost use Rattle.lexical_writer.specs.Private.{IsTaken};
 use crate::digits::{count, without_zeros};
 use crate::run::{Run, Source};
 use crate::sink::{Sink, Window};
-use lexical_literal::syntax::{Options, Syntax};
+use lexical_literal::syntax::{Conditions, Options, Syntax};
 use lexical_util::format::{NumberFormat, base_prefix, base_suffix, digit_separator};
 use lexical_util::laws::byte_facts;
 use lexical_util::laws::flags::role_facts;
@@ -26,7 +27,7 @@ use lexical_util::laws::flags::role_facts;
 #[derive(Debug, Clone, Copy, PartialEq, Eq, Hash)]
 pub struct Style {
     /// The number of integer digits of a group, or 0 for digits without groups. Where the format does not allow
-    /// separators between integer digits, there are no groups.
+    /// separators between integer digits, there are no groups. Where the syntax requires a size, groups have this size.
     pub group: usize,
     /// Whether the base prefix is written, if the format has one.
     pub prefix: bool,
@@ -228,7 +229,7 @@ impl<'a> Amount<'a> {
     /// If no literal has this form, returns why.
     pub fn lay_out(&self, syntax: &Syntax, style: Style) -> Result<Layout<'a>, WriteError>
         ensures parts { IsLaidOut syntax.now style self.now result }
-        ensures literal { IfOk result (λ layout. IsLiteral (notation_of syntax.now) (literal_of layout)) }
+        ensures literal { IfOk result (λ layout. Takes syntax.now (literal_of layout) (text_of (literal_of layout))) }
         ensures lawful { IsSyntax syntax.now }
     {
         role_facts();
@@ -317,7 +318,7 @@ impl<'a> Amount<'a> {
             source: lean(self.integer, radix),
             radix,
             zero: self.has_zero(format),
-            group: group_of(format, style),
+            group: group_of(format, syntax.conditions(), style),
             separator: digit_separator(format.word()),
         }
     }
@@ -372,13 +373,16 @@ impl<'a> Amount<'a> {
 }
 
 // Returns the number of digits of a group, or 0 if there are no groups.
-const fn group_of(format: NumberFormat, style: Style) -> usize
-    ensures { result ≡ group_of (raw format) style }
+const fn group_of(format: NumberFormat, conditions: Conditions, style: Style) -> usize
+    ensures { result ≡ group_of (raw format) conditions style }
 {
-    if format.integer_internal_digit_separator() && digit_separator(format.word()) != 0 {
-        style.group
-    } else {
-        0
+    if !format.integer_internal_digit_separator() || digit_separator(format.word()) == 0 {
+        return 0;
+    }
+    match conditions.integer_group_size {
+        _ if style.group == 0 => 0,
+        Some(size) => size as usize,
+        None => style.group,
     }
 }
 

@@ -4,6 +4,7 @@ use crate::arguments::{input, write_text, Out};
 use crate::numbers::{error_number, ErrorNumber, Setter, Word, NO_PART, NO_SETTER};
 use core::fmt::Display;
 use core::mem::ManuallyDrop;
+use core::num::NonZeroU8;
 use core::ops::Range;
 use core::slice;
 use peltzivar::literal::{self, Conditions, FormError, Language, Number, ReadErrorKind, Readers};
@@ -19,6 +20,7 @@ pub struct Syntax {
     required_base_prefix: u8,
     required_base_suffix: u8,
     no_negative_mantissa_sign: u8,
+    integer_group_size: u8,
 }
 
 impl Syntax {
@@ -32,7 +34,8 @@ impl Syntax {
         let conditions = Conditions::NONE
             .required_base_prefix(self.required_base_prefix != 0)
             .required_base_suffix(self.required_base_suffix != 0)
-            .no_negative_mantissa_sign(self.no_negative_mantissa_sign != 0);
+            .no_negative_mantissa_sign(self.no_negative_mantissa_sign != 0)
+            .integer_group_size(NonZeroU8::new(self.integer_group_size).map(NonZeroU8::get));
         Ok(syntax.with(conditions)?)
     }
 
@@ -50,6 +53,10 @@ impl Syntax {
             required_base_prefix: conditions.required_base_prefix as u8,
             required_base_suffix: conditions.required_base_suffix as u8,
             no_negative_mantissa_sign: conditions.no_negative_mantissa_sign as u8,
+            integer_group_size: match conditions.integer_group_size {
+                Some(size) => size,
+                None => 0,
+            },
         }
     }
 }
@@ -205,9 +212,13 @@ impl From<literal::ReadError> for Explanation {
             _ => (0, None),
         };
         let (Range { start, end }, code, mask) = (error.span(), error.code(), error.mask());
-        let Conditions { required_base_prefix, required_base_suffix, no_negative_mantissa_sign, .. } =
-            error.conditions();
-        let conditions = [required_base_prefix, required_base_suffix, no_negative_mantissa_sign];
+        let unmet = error.conditions();
+        let conditions = [
+            unmet.required_base_prefix,
+            unmet.required_base_suffix,
+            unmet.no_negative_mantissa_sign,
+            unmet.integer_group_size.is_some(),
+        ];
         Explanation {
             span: Span { start, end },
             index: code.index().copied().unwrap_or(0),

@@ -2,6 +2,7 @@
 
 use core::fmt;
 
+use crate::edits::{Edit, EditError, FlagSetter, Setter};
 use crate::lawful::Rejected;
 use crate::literal::{Conditions, ConditionsError, Syntax};
 use crate::short_text::ShortText;
@@ -9,7 +10,11 @@ use crate::{Error, FormatError};
 
 impl Conditions {
     /// The names, in the order in which they are printed.
-    pub(crate) const NAMES: [&str; 3] = ["required_base_prefix", "required_base_suffix", "no_negative_mantissa_sign"];
+    pub(crate) const NAMES: [&str; 4] =
+        ["required_base_prefix", "required_base_suffix", "no_negative_mantissa_sign", Self::GROUP_SIZE];
+
+    /// The name of the condition that is not a flag.
+    pub(crate) const GROUP_SIZE: &str = "integer_group_size";
 
     /// Requires the base prefix. If set, a reader of C's hexadecimal integers refuses `10`.
     #[must_use]
@@ -42,7 +47,9 @@ impl Conditions {
 
     /// Returns the values in the order of [`NAMES`][Self::NAMES], where 0 stands for no condition.
     pub(crate) const fn values(self) -> [u8; Self::NAMES.len()] {
-        [self.required_base_prefix as u8, self.required_base_suffix as u8, self.no_negative_mantissa_sign as u8]
+        let [prefix, suffix, sign] =
+            [self.required_base_prefix as u8, self.required_base_suffix as u8, self.no_negative_mantissa_sign as u8];
+        [prefix, suffix, sign, if let Some(size) = self.integer_group_size { size } else { 0 }]
     }
 
     /// Returns the conditions with another value of one of the [`NAMES`][Self::NAMES].
@@ -50,26 +57,35 @@ impl Conditions {
         match index {
             0 => self.required_base_prefix(value != 0),
             1 => self.required_base_suffix(value != 0),
-            _ => self.no_negative_mantissa_sign(value != 0),
+            2 => self.no_negative_mantissa_sign(value != 0),
+            _ => self.integer_group_size(if value == 0 { None } else { Some(value) }),
         }
+    }
+
+    /// Returns an edit with the value that `text` has for one of the [`NAMES`][Self::NAMES].
+    pub(crate) fn parse(index: usize, text: &str) -> Result<Edit, EditError> {
+        let setter = match Self::NAMES[index] {
+            Self::GROUP_SIZE => Setter::ExponentBase,
+            _ => Setter::Flag(FlagSetter::RequiredIntegerDigits),
+        };
+        setter.parse(text)
     }
 
     /// Returns the conditions with the setting `text`, such as `required_base_prefix=true`, if it is one.
     pub(crate) fn with_setting(self, text: &str) -> Option<Self> {
         let (name, value) = text.split_once('=')?;
         let index = Self::NAMES.iter().position(|it| *it == name)?;
-        match value {
-            "true" => Some(self.edited(index, 1)),
-            _ => None,
-        }
+        Some(self.edited(index, Self::parse(index, value).ok()?.argument_byte()))
     }
 
     /// Appends the settings of the conditions, with a space before each.
     pub(crate) fn append_to(self, mut text: ShortText) -> ShortText {
         for (name, value) in Self::NAMES.iter().zip(self.values()) {
-            if value != 0 {
-                text = text.and(" ").and(name).and("=true");
-            }
+            text = match (*name, value) {
+                (_, 0) => continue,
+                (Self::GROUP_SIZE, size) => text.and(" ").and(name).and("=").decimal(size.into()),
+                _ => text.and(" ").and(name).and("=true"),
+            };
         }
         text
     }

@@ -129,7 +129,7 @@ impl<'a> Readers<'a> {
     }
 
     /// Returns the longest literal of any form that `text` begins with, of the first form if several have it, and the rest
-    /// of `text`, which may be anything. It does not find special values.
+    /// of `text`, which may be anything. It does not find special values. Groups of digits are tested last, in this literal.
     ///
     /// # Errors
     ///

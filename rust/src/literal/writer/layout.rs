@@ -2,7 +2,7 @@
 
 //! Numbers are laid out as literals.
 
-use crate::literal::syntax::{Options, Syntax};
+use crate::literal::syntax::{Conditions, Options, Syntax};
 use crate::literal::writer::digits::{count, without_zeros};
 use crate::literal::writer::run::{Run, Source};
 use crate::literal::writer::sink::{Sink, Window};
@@ -13,7 +13,7 @@ use crate::word::{base_prefix, base_suffix, digit_separator, FormatView};
 #[non_exhaustive]
 pub struct Style {
     /// The number of integer digits of a group, or 0 for digits without groups. Where the format does not allow
-    /// separators between integer digits, there are no groups.
+    /// separators between integer digits, there are no groups. Where the syntax requires a size, groups have this size.
     pub group: usize,
     /// Whether the base prefix is written, if the format has one.
     pub prefix: bool,
@@ -243,7 +243,7 @@ impl<'a> Amount<'a> {
             source: lean(self.integer, radix),
             radix,
             zero: self.has_zero(format),
-            group: group_of(format, style),
+            group: group_of(format, syntax.conditions(), style),
             separator: digit_separator(format.word()),
         }
     }
@@ -287,11 +287,14 @@ impl<'a> Amount<'a> {
 }
 
 // Returns the number of digits of a group, or 0 if there are no groups.
-const fn group_of(format: FormatView, style: Style) -> usize {
-    if format.integer_internal_digit_separator() && digit_separator(format.word()) != 0 {
-        style.group
-    } else {
-        0
+const fn group_of(format: FormatView, conditions: Conditions, style: Style) -> usize {
+    if !format.integer_internal_digit_separator() || digit_separator(format.word()) == 0 {
+        return 0;
+    }
+    match conditions.integer_group_size {
+        _ if style.group == 0 => 0,
+        Some(size) => size as usize,
+        None => style.group,
     }
 }
 
