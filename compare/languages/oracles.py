@@ -18,7 +18,7 @@ TOOLS = {
     "go": Tool(["go"], "go version", "go build -o {work}/go scanner.go", "{work}/go"),
     "javac": Tool(["javac"], "javac --version", f"javac {JAVAC} -d {{work}} Scanner.java", f"java {JAVAC} -cp {{work}} Scanner"),
     "json": Tool(["node"], "echo JSON.parse of node $(node --version)", "", "node node.js json"),
-    "kotlinc": Tool(["kotlinc"], "kotlinc -version 2>&1", "", f"{PYTHON} compilers.py kotlinc"),
+    "kotlinc": Tool(["kotlinc"], "kotlinc -version 2>&1 | grep info", "", f"{PYTHON} compilers.py kotlinc"),
     "mcs": Tool(["mcs", MCS], "mcs --version", f"mcs -r:{MCS} -out:{{work}}/cs.exe mcs.cs",
                 "env MONO_PATH=/usr/lib/mono/4.5 mono {work}/cs.exe"),
     "nasm": Tool(["nasm"], "nasm --version", "", f"{PYTHON} compilers.py nasm"),
