@@ -18,7 +18,7 @@ TOOLS = {
     "go": Tool(["go"], "go version", "go build -o {work}/go scanner.go", "{work}/go"),
     "javac": Tool(["javac"], "javac --version", f"javac {JAVAC} -d {{work}} Scanner.java", f"java {JAVAC} -cp {{work}} Scanner"),
     "json": Tool(["node"], "echo JSON.parse of node $(node --version)", "", "node node.js json"),
-    "kotlinc": Tool(["kotlinc"], "kotlinc -version 2>&1", "", f"{PYTHON} compilers.py kotlinc"),
+    "kotlinc": Tool(["kotlinc"], "kotlinc -version 2>&1 | grep info", "", f"{PYTHON} compilers.py kotlinc"),
     "mcs": Tool(["mcs", MCS], "mcs --version", f"mcs -r:{MCS} -out:{{work}}/cs.exe mcs.cs",
                 "env MONO_PATH=/usr/lib/mono/4.5 mono {work}/cs.exe"),
     "nasm": Tool(["nasm"], "nasm --version", "", f"{PYTHON} compilers.py nasm"),
@@ -77,7 +77,7 @@ LANGUAGES = [
     Language("HASKELL", "ghc", "018._exo-+", "_", "0o17 0xFF 1e5", []),
     Language("JAVA", "javac", "018._exp-+b", "_", "1L 1f 08f 0x1p3d", [
         suffix("[lLfFdD]"), Cause("+", r"[0-9_]*[fFdD]", "a float by its suffix alone"), RANGE]),
-    Language("JAVASCRIPT", "v8", "018._exn-+b", "_", "1n 0b1n", [suffix("n")]),
+    Language("JAVASCRIPT", "v8", "018._exn-+b", "_", "1n 0b1n", [suffix("n"), Cause("+", "NaN|Infinity", "a name")]),
     Language("JSON", "json", "012.eE+-x_", "_", "", []),
     Language("KOTLIN", "kotlinc", "01._exL-", "_", "1L 1f 1u 1uL", [suffix("[uU]?L|[uU]|[fF]"), RANGE]),
     Language("NASM", "nasm", "01a._hxebd", "_", "0c8h 0c8x 17q 17o 10d 10t 101b 101y 0h1F 0y1 0q7 0t9 $0c8 0x1.8p3", [
