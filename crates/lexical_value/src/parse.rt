@@ -1,5 +1,7 @@
 //! Texts that are read and converted at once.
 
+ghost use Rattle.std.specs.Prelude.{IfOk};
+ghost use Rattle.std.specs.Float.{NotNan};
 ghost use Rattle.lexical_number.specs.Binary.{format_of};
 ghost use Rattle.lexical_value.specs.Parsed.{IsParsed, IsParsedFloat};
 
@@ -51,7 +53,8 @@ pub fn parse_integer<T: Integer>(reader: &Reader, text: &[u8]) -> Result<T, Pars
 ///
 /// If `text` is not a literal, or if literals have no value in a float type, returns why.
 pub fn parse_float<F: Float>(reader: &Reader, text: &[u8]) -> Result<F, ParseError>
-    ensures { IsParsedFloat (format_of F.DOUBLE) F.value reader.now text.now result }
+    ensures value { IsParsedFloat (format_of F.DOUBLE) F.value reader.now text.now result }
+    ensures no_nan { IfOk result (λ value. NotNan (F.value value)) }
 {
     let syntax = reader.syntax();
     if let Some(value) = plain_float(syntax, text) {
