@@ -118,7 +118,7 @@ fn special_values_come_after_all_forms() {
     assert_eq!(first.read(b"nan"), Ok(Number::Special(nan)));
     assert_eq!(first.parse::<f32>("nan").map(f32::is_nan), Ok(true));
     assert_eq!(both.read(b"nan").unwrap().form(), Some(1));
-    assert_eq!(first.read(b"nam").unwrap_err().error, forms[0].read(b"nam").unwrap_err());
+    assert_eq!(first.read(b"na?").unwrap_err().error, forms[0].read(b"na?").unwrap_err());
     assert!(Readers::new(&[]).is_none());
 }
 
