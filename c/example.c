@@ -1,6 +1,6 @@
 /* Prints the value of each line of a file that is a number, and why others are not. The arguments are settings:
  *     cc -Wall -Wextra -Werror example.c libpeltzivar_c.a -o example
- *     ./example digit_separator=46 internal_digit_separator=true point=44 < prices.txt */
+ *     ./example digit_separator=46 integer_internal_digit_separator=true point=44 < prices.txt */
 #include "peltzivar.h"
 #include <inttypes.h>
 #include <stdio.h>

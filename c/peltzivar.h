@@ -5,7 +5,7 @@
  *     #include <stdio.h>
  *     #include <string.h>
  *     int main(void) {
- *         const char settings[] = "digit_separator='.'\ninternal_digit_separator=true\npoint=','";
+ *         const char settings[] = "digit_separator='.'\ninteger_internal_digit_separator=true\npoint=','";
  *         const char number[] = "1.234,50";
  *         peltzivar_syntax syntax;
  *         peltzivar_reader reader;
@@ -88,7 +88,8 @@ typedef uint8_t peltzivar_setter;
 typedef uint32_t peltzivar_error;
 #define PELTZIVAR_NO_SETTER 255
 
-/* The number of fields, and the sizes of buffers for any string of peltzivar_source, and of any other function. */
+/* The number of fields, and the sizes of buffers for any string of peltzivar_source, and of any other function whose
+ * name ends in `_text`. */
 #define PELTZIVAR_FIELD_COUNT 37
 #define PELTZIVAR_SOURCE_SIZE 2048
 #define PELTZIVAR_TEXT_SIZE 256
@@ -103,10 +104,10 @@ typedef struct {
 
 /* SETTINGS
  *
- * A syntax is a lawful word with an exponent character and a decimal point, or with 0 for both. Then numbers are
- * integers. The other members are conditions: that a number has the base prefix or the base suffix, that its sign is
+ * A syntax is a lawful word with an exponent character and a decimal point, or with 0 for both. If both are 0, numbers
+ * are integers. The other members are conditions: that a number has the base prefix or the base suffix, that its sign is
  * not `-`, and that the digit separators of its integer, if it has any, make groups of 2 to 8 digits, as in `1,234`.
- * Without initialisers, there are none. */
+ * Members that an initialiser leaves out are 0 or false, which is no condition. */
 typedef struct {
     peltzivar_word format;
     uint8_t exponent, decimal_point;
@@ -115,7 +116,7 @@ typedef struct {
 } peltzivar_syntax;
 
 /* Settings build a syntax. A text, such as a file, has one setting a line, NAME=VALUE, of a field, a group, an option
- * or a condition. SETTINGS.md has a table of them. Lines end with \n. A byte order mark at the start of the text is
+ * or a condition. SETTINGS.md describes the values, and FORMAT.md lists the names. Lines end with \n. A byte order mark at the start of the text is
  * skipped, and so are lines that are blank or begin with `#`. No comment can follow a setting. A setting overrides
  * those before it. Fields without a setting have the values of PELTZIVAR_NEW_FIELDS, the exponent character is `e`,
  * and the decimal point is `.`. In a mantissa or exponent radix above 14, `e` is a digit, so `exponent` must be set.
@@ -160,8 +161,8 @@ typedef struct {
 /* Writes the reader of a syntax to *reader and returns PELTZIVAR_SUCCESS if the word is lawful, if the options fit its
  * normal form or are both 0, and if the format does not contradict the conditions. Otherwise, leaves *reader unchanged
  * and returns the error of the first rule that the word breaks, the error that peltzivar_check_options returns for the
- * normal form, or the format error of the field that contradicts a condition. It takes as long as reading some 400
- * texts. */
+ * normal form, or the format error of the field that contradicts a condition. peltzivar_syntax_error_text has the words
+ * for all of them. It takes as long as reading some 400 texts. */
 PELTZIVAR_MUST_USE peltzivar_error peltzivar_reader_init(peltzivar_reader *reader, const peltzivar_syntax *syntax);
 
 /* Writes why peltzivar_reader_init refuses a syntax as a sentence, such as "the exponent character 'e' is a digit in
@@ -191,7 +192,8 @@ typedef struct {
 } peltzivar_literal;
 
 /* Where reading stopped. The first `valid_up_to` bytes are the longest beginning of the text that some literal begins
- * with. If these are all of its bytes, bytes are missing, and a longer text may be a literal. `form` is the form of a
+ * with. If these are all of its bytes, bytes are missing, and a longer text may be a literal. integer_group_size is tested
+ * last: a text that it alone refuses is valid up to its end, and a longer text may not be a literal. `form` is the form of a
  * language for which this beginning is the longest, the first of equals, and otherwise 0. */
 typedef struct {
     PELTZIVAR_ALIGNED uint64_t magic;
@@ -206,7 +208,8 @@ PELTZIVAR_MUST_USE bool peltzivar_read(const peltzivar_reader *reader, const cha
     peltzivar_literal *literal, peltzivar_read_error *error);
 
 /* Does the same for the longest beginning of the text that is a literal. What follows it may be anything. If there is
- * none, *error is that of peltzivar_read. Reads no byte behind the first that cannot follow or, if it begins a
+ * none, *error is that of peltzivar_read. integer_group_size is tested last: if the groups of this beginning are wrong,
+ * it is refused. Reads no byte behind the first that cannot follow or, if it begins a
  * character of UTF-8, behind this character. */
 PELTZIVAR_MUST_USE bool peltzivar_read_prefix(const peltzivar_reader *reader, const char *text, size_t len,
     peltzivar_literal *literal, peltzivar_read_error *error);
@@ -251,7 +254,7 @@ const char *peltzivar_value_description(peltzivar_value_status status);
 
 /* ERRORS */
 
-/* Writes why a text was refused as a sentence, such as "unexpected character 'x'". EXPLANATIONS.md describes them. If
+/* Writes why a text was refused as a sentence, such as "unexpected character 'x'", which may be in UTF-8. EXPLANATIONS.md describes them. If
  * no call has written *error, writes an empty string. */
 size_t peltzivar_read_error_text(const peltzivar_read_error *error, char *text, size_t len);
 
@@ -339,19 +342,21 @@ const char *peltzivar_language_name(size_t index);
 const char *peltzivar_form_name(const peltzivar_reader *reader, size_t form);
 
 /* Writes the syntax of a form of a language to *out and returns true. If peltzivar_form_name returns an empty string,
- * leaves *out unchanged and returns false. */
+ * leaves *out unchanged and returns false. An earlier form of the language may read a text otherwise: C's octal form
+ * reads `17` as 15. */
 PELTZIVAR_MUST_USE bool peltzivar_form_syntax(const peltzivar_reader *reader, size_t form, peltzivar_syntax *out);
 
 /* WRITING
  *
  * Each call writes a number as a literal of a reader's syntax, or of the first form of a language, and a null
- * terminator to a buffer of len bytes. It writes to *needed how many bytes are enough, and returns PELTZIVAR_WRITE_OK
- * if len is. Otherwise, it writes only the beginning and a null terminator, and returns PELTZIVAR_WRITE_BUFFER. If the
- * number cannot be written, it leaves the memory unchanged and returns why. Reading the text returns the same value. */
+ * terminator to a buffer of len bytes. It writes to *needed the length with the terminator, and returns
+ * PELTZIVAR_WRITE_OK if len is at least that. Otherwise, it writes only the beginning and a terminator, if len is not 0,
+ * and returns PELTZIVAR_WRITE_BUFFER. If the number cannot be written, it leaves the buffer and *needed unchanged and
+ * returns why. Reading the text returns the same value. */
 
 /* How numbers are written where a syntax leaves a choice: the number of integer digits in a group, if the format allows
- * separators between them, or 0 for no groups, and whether the base prefix and the base suffix are left out. Conditions
- * come first. A null pointer is the same as zeros. */
+ * separators between them, or 0 for no groups, and whether the base prefix and the base suffix are left out. A condition
+ * comes first: integer_group_size replaces any group but 0, and a required prefix or suffix is written. A null pointer is the same as zeros. */
 typedef struct {
     uint8_t group;
     bool without_base;
@@ -363,7 +368,7 @@ enum {
     PELTZIVAR_WRITE_OK = 0,
     PELTZIVAR_WRITE_RADIX = 1, /* The mantissa radixes differ or, if there is an exponent, the exponent bases. */
     PELTZIVAR_WRITE_NEGATIVE = 2, /* No literal has the sign `-`. */
-    PELTZIVAR_WRITE_FRACTION = 3, /* Literals are integers, and the number has a decimal point. */
+    PELTZIVAR_WRITE_FRACTION = 3, /* Literals are integers, and the number is a float, even if it is whole. */
     PELTZIVAR_WRITE_EXPONENT = 4, /* No literal has an exponent, or one of so many digits. */
     PELTZIVAR_WRITE_FLOAT = 5, /* Each literal has an exponent, and the number is of an integer type. */
     PELTZIVAR_WRITE_SPECIAL = 6, /* The number is NaN or infinity. */
@@ -379,7 +384,7 @@ PELTZIVAR_MUST_USE peltzivar_write_status peltzivar_format_u64(const peltzivar_r
 PELTZIVAR_MUST_USE peltzivar_write_status peltzivar_format_i128(const peltzivar_reader *reader, peltzivar_i128 value,
     const peltzivar_style *style, char *text, size_t len, size_t *needed);
 
-/* Writes the shortest decimal digits that are read as this float. A very large or very small one has an exponent, if
+/* Writes the shortest decimal digits that are read as this float, for radix 10. A very large or very small one has an exponent, if
  * the syntax has one. */
 PELTZIVAR_MUST_USE peltzivar_write_status peltzivar_format_f64(const peltzivar_reader *reader, double value,
     const peltzivar_style *style, char *text, size_t len, size_t *needed);

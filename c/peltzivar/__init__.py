@@ -1,17 +1,19 @@
-"""Reads numbers as a language, a file or you write them, with their values, and says why a text is not one.
+"""Reads numbers in the notation of a language, a file or your own, with their values, and says why a text is not one.
 
     >>> from peltzivar import Syntax, languages
     >>> languages.TOML.read("1_000.5").value, languages.RUST.read("0x1F").value
     (1000.5, 31)
-    >>> prices = Syntax.of(digit_separator=".", internal_digit_separator=True, integer_group_size=3, point=",")
+    >>> prices = Syntax.of(
+    ...     digit_separator=".", integer_internal_digit_separator=True, integer_group_size=3, point=","
+    ... )
     >>> price = prices.read("1.234,50")
     >>> price.value, price.decimal()
     (1234.5, Decimal('1234.50'))
 
-`read` returns a `Literal`, or raises a LiteralError. A `Language` has the numbers of a language, and `Syntax.of` takes
-settings: a keyword argument for each field of a format, the exponent character, the decimal point and the conditions of
-`Syntax`. Each field is an attribute of `FormatView`. Settings can also be texts, such as the lines of a file. Wrong
-ones raise a SettingsError:
+`read` returns a `Literal`, or raises a LiteralError, whose `span` has the position. A `Language`, such as
+`languages.CSV_DE`, reads the numbers of a language or a file, and `Syntax.of` takes settings: a keyword argument for
+each field of a format, the exponent character, the decimal point and the conditions of `Syntax`. Each field is an
+attribute of `FormatView`. Settings can also be texts, such as the lines of a file. Wrong ones raise a SettingsError:
 
     >>> Syntax.of("radix = 16", "base_prefix = 'b'")
     Traceback (most recent call last):
@@ -517,7 +519,7 @@ def _text(call: Any, *arguments: Any, size: int = _TEXT_SIZE) -> str:
     """Returns the text that a call writes."""
     buffer = create_string_buffer(size)
     call(*arguments, buffer, size)
-    return buffer.value.decode("ascii")
+    return buffer.value.decode(errors="replace")
 
 
 def _texts(call: Any, *of: Any) -> Iterable[str]:

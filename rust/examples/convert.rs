@@ -4,17 +4,19 @@
 use peltzivar::literal::{Language, Number, Sign, Special, Spelling, Style, WriteError};
 use std::io::{self, BufRead, Write};
 
-/// Returns a number as the first form of a language that can have it. Without such a form, returns the last error.
+/// Returns a number as the first form of a language that can have it. Without such a form, returns the last error. A text
+/// that another form of the language reads is not used: 15 as `17`, of C's octal form, is seventeen.
 fn convert(number: Number<'_>, target: Language) -> Result<String, WriteError> {
     let literal = match number {
         Number::Literal { literal, .. } => literal,
         Number::Special(special) => return spell(special, target),
     };
     let mut result = Err(WriteError::Radix);
-    for form in target.forms() {
-        result = form.syntax.format_literal(&literal, Style::PLAIN).map(|text| text.to_string());
-        if result.is_ok() {
-            break;
+    for (index, form) in target.forms().iter().enumerate() {
+        match form.syntax.format_literal(&literal, Style::PLAIN).map(|text| text.to_string()) {
+            Ok(text) if target.read(text.as_bytes()).is_ok_and(|it| it.form() == Some(index)) => return Ok(text),
+            Ok(_) => (),
+            Err(error) => result = Err(error),
         }
     }
     result

@@ -18,7 +18,7 @@ fn main() {
             Ok(value) => println!("{text} is {value}"),
             Err(ParseError::Value(error)) => println!("{text} is {error}"),
             Err(ParseError::Read(error)) => {
-                let (start, len) = (error.span().start, error.span().len().max(1));
+                let (start, len) = (error.span().start, text[error.span()].chars().count().max(1));
                 println!("{text}\n{:start$}{:^<len$} {error:#}", "", "");
             }
         }

@@ -129,11 +129,12 @@ impl<'a> Readers<'a> {
     }
 
     /// Returns the longest literal of any form that `text` begins with, of the first form if several have it, and the rest
-    /// of `text`, which may be anything. It does not find special values. Groups of digits are tested last, in this literal.
+    /// of `text`, which may be anything. It does not find special values. Groups of digits are tested last, in this literal:
+    /// if they are wrong, it is refused, even if a later form reads it.
     ///
     /// # Errors
     ///
-    /// If `text` does not begin with a literal, returns why it is not one, as [`read`][Self::read] does.
+    /// If `text` does not begin with a literal, returns why it is not one.
     pub const fn read_prefix<'t>(&self, text: &'t [u8]) -> Result<(Number<'t>, &'t [u8]), FormError> {
         match self.list.find_front(text) {
             Ok((form, Found { size, counts })) => {

@@ -11,7 +11,8 @@ use crate::short_text::ShortText;
 
 impl ReadError {
     /// Returns whether bytes are missing, so that a longer text may be a literal. Then
-    /// [`valid_up_to`][Self::valid_up_to] is the length of the text.
+    /// [`valid_up_to`][Self::valid_up_to] is the length of the text. It is `true`, too, of a text that only the condition on
+    /// groups of digits refuses, such as `1,2345`, which no bytes may mend.
     #[must_use]
     pub const fn is_incomplete(&self) -> bool {
         self.byte().is_none()
