@@ -298,6 +298,8 @@ class Literals(unittest.TestCase):
                 Syntax(Format()).read(text)
             error, sentence = caught.exception, f"unexpected character {text[index]!r}"
             self.assertEqual((error.valid_up_to, error.error, str(error)), (index, Error.INVALID_DIGIT, sentence))
+        with self.assertRaisesRegex(LiteralError, "unexpected character '\u20ac'"):
+            Syntax(Format()).read("7\u20ac".encode())
 
     def test_syntaxes(self):
         syntaxes = [Syntax(Format()), Syntax(Format(), b"e", 46), Syntax(Format().normal_form()), Syntax.integers(Format())]
