@@ -17,8 +17,8 @@ static int failed = 0;
         } \
     } while (0)
 
-static const peltzivar_fields starts[] = {PELTZIVAR_NEW_FIELDS_INIT, PELTZIVAR_NEW_FIELDS_INIT};
-static const peltzivar_word words[] = {PELTZIVAR_STANDARD_INIT, {1, 2}};
+static const peltzivar_fields starts[] = {PELTZIVAR_NEW_FIELDS_INIT};
+static const peltzivar_word words[] = {PELTZIVAR_STANDARD_INIT};
 static const peltzivar_word ZERO = {0, 0}, RESERVED = {0x8000000C, 0x00000A0000000000};
 static char text[PELTZIVAR_TEXT_SIZE];
 
@@ -32,100 +32,68 @@ static bool is_word(peltzivar_word word, uint64_t high, uint64_t low) {
 
 static void test_constants(void) {
     CHECK(peltzivar_version() == PELTZIVAR_VERSION_NUMBER);
-    CHECK(is_word(peltzivar_pack(&starts[1]), 0x00000A0000000000, 0xC));
+    CHECK(is_word(peltzivar_pack(&starts[0]), 0x00000A0000000000, 0xC) && is_word(words[0], 0x00000A0000000000, 0xC));
     CHECK(is_word(peltzivar_pack(&PELTZIVAR_NEW_FIELDS), PELTZIVAR_STANDARD.high, PELTZIVAR_STANDARD.low));
-    CHECK(is_word(words[0], PELTZIVAR_STANDARD.high, PELTZIVAR_STANDARD.low));
     CHECK(sizeof(peltzivar_word) == 16 && sizeof(peltzivar_fields) == 16 && sizeof(peltzivar_edit) == 2);
     CHECK(sizeof(peltzivar_reader) == 4096 && sizeof(peltzivar_read_error) == 128 && sizeof(peltzivar_literal) == 288);
+    CHECK(sizeof(peltzivar_syntax) == 32 && sizeof(peltzivar_explanation) == 48);
 }
 
-/* Returns all flags. */
-static uint64_t all_flags(void) {
-    uint64_t flags = 0;
-    for (int setter = 0; setter < 64; setter++) flags |= peltzivar_setter_mask((peltzivar_setter)setter).low;
-    return flags;
-}
-
-/* The number of a setter is the lowest bit that it writes, or at least 128. */
+/* An edit with an unknown setter changes nothing. The number of another setter is the lowest bit that it writes, or at
+ * least 128. */
 static void test_setters(void) {
     for (int number = 0; number < 256; number++) {
         const peltzivar_setter setter = (peltzivar_setter)number;
         const uint64_t flags = peltzivar_setter_mask(setter).low, byte = peltzivar_setter_mask(setter).high;
-        const peltzivar_edit edit = {setter, 200};
+        const peltzivar_edit edits[] = {{104, 7}, {setter, 200}};
+        const char *const name = peltzivar_setter_name(setter);
         const bool is_known = flags || byte;
         peltzivar_word word = {1, 2};
         peltzivar_fields fields = PELTZIVAR_NEW_FIELDS;
-        if (number < 64 && is_known) CHECK(flags == 1ull << number && !byte);
-        if (64 <= number && number < 128 && is_known) CHECK(byte == 0xFFull << (number - 64) && !flags);
-        CHECK(peltzivar_edit_word(ZERO, &edit, 1, &word) == is_known);
-        if (flags) CHECK(is_word(word, 0, flags) && peltzivar_fields_of(word).flags == flags);
-        if (byte && number != 64) CHECK((word.high & byte) == 200ull << (number - 64) && word.low == 0);
-        if (!is_known) CHECK(is_word(word, 2, 1));
-        CHECK(peltzivar_build(&edit, 1, &word) == is_known);
-        CHECK(peltzivar_edit_fields(&fields, &edit, 1) == is_known);
-        CHECK(is_known || memcmp(&fields, &PELTZIVAR_NEW_FIELDS, 14) == 0);
-        word.low = flags;
+        if (is_known && number < 128) CHECK(number < 64 ? flags == 1ull << number : byte == 0xFFull << (number - 64));
+        CHECK(peltzivar_edit_fields(&fields, edits, 2) == is_known && (fields.mantissa_radix == 10) != is_known);
+        CHECK(peltzivar_build(edits, 2, &word) == is_known && is_word(word, 2, 1) != is_known);
+        CHECK(peltzivar_edit_word(ZERO, edits, 2, &word) == is_known && word.low == (is_known ? flags : 1));
         CHECK(peltzivar_flag(word, setter) == (flags != 0));
-        CHECK(!peltzivar_flag(ZERO, setter));
-        const char *const name = peltzivar_setter_name(setter);
-        const size_t len = strlen(name);
-        if (is_known) CHECK(peltzivar_setter_of_name(name, len) == setter);
-        CHECK(peltzivar_setter_of_name(name, len ? len - 1 : 0) == PELTZIVAR_NO_SETTER);
-        CHECK((peltzivar_edit_text(edit, text, sizeof text) != 0) == is_known);
-        peltzivar_edit read = {7, 9};
-        if (!is_known) continue;
-        CHECK(peltzivar_parse_edit(text, strlen(text), &read));
-        CHECK(read.setter == setter && read.value == (flags ? 1 : 200));
+        CHECK((*name != 0) == is_known && (peltzivar_setter_of_name(name, strlen(name)) == setter || !is_known));
+        CHECK((peltzivar_edit_text(edits[1], NULL, 0) != 0) == is_known);
     }
     CHECK(peltzivar_setter_of_name("radix=", 5) == PELTZIVAR_SET_MANTISSA_RADIX);
+    CHECK(peltzivar_setter_of_name("radix", 4) == PELTZIVAR_NO_SETTER);
 }
 
-static void test_fields(void) {
+static void test_words(void) {
     const peltzivar_edit edits[] = {{64, 1}, {88, 2}, {96, 3}, {104, 4}, {112, 5}, {120, 6}, {44, 1}, {3, 0}};
-    const peltzivar_edit unknown[] = {{104, 7}, {PELTZIVAR_NO_SETTER, 0}};
+    const peltzivar_word hexadecimal = {0xD, 0x0000100000000000};
+    peltzivar_edit found[3];
     peltzivar_fields fields = PELTZIVAR_NEW_FIELDS;
     peltzivar_word word = {1, 2};
     CHECK(peltzivar_edit_fields(&fields, edits, 8));
     CHECK(fields.flags == (1ull << 44 | 4) && fields.digit_separator == 1 && fields.base_prefix == 2);
     CHECK(fields.base_suffix == 3 && fields.mantissa_radix == 4 && fields.exponent_base == 5 && fields.exponent_radix == 6);
-    fields.flags |= ~all_flags();
+    fields.flags |= 1ull << 63;
     CHECK(is_word(peltzivar_pack(&fields), 0x0605040302000001, 1ull << 44 | 4));
-    CHECK(!peltzivar_edit_fields(&fields, unknown, 2) && fields.mantissa_radix == 4 && fields.flags >> 63);
-    CHECK(!peltzivar_build(unknown, 2, &word) && is_word(word, 2, 1));
-    CHECK(peltzivar_build(edits, 8, &word) && is_word(word, 0x0605040302000001, 1ull << 44 | 4));
-    CHECK(peltzivar_fields_of(words[0]).exponent_base == 10);
-}
-
-static void test_words(void) {
-    peltzivar_edit edits[3];
-    const peltzivar_word hexadecimal = {0xD, 0x0000100000000000};
-    peltzivar_word word = {1, 2};
     CHECK(peltzivar_migrate(ZERO, &word) == PELTZIVAR_INVALID_MANTISSA_RADIX && is_word(word, 2, 1));
     CHECK(!peltzivar_migrate(RESERVED, &word) && is_word(word, 0x0A0A0A0000000000, 0xC));
     CHECK(peltzivar_same_format(PELTZIVAR_STANDARD, RESERVED) && !peltzivar_same_format(PELTZIVAR_STANDARD, ZERO));
-    CHECK(peltzivar_check_options(PELTZIVAR_STANDARD, '5', '5') == PELTZIVAR_INVALID_EXPONENT_SYMBOL);
-    memset(edits, '#', sizeof edits);
-    CHECK(peltzivar_edits_of(hexadecimal, edits, 1) == 2 && edits[0].setter == 0 && edits[0].value == 1);
-    CHECK(edits[1].setter == '#' && peltzivar_edits_of(hexadecimal, edits, SIZE_MAX) == 2);
-    CHECK(edits[1].setter == 104 && edits[1].value == 16 && edits[2].setter == '#');
+    memset(found, '#', sizeof found);
+    CHECK(peltzivar_edits_of(hexadecimal, found, 1) == 2 && found[0].setter == 0 && found[0].value == 1);
+    CHECK(found[1].setter == '#' && peltzivar_edits_of(hexadecimal, found, SIZE_MAX) == 2);
+    CHECK(found[1].setter == 104 && found[1].value == 16 && found[2].setter == '#');
 }
 
 static void test_options(void) {
-    const peltzivar_word hexadecimal = {0xC, 0x0000100000000000};
     uint8_t byte = 7;
-    CHECK(peltzivar_parse_byte("'p'", 3, &byte) && byte == 'p' && peltzivar_parse_byte("0x2e", 4, &byte) && byte == '.');
-    CHECK(!peltzivar_parse_byte("'\t'", 3, &byte));
-    CHECK(peltzivar_parse_byte("none", 4, &byte) && byte == 0 && !peltzivar_parse_byte("256", 3, &byte) && byte == 0);
-    const uint32_t exponent = 1 << PELTZIVAR_ROLE_EXPONENT, point = 1 << PELTZIVAR_ROLE_POINT;
-    CHECK(peltzivar_options_reason_roles(hexadecimal, 'e', '+', 0) == exponent);
-    CHECK(peltzivar_options_reason_roles(hexadecimal, 'e', '+', 1) == point);
-    CHECK(peltzivar_options_reason_roles(hexadecimal, 'p', 'p', 0) == (exponent | point));
+    CHECK(peltzivar_parse_byte("'p'", 3, &byte) && byte == 'p' && !peltzivar_parse_byte("256", 3, &byte) && byte == 'p');
+    CHECK(peltzivar_parse_byte("none", 4, &byte) && byte == 0 && peltzivar_parse_byte("0x2e", 4, &byte) && byte == '.');
+    CHECK(peltzivar_check_options(PELTZIVAR_STANDARD, '5', '5') == PELTZIVAR_INVALID_EXPONENT_SYMBOL);
+    CHECK(peltzivar_options_reason_roles(ZERO, 'p', 'p', 0) == (1 << PELTZIVAR_ROLE_EXPONENT | 1 << PELTZIVAR_ROLE_POINT));
     CHECK(peltzivar_role_of(RESERVED, 'e', '.', 255) == PELTZIVAR_ROLE_NONE && !peltzivar_separators_of(RESERVED, 255).internal);
 }
 
 static void test_texts(void) {
     const peltzivar_word word = {0x12ab, 0x0A0A10000000005F};
-    const peltzivar_word longest = {all_flags() ^ PELTZIVAR_STANDARD.low, 0xFFFFFF2121000021};
+    const peltzivar_word longest = {0x1FFF0003FFF3, 0xFFFFFF2121000021};
     char source[PELTZIVAR_SOURCE_SIZE];
     peltzivar_word read = {1, 2};
     size_t index = 7;
@@ -151,13 +119,15 @@ static void test_readers(void) {
         peltzivar_syntax it;
         peltzivar_error error;
         const char *sentence;
-    } rows[] = {{{{0, 0}, 0, 0, false, false, false, 0}, PELTZIVAR_INVALID_MANTISSA_RADIX, "the mantissa radix 0 is not between 2 and 36"},
-        {{PELTZIVAR_STANDARD_INIT, 'e', 0, false, false, false, 0}, PELTZIVAR_INVALID_DECIMAL_POINT,
+    } rows[] = {{{{0, 0}, 0, 0, false, false, false, 0, {0}}, PELTZIVAR_INVALID_MANTISSA_RADIX, "the mantissa radix 0 is not between 2 and 36"},
+        {{PELTZIVAR_STANDARD_INIT, 'e', 0, false, false, false, 0, {0}}, PELTZIVAR_INVALID_DECIMAL_POINT,
             "only one of the exponent character and the decimal point is absent: for numbers without an exponent, keep both, "
             "and set no_exponent_notation"},
-        {{PELTZIVAR_STANDARD_INIT, '5', '.', false, false, false, 0}, PELTZIVAR_INVALID_EXPONENT_SYMBOL,
-            "the exponent character '5' is a digit in the mantissa radix 10 and the exponent radix 10"}};
-    static const peltzivar_syntax integers = {PELTZIVAR_STANDARD_INIT, 0, 0, false, false, false, 0};
+        {{PELTZIVAR_STANDARD_INIT, '5', '.', false, false, false, 0, {0}}, PELTZIVAR_INVALID_EXPONENT_SYMBOL,
+            "the exponent character '5' is a digit in the mantissa radix 10 and the exponent radix 10"},
+        {{PELTZIVAR_STANDARD_INIT, 'e', '.', false, false, false, 0, {0, 0, 0, 0, 0, 0, 0, 0, 0, 1}}, PELTZIVAR_INVALID_FLAGS,
+            "the reserved bytes of the syntax are not 0"}};
+    static const peltzivar_syntax integers = {PELTZIVAR_STANDARD_INIT, 0, 0, false, false, false, 0, {0}};
     static peltzivar_reader readers[3];
     static const peltzivar_specials specials = {"1", "1", "1"};
     peltzivar_reader *const out = &readers[1];
@@ -165,8 +135,8 @@ static void test_readers(void) {
     peltzivar_explanation why = {{1, 2}, 3, {4, 5}, 6, 7, 8, 9, 10};
     peltzivar_special special;
     memset(&unwritten, 0, sizeof unwritten), memset(&readers[2], '#', sizeof readers[2]);
-    for (int i = 0; i < 3; i++) {
-        const peltzivar_reader *const none = i ? &readers[i] : NULL;
+    for (int i = 0; i < 4; i++) {
+        const peltzivar_reader *const none = i % 3 ? &readers[i] : NULL;
         CHECK(peltzivar_reader_init(out, &rows[i].it) == rows[i].error && out->magic == 0);
         CHECK(WRITES(rows[i].sentence, peltzivar_syntax_error_text(&rows[i].it, text, sizeof text)));
         CHECK(!peltzivar_read(none, "1", 1, NULL, NULL) && !peltzivar_read_special(none, &specials, "1", 1, &special));
@@ -248,15 +218,11 @@ static void test_values(void) {
     CHECK(!strcmp(peltzivar_value_description(PELTZIVAR_VALUE_TOO_LARGE), "above the largest value of the type"));
 }
 
-/* Each condition refuses a text alone, and is refused by a format that contradicts it. */
+/* Each condition refuses a text alone. A format can contradict a condition. */
 static void test_conditions(void) {
-    static const char *const rows[][5] = {
-        {"required_base_prefix=true\nbase_prefix='x'", "0x1", "1", "expected the prefix 0x, which required_base_prefix requires", "required_base_prefix=true"},
-        {"required_base_suffix=true\nbase_suffix='h'", "1h", "1", "expected the suffix h, which required_base_suffix requires", "required_base_suffix=true"},
-        {"no_negative_mantissa_sign=true", "1e-1", "-1", "unexpected minus sign, which no_negative_mantissa_sign forbids",
-            "no_negative_mantissa_sign=true\nrequired_mantissa_sign=true\nno_positive_mantissa_sign=true"},
-        {"integer_group_size=3\ndigit_separator=','\ninteger_internal_digit_separator=true", "1,234.5", "12,34",
-            "expected groups of 3 digits, which integer_group_size requires", "integer_group_size=3"}};
+    static const char *const rows[][3] = {{"required_base_prefix=true\nbase_prefix='x'", "0x1", "1"},
+        {"required_base_suffix=true\nbase_suffix='h'", "1h", "1"}, {"no_negative_mantissa_sign=true", "1e-1", "-1"},
+        {"integer_group_size=3\ndigit_separator=','\ninteger_internal_digit_separator=true", "1,234.5", "12,34"}};
     static const uint8_t bits[] = {PELTZIVAR_CONDITION_REQUIRED_BASE_PREFIX, PELTZIVAR_CONDITION_REQUIRED_BASE_SUFFIX,
         PELTZIVAR_CONDITION_NO_NEGATIVE_MANTISSA_SIGN, PELTZIVAR_CONDITION_INTEGER_GROUP_SIZE};
     peltzivar_syntax syntax;
@@ -266,18 +232,19 @@ static void test_conditions(void) {
     for (int i = 0; i < 4; i++) {
         CHECK(!peltzivar_read_settings(rows[i][0], strlen(rows[i][0]), &syntax) && !peltzivar_reader_init(&reader, &syntax));
         CHECK(syntax.required_base_prefix == (i == 0) && syntax.required_base_suffix == (i == 1) && syntax.no_negative_mantissa_sign == (i == 2));
-        CHECK(syntax.integer_group_size == (i == 3 ? 3 : 0));
-        CHECK(!memcmp(&syntax.exponent, &reader.syntax.exponent, 6));
+        CHECK(syntax.integer_group_size == (i == 3 ? 3 : 0) && !memcmp(&syntax.exponent, &reader.syntax.exponent, 16));
         CHECK(peltzivar_read(&reader, rows[i][1], strlen(rows[i][1]), NULL, NULL));
         CHECK(!peltzivar_read(&reader, rows[i][2], strlen(rows[i][2]), NULL, &error) && peltzivar_explain(&error, &why));
         CHECK(why.conditions == bits[i] && !why.mask.low && why.kind == PELTZIVAR_KIND_REQUIREMENT);
-        CHECK(WRITES(rows[i][3], peltzivar_read_error_text(&error, text, sizeof text)));
-        CHECK(peltzivar_read_settings(rows[i][4], strlen(rows[i][4]), &syntax) == 1);
     }
     syntax.required_base_suffix = true;
     CHECK(peltzivar_reader_init(&reader, &syntax) == PELTZIVAR_INVALID_BASE_SUFFIX);
     CHECK(WRITES("required_base_suffix is set, and the format has no base suffix", peltzivar_syntax_error_text(&syntax, text, sizeof text)));
 }
+
+/* Calls a function that writes a number to `text`, and returns whether it writes this string and its size. */
+#define FORMATS(wanted, function, reader, number, style) \
+    (!function(reader, number, style, text, sizeof text, &needed) && !strcmp(text, wanted) && needed == sizeof wanted)
 
 /* Numbers are written as literals, and a buffer that is too short has the beginning. */
 static void test_writing(void) {
@@ -288,28 +255,26 @@ static void test_writing(void) {
     peltzivar_syntax syntax;
     peltzivar_reader german, hexadecimal, unmade;
     peltzivar_literal literal;
-    char wide[512];
     size_t needed = 7;
     CHECK(!peltzivar_read_settings(lines, sizeof lines - 1, &syntax) && !peltzivar_reader_init(&german, &syntax));
     CHECK(!peltzivar_read_settings("radix=16\nbase_prefix='x'\nexponent='p'", 37, &syntax) && !peltzivar_reader_init(&hexadecimal, &syntax));
     memset(&unmade, 0, sizeof unmade), memset(&literal, 0, sizeof literal);
-    CHECK(!peltzivar_format_i64(&german, -1234567, &grouped, text, sizeof text, &needed) && !strcmp(text, "-1.234.567") && needed == 11);
-    CHECK(!peltzivar_format_u64(&hexadecimal, UINT64_MAX, NULL, text, sizeof text, NULL) && !strcmp(text, "0xFFFFFFFFFFFFFFFF"));
-    CHECK(!peltzivar_format_u64(&hexadecimal, 31, &bare, text, 3, &needed) && !strcmp(text, "1F") && needed == 3);
-    CHECK(!peltzivar_format_i128(json, least, NULL, text, sizeof text, NULL) && !strcmp(text, "-170141183460469231731687303715884105728"));
-    CHECK(!peltzivar_format_f64(&german, 1234.5, &grouped, text, sizeof text, NULL) && !strcmp(text, "1.234,5"));
-    CHECK(!peltzivar_format_f64(json, -1e300, NULL, text, sizeof text, NULL) && !strcmp(text, "-1e300"));
-    CHECK(!peltzivar_format_f64(peltzivar_language("CSV_EN", 6, NULL), 5e-324, NULL, wide, sizeof wide, &needed) && needed == 327);
+    CHECK(FORMATS("-1.234.567", peltzivar_format_i64, &german, -1234567, &grouped));
+    CHECK(FORMATS("0xFFFFFFFFFFFFFFFF", peltzivar_format_u64, &hexadecimal, UINT64_MAX, NULL));
+    CHECK(FORMATS("-170141183460469231731687303715884105728", peltzivar_format_i128, json, least, NULL));
+    CHECK(FORMATS("1.234,5", peltzivar_format_f64, &german, 1234.5, &grouped));
+    CHECK(FORMATS("-1e300", peltzivar_format_f64, json, -1e300, NULL));
+    CHECK(!peltzivar_format_u64(&hexadecimal, 31, &bare, text, 3, NULL) && !strcmp(text, "1F"));
+    CHECK(peltzivar_format_f64(peltzivar_language("CSV_EN", 6, NULL), 5e-324, NULL, NULL, 0, &needed) == PELTZIVAR_WRITE_BUFFER && needed == 327);
     CHECK(peltzivar_format_f64(json, HUGE_VAL, NULL, text, sizeof text, &needed) == PELTZIVAR_WRITE_SPECIAL && needed == 327);
     CHECK(peltzivar_format_f64(&hexadecimal, 0.5, NULL, text, sizeof text, NULL) == PELTZIVAR_WRITE_RADIX);
     CHECK(peltzivar_format_i64(&unmade, 1, NULL, text, sizeof text, NULL) == PELTZIVAR_WRITE_NOT_MADE);
     CHECK(peltzivar_format_literal(json, &literal, NULL, text, sizeof text, NULL) == PELTZIVAR_WRITE_NOT_MADE);
     CHECK(peltzivar_read(&german, "-1.234,50", 9, &literal, NULL));
-    CHECK(!peltzivar_format_literal(json, &literal, NULL, text, sizeof text, NULL) && !strcmp(text, "-1234.50"));
+    CHECK(FORMATS("-1234.50", peltzivar_format_literal, json, &literal, NULL));
     memset(text, '#', sizeof text);
     CHECK(peltzivar_format_literal(json, &literal, NULL, text, 8, &needed) == PELTZIVAR_WRITE_BUFFER && needed == 9);
     CHECK(!strcmp(text, "-1234.5") && text[8] == '#');
-    CHECK(peltzivar_format_i64(json, 10, NULL, NULL, 0, &needed) == PELTZIVAR_WRITE_BUFFER && needed == 3);
     CHECK(peltzivar_format_i64(peltzivar_language("C", 1, NULL), -1, NULL, text, sizeof text, NULL) == PELTZIVAR_WRITE_NEGATIVE);
     CHECK(!strcmp(peltzivar_write_description(PELTZIVAR_WRITE_NEGATIVE), "no literal has the sign '-'") && !*peltzivar_write_description(255));
 }
@@ -318,42 +283,38 @@ static void test_special_values(void) {
     const peltzivar_reader *const reader = peltzivar_language("YAML", 4, NULL);
     static const peltzivar_specials all = {"NaN", "inf", "infinity"}, few = {NULL, "", "infinity"};
     static const char *const texts[] = {"nan", "-inf", "+Infinity"};
-    static const peltzivar_special wanted[] = {
-        {PELTZIVAR_SPELLING_NAN, 0}, {PELTZIVAR_SPELLING_INF, '-'}, {PELTZIVAR_SPELLING_INFINITY, '+'}};
     peltzivar_special special = {7, 7};
     for (int i = 0; i < 3; i++) {
         CHECK(peltzivar_read_special(reader, &all, texts[i], strlen(texts[i]), &special));
-        CHECK(special.spelling == wanted[i].spelling && special.sign == wanted[i].sign);
+        CHECK(special.spelling == PELTZIVAR_SPELLING_NAN + i && special.sign == "\0-+"[i]);
         CHECK(peltzivar_read_special(reader, &few, texts[i], strlen(texts[i]), NULL) == (i == 2));
     }
     CHECK(!peltzivar_read_special(reader, &few, NULL, 0, &special));
     CHECK(!peltzivar_read_special(reader, &all, "inf", SIZE_MAX, &special) && special.sign == '+');
 }
 
-/* Each language has a reader of a syntax that passes the check, and a name by which it is found. */
+/* Each language has a reader and forms, and a name by which it is found. */
 static void test_languages(void) {
     peltzivar_specials specials = {text, text, text};
     peltzivar_syntax syntax;
     const char *name;
-    CHECK(!peltzivar_language("json", 4, &specials) && specials.inf == text);
-    CHECK(!peltzivar_language("JSON", SIZE_MAX, &specials) && !*peltzivar_language_name(SIZE_MAX));
-    CHECK(!peltzivar_language("", 0, &specials) && !peltzivar_language("JSO", 3, &specials));
+    CHECK(!peltzivar_language("json", 4, &specials) && !peltzivar_language("", 0, &specials) && specials.inf == text);
+    CHECK(!peltzivar_language("JSON", SIZE_MAX, &specials) && !peltzivar_language("JSO", 3, &specials));
     for (size_t i = 0; *(name = peltzivar_language_name(i)); i++) {
         const peltzivar_reader *const reader = peltzivar_language(name, strlen(name), &specials);
         peltzivar_reader same;
-        CHECK(reader && !peltzivar_reader_init(&same, &reader->syntax) && i < 99);
         size_t form = 0;
+        CHECK(reader && !peltzivar_reader_init(&same, &reader->syntax) && !memcmp(&same.syntax, &reader->syntax, 32));
         for (; *peltzivar_form_name(reader, form); form++) {
             CHECK(peltzivar_form_syntax(reader, form, &syntax) && !peltzivar_reader_init(NULL, &syntax));
-            if (!form) CHECK(!memcmp(&syntax, &reader->syntax, 22));
+            if (!form) CHECK(!memcmp(&syntax, &reader->syntax, 32));
             CHECK(!*peltzivar_form_name(&same, form) && !peltzivar_form_syntax(&same, form, &syntax));
         }
         CHECK(form && !peltzivar_form_syntax(reader, form, &syntax) && !*peltzivar_form_name(reader, SIZE_MAX));
-        CHECK(!memcmp(&same.syntax, &reader->syntax, 22) && peltzivar_read_prefix(reader, "0x1p1h", 6, NULL, NULL));
     }
-    const peltzivar_reader *const json = peltzivar_language("JSON", 4, &specials);
-    CHECK(json && !*specials.nan && !*specials.inf && !*specials.infinity && !peltzivar_read(json, "01", 2, NULL, NULL));
+    CHECK(peltzivar_language("JSON", 4, &specials) && !*specials.nan && !*specials.inf && !*specials.infinity);
     CHECK(peltzivar_language("TOML", 4, &specials) && !strcmp(specials.nan, "nan") && !strcmp(specials.inf, "inf"));
+    CHECK(!*peltzivar_language_name(SIZE_MAX));
 }
 
 static void test_settings(void) {
@@ -363,7 +324,7 @@ static void test_settings(void) {
         "expected NAME=VALUE, not `no_special`", "the base prefix 'b' is a digit in radix 16",
         "no flag allows the digit separator '_'", ""};
     static const size_t lines[][3] = {{1, 1, 7}, {1, 4, 7}, {2, 0, 2}, {1, 3, 7}, {0, 7, 7}};
-    peltzivar_syntax syntax = {{1, 2}, 3, 4, true, true, true, 7};
+    peltzivar_syntax syntax = {{1, 2}, 3, 4, true, true, true, 7, {0}};
     char longest[64] = "digit_separator=";
     memset(longest + 16, 0xFF, 48);
     CHECK(peltzivar_settings_text(longest, sizeof longest, 0, NULL, 0) < PELTZIVAR_TEXT_SIZE);
@@ -410,7 +371,7 @@ static void test_null(void) {
 }
 
 int main(void) {
-    test_constants(), test_setters(), test_fields(), test_words(), test_options(), test_texts(), test_readers();
+    test_constants(), test_setters(), test_words(), test_options(), test_texts(), test_readers();
     test_literals(), test_values(), test_conditions(), test_writing(), test_special_values(), test_languages(), test_settings(), test_null();
     return failed;
 }
