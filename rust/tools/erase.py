@@ -7,7 +7,7 @@
 Items that only the prover reads are left out as a whole: ghost items, clauses, tactics, `impl Model`, laws and their
 calls. All other words, attributes and documentation stay in their order, except for
 
-- the tables REPLACED and ATTRIBUTES, each row of which has to apply exactly once, and EVERYWHERE;
+- the table REPLACED, each row of which has to apply exactly once, and EVERYWHERE;
 - the paths of the crates, and of the two modules in MODULES with the type of the view.
 
 rustfmt does the layout. A word of GHOST that is left, and a clause without braces, are refused with their file and line,
@@ -114,10 +114,10 @@ for kind, types in GROWS.items():
     items = [f"pub {kind} {name} {{" for name in types.split()]
     EVERYWHERE += [(item, f"#[non_exhaustive] {item}") for item in items]
 
-# Attributes that plain Rust has in place of those of the source: the end of the path, and both texts.
+# Attributes that plain Rust has in place of those of the source.
 COMPARED = "Clone, Copy, PartialEq, Eq, PartialOrd, Ord, Hash"
 DEPRECATED = '#[deprecated = "Use `build_strict` or `build_unchecked` instead."]'
-ATTRIBUTES = [
+REPLACED += [
     ("syntax.rt", "Default)]\npub struct Conditions", "Default)]\n#[non_exhaustive]\npub struct Conditions"),
     ("syntax.rt", "Hash)]\npub enum ConditionsError", "Hash)]\n#[non_exhaustive]\npub enum ConditionsError"),
     ("lawful.rt", "    Word(u128),", "    Word(u128),\n    Conditions(crate::literal::ConditionsError),"),
@@ -268,7 +268,7 @@ class Source:
 def source_of(path):
     """Returns the source after the replacements. Each keeps the number of lines, so lines keep their numbers."""
     text = path.read_text()
-    for file, old, new in REPLACED + ATTRIBUTES:
+    for file, old, new in REPLACED:
         if path.match(file):
             if text.count(old) != 1:
                 raise Refused(f"{path}: stands {text.count(old)} times, and not once: {old}")
@@ -319,7 +319,7 @@ def made_files():
     for name in PAGES:
         page = (RUST.parent / f"docs/{name}.md").read_text()
         files[RUST / f"{name}.txt"] = re.sub(r"\[([^][]*)\]\([^)#][^)]*\)", r"\1", page)
-    unused = [old for file, old, _ in REPLACED + ATTRIBUTES if not any(path.match(file) for path in read)]
+    unused = [old for file, old, _ in REPLACED if not any(path.match(file) for path in read)]
     unused += [old for old, _ in EVERYWHERE if old not in sources]
     if unused:
         raise Refused(f"no source has {', '.join(unused)}")

@@ -77,7 +77,7 @@ def plain(words):
 def wanted_words(path, names):
     """The words that the generated file of a source must have, by the names of plain Rust."""
     text = path.read_text()
-    rows = [(old, new) for file, old, new in erase.REPLACED + erase.ATTRIBUTES if path.match(file)]
+    rows = [(old, new) for file, old, new in erase.REPLACED if path.match(file)]
     for old, new in rows + erase.EVERYWHERE:
         text = text.replace(old, new)
     return plain(words_of(erase.renamed(text, *names)))
