@@ -65,9 +65,13 @@ fn bits(word: u128, text: &str) -> Option<(u64, u32)> {
     let format = Format::new(word).ok()?;
     let reader = Reader::new(Syntax::new(format, b'^', b'.').ok()?);
     let parts = reader.read(text.as_bytes()).ok()?;
-    let double = to_float::<f64>(format.view(), &parts).ok()?;
-    let single = parse_float::<f32>(&reader, text.as_bytes()).ok()?;
-    Some((double.to_bits(), single.to_bits()))
+    match (
+        to_float::<f64>(format.view(), &parts),
+        parse_float::<f32>(&reader, text.as_bytes()),
+    ) {
+        (Ok(double), Ok(single)) => Some((double.to_bits(), single.to_bits())),
+        _ => None,
+    }
 }
 
 #[test]
