@@ -1,81 +1,27 @@
 //! Writers: what is written is read back with the same value, in every syntax of the languages.
 
-use peltzivar::literal::{Language, Literal, Reader, Style, Syntax, WriteError};
-use peltzivar::{format::STANDARD, Format, NumberFormatBuilder, Part};
+use peltzivar::literal::{Conditions, Language, Reader, Style, Syntax, WriteError};
+use peltzivar::{format::STANDARD, Format, NumberFormatBuilder};
 use std::collections::BTreeMap;
-
-const LITERALS: &str = include_str!("literals.txt");
-
-/// Returns each language with a text of `literals.txt` that it reads as a literal.
-fn rows() -> impl Iterator<Item = (Language, &'static str)> {
-    let rows = LITERALS.lines().filter(|line| !line.starts_with('#'));
-    rows.filter_map(|row| {
-        let mut words = row.split_whitespace();
-        let (name, text) = (words.next()?, words.nth(1)?);
-        let language = *Language::ALL.iter().find(|it| it.name() == name)?;
-        language.read(text.as_bytes()).ok()?.literal().map(|_| (language, text))
-    })
-}
-
-/// Returns the digits of a literal without zeros at both ends, the place of the last one, the exponent and the sign. The
-/// exponent of the tests is short.
-fn value(literal: &Literal) -> (Vec<u8>, isize, i128, bool) {
-    let mut digits = Vec::from_iter(literal.digits(Part::Integer).skip_while(|digit| *digit == 0));
-    digits.extend(literal.digits(Part::Fraction));
-    let mut place = -(literal.digits(Part::Fraction).count() as isize);
-    while digits.last() == Some(&0) {
-        digits.pop();
-        place += 1;
-    }
-    let zeros = digits.iter().take_while(|digit| **digit == 0).count();
-    digits.drain(..zeros);
-    let radix = i128::from(literal.radix(Part::Exponent));
-    let size = literal.digits(Part::Exponent).fold(0, |size, digit| size * radix + i128::from(digit));
-    let place = if digits.is_empty() { 0 } else { place };
-    (digits, place, if literal.exponent_sign() == b"-" { -size } else { size }, literal.is_negative())
-}
-
-/// Returns whether an error is why a literal of `source` cannot be written in `target`.
-fn is_reason(error: WriteError, literal: &Literal, source: &Syntax, target: &Syntax) -> bool {
-    let (from, to) = (source.format(), target.format());
-    let has_exponent = !literal.exponent_character().is_empty();
-    match error {
-        WriteError::Radix => from.radix() != to.radix() || has_exponent && from.exponent_base() != to.exponent_base(),
-        WriteError::Negative => literal.is_negative() && target.conditions().no_negative_mantissa_sign,
-        WriteError::Fraction => !literal.point().is_empty() && target.point().is_none(),
-        WriteError::Exponent => has_exponent && (target.exponent().is_none() || to.no_exponent_notation()),
-        _ => false,
-    }
-}
+use std::num::NonZeroU8;
 
 #[test]
 fn literals_are_written_in_other_languages() {
     let mut counts = BTreeMap::new();
-    for (language, text) in rows() {
-        let number = language.read(text.as_bytes()).unwrap();
-        let (literal, form) = (number.literal().unwrap(), number.form().unwrap());
-        let source = language.forms()[form].syntax;
+    for row in include_str!("literals.txt").lines() {
+        let mut words = row.split_whitespace();
+        let (Some(name), Some(text)) = (words.next(), words.nth(1)) else { continue };
+        let Some(language) = Language::ALL.iter().find(|it| it.name() == name) else { continue };
+        let Some(literal) = language.read(text.as_bytes()).ok().and_then(|number| number.literal()) else { continue };
         for target in Language::ALL {
             for (form, reader) in target.forms().iter().zip(target.readers().as_slice()) {
-                let style = Style::PLAIN.group(text.len() % 5);
-                let key = match form.syntax.format_literal(&literal, style) {
-                    Ok(written) => {
-                        let back = written.to_string();
-                        let read = reader.read(back.as_bytes()).unwrap_or_else(|error| {
-                            panic!("{language} {text:?} in {target} {}: {back:?}: {error}", form.name)
-                        });
-                        assert_eq!(value(&read), value(&literal), "{language} {text:?} in {target}: {back:?}");
-                        "written".to_string()
-                    }
-                    Err(error) => {
-                        assert!(
-                            is_reason(error, &literal, &source, &form.syntax),
-                            "{language} {text:?} in {target}: {error:?}"
-                        );
-                        format!("{error:?}")
-                    }
-                };
-                *counts.entry(key).or_insert(0) += 1;
+                let result = form.syntax.format_literal(&literal, Style::PLAIN.group(text.len() % 5));
+                if let Ok(written) = result {
+                    let back = written.to_string();
+                    let bits = reader.read(back.as_bytes()).unwrap().to_f64().unwrap().to_bits();
+                    assert_eq!(bits, literal.to_f64().unwrap().to_bits(), "{language} {text} in {target}: {back}");
+                }
+                *counts.entry(format!("{:?}", result.err())).or_insert(0) += 1;
             }
         }
     }
@@ -145,7 +91,7 @@ fn flags_add_what_they_require() {
     assert_eq!(convert("5e6", none.required_exponent_sign(true)).unwrap(), "5e+6");
     assert_eq!(convert("5e6", none.no_exponent_notation(true)), Err(WriteError::Exponent));
     assert_eq!(convert("5", none.mantissa_radix(8)), Err(WriteError::Radix));
-    let binary = std::num::NonZeroU8::new(2);
+    let binary = NonZeroU8::new(2);
     assert_eq!(convert("5e6", none.exponent_radix(binary)).unwrap(), "5e110");
     assert_eq!(convert("5e6", none.exponent_base(binary)), Err(WriteError::Radix));
     let long = format!("5e{}", "9".repeat(40));
@@ -175,26 +121,20 @@ fn texts_are_printed_and_written() {
 }
 
 #[test]
-fn the_style_and_conditions_decide_on_prefix_and_suffix() {
-    let builder = NumberFormatBuilder::new().mantissa_radix(16).base_prefix(std::num::NonZeroU8::new(b'x'));
+fn the_style_and_conditions_decide_on_the_base_and_on_groups() {
+    let write = |syntax: Syntax, value, style| syntax.format_integer::<i64>(value, style).map(|text| text.to_string());
+    let builder = NumberFormatBuilder::new().mantissa_radix(16).base_prefix(NonZeroU8::new(b'x'));
     let syntax = Syntax::integers(builder.build_format_or_panic());
     let bare = Style::PLAIN.without_base();
-    assert_eq!(syntax.format_integer(255u8, Style::PLAIN).unwrap().to_string(), "0xFF");
-    assert_eq!(syntax.format_integer(255u8, bare).unwrap().to_string(), "FF");
-    let conditions = peltzivar::literal::Conditions::NONE.required_base_prefix(true).no_negative_mantissa_sign(true);
-    let strict = syntax.with(conditions).unwrap();
-    assert_eq!(strict.format_integer(255u8, bare).unwrap().to_string(), "0xFF");
-    assert_eq!(strict.format_integer(-1, bare).unwrap_err(), WriteError::Negative);
-}
+    assert_eq!(write(syntax, 255, Style::PLAIN).unwrap(), "0xFF");
+    assert_eq!(write(syntax, 255, bare).unwrap(), "FF");
+    let strict = Conditions::NONE.required_base_prefix(true).no_negative_mantissa_sign(true);
+    assert_eq!(write(syntax.with_or_panic(strict), 255, bare).unwrap(), "0xFF");
+    assert_eq!(write(syntax.with_or_panic(strict), -1, bare), Err(WriteError::Negative));
 
-#[test]
-fn groups_have_the_size_that_a_syntax_requires() {
-    let builder = NumberFormatBuilder::new().digit_separator(std::num::NonZeroU8::new(b','));
+    let builder = NumberFormatBuilder::new().digit_separator(NonZeroU8::new(b','));
     let format = builder.integer_internal_digit_separator(true).build_format_or_panic();
-    let conditions = peltzivar::literal::Conditions::NONE.integer_group_size(Some(3));
-    let syntax = Syntax::integers(format).with(conditions).unwrap();
-    for (style, wanted) in [(Style::PLAIN, "1234567"), (Style::PLAIN.group(2), "1,234,567")] {
-        let text = syntax.format_integer(1_234_567, style).unwrap().to_string();
-        assert_eq!((text.as_str(), Reader::new(syntax).parse(&text)), (wanted, Ok(1_234_567)));
-    }
+    let syntax = Syntax::integers(format).with_or_panic(Conditions::NONE.integer_group_size(Some(3)));
+    assert_eq!(write(syntax, 1_234_567, Style::PLAIN).unwrap(), "1234567");
+    assert_eq!(write(syntax, 1_234_567, Style::PLAIN.group(2)).unwrap(), "1,234,567");
 }
