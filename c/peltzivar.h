@@ -107,12 +107,14 @@ typedef struct {
  * A syntax is a lawful word with an exponent character and a decimal point, or with 0 for both. If both are 0, numbers
  * are integers. The other members are conditions: that a number has the base prefix or the base suffix, that its sign is
  * not `-`, and that the digit separators of its integer, if it has any, make groups of 2 to 8 digits, as in `1,234`.
- * Members that an initialiser leaves out are 0 or false, which is no condition. */
+ * Members that an initialiser leaves out are 0 or false, which is no condition. A later version may have conditions in
+ * `reserved`, so a syntax is refused if one of these bytes is not 0. */
 typedef struct {
     peltzivar_word format;
     uint8_t exponent, decimal_point;
     bool required_base_prefix, required_base_suffix, no_negative_mantissa_sign;
     uint8_t integer_group_size;
+    uint8_t reserved[10];
 } peltzivar_syntax;
 
 /* Settings build a syntax. A text, such as a file, has one setting a line, NAME=VALUE, of a field, a group, an option
@@ -155,14 +157,14 @@ size_t peltzivar_settings_lines(const char *text, size_t len, size_t index, size
 typedef struct {
     PELTZIVAR_ALIGNED uint64_t magic;
     peltzivar_syntax syntax;
-    uint64_t tables[508];
+    uint64_t tables[507];
 } peltzivar_reader;
 
 /* Writes the reader of a syntax to *reader and returns PELTZIVAR_SUCCESS if the word is lawful, if the options fit its
  * normal form or are both 0, and if the format does not contradict the conditions. Otherwise, leaves *reader unchanged
  * and returns the error of the first rule that the word breaks, the error that peltzivar_check_options returns for the
- * normal form, or the format error of the field that contradicts a condition. peltzivar_syntax_error_text has the words
- * for all of them. It takes as long as reading some 400 texts. */
+ * normal form, the format error of the field that contradicts a condition, or PELTZIVAR_INVALID_FLAGS for a reserved
+ * byte. peltzivar_syntax_error_text has the words for all of them. It takes as long as reading some 400 texts. */
 PELTZIVAR_MUST_USE peltzivar_error peltzivar_reader_init(peltzivar_reader *reader, const peltzivar_syntax *syntax);
 
 /* Writes why peltzivar_reader_init refuses a syntax as a sentence, such as "the exponent character 'e' is a digit in

@@ -93,8 +93,8 @@ class Report {
         const texts = isTold ? [] : this.texts(this.library.differ(this.forms, forms));
         find("texts").replaceChildren(...texts);
         setText(find("same"), isTold ? (error ?? told) : texts.length ? "Not the same." : "No text was found that tells them apart.");
-        const chips = changes.map(({ name, text, before, value }) => {
-            const set = button("set", `set ${before.slice(name.length + 1)}`, () => this.edit(name, value), { "aria-label": `set ${before}` });
+        const chips = changes.map(({ name, text, before, old }) => {
+            const set = button("set", `set ${old.slice(name.length + 1)}`, () => this.edit(name, before), { "aria-label": `set ${old}` });
             return element("li", { class: "chip", "data-field": name }, element("code", {}, text), set);
         });
         const hadFocus = [...find("changes").querySelectorAll("button")].indexOf(document.activeElement);

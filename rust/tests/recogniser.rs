@@ -6,9 +6,7 @@
 //!     cargo test --release --test recogniser -- --ignored
 
 use core::{array, iter, mem, ops::Range};
-use peltzivar::literal::{
-    self, Conditions, ConditionsError, Language, Literal, Place, ReadError, ReadErrorKind, Reader,
-};
+use peltzivar::literal::{self, Conditions, Language, Literal, Place, ReadError, ReadErrorKind, Reader};
 use peltzivar::{format::FLAG_MASK, Error, Format, Part, Role};
 use std::collections::BTreeSet;
 use {Error::*, Piece::*};
@@ -362,27 +360,11 @@ fn compare(
     }
 }
 
-/// Returns the conditions that a lawful word does not contradict, with groups of two, and compares them with those that the library takes.
+/// Returns the conditions that a lawful word does not contradict, with groups of two.
 fn possible(word: u128) -> u128 {
-    let has_byte = |bit: u32| word >> bit & 0xFF != 0;
-    let rows = [
-        (has_byte(88), Some(ConditionsError::NoBasePrefix)),
-        (has_byte(96), Some(ConditionsError::NoBaseSuffix)),
-        (true, None),
-    ];
-    let syntax = literal::Syntax::integers(Format::new(word).unwrap());
-    for (at, (is_possible, error)) in (CONDITIONS..).zip(rows) {
-        assert_eq!(syntax.with(conditions(1 << at)).err(), error.filter(|_| !is_possible), "{at} in {word:#034X}");
-    }
-    for size in 0..=9 {
-        let error = match size {
-            0 | 1 | 9 => Some(ConditionsError::GroupSize),
-            _ => (!is_set(word, 32)).then_some(ConditionsError::NoInternalSeparator),
-        };
-        assert_eq!(syntax.with(Conditions::NONE.integer_group_size(Some(size))).err(), error, "{size} in {word:#034X}");
-    }
-    mask(CONDITIONS..CONDITIONS + 3, |at| rows[(at - CONDITIONS) as usize].0)
-        | u128::from(is_set(word, 32)) << (GROUP_SIZE + 1)
+    let has_byte = |bit: u32| u128::from(word >> bit & 0xFF != 0);
+    let conditions = has_byte(88) | has_byte(96) << 1 | 1 << 2;
+    conditions << CONDITIONS | u128::from(is_set(word, 32)) << (GROUP_SIZE + 1)
 }
 
 /// Compares the syntaxes of the languages, with their conditions and with all that are possible, and random words with

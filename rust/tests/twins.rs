@@ -1,38 +1,11 @@
-//! What a caller relies on beyond results: the view whose word is a const argument, the format and the constants have
-//! what the view at run time has, and a panic names its caller.
+//! What a caller relies on beyond results: the view whose word is a const argument and the format have what the view at
+//! run time has, and a panic names its caller.
 
 use peltzivar::format::{self, NumberFormatBuilder, STANDARD};
-use peltzivar::{with_setters, word, FlagSetter, Format, FormatView, NumberFormat, Part, Setter};
+use peltzivar::{with_setters, FlagSetter, Format, FormatView, NumberFormat, Part};
 use std::num::NonZeroU8;
 use std::panic;
 use std::sync::atomic::{AtomicU32, Ordering};
-
-macro_rules! constants {
-    (
-        ($setter:ident)
-        { $($Flag:ident $flag:ident $FLAG:ident;)* } { $($Group:ident $group:ident $GROUP:ident;)* }
-    ) => {
-        match $setter {
-            $(Setter::Flag(FlagSetter::$Flag) => [format::$FLAG, word::$FLAG],)*
-            $(Setter::Flag(FlagSetter::$Group) => [format::$GROUP, word::$GROUP],)*
-            Setter::DigitSeparator => [format::DIGIT_SEPARATOR, word::DIGIT_SEPARATOR],
-            Setter::BasePrefix => [format::BASE_PREFIX, word::BASE_PREFIX],
-            Setter::BaseSuffix => [format::BASE_SUFFIX, word::BASE_SUFFIX],
-            Setter::MantissaRadix => [format::MANTISSA_RADIX, word::MANTISSA_RADIX],
-            Setter::Radix => [format::RADIX, word::RADIX],
-            Setter::ExponentBase => [format::EXPONENT_BASE, word::EXPONENT_BASE],
-            Setter::ExponentRadix => [format::EXPONENT_RADIX, word::EXPONENT_RADIX],
-            _ => [0; 2],
-        }
-    };
-}
-
-#[test]
-fn each_setter_has_its_constant() {
-    for &setter in Setter::ALL {
-        assert_eq!(with_setters!(constants(setter)), [setter.mask(); 2], "{}", setter.name());
-    }
-}
 
 /// Compares what both views of a word return, and its format if it is lawful.
 macro_rules! same {

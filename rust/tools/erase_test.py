@@ -40,23 +40,9 @@ def until(words, at, *ends):
     return at
 
 
-def law_names():
-    """The laws: functions of the files of laws, which do nothing but call others."""
-    bodies = {}
-    for path in erase.CRATES.glob("*/src/**/*.rt"):
-        words = words_of(path.read_text())
-        for at, word in enumerate(words[:-1]):
-            if word == "fn":
-                body = until(words, at, "requires", "ensures", "{", ";")
-                while words[body] in ("requires", "ensures"):
-                    body = close(words, body + (1 if words[body + 1] == "{" else 2))
-                text = "".join(words[body : close(words, body)]) if words[body] == "{" else "?"
-                is_law = "laws" in str(path) and re.fullmatch(r"\{([\w:]+\(\);)*\}", text)
-                bodies.setdefault(words[at + 1], []).append(bool(is_law))
-    return {name for name, are_laws in bodies.items() if all(are_laws)}
-
-
-LAWS = law_names()
+# The laws: what the files of laws define, without arguments and results. They do nothing but call others.
+FILES = erase.CRATES.glob("*/src/laws.rt")
+LAWS = {"laws", *(name for path in FILES for name in re.findall(r"\bfn (\w+)\(\)\s", path.read_text()))}
 
 
 def plain(words):
@@ -72,11 +58,9 @@ def plain(words):
             at = close(words, until(words, at, "{"))
         elif word == "use" and "laws" in words[at : until(words, at, ";", "{")]:
             end = until(words, at, ";")
-            laws |= {"laws", *words[at:end]} & (LAWS | {"laws"})
+            laws |= {*words[at:end]} & LAWS
             at = end + 1
         elif word in laws and re.fullmatch(r"(laws::(\w+::)*)?\w+\(\);", "".join(words[at : (end := until(words, at, ";") + 1)])):
-            if words[end - 4] not in LAWS:
-                raise ValueError(f"{words[end - 4]} is no law")
             at = end
         elif word == "fn":
             body = until(words, at, "requires", "ensures", "{", ";")
@@ -93,7 +77,7 @@ def plain(words):
 def wanted_words(path, names):
     """The words that the generated file of a source must have, by the names of plain Rust."""
     text = path.read_text()
-    rows = [(old, new) for file, old, new in erase.REPLACED + erase.ATTRIBUTES if path.match(file)]
+    rows = [(old, new) for file, old, new in erase.REPLACED if path.match(file)]
     for old, new in rows + erase.EVERYWHERE:
         text = text.replace(old, new)
     return plain(words_of(erase.renamed(text, *names)))
