@@ -1,9 +1,10 @@
 -- Digits alone, in each part that is announced, are a literal of a syntax that requires no more.
-use Rattle.std.proofs.Common.{ℕ, ◌≡◌, ◌≢◌, ◌<◌, ◌++◌, ◌⊎◌, ◌||◌, inl, inr, append-nil, Bool, true, false, cond, IsTrue, IsSome, List, [], ◌∷◌, length, slice_index, nat_lt}
+use Rattle.std.proofs.Common.{ℕ, ◌≡◌, ◌≢◌, ◌<◌, ◌++◌, ◌⊎◌, ◌||◌, inl, inr, append-nil, drop, Bool, true, false, cond, IsTrue, IsSome, List, [], ◌∷◌, length, slice_index, nat_lt}
 use Rattle.std.proofs.Common.{refl, sym, ap, ◌∙◌, subst, arith, ℤ, Option, Some, None, IfSome, option_map}
 use Rattle.std.proofs.lemmas.Bool.{false≢true}
 use Rattle.std.specs.List.{AllByRecursion}
 use Rattle.std.specs.Option.{SomeIff}
+use lib.Seq.{drop_at}
 use Rattle.lexical_util.specs.Ascii.{ByteSet}
 use Rattle.lexical_util.specs.Digits.{byte_value, digit_of}
 use Rattle.lexical_util.specs.Layout as layout
@@ -12,7 +13,7 @@ use Rattle.lexical_util.specs.Record.{raw}
 use Rattle.lexical_util.specs.Roles.{signs}
 use Rattle.lexical_util.specs.declared.format_flags.Part.{Part}
 use Rattle.lexical_util.specs.declared.format_flags.Part.TheVariants as parts
-use Rattle.lexical_literal.specs.Literal.{Literal, condition, has_leading_zero, is_absent, is_none_or_one, is_plus, is_present, requirement}
+use Rattle.lexical_literal.specs.Literal.{Literal, condition, has_leading_zero, is_absent, is_none_or_one, is_plus, is_present, requirement, text_of}
 use Rattle.lexical_literal.specs.Notation.{Notation, has, notation_of}
 use Rattle.lexical_literal.specs.Readings.{AllIn}
 use Rattle.lexical_literal.specs.Run.{are_fit}
@@ -117,6 +118,12 @@ module _ (g : Grammar) (sign integer point fraction character exponent_sign expo
       };
       groups = subst (λ size. IsTrue (has_groups m.separator size integer)) (sym allow.groups) refl;
     }
+
+-- Behind its sign, the text of a literal without a prefix and a suffix has its other parts.
+pub unsigned_is : (l : Literal) (text : List ℕ) → text ≡ text_of l → l.prefix ≡ [] → l.suffix ≡ [] → drop (length l.sign) text ≡ unsigned l
+unsigned_is l text whole prefix suffix =
+    let rest = l.integer ++ (l.point ++ (l.fraction ++ (l.exponent_character ++ (l.exponent_sign ++ (l.exponent ++ []))))) in
+    rw (whole, prefix, suffix, drop_at l.sign rest _ refl, append-nil)
 
 -- Digits of a radix are those of a notation with this radix.
 pub are_digits : (radix own : ℕ) (bytes : List ℕ) → radix ≡ own → AllByRecursion (λ byte. IsSome (digit_of byte radix)) bytes

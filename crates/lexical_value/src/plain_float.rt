@@ -5,7 +5,8 @@ ghost use Rattle.std.specs.Float.Ieee.{round};
 ghost use Rattle.std.specs.Str.Parse.{AllDigits, digits_value_after};
 ghost use Rattle.lexical_util.specs.Record.{Record, raw};
 ghost use Rattle.lexical_util.specs.Roles as sets;
-ghost use Rattle.lexical_literal.specs.Literal.{Literal, is_none_or_one};
+ghost use Rattle.lexical_literal.specs.Literal.{Literal, Reads, is_none_or_one};
+ghost use Rattle.lexical_literal.specs.Notation.{Notation};
 ghost use Rattle.lexical_literal.specs.Parts.{literal_of};
 ghost use Rattle.lexical_literal.specs.Takes.{Takes};
 ghost use Rattle.lexical_number.specs.Binary.{format_of};
@@ -54,6 +55,45 @@ pub(crate) fn plain_float<F: Float>(syntax: Syntax, text: &[u8]) -> Option<F>
     let plain = read_plain(syntax, options, text)?;
     let size = size_of(&plain)?;
     Some(signed(size, is_minus(text)))
+}
+
+// Returns the value of the decimal literal `text` if it is one that `plain_float` reads. For all others, returns `None`.
+#[inline(always)]
+pub(crate) fn text_to_float<F: Float>(format: NumberFormat, text: &[u8], parts: &Parts) -> Option<F>
+    requires { (m : Notation) × Reads m (literal_of parts.now) text.now }
+    ensures { IfSome result (λ x. F.value x ≡ nearest (format_of F.DOUBLE) (raw format) (literal_of parts.now)) }
+{
+    if !takes_decimals(format)
+        || parts.prefix.len() > 0
+        || parts.suffix.len() > 0
+        || !is_spelled(parts)
+    {
+        return None;
+    }
+    let mantissa = value_of(parts.fraction, value_of(parts.integer, 0)?)?;
+    let exponent = value_of(parts.exponent, 0)?;
+    let (_, unsigned) = text.split_at(parts.sign.len());
+    let size = size_of(&Plain {
+        unsigned,
+        parts: *parts,
+        mantissa,
+        exponent,
+    })?;
+    Some(signed(size, is_minus(parts.sign)))
+}
+
+// Returns the number that `bytes` represent after other digits, modulo `2 ^ 64`, if they are digits alone.
+#[inline(always)]
+fn value_of(bytes: &[u8], before: u64) -> Option<u64>
+    ensures digits { IfSome result (λ value. AllDigits 10 bytes.now) }
+    ensures value { IfSome result (λ value. value ≡ digits_value_after 10 before bytes.now % 2 ^ 64) }
+{
+    let run = take_digits(bytes, before);
+    if run.rest.len() == 0 {
+        Some(run.value)
+    } else {
+        None
+    }
 }
 
 // Returns whether all radixes are 10, and no flag requires a sign or an exponent, or restricts exponents.

@@ -3,11 +3,12 @@
 use core::fmt::{self, Write};
 
 use crate::format_flags::Part;
+use crate::literal::read::Parts;
 use crate::literal::{Literal, Number, ReadError, Reader, Sign, Special, Spelling, Syntax};
 
 mod float;
 mod integer;
-#[allow(clippy::len_zero, reason = "as it is proved")]
+#[allow(clippy::len_zero, clippy::nonminimal_bool, clippy::redundant_pattern_matching, reason = "as it is proved")]
 mod plain;
 #[allow(clippy::len_zero, reason = "as it is proved")]
 mod plain_float;
@@ -15,10 +16,11 @@ mod plain_float;
 pub use integer::ValueErrorKind;
 
 use crate::number::float::Float;
+use crate::number::integer::Integer;
 use float::{binary_size, to_float};
 use integer::{integer_digits, to_integer};
 use plain::plain_integer;
-use plain_float::plain_float;
+use plain_float::{plain_float, text_to_float};
 
 /// A type that can be [parsed][Reader::parse]: each integer type of Rust, `f64` and `f32`.
 ///
@@ -203,6 +205,17 @@ impl core::error::Error for ParseError {
     }
 }
 
+fn integer_of<T: Integer>(literal: Literal<'_>, parts: &Parts<'_>) -> Result<T, ValueErrorKind> {
+    to_integer(literal.view, parts)
+}
+
+fn float_of<F: Float>(literal: Literal<'_>, parts: &Parts<'_>) -> Result<F, ValueErrorKind> {
+    match text_to_float(literal.view, literal.as_bytes(), parts) {
+        Some(value) => Ok(value),
+        None => to_float(literal.view, parts),
+    }
+}
+
 /// Makes the conversions to types, by their calls for plain texts, for literals, and for NaN and infinity.
 macro_rules! conversions {
     ($($type:ident)*: $plain:ident, $convert:ident, $special:expr) => {
@@ -225,7 +238,7 @@ macro_rules! conversions {
 
                 #[inline]
                 fn try_from(literal: Literal<'_>) -> Result<$type, ValueError> {
-                    $convert(literal.view, &literal.cut()).map_err(ValueError::of::<$type>)
+                    $convert(literal, &literal.cut()).map_err(ValueError::of::<$type>)
                 }
             }
 
@@ -245,10 +258,10 @@ macro_rules! conversions {
 }
 
 conversions! {
-    u8 u16 u32 u64 usize u128 i8 i16 i32 i64 isize i128: plain_integer, to_integer, |_| Err(ValueErrorKind::Special)
+    u8 u16 u32 u64 usize u128 i8 i16 i32 i64 isize i128: plain_integer, integer_of, |_| Err(ValueErrorKind::Special)
 }
-conversions! { f64: plain_float, to_float, |special: Special| Ok(special.to_f64()) }
-conversions! { f32: plain_float, to_float, |special: Special| Ok(special.to_f32()) }
+conversions! { f64: plain_float, float_of, |special: Special| Ok(special.to_f64()) }
+conversions! { f32: plain_float, float_of, |special: Special| Ok(special.to_f32()) }
 
 /// Makes the calls for constants.
 macro_rules! constant_calls {

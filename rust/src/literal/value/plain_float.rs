@@ -42,6 +42,30 @@ pub(crate) fn plain_float<F: Float>(syntax: Syntax, text: &[u8]) -> Option<F> {
     Some(signed(size, is_minus(text)))
 }
 
+// Returns the value of the decimal literal `text` if it is one that `plain_float` reads. For all others, returns `None`.
+#[inline(always)]
+pub(crate) fn text_to_float<F: Float>(format: FormatView, text: &[u8], parts: &Parts) -> Option<F> {
+    if !takes_decimals(format) || parts.prefix.len() > 0 || parts.suffix.len() > 0 || !is_spelled(parts) {
+        return None;
+    }
+    let mantissa = value_of(parts.fraction, value_of(parts.integer, 0)?)?;
+    let exponent = value_of(parts.exponent, 0)?;
+    let (_, unsigned) = text.split_at(parts.sign.len());
+    let size = size_of(&Plain { unsigned, parts: *parts, mantissa, exponent })?;
+    Some(signed(size, is_minus(parts.sign)))
+}
+
+// Returns the number that `bytes` represent after other digits, modulo `2 ^ 64`, if they are digits alone.
+#[inline(always)]
+fn value_of(bytes: &[u8], before: u64) -> Option<u64> {
+    let run = take_digits(bytes, before);
+    if run.rest.len() == 0 {
+        Some(run.value)
+    } else {
+        None
+    }
+}
+
 // Returns whether all radixes are 10, and no flag requires a sign or an exponent, or restricts exponents.
 #[inline(always)]
 const fn takes_decimals(format: FormatView) -> bool {
