@@ -10,8 +10,8 @@ use Rattle.lexical_util.specs.declared.format_flags.Part.{Part}
 use Rattle.lexical_util.specs.declared.format_flags.Part.TheVariants as parts
 use Rattle.lexical_literal.specs.Notation.{Notation}
 use Rattle.lexical_literal.specs.Run.{is_place}
-use Rattle.lexical_literal.specs.Cause.{adding, bare, binds, is_one_of, is_same, number_separator_flags, with_rules}
-use Rattle.lexical_literal.specs.Additions.Causes.{allows, is_plus_next, is_role, role_of_next, separates}
+use Rattle.lexical_literal.specs.Cause.{adding, bare, binds, is_at, is_one_of, is_same, number_separator_flags, with_rules}
+use Rattle.lexical_literal.specs.Additions.Causes.{allows, is_plus_next, is_role, place_of, role_of_next}
 use Rattle.lexical_literal.specs.Additions.Summary.{admits, after, complete_by, continues, ends, finishes, has_digit, implies, in_part}
 use Rattle.lexical_literal.specs.Additions.Summary.{is_plus_class, is_zero, may_follow, move_by, no_condition, step_by, takes}
 use Rattle.lexical_literal.specs.declared.steps.Class.{Class}
@@ -163,7 +163,7 @@ module _ (m : Notation) where
 
   at_role : (f : Flag) (part : Part) (stage : Stage) (gap plus : Bool) (o : Option Role) → is_one_of number_separator_flags f ≡ true
       → taken (bare m) (reading part stage gap) plus o ≡ false → taken (adding f (bare m)) (reading part stage gap) plus o ≡ true
-      → separates m (reading part stage gap) o f ≡ true
+      → is_at (place_of m (reading part stage gap) o) part f ≡ true
   at_role f part stage gap plus None is refused allowed = absurd (false≢true allowed)
   at_role layout.required_integer_digits part stage gap plus (Some role) is refused allowed = grind arith
   at_role _ part stage gap plus (Some role) is refused allowed = grind arith
@@ -190,9 +190,9 @@ module _ (m : Notation) where
 
   -- A flag that allows the byte is of the place and the part.
   pub at_next : (f : Flag) (s : Summary) (class : Class) → is_one_of number_separator_flags f ≡ true → free_allows (bare m) s (Some class) ≡ false
-      → free_allows (adding f (bare m)) s (Some class) ≡ true → separates m s (in_part s.part class) f ≡ true
+      → free_allows (adding f (bare m)) s (Some class) ≡ true → is_at (place_of m s (in_part s.part class)) s.part f ≡ true
   at_next f s class is refused allowed =
-      subst (λ (P : Notation → Bool). P (bare m) ≡ false → P (adding f (bare m)) ≡ true → separates m s (in_part s.part class) f ≡ true)
+      subst (λ (P : Notation → Bool). P (bare m) ≡ false → P (adding f (bare m)) ≡ true → is_at (place_of m s (in_part s.part class)) s.part f ≡ true)
       (same s (Some class) (let is = sym (moved (adding f (bare m)) s s.ended (is_plus_class class) (is_zero class) (in_part s.part class))
       ∙ allowed in grind arith))
       (at_role f s.part s.stage s.gap (is_plus_class class) (in_part s.part class) is) refused allowed

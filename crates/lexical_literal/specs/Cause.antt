@@ -50,6 +50,10 @@ number_separator_flags =
 abbrev pub is_one_of : List Flag → Flag → Bool
 is_one_of fs f = list_any (λ g. bit g == bit f) fs
 
+-- `all_conditions` lists the conditions.
+abbrev pub all_conditions : List Condition
+all_conditions = conditions.BasePrefix ∷ conditions.BaseSuffix ∷ conditions.NegativeSign ∷ []
+
 -- `is_same c d` is true if `c` and `d` are the same condition.
 abbrev pub is_same : Condition → Condition → Bool
 is_same conditions.BasePrefix conditions.BasePrefix = true
@@ -248,8 +252,7 @@ condition_span conditions.NegativeSign k = (k.size, k.size + 1)
 
 -- `first_unmet mask unmet` is the first of the conditions `unmet` if no flag of `mask` is to blame, and `None` otherwise.
 abbrev pub first_unmet : ℕ → Conditions → Option Condition
-first_unmet mask unmet =
-    if mask == 0 then find (has unmet) (conditions.BasePrefix ∷ conditions.BaseSuffix ∷ conditions.NegativeSign ∷ []) else None
+first_unmet mask unmet = if mask == 0 then find (has unmet) all_conditions else None
 
 -- `span_of m k next cause f c` has the first index and the end of the bytes to show for `cause` and its lowest flag `f`, or
 -- its first condition `c` if no flag is to blame.

@@ -1,77 +1,74 @@
 -- Flags that refuse alone, or else those on leading zeros.
-use Rattle.std.proofs.Common.{ℕ, ◌≡◌, ◌&&◌, ◌||◌, Bool, true, false, not, bit_and, if◌then◌else◌, refl, sym, ap, ◌∙◌, arith}
-use Rattle.std.proofs.lemmas.Bool.{and_parts}
-use Rattle.std.proofs.lemmas.Nat.{and_le_l}
-use Rattle.lexical_util.specs.Layout.{Flag, flags}
-use Rattle.lexical_util.specs.Record.{raw}
-use Rattle.lexical_literal.specs.declared.cause.TheConstants.{ZEROS}
-use Rattle.lexical_literal.specs.Additions.Causes.{allows}
-use Rattle.lexical_literal.specs.Additions.Explained.{alone, conditions_of, requirements, some_unmet, unmet}
-use Rattle.lexical_literal.specs.Cause.{adding, bare, binds, is_one_of, leading_zero_flags, requirement_flags}
-use Rattle.lexical_literal.specs.Notation.{has, notation_of}
+use Rattle.std.proofs.Common.{ℕ, ◌≡◌, ◌≢◌, ◌==◌, ◌&&◌, ◌||◌, Bool, true, false, not, if◌then◌else◌, refl, sym, ap, ◌∙◌, arith}
+use Rattle.std.proofs.lemmas.Bool.Decides.{nat_tests}
 use Rattle.std.specs.List.{list_any}
+use Rattle.lexical_literal.specs.declared.cause.TheConstants.{ZEROS}
+use Rattle.lexical_util.specs.Layout.{Flag}
+use Rattle.lexical_util.specs.Record.{raw}
+use Rattle.lexical_literal.specs.Additions.Causes.{lets}
+use Rattle.lexical_literal.specs.Additions.Explained.{alone, conditions_of, mask_of, unmet, zeros}
+use Rattle.lexical_literal.specs.Cause.{adding, all_conditions, bare, binds}
+use Rattle.lexical_literal.specs.Notation.{has, notation_of}
 use Rattle.lexical_literal.specs.declared.cause.Stop.{Stop}
 use Rattle.lexical_literal.specs.declared.syntax.Condition.TheVariants as conditions
 use Rattle.lexical_literal.specs.declared.syntax.Conditions.{Conditions}
-use Rattle.lexical_literal.proofs.BlameLemmas.{of_mask}
-use Rattle.lexical_literal.proofs.CauseLemmas.{any_flag, flag_and, no_flag, some_flag, zeros_mask}
+use Rattle.lexical_literal.proofs.CauseLemmas.{flag_and, masked_by, same_mask, zeros_mask}
 use Rattle.lexical_literal.proofs.cause.Stop.requirements.Goals as goal
 
-both : (q b a : Bool) → (b ≡ true → q ≡ true) → ((q && not a) && b) ≡ (b && not a)
-both q b a requires = grind arith
+-- The mask `a` is taken, unless it is 0 and there are no conditions, where `u` is true.
+module _ (a z : ℕ) (u : Bool) where
+  abbrev taken : ℕ
+  taken = if (a == 0) && u then z else a
 
--- The flags of the masks `A` and `B` refuse alone.
-module _ (stop : Stop) (A B : ℕ) (of_A : (f : Flag) → (raw A).flag f
-    ≡ (is_one_of requirement_flags f && not (allows (adding f (bare (notation_of stop.grammar))) stop.read stop.next)))
-    (of_B : (f : Flag) → (raw B).flag f ≡ binds (notation_of stop.grammar) f) where
-  abbrev is_alone : Flag → Bool
-  is_alone = alone (notation_of stop.grammar) stop.read stop.next
+  by_flags : a ≢ 0 → a ≡ taken
+  by_flags some = grind (arith, nat_tests)
 
-  each_alone : (f : Flag) → (raw (bit_and A B)).flag f ≡ is_alone f
-  each_alone f = flag_and f A B ∙ (λ j. of_A f j && of_B f j)
-      ∙ both (is_one_of requirement_flags f) (binds (notation_of stop.grammar) f) (allows (adding f (bare (notation_of stop.grammar))) stop.read stop.next)
-      (λ is. (and_parts (is_one_of requirement_flags f) _ (and_parts ((notation_of stop.grammar).flag f) _ is).1).0)
+  by_zeros : a ≡ 0 → u ≡ true → z ≡ taken
+  by_zeros none free = grind (arith, nat_tests)
 
-  by_test : (t u : Bool) (f : Flag) → list_any is_alone flags ≡ t → some_unmet (notation_of stop.grammar) stop.read stop.next ≡ u
-      → requirements (notation_of stop.grammar) stop.read stop.next f
-      ≡ (if t || u then is_alone f else (binds (notation_of stop.grammar) f && is_one_of leading_zero_flags f))
-  by_test t u f is has_unmet =
-      λ j. if is j || has_unmet j then is_alone f else (binds (notation_of stop.grammar) f && is_one_of leading_zero_flags f)
+  by_conditions : a ≡ 0 → u ≡ false → 0 ≡ taken
+  by_conditions none met = grind (arith, nat_tests)
 
--- The test of the conditions.
-is_met : (n u : Bool) → n ≡ not u → (n ≡ true → u ≡ false) × (n ≡ false → u ≡ true)
-is_met n u is = (λ none. grind arith, λ some. grind arith)
+no_more : (a b c : Bool) → not (a || (b || c)) ≡ not (a || (b || (c || false)))
+no_more a b c = grind arith
 
-met_of : (stop : Stop) (unmets : Conditions) (none : Bool) → unmets ≡ conditions_of (unmet (notation_of stop.grammar) stop.read stop.next)
-    → none ≡ not (has unmets conditions.BasePrefix || (has unmets conditions.BaseSuffix || has unmets conditions.NegativeSign))
-    → none ≡ not (some_unmet (notation_of stop.grammar) stop.read stop.next)
-met_of stop unmets none is test =
-    test ∙ ap (λ u. not (has u conditions.BasePrefix || (has u conditions.BaseSuffix || has u conditions.NegativeSign))) is
+module _ (stop : Stop) where
+  abbrev is_alone : ℕ
+  is_alone = mask_of (alone (notation_of stop.grammar) stop.read stop.byte)
+
+  abbrev is_zeros : ℕ
+  is_zeros = mask_of (zeros (notation_of stop.grammar))
+
+  abbrev no_unmet : Bool
+  no_unmet = not (list_any (unmet (notation_of stop.grammar) stop.read stop.byte) all_conditions)
+
+  same_alone : (B a : ℕ) → ((f : Flag) → (raw B).flag f ≡ binds (notation_of stop.grammar) f)
+      → a ≡ mask_of (λ f. (raw B).flag f && not (lets (adding f (bare (notation_of stop.grammar))) stop.read stop.byte)) → a ≡ is_alone
+  same_alone B a binding is =
+      is ∙ same_mask _ _ (λ f. ap (λ t. t && not (lets (adding f (bare (notation_of stop.grammar))) stop.read stop.byte)) (binding f))
+
+  same_unmet : (u : Conditions) (t : Bool) → u ≡ conditions_of (unmet (notation_of stop.grammar) stop.read stop.byte)
+      → t ≡ not (has u conditions.BasePrefix || (has u conditions.BaseSuffix || has u conditions.NegativeSign)) → t ≡ no_unmet
+  same_unmet u t is test =
+      let C = unmet (notation_of stop.grammar) stop.read stop.byte in
+      test ∙ ap (λ u. not (has u conditions.BasePrefix || (has u conditions.BaseSuffix || has u conditions.NegativeSign))) is
+      ∙ no_more (C conditions.BasePrefix) (C conditions.BaseSuffix) (C conditions.NegativeSign)
 
 pub returns-then-alone-ne0 : goal.returns-then-alone-ne0
-returns-then-alone-ne0 c f =
-    let A = c.refusing.result in
-    let B = c.binding-binding.result in
-    let each = each_alone c.args.self A B c.refusing.ensures c.binding-binding.ensures.each in
-    each f ∙ sym (by_test c.args.self A B c.refusing.ensures c.binding-binding.ensures.each true
-    (some_unmet (notation_of c.args.self.grammar) c.args.self.read c.args.self.next) f
-    (any_flag _ (bit_and A B) each (λ some. some_flag (bit_and A B) some (omega (arith, and_le_l A B, c.refusing.type_inv))
-    (λ k is. c.binding-binding.ensures.flags k (of_mask A B k is))) c.if-alone-ne0.true) refl)
+returns-then-alone-ne0 c =
+    let is = same_alone c.args.self _ _ c.binding-binding.ensures c.refusing-alone.ensures in
+    is ∙ by_flags (is_alone c.args.self) (is_zeros c.args.self) (no_unmet c.args.self) (λ zero. c.if-alone-ne0.true (is ∙ zero))
 
 pub returns-then-are_free : goal.returns-then-are_free
-returns-then-are_free c f =
-    let A = c.refusing.result in
-    let B = c.binding-binding.result in
-    let each = each_alone c.args.self A B c.refusing.ensures c.binding-binding.ensures.each in
-    let none = (is_met _ _ (met_of c.args.self _ _ c.unmet.ensures c.are_free.ensures)).0 c.if-are_free.true in
-    flag_and f B ZEROS ∙ (λ j. c.binding-binding.ensures.each f j && zeros_mask f j)
-    ∙ sym (by_test c.args.self A B c.refusing.ensures c.binding-binding.ensures.each false false f (no_flag _ (bit_and A B) each c.if-alone-ne0.false) none)
+returns-then-are_free c =
+    let is = same_alone c.args.self _ _ c.binding-binding.ensures c.refusing-alone.ensures in
+    masked_by c.binding-binding.result ZEROS (zeros (notation_of c.args.self.grammar)) refl
+    (λ f. flag_and f c.binding-binding.result ZEROS ∙ (λ j. c.binding-binding.ensures f j && zeros_mask f j))
+    ∙ by_zeros (is_alone c.args.self) (is_zeros c.args.self) (no_unmet c.args.self) (sym is ∙ c.if-alone-ne0.false)
+    (sym (same_unmet c.args.self _ _ c.unmet.ensures c.are_free.ensures) ∙ c.if-are_free.true)
 
 pub returns-else-are_free : goal.returns-else-are_free
-returns-else-are_free c f =
-    let A = c.refusing.result in
-    let B = c.binding-binding.result in
-    let each = each_alone c.args.self A B c.refusing.ensures c.binding-binding.ensures.each in
-    let some = (is_met _ _ (met_of c.args.self _ _ c.unmet.ensures c.are_free.ensures)).1 c.if-are_free.false in
-    ap (λ n. (raw n).flag f) (sym c.if-alone-ne0.false) ∙ each f
-    ∙ sym (by_test c.args.self A B c.refusing.ensures c.binding-binding.ensures.each false true f (no_flag _ (bit_and A B) each c.if-alone-ne0.false) some)
+returns-else-are_free c =
+    let is = same_alone c.args.self _ _ c.binding-binding.ensures c.refusing-alone.ensures in
+    by_conditions (is_alone c.args.self) (is_zeros c.args.self) (no_unmet c.args.self) (sym is ∙ c.if-alone-ne0.false)
+    (sym (same_unmet c.args.self _ _ c.unmet.ensures c.are_free.ensures) ∙ c.if-are_free.false)
