@@ -264,25 +264,21 @@ span_of m k next (causes.Separator part place) f c = (k.run, if is_in m.separato
 span_of m k next (causes.Missing part) f c = (k.size, k.size)
 span_of m k next _ f c = (k.size, k.size + 1)
 
--- `sign_error f m start` is the error for the flag `f` if it is on signs, and otherwise that for leading zeros.
-abbrev pub sign_error : Flag → Notation → ℕ → Error
-sign_error layout.no_positive_mantissa_sign m start =
-    if m.integers_only then errors.InvalidPositiveSign start else errors.InvalidPositiveMantissaSign start
-sign_error layout.required_mantissa_sign m start = if m.integers_only then errors.MissingSign start else errors.MissingMantissaSign start
-sign_error layout.no_positive_exponent_sign m start = errors.InvalidPositiveExponentSign start
-sign_error layout.required_exponent_sign m start = errors.MissingExponentSign start
-sign_error _ m start = errors.InvalidLeadingZeros start
-
 -- `requirement_error f m start size` is the error for the flag `f`.
 abbrev pub requirement_error : Flag → Notation → ℕ → ℕ → Error
 requirement_error layout.required_integer_digits m start size = errors.EmptyInteger start
 requirement_error layout.required_fraction_digits m start size = errors.EmptyFraction start
 requirement_error layout.required_exponent_digits m start size = errors.EmptyExponent size
 requirement_error layout.required_mantissa_digits m start size = errors.EmptyMantissa start
+requirement_error layout.no_positive_mantissa_sign m start size =
+    if m.integers_only then errors.InvalidPositiveSign start else errors.InvalidPositiveMantissaSign start
+requirement_error layout.required_mantissa_sign m start size = if m.integers_only then errors.MissingSign start else errors.MissingMantissaSign start
 requirement_error layout.no_exponent_notation m start size = errors.InvalidExponent start
+requirement_error layout.no_positive_exponent_sign m start size = errors.InvalidPositiveExponentSign start
+requirement_error layout.required_exponent_sign m start size = errors.MissingExponentSign start
 requirement_error layout.no_exponent_without_fraction m start size = errors.ExponentWithoutFraction start
 requirement_error layout.required_exponent_notation m start size = errors.MissingExponent start
-requirement_error f m start size = sign_error f m start
+requirement_error _ m start size = errors.InvalidLeadingZeros start
 
 -- `error_of m k cause f c start` is the error for `cause` and its lowest flag `f`, or its first condition `c` if no flag is to
 -- blame, where the bytes to show begin at `start`.

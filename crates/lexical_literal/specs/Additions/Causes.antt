@@ -28,14 +28,10 @@ kind_set m kinds.Digit byte = m.digit parts.Integer byte
 kind_set m kinds.NotSeparator byte = not (m.separator byte)
 kind_set m kinds.Body byte = not (m.separator byte || signs byte)
 
--- `is_role role other` is true if `other` is the role `role`.
-abbrev pub is_role : Role → Option Role → Bool
-is_role roles.Exponent (Some roles.Exponent) = true
-is_role roles.Suffix (Some roles.Suffix) = true
-is_role roles.Sign (Some roles.Sign) = true
-is_role roles.Point (Some roles.Point) = true
-is_role roles.Separator (Some roles.Separator) = true
-is_role _ _ = false
+-- `is_separator role` is true if `role` is that of digit separators.
+abbrev pub is_separator : Option Role → Bool
+is_separator (Some roles.Separator) = true
+is_separator _ = false
 
 -- `IsWeaker m A D` holds if the flags for which `A` is true require no more than those of `m`, and are no less otherwise, and
 -- if each condition for which `D` is true is one of `m`.
@@ -73,5 +69,5 @@ is_plus_next (Some class) = is_plus_class class
 -- `place_of m s role` is where `m` does not allow a separator after `s`, before a byte with the role `role`.
 abbrev pub place_of : Notation → Summary → Option Role → Place
 place_of m s role =
-    if (s.gap && not (m.flag (separators_in s.part).consecutive)) && is_role roles.Separator role then places.Consecutive
+    if (s.gap && not (m.flag (separators_in s.part).consecutive)) && is_separator role then places.Consecutive
     else (if has_digit s.stage then places.AfterDigit else places.BeforeDigits)
