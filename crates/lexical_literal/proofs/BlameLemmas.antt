@@ -4,7 +4,6 @@ use Rattle.std.proofs.Common.{Option, None, Some, refl, sym, ap, subst, ◌∙�
 use Rattle.std.proofs.lemmas.Bool.{false≢true, and_parts, and_from, or_parts, cases_Bool, eqb-true, false_from_ne_true}
 use Rattle.std.proofs.lemmas.List.{length-take-le}
 use Rattle.std.specs.Prelude.{slice_get}
-use Rattle.std.specs.List.{list_any}
 use Rattle.lexical_util.specs.Groups.{bits_of}
 use Rattle.lexical_util.specs.Layout as layout
 use Rattle.lexical_util.specs.Layout.{Flag, bit}
@@ -17,7 +16,7 @@ use Rattle.lexical_literal.specs.Cause.{requirement_flags, requiring, span_of, w
 use Rattle.lexical_literal.specs.Front.{IsValidUpTo}
 use Rattle.lexical_literal.specs.Additions.Causes.{IsReadOf, IsWeaker, class_of_next, lets, place_of}
 use Rattle.lexical_literal.specs.Additions.Explained.{alone, blame, cases, conditions_of, mask_of, otherwise, refusal_of, requirements, separators}
-use Rattle.lexical_literal.specs.Additions.Explained.{unmet, zeros}
+use Rattle.lexical_literal.specs.Additions.Explained.{some_unmet, unmet, zeros}
 use Rattle.lexical_literal.specs.Additions.Summary.{byte_class, in_part, no_condition}
 use Rattle.lexical_literal.specs.Additions.Tables.{summary_at}
 use Rattle.lexical_literal.specs.declared.cause.Blame.{Blame}
@@ -110,12 +109,12 @@ module _ (m : Notation) (s : Summary) (front : List ℕ) (read : IsReadOf m s fr
         ((refuses _ _ (requiring_weaker m c is.set)).1 is.refused)),
   )
 
-  none_unmet : list_any (unmet m s next) all_conditions ≡ false → (c : Condition) → unmet m s next c ≡ false
+  none_unmet : some_unmet m s next ≡ false → (c : Condition) → unmet m s next c ≡ false
   none_unmet none conditions.BasePrefix = (or_parts (unmet m s next conditions.BasePrefix) _ none).0
   none_unmet none conditions.BaseSuffix =
       (or_parts (unmet m s next conditions.BaseSuffix) _ (or_parts (unmet m s next conditions.BasePrefix) _ none).1).0
-  none_unmet none conditions.NegativeSign = (or_parts (unmet m s next conditions.NegativeSign) _
-      (or_parts (unmet m s next conditions.BaseSuffix) _ (or_parts (unmet m s next conditions.BasePrefix) _ none).1).1).0
+  none_unmet none conditions.NegativeSign =
+      (or_parts (unmet m s next conditions.BaseSuffix) _ (or_parts (unmet m s next conditions.BasePrefix) _ none).1).1
 
   met : (b a : Bool) → (b && not a) ≡ false → b ≡ true → a ≡ true
   met b a none is = grind arith
@@ -135,7 +134,7 @@ module _ (m : Notation) (s : Summary) (front : List ℕ) (read : IsReadOf m s fr
     -- Flags that refuse alone, or else those on leading zeros.
     is_requirement : IsRequirement m front next (raw (requirements m s next)).flag
     is_requirement = choose (λ (mask : ℕ). IsRequirement m front next (raw mask).flag)
-        (mask_of (alone m s next) == 0 && not (list_any (unmet m s next) all_conditions)) _ _
+        (mask_of (alone m s next) == 0 && not (some_unmet m s next)) _ _
         (λ none.
         let both = and_parts (mask_of (alone m s next) == 0) _ none in
         let no = none_of (alone m s next) both.0 in
@@ -185,14 +184,16 @@ module _ (m : Notation) (s : Summary) (front : List ℕ) (read : IsReadOf m s fr
           none_there : (u : Bool) → not u ≡ true → u ≡ false
           none_there u is = grind arith
 
-          some_there : (u : Bool) → not u ≡ false → u ≡ true
-          some_there u is = grind arith
+          some_there : (a b c : Bool) → not (a || (b || c)) ≡ false → (a || (b || (c || false))) ≡ true
+          some_there a b c is = grind arith
 
-          first_of : (mask_of (alone m s next) == 0 && not (list_any (unmet m s next) all_conditions)) ≡ false
+          first_of : (mask_of (alone m s next) == 0 && not (some_unmet m s next)) ≡ false
               → ((f : Flag) × (alone m s next f ≡ true)) ⊎ ((c : Condition) × (unmet m s next c ≡ true))
           first_of some = elim (cases_Bool (mask_of (alone m s next) == 0)) [
-            | inl zero ↦ inr (found_in (unmet m s next) all_conditions
-                (some_there _ (ap (λ t. t && not (list_any (unmet m s next) all_conditions)) (sym zero) ∙ some)))
+            | inl zero ↦
+                let U = unmet m s next in
+                inr (found_in U all_conditions (some_there (U conditions.BasePrefix) (U conditions.BaseSuffix) (U conditions.NegativeSign)
+                (ap (λ t. t && not (some_unmet m s next)) (sym zero) ∙ some)))
             | inr flag ↦ inl (some_of (alone m s next) flag)
           ]
 
@@ -257,7 +258,7 @@ module _ (m : Notation) (s : Summary) (front : List ℕ) (read : IsReadOf m s fr
   -- Only flags are to blame.
   is_mask : (next : Option ℕ) → (blame m s next).mask ≡ bits_of (blame m s next).mask layout.flags
   is_mask next = choose (λ (b : Blame). b.mask ≡ bits_of b.mask layout.flags) (lets (bare m) s next) _ _
-      (λ _. choose (λ (mask : ℕ). mask ≡ bits_of mask layout.flags) (mask_of (alone m s next) == 0 && not (list_any (unmet m s next) all_conditions)) _ _
+      (λ _. choose (λ (mask : ℕ). mask ≡ bits_of mask layout.flags) (mask_of (alone m s next) == 0 && not (some_unmet m s next)) _ _
       (λ _. only_mask (zeros m)) (λ _. only_mask (alone m s next))) (λ _. go next) where
         go : (next : Option ℕ) → (otherwise m s next).mask ≡ bits_of (otherwise m s next).mask layout.flags
         go None = only_none

@@ -1,5 +1,5 @@
 -- In a syntax, no byte plays two roles.
-use Rattle.std.proofs.Common.{ℕ, ◌≡◌, ◌<◌, ◌↔◌, Bool, true, false, nat_lt, ◌&&◌, ◌==◌, IsTrue, List, [], ◌∷◌, Option, Some, None, refl, sym, arith}
+use Rattle.std.proofs.Common.{ℕ, ◌≡◌, ◌<◌, ◌↔◌, Bool, true, false, nat_lt, ◌==◌, IsTrue, List, [], ◌∷◌, Option, Some, None, refl, sym, arith}
 use Rattle.std.proofs.lemmas.Bool.{lt-ltb, false≢true}
 use Rattle.std.proofs.lemmas.Bool.Decides.{nat_tests}
 use Rattle.std.specs.List.{AllByRecursion}

@@ -5,8 +5,8 @@ ghost use Rattle.lexical_util.specs.Layout.{Flag, bit};
 ghost use Rattle.lexical_util.specs.Record.{raw};
 ghost use Rattle.lexical_util.specs.Roles.{other_case};
 ghost use Rattle.lexical_literal.specs.Additions.Causes.{lets, place_of};
-ghost use Rattle.lexical_literal.specs.Additions.Explained.{blame, cases, conditions_of, mask_of, refusal_of, requirements, separators};
-ghost use Rattle.lexical_literal.specs.Additions.Explained.{ungrouped_of, unmet};
+ghost use Rattle.lexical_literal.specs.Additions.Explained.{alone, blame, cases, conditions_of, mask_of, refusal_of, requirements, separators};
+ghost use Rattle.lexical_literal.specs.Additions.Explained.{ungrouped_of, unmet, zeros};
 ghost use Rattle.lexical_literal.specs.Additions.Summary.{byte_class, in_part};
 ghost use Rattle.lexical_literal.specs.Cause.{adding, bare, binds, case_set, first_unmet, is_same, with_rules};
 ghost use Rattle.lexical_literal.specs.Notation.{has, notation_of};
@@ -383,19 +383,29 @@ impl Stop {
         }
     }
 
+    // Returns the flags that refuse alone.
+    const fn alone(self) -> u128
+        ensures { result ≡ mask_of (alone (notation_of self.grammar) self.read self.byte) }
+    {
+        self.refusing(self.binding())
+    }
+
+    // Returns the flags on leading zeros that require something.
+    const fn zeros(self) -> u128
+        ensures { result ≡ mask_of (zeros (notation_of self.grammar)) }
+    {
+        self.binding() & ZEROS
+    }
+
     // Returns the flags to blame for a requirement: those that refuse alone, or else those on leading zeros.
     const fn requirements(self) -> u128
         ensures { result ≡ requirements (notation_of self.grammar) self.read self.byte }
     {
-        let binding = self.binding();
-        let alone = self.refusing(binding);
-        if alone != 0 {
-            return alone;
-        }
-        if self.unmet().are_free() {
-            binding & ZEROS
+        let alone = self.alone();
+        if alone == 0 && self.unmet().are_free() {
+            self.zeros()
         } else {
-            0
+            alone
         }
     }
 

@@ -296,17 +296,23 @@ impl Stop {
         }
     }
 
+    // Returns the flags that refuse alone.
+    const fn alone(self) -> u128 {
+        self.refusing(self.binding())
+    }
+
+    // Returns the flags on leading zeros that require something.
+    const fn zeros(self) -> u128 {
+        self.binding() & ZEROS
+    }
+
     // Returns the flags to blame for a requirement: those that refuse alone, or else those on leading zeros.
     const fn requirements(self) -> u128 {
-        let binding = self.binding();
-        let alone = self.refusing(binding);
-        if alone != 0 {
-            return alone;
-        }
-        if self.unmet().are_free() {
-            binding & ZEROS
+        let alone = self.alone();
+        if alone == 0 && self.unmet().are_free() {
+            self.zeros()
         } else {
-            0
+            alone
         }
     }
 

@@ -1,6 +1,5 @@
 -- What an error answers, computed from where reading stopped.
-use Rattle.std.specs.Prelude.{ℕ, ◌+◌, ◌==◌, ◌&&◌, not, nat_lt, if◌then◌else◌, Bool, Option, Some, None, List, get_or}
-use Rattle.std.specs.List.{list_any}
+use Rattle.std.specs.Prelude.{ℕ, ◌+◌, ◌==◌, ◌&&◌, ◌||◌, not, nat_lt, if◌then◌else◌, Bool, Option, Some, None, List, get_or}
 use Rattle.lexical_util.specs.declared.error.Error.TheVariants as errors
 use Rattle.lexical_util.specs.Layout.{Flag}
 use Rattle.lexical_util.specs.Record.{word_of}
@@ -8,7 +7,7 @@ use Rattle.lexical_util.specs.Roles.{other_case}
 use Rattle.lexical_literal.specs.Additions.Causes.{lets, place_of}
 use Rattle.lexical_literal.specs.Additions.Summary.{byte_class, in_part}
 use Rattle.lexical_literal.specs.Additions.Tables.{summary_at}
-use Rattle.lexical_literal.specs.Cause.{Explained, adding, all_conditions, bare, binds, case_set, error_of, first_unmet, is_one_of}
+use Rattle.lexical_literal.specs.Cause.{Explained, adding, bare, binds, case_set, error_of, first_unmet, is_one_of}
 use Rattle.lexical_literal.specs.Cause.{leading_zero_flags, lowest, number_separator_flags, requiring, span_of}
 use Rattle.lexical_literal.specs.Notation.{Notation, no_conditions, notation_of}
 use Rattle.lexical_literal.specs.declared.cause.Blame.{Blame}
@@ -45,10 +44,14 @@ conditions_of C = record {
 abbrev pub zeros : Notation → Flag → Bool
 zeros m f = binds m f && is_one_of leading_zero_flags f
 
+-- `some_unmet m s next` is true if some condition alone refuses what cannot follow `s`.
+abbrev pub some_unmet : Notation → Summary → Option ℕ → Bool
+some_unmet m s next = unmet m s next conditions.BasePrefix || (unmet m s next conditions.BaseSuffix || unmet m s next conditions.NegativeSign)
+
 -- `requirements m s next` is the mask of the flags that are to blame for a requirement.
 abbrev pub requirements : Notation → Summary → Option ℕ → ℕ
 requirements m s next =
-    if mask_of (alone m s next) == 0 && not (list_any (unmet m s next) all_conditions) then mask_of (zeros m) else mask_of (alone m s next)
+    if mask_of (alone m s next) == 0 && not (some_unmet m s next) then mask_of (zeros m) else mask_of (alone m s next)
 
 -- `separators m s next f` is true if the flag `f` would allow a separator that is not allowed.
 abbrev pub separators : Notation → Summary → Option ℕ → Flag → Bool
@@ -73,20 +76,6 @@ otherwise m s (Some byte) =
 abbrev pub blame : Notation → Summary → Option ℕ → Blame
 blame m s next = if lets (bare m) s next then record { kind = causes.Requirement; mask = requirements m s next } else otherwise m s next
 
--- `answers m spot b unmet f c` has the answers for the cause and the flags of `b`, the lowest of which is `f`, and the
--- conditions `unmet`, the first of which is `c` if no flag is to blame.
-abbrev pub answers : Notation → Spot → Blame → Conditions → Flag → Option Condition → Refusal
-answers m spot b unmet f c = record {
-  valid_up_to = spot.marks.size;
-  byte = spot.byte;
-  kind = b.kind;
-  mask = b.mask;
-  conditions = unmet;
-  start = (span_of m spot.marks spot.byte b.kind f c).0;
-  end = (span_of m spot.marks spot.byte b.kind f c).1;
-  code = error_of m spot.marks b.kind f c (span_of m spot.marks spot.byte b.kind f c).0;
-}
-
 -- `ungrouped_of spot` is what an error answers that was made at `spot` since the integer is not in groups.
 abbrev pub ungrouped_of : Spot → Refusal
 ungrouped_of spot = record {
@@ -104,8 +93,19 @@ ungrouped_of spot = record {
 abbrev pub refusal_of : Notation → Spot → Refusal
 refusal_of m spot =
     let b = blame m (summary_at spot.row) spot.byte in
-    let conditions = conditions_of (unmet m (summary_at spot.row) spot.byte) in
-    answers m spot b conditions (lowest b.mask) (first_unmet b.mask conditions)
+    let unmet = conditions_of (unmet m (summary_at spot.row) spot.byte) in
+    let f = lowest b.mask in
+    let c = first_unmet b.mask unmet in
+    let span = span_of m spot.marks spot.byte b.kind f c in record {
+      valid_up_to = spot.marks.size;
+      byte = spot.byte;
+      kind = b.kind;
+      mask = b.mask;
+      conditions = unmet;
+      start = span.0;
+      end = span.1;
+      code = error_of m spot.marks b.kind f c span.0;
+    }
 
 -- `answers_of spot` is what an error answers that was made at `spot`, and `explained spot` is this error.
 abbrev pub answers_of : Spot → Refusal
