@@ -1,6 +1,5 @@
 mod ChangeLemmas
 pub mod OptionByteLemmas
 pub mod WriteLemmas
-pub mod BuilderFlags
+mod FieldMasks
 mod RadixLemmas
-mod UpperHalf

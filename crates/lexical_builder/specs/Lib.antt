@@ -1,5 +1,4 @@
 pub mod OptionByte
-pub mod BuilderBits
 pub mod Private
 pub mod NewRecord
 pub mod Writes

@@ -2,10 +2,7 @@
 
 //! The getters of a builder.
 
-use super::{
-    NonZeroU8, NumberFormatBuilder, OptionU8, BASE_PREFIX, BASE_SUFFIX, DIGIT_SEPARATOR, EXPONENT_BASE, EXPONENT_RADIX,
-    MANTISSA_RADIX,
-};
+use super::{NonZeroU8, NumberFormatBuilder, OptionU8};
 use crate::format_flags as flags;
 
 impl NumberFormatBuilder {
@@ -14,39 +11,39 @@ impl NumberFormatBuilder {
     /// Returns the [digit separator][Self::digit_separator], or `None` if it is absent.
     #[must_use]
     pub const fn get_digit_separator(&self) -> OptionU8 {
-        NonZeroU8::new(self.bytes[DIGIT_SEPARATOR])
+        NonZeroU8::new(flags::digit_separator(self.word))
     }
 
     /// Returns the [mantissa radix][Self::mantissa_radix].
     #[must_use]
     pub const fn get_mantissa_radix(&self) -> u8 {
-        self.bytes[MANTISSA_RADIX]
+        flags::mantissa_radix(self.word) as u8
     }
 
     /// Returns the [exponent base][Self::exponent_base], or `None` if it is absent. In that case, the mantissa radix is
     /// used in its place.
     #[must_use]
     pub const fn get_exponent_base(&self) -> OptionU8 {
-        NonZeroU8::new(self.bytes[EXPONENT_BASE])
+        NonZeroU8::new(flags::raw_exponent_base(self.word))
     }
 
     /// Returns the [exponent radix][Self::exponent_radix], or `None` if it is absent. In that case, the mantissa radix
     /// is used in its place.
     #[must_use]
     pub const fn get_exponent_radix(&self) -> OptionU8 {
-        NonZeroU8::new(self.bytes[EXPONENT_RADIX])
+        NonZeroU8::new(flags::raw_exponent_radix(self.word))
     }
 
     /// Returns the [base prefix][Self::base_prefix], or `None` if it is absent.
     #[must_use]
     pub const fn get_base_prefix(&self) -> OptionU8 {
-        NonZeroU8::new(self.bytes[BASE_PREFIX])
+        NonZeroU8::new(flags::base_prefix(self.word))
     }
 
     /// Returns the [base suffix][Self::base_suffix], or `None` if it is absent.
     #[must_use]
     pub const fn get_base_suffix(&self) -> OptionU8 {
-        NonZeroU8::new(self.bytes[BASE_SUFFIX])
+        NonZeroU8::new(flags::base_suffix(self.word))
     }
 
     /// Returns the flag that [`Self::required_integer_digits`] sets.

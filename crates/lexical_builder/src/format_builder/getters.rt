@@ -4,10 +4,7 @@ ghost use Rattle.std.specs.Prelude.{◌≡◌};
 ghost use Rattle.lexical_flags.specs.Layout as layout;
 ghost use Rattle.lexical_builder.specs.OptionByte.{option_of_byte};
 
-use super::{
-    BASE_PREFIX, BASE_SUFFIX, DIGIT_SEPARATOR, EXPONENT_BASE, EXPONENT_RADIX, MANTISSA_RADIX,
-    NonZeroU8, NumberFormatBuilder, OptionU8,
-};
+use super::{NonZeroU8, NumberFormatBuilder, OptionU8};
 use lexical_flags::format_flags as flags;
 
 impl NumberFormatBuilder {
@@ -18,7 +15,7 @@ impl NumberFormatBuilder {
     pub const fn get_digit_separator(&self) -> OptionU8
         ensures { result ≡ option_of_byte (self.now.byte layout.digit_separator) }
     {
-        NonZeroU8::new(self.bytes[DIGIT_SEPARATOR])
+        NonZeroU8::new(flags::digit_separator(self.word))
     }
 
     /// Returns the [mantissa radix][Self::mantissa_radix].
@@ -26,7 +23,7 @@ impl NumberFormatBuilder {
     pub const fn get_mantissa_radix(&self) -> u8
         ensures { result ≡ self.now.byte layout.mantissa_radix }
     {
-        self.bytes[MANTISSA_RADIX]
+        flags::mantissa_radix(self.word) as u8
     }
 
     /// Returns the [exponent base][Self::exponent_base], or `None` if it is absent. In that case, the mantissa radix is
@@ -35,7 +32,7 @@ impl NumberFormatBuilder {
     pub const fn get_exponent_base(&self) -> OptionU8
         ensures { result ≡ option_of_byte (self.now.byte layout.exponent_base) }
     {
-        NonZeroU8::new(self.bytes[EXPONENT_BASE])
+        NonZeroU8::new(flags::raw_exponent_base(self.word))
     }
 
     /// Returns the [exponent radix][Self::exponent_radix], or `None` if it is absent. In that case, the mantissa radix
@@ -44,7 +41,7 @@ impl NumberFormatBuilder {
     pub const fn get_exponent_radix(&self) -> OptionU8
         ensures { result ≡ option_of_byte (self.now.byte layout.exponent_radix) }
     {
-        NonZeroU8::new(self.bytes[EXPONENT_RADIX])
+        NonZeroU8::new(flags::raw_exponent_radix(self.word))
     }
 
     /// Returns the [base prefix][Self::base_prefix], or `None` if it is absent.
@@ -52,7 +49,7 @@ impl NumberFormatBuilder {
     pub const fn get_base_prefix(&self) -> OptionU8
         ensures { result ≡ option_of_byte (self.now.byte layout.base_prefix) }
     {
-        NonZeroU8::new(self.bytes[BASE_PREFIX])
+        NonZeroU8::new(flags::base_prefix(self.word))
     }
 
     /// Returns the [base suffix][Self::base_suffix], or `None` if it is absent.
@@ -60,7 +57,7 @@ impl NumberFormatBuilder {
     pub const fn get_base_suffix(&self) -> OptionU8
         ensures { result ≡ option_of_byte (self.now.byte layout.base_suffix) }
     {
-        NonZeroU8::new(self.bytes[BASE_SUFFIX])
+        NonZeroU8::new(flags::base_suffix(self.word))
     }
 
     /// Returns the flag that [`Self::required_integer_digits`] sets.
