@@ -13,15 +13,42 @@ mod setters;
 #[doc(no_inline)]
 pub use non_zero::NonZeroU8;
 
-// The flags that are set in a new builder.
+// The bit at which the digit separator flags of a builder start. In a format word, they start at bit 32.
+const FIRST_SEPARATOR: u32 = u128::count_ones(flags::FLAG_MASK % (1 << 32));
+
+// The mask of the flags below the digit separator flags. Their bits in a builder are the same as in a format word.
+const LOW_FLAGS: u32 = (1 << FIRST_SEPARATOR) - 1;
+
+// The flags that are set in a new builder. They have the same bits in a format word.
 const NEW_FLAGS: u128 = flags::REQUIRED_EXPONENT_DIGITS | flags::REQUIRED_MANTISSA_DIGITS;
 
 // The word whose mantissa radix, exponent base and exponent radix are 1, and whose other bits are 0.
 const ONE_IN_EACH_RADIX: u128 =
     1 << flags::MANTISSA_RADIX_SHIFT | 1 << flags::EXPONENT_BASE_SHIFT | 1 << flags::EXPONENT_RADIX_SHIFT;
 
-// The mask of all fields. From the lowest bit of the base prefix up, each bit belongs to a byte.
-const FIELD_MASK: u128 = flags::FLAG_MASK | flags::DIGIT_SEPARATOR | !0 << flags::BASE_PREFIX_SHIFT;
+// The index of each byte in a builder.
+const DIGIT_SEPARATOR: usize = 0;
+
+const BASE_PREFIX: usize = 1;
+
+const BASE_SUFFIX: usize = 2;
+
+const MANTISSA_RADIX: usize = 3;
+
+const EXPONENT_BASE: usize = 4;
+
+const EXPONENT_RADIX: usize = 5;
+
+// The lowest bit of each byte in the upper half of a format word. The digit separator starts at bit 0.
+const PREFIX_SHIFT: i32 = flags::BASE_PREFIX_SHIFT - 64;
+
+const SUFFIX_SHIFT: i32 = flags::BASE_SUFFIX_SHIFT - 64;
+
+const MANTISSA_SHIFT: i32 = flags::MANTISSA_RADIX_SHIFT - 64;
+
+const BASE_SHIFT: i32 = flags::EXPONENT_BASE_SHIFT - 64;
+
+const RADIX_SHIFT: i32 = flags::EXPONENT_RADIX_SHIFT - 64;
 
 /// A byte that may be absent.
 pub type OptionU8 = Option<NonZeroU8>;
@@ -43,8 +70,9 @@ pub type OptionU8 = Option<NonZeroU8>;
 #[derive(Clone, Copy, PartialEq, Eq, Hash)]
 #[must_use]
 pub struct NumberFormatBuilder {
-    // The format word with the fields of the builder. It has the digit separator even if no flag allows one.
-    word: u128,
+    flags: u32,
+    // An absent byte is 0.
+    bytes: [u8; 6],
 }
 
 impl Default for NumberFormatBuilder {
@@ -62,7 +90,7 @@ impl NumberFormatBuilder {
     /// exponent radix are absent. The flags `required_exponent_digits` and `required_mantissa_digits` are true, and all
     /// other flags are false.
     pub const fn new() -> Self {
-        NumberFormatBuilder { word: NEW_FLAGS | 10 << flags::MANTISSA_RADIX_SHIFT }
+        NumberFormatBuilder { flags: NEW_FLAGS as u32, bytes: [0, 0, 0, 10, 0, 0] }
     }
 
     /// Returns the format word for binary numbers, which is [`from_radix(2)`][Self::from_radix].
@@ -108,8 +136,15 @@ impl NumberFormatBuilder {
     /// word is 0. All other fields are packed as they are.
     #[must_use]
     pub const fn build_unchecked(&self) -> u128 {
-        let is_unused = !flags::is_separator_allowed(self.word);
-        self.word - bits_if(is_unused, self.word & flags::DIGIT_SEPARATOR)
+        let [separator, prefix, suffix, radix, exponent_base, exponent_radix] = self.bytes;
+        let flags = word_flags(self.flags);
+        let upper = (prefix as u64) << PREFIX_SHIFT
+            | (suffix as u64) << SUFFIX_SHIFT
+            | (radix as u64) << MANTISSA_SHIFT
+            | (kept_separator(flags, separator) as u64)
+            | (exponent_base as u64) << BASE_SHIFT
+            | (exponent_radix as u64) << RADIX_SHIFT;
+        flags | (upper as u128) << 64
     }
 
     /// Packs the fields into a format word, and returns the word if it is [lawful][flags::Rule].
@@ -153,7 +188,18 @@ impl NumberFormatBuilder {
     /// assert_eq!(octal, 0x00000800_00000000_00000000_0000000C);
     /// ```
     pub const fn from_word(word: u128) -> Self {
-        NumberFormatBuilder { word: word & FIELD_MASK }
+        let upper = (word >> 64) as u64;
+        NumberFormatBuilder {
+            flags: builder_flags(word),
+            bytes: [
+                (upper % 256) as u8,
+                ((upper >> PREFIX_SHIFT) % 256) as u8,
+                ((upper >> SUFFIX_SHIFT) % 256) as u8,
+                ((upper >> MANTISSA_SHIFT) % 256) as u8,
+                ((upper >> BASE_SHIFT) % 256) as u8,
+                (upper >> RADIX_SHIFT) as u8,
+            ],
+        }
     }
 
     /// Returns a builder with the fields of a format word. An exponent base or exponent radix of 0 is set to the
@@ -163,42 +209,75 @@ impl NumberFormatBuilder {
     /// the mantissa radix is 0 too, an exponent base or exponent radix of 0 stays 0. The digit separator is kept even
     /// if no flag allows one. The reserved bits, which hold no field, are dropped.
     pub const fn rebuild(format: u128) -> Self {
-        let radix = flags::mantissa_radix(format) as u64;
-        let base = flags::byte_or_radix(flags::raw_exponent_base(format) as u64, radix);
-        let exponent_radix = flags::byte_or_radix(flags::raw_exponent_radix(format) as u64, radix);
-        Self::from_word(format)
-            .with_byte(flags::EXPONENT_BASE, base as u8)
-            .with_byte(flags::EXPONENT_RADIX, exponent_radix as u8)
+        let high = (format >> 64) as u64;
+        let radix = (high >> MANTISSA_SHIFT) % 256;
+        let exponent_radix = flags::byte_or_radix(high >> RADIX_SHIFT, radix);
+        let exponent_base = flags::byte_or_radix((high >> BASE_SHIFT) % 256, radix);
+        NumberFormatBuilder {
+            flags: builder_flags(format),
+            bytes: [
+                (high % 256) as u8,
+                ((high >> PREFIX_SHIFT) % 256) as u8,
+                ((high >> SUFFIX_SHIFT) % 256) as u8,
+                radix as u8,
+                exponent_base as u8,
+                exponent_radix as u8,
+            ],
+        }
     }
 
-    // FIELDS BY THEIR MASKS
+    // FLAGS BY THEIR MASKS
 
     /// Sets every flag in `mask` to `value`. A flag is in `mask` if its bit in a format word is 1 in `mask`. The other
     /// bits of `mask` have no effect.
     #[doc(hidden)]
     pub const fn with_flags(mut self, mask: u128, value: bool) -> Self {
-        let mask = mask & flags::FLAG_MASK;
-        self.word = self.word - (self.word & mask) + bits_if(value, mask);
+        self.flags = replace_bits(self.flags, builder_flags(mask), value);
         self
     }
 
     // Returns whether the flag with this mask is set.
     const fn has_flag(&self, mask: u128) -> bool {
-        self.word & mask != 0
+        self.flags & builder_flags(mask) != 0
     }
 
-    // Sets the byte with this mask.
-    #[inline(always)]
-    const fn with_byte(mut self, mask: u128, value: u8) -> Self {
-        self.word = self.word - (self.word & mask) + value as u128 * (mask / 0xFF);
+    // Sets the byte at `index`.
+    const fn with_byte(mut self, index: usize, value: u8) -> Self {
+        self.bytes[index] = value;
         self
     }
 }
 
+// Returns the flags of a format word, each at its bit in a builder.
+const fn builder_flags(format: u128) -> u32 {
+    let low = (format & (LOW_FLAGS as u128)) as u32;
+    let separators = ((format & flags::DIGIT_SEPARATOR_FLAG_MASK) >> 32) as u32;
+    low | separators << FIRST_SEPARATOR
+}
+
+// Returns the flags of a builder, each at its bit in a format word.
+const fn word_flags(flags: u32) -> u128 {
+    (flags & LOW_FLAGS) as u128 | ((flags as u128) << (32 - FIRST_SEPARATOR)) & flags::DIGIT_SEPARATOR_FLAG_MASK
+}
+
+// Returns `bits` with all bits in `mask` set to `value`.
+const fn replace_bits(bits: u32, mask: u32, value: bool) -> u32 {
+    (bits & !mask) | bits_if(value, mask)
+}
+
 // Returns `bits` if the condition is true, and 0 otherwise.
-const fn bits_if(condition: bool, bits: u128) -> u128 {
+const fn bits_if(condition: bool, bits: u32) -> u32 {
     if condition {
         bits
+    } else {
+        0
+    }
+}
+
+// Returns the digit separator, or 0 if none of `flags`, the flags of a format word, allows one.
+const fn kept_separator(flags: u128, separator: u8) -> u8 {
+    if flags::is_separator_allowed(flags) {
+        separator
     } else {
         0
     }

@@ -1,5 +1,6 @@
 mod ChangeLemmas
 pub mod OptionByteLemmas
 pub mod WriteLemmas
-mod FieldMasks
+pub mod BuilderFlags
 mod RadixLemmas
+mod UpperHalf

@@ -1,4 +1,5 @@
 pub mod OptionByte
+pub mod BuilderBits
 pub mod Private
 pub mod NewRecord
 pub mod Writes

@@ -1,13 +1,14 @@
 //! Builds number formats field by field.
 
-ghost use Rattle.std.specs.Prelude.{◌≡◌, ◌≢◌, ◌↔◌, ◌^◌, [], ◌∷◌, IfErr, IfOk, if◌then◌else◌};
+ghost use Rattle.std.specs.Prelude.{◌≡◌, ◌≢◌, ◌↔◌, ◌<◌, ◌%◌, ◌^◌, ◌==◌, ℕ, [], ◌∷◌, IfErr, IfOk, length, sum_by, if◌then◌else◌};
 ghost use Rattle.std.specs.Result.{OkIff};
-ghost use Rattle.lexical_flags.specs.Additions.Masks.{byte_mask};
-ghost use Rattle.lexical_flags.specs.Layout.{Flag, IsClean, bit};
-ghost use Rattle.lexical_flags.specs.Record.{Record, HasBytes, raw, fill, trim, pack};
+ghost use Rattle.lexical_flags.specs.Layout as layout;
+ghost use Rattle.lexical_flags.specs.Layout.{Flag, IsClean, bit, part};
+ghost use Rattle.lexical_flags.specs.Record.{Record, HasBytes, raw, fill, trim, pack, separator_allowed};
 ghost use Rattle.lexical_flags.specs.Rules.{IsErrorOf, IsRadix, Lawful};
 ghost use Rattle.lexical_builder.specs.OptionByte.{byte_of_option};
-ghost use Rattle.lexical_builder.specs.Private.{byte_with};
+ghost use Rattle.lexical_builder.specs.BuilderBits.{builder_bit, byte_index};
+ghost use Rattle.lexical_builder.specs.Private.{flags_in, byte_at};
 ghost use Rattle.lexical_builder.specs.Writes.{new_record, radix_record, after, flags_with, write_flags, write_byte};
 
 use lexical_base::error::Error;
@@ -22,7 +23,13 @@ mod setters;
 
 pub use non_zero::NonZeroU8;
 
-// The flags that are set in a new builder.
+// The bit at which the digit separator flags of a builder start. In a format word, they start at bit 32.
+const FIRST_SEPARATOR: u32 = u128::count_ones(flags::FLAG_MASK % (1 << 32));
+
+// The mask of the flags below the digit separator flags. Their bits in a builder are the same as in a format word.
+const LOW_FLAGS: u32 = (1 << FIRST_SEPARATOR) - 1;
+
+// The flags that are set in a new builder. They have the same bits in a format word.
 const NEW_FLAGS: u128 = flags::REQUIRED_EXPONENT_DIGITS | flags::REQUIRED_MANTISSA_DIGITS;
 
 // The word whose mantissa radix, exponent base and exponent radix are 1, and whose other bits are 0.
@@ -30,8 +37,29 @@ const ONE_IN_EACH_RADIX: u128 = 1 << flags::MANTISSA_RADIX_SHIFT
     | 1 << flags::EXPONENT_BASE_SHIFT
     | 1 << flags::EXPONENT_RADIX_SHIFT;
 
-// The mask of all fields. From the lowest bit of the base prefix up, each bit belongs to a byte.
-const FIELD_MASK: u128 = flags::FLAG_MASK | flags::DIGIT_SEPARATOR | !0 << flags::BASE_PREFIX_SHIFT;
+// The index of each byte in a builder.
+const DIGIT_SEPARATOR: usize = 0;
+
+const BASE_PREFIX: usize = 1;
+
+const BASE_SUFFIX: usize = 2;
+
+const MANTISSA_RADIX: usize = 3;
+
+const EXPONENT_BASE: usize = 4;
+
+const EXPONENT_RADIX: usize = 5;
+
+// The lowest bit of each byte in the upper half of a format word. The digit separator starts at bit 0.
+const PREFIX_SHIFT: i32 = flags::BASE_PREFIX_SHIFT - 64;
+
+const SUFFIX_SHIFT: i32 = flags::BASE_SUFFIX_SHIFT - 64;
+
+const MANTISSA_SHIFT: i32 = flags::MANTISSA_RADIX_SHIFT - 64;
+
+const BASE_SHIFT: i32 = flags::EXPONENT_BASE_SHIFT - 64;
+
+const RADIX_SHIFT: i32 = flags::EXPONENT_RADIX_SHIFT - 64;
 
 /// A byte that may be absent.
 pub type OptionU8 = Option<NonZeroU8>;
@@ -52,8 +80,9 @@ pub type OptionU8 = Option<NonZeroU8>;
 /// ```
 #[derive(Drop)]
 pub struct NumberFormatBuilder {
-    // The format word with the fields of the builder. It has the digit separator even if no flag allows one.
-    word: u128,
+    flags: u32,
+    // An absent byte is 0.
+    bytes: [u8; 6],
 }
 
 impl Model for NumberFormatBuilder {
@@ -64,13 +93,12 @@ impl Model for NumberFormatBuilder {
 
     ghost coded = { record_code };
 
-    ghost use Rattle.std.specs.Prelude.{◌≡◌};
-    ghost use Rattle.lexical_flags.specs.Record.{raw, word_of};
+    ghost use Rattle.lexical_builder.specs.BuilderBits.{builder_record};
+    ghost use Rattle.lexical_builder.specs.Private.{HasClearTop};
 
-    ghost view = { λ builder. raw builder.word };
+    ghost view = { builder_record };
 
-    // The reserved bits are 0.
-    ghost invariant = { λ builder. word_of (raw builder.word) ≡ builder.word };
+    ghost invariant = { HasClearTop };
 }
 
 impl Default for NumberFormatBuilder {
@@ -100,7 +128,8 @@ impl NumberFormatBuilder {
         ensures lawful { Lawful (pack result) }
     {
         NumberFormatBuilder {
-            word: NEW_FLAGS | 10 << flags::MANTISSA_RADIX_SHIFT,
+            flags: NEW_FLAGS as u32,
+            bytes: [0, 0, 0, 10, 0, 0],
         }
     }
 
@@ -173,8 +202,22 @@ impl NumberFormatBuilder {
         // allows is ignored.
         ensures alike { (s : Record) → HasBytes s → (pack s ≡ result) ↔ (trim s ≡ trim self.now) }
     {
-        let is_unused = !flags::is_separator_allowed(self.word);
-        self.word - bits_if(is_unused, self.word & flags::DIGIT_SEPARATOR)
+        let [
+            separator,
+            prefix,
+            suffix,
+            radix,
+            exponent_base,
+            exponent_radix,
+        ] = self.bytes;
+        let flags = word_flags(self.flags);
+        let upper = (prefix as u64) << PREFIX_SHIFT
+            | (suffix as u64) << SUFFIX_SHIFT
+            | (radix as u64) << MANTISSA_SHIFT
+            | (kept_separator(flags, separator) as u64)
+            | (exponent_base as u64) << BASE_SHIFT
+            | (exponent_radix as u64) << RADIX_SHIFT;
+        flags | (upper as u128) << 64
     }
 
     /// Packs the fields into a format word, and returns the word if it is [lawful][flags::Rule].
@@ -229,8 +272,17 @@ impl NumberFormatBuilder {
     pub const fn from_word(word: u128) -> Self
         ensures { result ≡ raw word }
     {
+        let upper = (word >> 64) as u64;
         NumberFormatBuilder {
-            word: word & FIELD_MASK,
+            flags: builder_flags(word),
+            bytes: [
+                (upper % 256) as u8,
+                ((upper >> PREFIX_SHIFT) % 256) as u8,
+                ((upper >> SUFFIX_SHIFT) % 256) as u8,
+                ((upper >> MANTISSA_SHIFT) % 256) as u8,
+                ((upper >> BASE_SHIFT) % 256) as u8,
+                (upper >> RADIX_SHIFT) as u8,
+            ],
         }
     }
 
@@ -243,15 +295,24 @@ impl NumberFormatBuilder {
     pub const fn rebuild(format: u128) -> Self
         ensures { result ≡ fill (raw format) }
     {
-        let radix = flags::mantissa_radix(format) as u64;
-        let base = flags::byte_or_radix(flags::raw_exponent_base(format) as u64, radix);
-        let exponent_radix = flags::byte_or_radix(flags::raw_exponent_radix(format) as u64, radix);
-        Self::from_word(format)
-            .with_byte(flags::EXPONENT_BASE, base as u8)
-            .with_byte(flags::EXPONENT_RADIX, exponent_radix as u8)
+        let high = (format >> 64) as u64;
+        let radix = (high >> MANTISSA_SHIFT) % 256;
+        let exponent_radix = flags::byte_or_radix(high >> RADIX_SHIFT, radix);
+        let exponent_base = flags::byte_or_radix((high >> BASE_SHIFT) % 256, radix);
+        NumberFormatBuilder {
+            flags: builder_flags(format),
+            bytes: [
+                (high % 256) as u8,
+                ((high >> PREFIX_SHIFT) % 256) as u8,
+                ((high >> SUFFIX_SHIFT) % 256) as u8,
+                radix as u8,
+                exponent_base as u8,
+                exponent_radix as u8,
+            ],
+        }
     }
 
-    // FIELDS BY THEIR MASKS
+    // FLAGS BY THEIR MASKS
 
     /// Sets every flag in `mask` to `value`. A flag is in `mask` if its bit in a format word is 1 in `mask`. The other
     /// bits of `mask` have no effect.
@@ -259,8 +320,7 @@ impl NumberFormatBuilder {
     pub const fn with_flags(mut self, mask: u128, value: bool) -> Self
         ensures { result ≡ after self (write_flags (flags_with mask) value) }
     {
-        let mask = mask & flags::FLAG_MASK;
-        self.word = self.word - (self.word & mask) + bits_if(value, mask);
+        self.flags = replace_bits(self.flags, builder_flags(mask), value);
         self
     }
 
@@ -268,25 +328,65 @@ impl NumberFormatBuilder {
     const fn has_flag(&self, mask: u128) -> bool
         ensures { (f : Flag) → 2 ^ bit f ≡ mask → result ≡ self.now.flag f }
     {
-        self.word & mask != 0
+        self.flags & builder_flags(mask) != 0
     }
 
-    // Sets the byte with this mask.
-    #[inline(always)]
-    const fn with_byte(mut self, mask: u128, value: u8) -> Self
-        requires { byte_mask (byte_with mask) ≡ mask }
-        ensures { result ≡ after self (write_byte (byte_with mask) value ∷ []) }
+    // Sets the byte at `index`.
+    const fn with_byte(mut self, index: usize, value: u8) -> Self
+        requires below { index < 6 }
+        requires byte { byte_index (byte_at index) ≡ index }
+        ensures { result ≡ after self (write_byte (byte_at index) value ∷ []) }
     {
-        self.word = self.word - (self.word & mask) + value as u128 * (mask / 0xFF);
+        self.bytes[index] = value;
         self
     }
 }
 
+// Returns the flags of a format word, each at its bit in a builder.
+#[tactic(auto, using(crate::proofs::BuilderFlags::builder_blocks))]
+const fn builder_flags(format: u128) -> u32
+    ensures { result ≡ flags_in format }
+{
+    let low = (format & (LOW_FLAGS as u128)) as u32;
+    let separators = ((format & flags::DIGIT_SEPARATOR_FLAG_MASK) >> 32) as u32;
+    low | separators << FIRST_SEPARATOR
+}
+
+// Returns the flags of a builder, each at its bit in a format word.
+#[tactic(auto, using(crate::proofs::BuilderFlags::word_blocks, crate::proofs::BuilderFlags::flags_as_blocks))]
+const fn word_flags(flags: u32) -> u128
+    requires { flags < 2 ^ length layout.flags }
+    ensures { result ≡ sum_by (λ f. if part flags (builder_bit f) 1 == 1 then 2 ^ bit f else 0) layout.flags }
+{
+    (flags & LOW_FLAGS) as u128
+        | ((flags as u128) << (32 - FIRST_SEPARATOR)) & flags::DIGIT_SEPARATOR_FLAG_MASK
+}
+
+// Returns `bits` with all bits in `mask` set to `value`.
+const fn replace_bits(bits: u32, mask: u32, value: bool) -> u32
+    ensures each { (i : ℕ) → i < 32 → (part result i 1 == 1)
+        ≡ (if part mask i 1 == 1 then value else (part bits i 1 == 1)) }
+    ensures below { (n : ℕ) → bits < 2 ^ n → mask < 2 ^ n → result < 2 ^ n }
+{
+    (bits & !mask) | bits_if(value, mask)
+}
+
 // Returns `bits` if the condition is true, and 0 otherwise.
-const fn bits_if(condition: bool, bits: u128) -> u128
+const fn bits_if(condition: bool, bits: u32) -> u32
     ensures { result ≡ (if condition then bits else 0) }
 {
     if condition { bits } else { 0 }
+}
+
+// Returns the digit separator, or 0 if none of `flags`, the flags of a format word, allows one.
+const fn kept_separator(flags: u128, separator: u8) -> u8
+    ensures { result ≡ (if separator_allowed (raw flags) then separator else 0) }
+{
+    if flags::is_separator_allowed(flags) {
+        separator
+    } else {
+        0
+    }
 }
 
 // Returns the byte, or 0 if it is absent.

@@ -1,17 +1,18 @@
 -- Lemmas on the flags of a word under a mask, and on the flags of a record joined by `|`.
 use Rattle.std.proofs.Common.{ℕ, ◌≡◌, ◌+◌, ◌*◌, ◌/◌, ◌%◌, ◌^◌, ◌<◌, ◌==◌, true, not, ◌||◌}
-use Rattle.std.proofs.Common.{List, [], ◌∷◌, sum_by, bit_and, refl, ap, sym, subst, ◌∙◌, arith}
-use Rattle.std.specs.List.{filter, list_any}
+use Rattle.std.proofs.Common.{List, [], ◌∷◌, sum_by, bit_and, bit_or, refl, ap, sym, subst, ◌∙◌, arith}
+use Rattle.std.specs.List.{filter, fold, list_any}
 use Rattle.std.proofs.Math.Nat.{mod-lt}
 use Rattle.std.proofs.lemmas.List.Sums.{sum_by-cons}
 use Rattle.std.proofs.lemmas.Nat.{pow_pos}
 use Rattle.std.proofs.lemmas.Nat.Bits.{and_pow}
 use Rattle.std.proofs.lemmas.Bool.Decides.{nat_tests}
 use Rattle.lexical_flags.specs.Layout.{part, Flag, bit, flags}
-use Rattle.lexical_flags.specs.Record.{raw}
+use Rattle.lexical_flags.specs.Record.{Record, raw, word_of, flag_bits}
+use Rattle.lexical_flags.specs.Record.{separator_allowed, HasBytes}
 use Rattle.lexical_flags.specs.Additions.Masks.{mask_of}
-use Rattle.lexical_flags.proofs.Packing.{high}
-use Rattle.lexical_flags.proofs.Masks.{ascends, and_all}
+use Rattle.lexical_flags.proofs.Packing.{high, bit_value, bit_value-lt, flag_bits-value, raw-word_of}
+use Rattle.lexical_flags.proofs.Masks.{ascends, and_all, or_all, sum-below}
 
 -- A bit times a power of two is 0 if and only if the bit is 0.
 moved_bit-set : (n p : ℕ) → n < 2 → 0 < p → not (n * p == 0) ≡ (n == 1)
@@ -59,3 +60,34 @@ sum_by-set (f ∷ fs) word =
 pub mask_test : (fs : List Flag) (word : ℕ) → ascends bit 1 0 fs ≡ true
     → not (bit_and word (mask_of fs) == 0) ≡ list_any (raw word).flag fs
 mask_test fs word up = ap (λ n. not (n == 0)) (and_all bit fs word up) ∙ sum_by-set fs word
+
+-- The flags of a record joined by `|` are the sum of the flags.
+pub flags_joined : (r : Record) → fold (λ bits f. bit_or bits (flag_bits r f)) 0 flags ≡ sum_by (flag_bits r) flags
+flags_joined r =
+    (λ i. fold (λ bits f. bit_or bits (flag_bits-value (r.flag f) (bit f) i)) 0 flags)
+    ∙ or_all bit (λ f. bit_value (r.flag f)) 1 (λ f. bit_value-lt (r.flag f)) flags 0 0 (omega arith) refl
+    ∙ sym (λ i. fold (λ bits f. bits + flag_bits-value (r.flag f) (bit f) i) 0 flags)
+
+-- The flags are below bit 64, where the bytes begin.
+pub flags-lt : (r : Record) → sum_by (flag_bits r) flags < 2 ^ 64
+flags-lt r =
+    let below : fold (λ bits f. bits + bit_value (r.flag f) * 2 ^ bit f) 0 flags < 2 ^ (32 + high) =
+    sum-below bit (λ f. bit_value (r.flag f)) 1 (λ f. bit_value-lt (r.flag f)) flags 0 0 (omega arith) refl in
+    let same : fold (λ bits f. bits + bit_value (r.flag f) * 2 ^ bit f) 0 flags ≡ sum_by (flag_bits r) flags =
+    sym (λ i. fold (λ bits f. bits + flag_bits-value (r.flag f) (bit f) i) 0 flags) in
+    omega arith
+
+-- `flags_only r` is `r` with 0 as each byte.
+abbrev flags_only : Record → Record
+flags_only r = record r { byte = λ b. 0 }
+
+word_of-flags_only : (r : Record) → sum_by (flag_bits r) flags ≡ word_of (flags_only r)
+unfolding word_of
+word_of-flags_only r = omega arith
+
+-- The word of the flags of a record allows a digit separator if and only if the record does.
+pub separator_allowed-flags : (r : Record) → separator_allowed (raw (sum_by (flag_bits r) flags)) ≡ separator_allowed r
+separator_allowed-flags r =
+    let none : HasBytes (flags_only r) = record { each = λ b. omega arith } in
+    ap (λ word. separator_allowed (raw word)) (word_of-flags_only r)
+    ∙ ap separator_allowed (raw-word_of (flags_only r) none)

@@ -1,11 +1,12 @@
 -- Lemmas on fields that are one above the other, joined by `|` and selected by `&`.
 use Rattle.std.proofs.Common.{ℕ, ◌≡◌, ◌+◌, ◌-◌, ◌*◌, ◌/◌, ◌%◌, ◌^◌, ◌<◌, ◌≤◌, Bool, true, ◌&&◌, leb, List, [], ◌∷◌}
-use Rattle.std.proofs.Common.{sum_by, bit_and, refl, ap, sym, ◌∙◌, arith}
+use Rattle.std.proofs.Common.{sum_by, bit_and, bit_or, refl, ap, sym, ◌∙◌, arith}
 use Rattle.std.specs.Int.Bits.{and_zero_r}
 use Rattle.std.specs.List.{fold}
-use Rattle.std.proofs.Math.Nat.{mod-eq_of_lt, mod-lt, pow-le-pow_right, lt_of_le_of_lt}
+use Rattle.std.proofs.Math.Nat.{mul-le-mul_left, mod-eq_of_lt, mod-lt, pow-le-pow_right, lt_of_le_of_lt}
 use Rattle.std.proofs.lemmas.Bool.{leb-true, and_parts}
-use Rattle.std.proofs.lemmas.Nat.{pow-add, pow_pos, shr_split, and_block, and_mask, and_mod, and_le_r}
+use Rattle.std.proofs.lemmas.Nat.{pow-add, pow_pos, shr_split, and_block, and_mask, and_mod, and_le_r, or_comm}
+use Rattle.std.proofs.lemmas.Nat.{or_shifted}
 use Rattle.lexical_flags.specs.Layout.{part}
 
 -- `ascends start width s xs` is true if each field starts at the end of the field before or above it, and the first one
@@ -13,6 +14,11 @@ use Rattle.lexical_flags.specs.Layout.{part}
 abbrev pub ascends : {X : Type 0} → (X → ℕ) → ℕ → ℕ → List X → Bool
 ascends start width s [] = true
 ascends start width s (x ∷ xs) = leb s (start x) && ascends start width (start x + width) xs
+
+-- `above start width s xs` is the end of the last field.
+abbrev pub above : {X : Type 0} → (X → ℕ) → ℕ → ℕ → List X → ℕ
+above start width s [] = s
+above start width s (x ∷ xs) = above start width (start x + width) xs
 
 -- If a mask has one more block of n bits, then `&` with it has one more part of the word.
 pub and_block_more : (w a k n : ℕ) → a < 2 ^ k → bit_and w ((2 ^ n - 1) * 2 ^ k + a) ≡ bit_and w a + part w k n * 2 ^ k
@@ -31,6 +37,33 @@ and_block_more w a k n l =
 and_more : (w a k : ℕ) → a < 2 ^ k → bit_and w (a + 2 ^ k) ≡ bit_and w a + part w k 1 * 2 ^ k
 and_more w a k l = let mask : a + 2 ^ k ≡ (2 ^ 1 - 1) * 2 ^ k + a = omega arith in
     ap (bit_and w) mask ∙ and_block_more w a k 1 l
+
+-- If a field above all others is joined by `|`, then its bits are added, and the result is below its end.
+or_more : (low s k n v : ℕ) → low < 2 ^ s → s ≤ k → v < 2 ^ n
+    → (bit_or low (v * 2 ^ k) ≡ low + v * 2 ^ k) × (low + v * 2 ^ k < 2 ^ (k + n))
+or_more low s k n v l start fits =
+    let wide : 2 ^ s ≤ 2 ^ k = pow-le-pow_right {n = 2} (omega arith) start in
+    let below : low < 2 ^ k = omega arith in
+    let room = mul-le-mul_left (2 ^ k) fits in
+    (or_comm low (v * 2 ^ k) ∙ or_shifted v k low below ∙ omega arith, rw (pow-add 2 k n) (omega arith))
+
+module _ {X : Type 0} (start value : X → ℕ) (n : ℕ) (fits : (x : X) → value x < 2 ^ n) where
+  pub or_all : (xs : List X) (s low : ℕ) → low < 2 ^ s → ascends start n s xs ≡ true
+      → fold (λ a x. bit_or a (value x * 2 ^ start x)) low xs ≡ fold (λ a x. a + value x * 2 ^ start x) low xs
+  or_all [] s low l up = refl
+  or_all (x ∷ xs) s low l up =
+      let parts = and_parts (leb s (start x)) (ascends start n (start x + n) xs) up in
+      let more = or_more low s (start x) n (value x) l (leb-true s (start x) parts.0) (fits x) in
+      ap (λ a. fold (λ a x. bit_or a (value x * 2 ^ start x)) a xs) more.0
+      ∙ or_all xs (start x + n) (low + value x * 2 ^ start x) more.1 parts.1
+
+  pub sum-below : (xs : List X) (s low : ℕ) → low < 2 ^ s → ascends start n s xs ≡ true
+      → fold (λ a x. a + value x * 2 ^ start x) low xs < 2 ^ above start n s xs
+  sum-below [] s low l up = l
+  sum-below (x ∷ xs) s low l up =
+      let parts = and_parts (leb s (start x)) (ascends start n (start x + n) xs) up in
+      let more = or_more low s (start x) n (value x) l (leb-true s (start x) parts.0) (fits x) in
+      sum-below xs (start x + n) (low + value x * 2 ^ start x) more.1 parts.1
 
 module _ {X : Type 0} (start : X → ℕ) where
   and_from : (xs : List X) (s w low : ℕ) → low < 2 ^ s → ascends start 1 s xs ≡ true

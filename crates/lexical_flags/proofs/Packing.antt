@@ -107,8 +107,7 @@ word_of-clean r h =
     λ k. ap (value_at k 0 widths) (segments-word_of r h) in
     record { below_separator_flags = at low; below_separator = at (32 + high); below_prefix = at 72 }
 
--- The word of a record is below 2^128.
-pub word_of-lt : (r : Record) → HasBytes r → word_of r < 2 ^ 128
+word_of-lt : (r : Record) → HasBytes r → word_of r < 2 ^ 128
 word_of-lt r h = omega (arith, word_of-joined r, joined-below 0 widths (values r) 0 (omega arith) (values-fit r h))
 
 -- A number below 2 is the bit of the test whether it is 1.

@@ -2,7 +2,10 @@
 
 //! The getters of a builder.
 
-use super::{NonZeroU8, NumberFormatBuilder, OptionU8};
+use super::{
+    NonZeroU8, NumberFormatBuilder, OptionU8, BASE_PREFIX, BASE_SUFFIX, DIGIT_SEPARATOR, EXPONENT_BASE, EXPONENT_RADIX,
+    MANTISSA_RADIX,
+};
 use crate::format_flags as flags;
 
 impl NumberFormatBuilder {
@@ -11,39 +14,39 @@ impl NumberFormatBuilder {
     /// Returns the [digit separator][Self::digit_separator], or `None` if it is absent.
     #[must_use]
     pub const fn get_digit_separator(&self) -> OptionU8 {
-        NonZeroU8::new(flags::digit_separator(self.word))
+        NonZeroU8::new(self.bytes[DIGIT_SEPARATOR])
     }
 
     /// Returns the [mantissa radix][Self::mantissa_radix].
     #[must_use]
     pub const fn get_mantissa_radix(&self) -> u8 {
-        flags::mantissa_radix(self.word) as u8
+        self.bytes[MANTISSA_RADIX]
     }
 
     /// Returns the [exponent base][Self::exponent_base], or `None` if it is absent. In that case, the mantissa radix is
     /// used in its place.
     #[must_use]
     pub const fn get_exponent_base(&self) -> OptionU8 {
-        NonZeroU8::new(flags::raw_exponent_base(self.word))
+        NonZeroU8::new(self.bytes[EXPONENT_BASE])
     }
 
     /// Returns the [exponent radix][Self::exponent_radix], or `None` if it is absent. In that case, the mantissa radix
     /// is used in its place.
     #[must_use]
     pub const fn get_exponent_radix(&self) -> OptionU8 {
-        NonZeroU8::new(flags::raw_exponent_radix(self.word))
+        NonZeroU8::new(self.bytes[EXPONENT_RADIX])
     }
 
     /// Returns the [base prefix][Self::base_prefix], or `None` if it is absent.
     #[must_use]
     pub const fn get_base_prefix(&self) -> OptionU8 {
-        NonZeroU8::new(flags::base_prefix(self.word))
+        NonZeroU8::new(self.bytes[BASE_PREFIX])
     }
 
     /// Returns the [base suffix][Self::base_suffix], or `None` if it is absent.
     #[must_use]
     pub const fn get_base_suffix(&self) -> OptionU8 {
-        NonZeroU8::new(flags::base_suffix(self.word))
+        NonZeroU8::new(self.bytes[BASE_SUFFIX])
     }
 
     /// Returns the flag that [`Self::required_integer_digits`] sets.

@@ -2,7 +2,10 @@
 
 //! The setters of a builder. Each takes the builder and returns it with one or more fields changed.
 
-use super::{byte_or_zero, NumberFormatBuilder, OptionU8};
+use super::{
+    byte_or_zero, NumberFormatBuilder, OptionU8, BASE_PREFIX, BASE_SUFFIX, DIGIT_SEPARATOR, EXPONENT_BASE,
+    EXPONENT_RADIX, MANTISSA_RADIX,
+};
 use crate::format_flags as flags;
 
 impl NumberFormatBuilder {
@@ -15,7 +18,7 @@ impl NumberFormatBuilder {
     /// it is punctuation: a byte that `is_valid_ascii` accepts and that is neither a sign nor a digit in the mantissa
     /// radix or the exponent radix.
     pub const fn digit_separator(self, character: OptionU8) -> Self {
-        self.with_byte(flags::DIGIT_SEPARATOR, byte_or_zero(character))
+        self.with_byte(DIGIT_SEPARATOR, byte_or_zero(character))
     }
 
     /// Sets the mantissa radix. This method is the same as [`mantissa_radix`][Self::mantissa_radix].
@@ -28,7 +31,7 @@ impl NumberFormatBuilder {
     /// It is also used in place of an absent exponent base or exponent radix. In a lawful format, the mantissa radix is
     /// between 2 and 36.
     pub const fn mantissa_radix(self, radix: u8) -> Self {
-        self.with_byte(flags::MANTISSA_RADIX, radix)
+        self.with_byte(MANTISSA_RADIX, radix)
     }
 
     /// Sets the exponent base: the base that is raised to the exponent, such as the 2 in 1 × 2^3.
@@ -36,14 +39,14 @@ impl NumberFormatBuilder {
     /// `None` means the mantissa radix. In a lawful format, the base is between 2 and 36. If it is 2 and the exponent
     /// character is `p`, then `1p3` means 1 × 2^3.
     pub const fn exponent_base(self, base: OptionU8) -> Self {
-        self.with_byte(flags::EXPONENT_BASE, byte_or_zero(base))
+        self.with_byte(EXPONENT_BASE, byte_or_zero(base))
     }
 
     /// Sets the exponent radix: the radix of the exponent digits.
     ///
     /// `None` means the mantissa radix. In a lawful format, the radix is between 2 and 36.
     pub const fn exponent_radix(self, radix: OptionU8) -> Self {
-        self.with_byte(flags::EXPONENT_RADIX, byte_or_zero(radix))
+        self.with_byte(EXPONENT_RADIX, byte_or_zero(radix))
     }
 
     /// Sets the base prefix: the byte that may follow a leading zero to indicate the radix, such as the `x` in `0x1F`.
@@ -51,7 +54,7 @@ impl NumberFormatBuilder {
     /// In a lawful format, it is punctuation: a byte that `is_valid_ascii` accepts and that is neither a sign nor a
     /// digit in the mantissa radix or the exponent radix.
     pub const fn base_prefix(self, base_prefix: OptionU8) -> Self {
-        self.with_byte(flags::BASE_PREFIX, byte_or_zero(base_prefix))
+        self.with_byte(BASE_PREFIX, byte_or_zero(base_prefix))
     }
 
     /// Sets the base suffix: the byte that may follow the digits to indicate the radix, such as the `h` in `1Fh`.
@@ -59,7 +62,7 @@ impl NumberFormatBuilder {
     /// In a lawful format, it is punctuation: a byte that `is_valid_ascii` accepts and that is neither a sign nor a
     /// digit in the mantissa radix or the exponent radix.
     pub const fn base_suffix(self, base_suffix: OptionU8) -> Self {
-        self.with_byte(flags::BASE_SUFFIX, byte_or_zero(base_suffix))
+        self.with_byte(BASE_SUFFIX, byte_or_zero(base_suffix))
     }
 
     /// Sets whether the format requires digits before the decimal point. If so, a parser rejects `.5`.

@@ -4,7 +4,10 @@ ghost use Rattle.std.specs.Prelude.{◌≡◌};
 ghost use Rattle.lexical_flags.specs.Layout as layout;
 ghost use Rattle.lexical_builder.specs.OptionByte.{option_of_byte};
 
-use super::{NonZeroU8, NumberFormatBuilder, OptionU8};
+use super::{
+    BASE_PREFIX, BASE_SUFFIX, DIGIT_SEPARATOR, EXPONENT_BASE, EXPONENT_RADIX, MANTISSA_RADIX,
+    NonZeroU8, NumberFormatBuilder, OptionU8,
+};
 use lexical_flags::format_flags as flags;
 
 impl NumberFormatBuilder {
@@ -15,7 +18,7 @@ impl NumberFormatBuilder {
     pub const fn get_digit_separator(&self) -> OptionU8
         ensures { result ≡ option_of_byte (self.now.byte layout.digit_separator) }
     {
-        NonZeroU8::new(flags::digit_separator(self.word))
+        NonZeroU8::new(self.bytes[DIGIT_SEPARATOR])
     }
 
     /// Returns the [mantissa radix][Self::mantissa_radix].
@@ -23,7 +26,7 @@ impl NumberFormatBuilder {
     pub const fn get_mantissa_radix(&self) -> u8
         ensures { result ≡ self.now.byte layout.mantissa_radix }
     {
-        flags::mantissa_radix(self.word) as u8
+        self.bytes[MANTISSA_RADIX]
     }
 
     /// Returns the [exponent base][Self::exponent_base], or `None` if it is absent. In that case, the mantissa radix is
@@ -32,7 +35,7 @@ impl NumberFormatBuilder {
     pub const fn get_exponent_base(&self) -> OptionU8
         ensures { result ≡ option_of_byte (self.now.byte layout.exponent_base) }
     {
-        NonZeroU8::new(flags::raw_exponent_base(self.word))
+        NonZeroU8::new(self.bytes[EXPONENT_BASE])
     }
 
     /// Returns the [exponent radix][Self::exponent_radix], or `None` if it is absent. In that case, the mantissa radix
@@ -41,7 +44,7 @@ impl NumberFormatBuilder {
     pub const fn get_exponent_radix(&self) -> OptionU8
         ensures { result ≡ option_of_byte (self.now.byte layout.exponent_radix) }
     {
-        NonZeroU8::new(flags::raw_exponent_radix(self.word))
+        NonZeroU8::new(self.bytes[EXPONENT_RADIX])
     }
 
     /// Returns the [base prefix][Self::base_prefix], or `None` if it is absent.
@@ -49,7 +52,7 @@ impl NumberFormatBuilder {
     pub const fn get_base_prefix(&self) -> OptionU8
         ensures { result ≡ option_of_byte (self.now.byte layout.base_prefix) }
     {
-        NonZeroU8::new(flags::base_prefix(self.word))
+        NonZeroU8::new(self.bytes[BASE_PREFIX])
     }
 
     /// Returns the [base suffix][Self::base_suffix], or `None` if it is absent.
@@ -57,7 +60,7 @@ impl NumberFormatBuilder {
     pub const fn get_base_suffix(&self) -> OptionU8
         ensures { result ≡ option_of_byte (self.now.byte layout.base_suffix) }
     {
-        NonZeroU8::new(flags::base_suffix(self.word))
+        NonZeroU8::new(self.bytes[BASE_SUFFIX])
     }
 
     /// Returns the flag that [`Self::required_integer_digits`] sets.

@@ -6,7 +6,10 @@ ghost use Rattle.lexical_flags.specs.Layout as layout;
 ghost use Rattle.lexical_builder.specs.OptionByte.{byte_of_option};
 ghost use Rattle.lexical_builder.specs.Writes.{after, write_flag, write_flags, write_byte};
 
-use super::{NumberFormatBuilder, OptionU8, byte_or_zero};
+use super::{
+    BASE_PREFIX, BASE_SUFFIX, DIGIT_SEPARATOR, EXPONENT_BASE, EXPONENT_RADIX, MANTISSA_RADIX,
+    NumberFormatBuilder, OptionU8, byte_or_zero,
+};
 use lexical_flags::format_flags as flags;
 
 impl NumberFormatBuilder {
@@ -21,7 +24,7 @@ impl NumberFormatBuilder {
     pub const fn digit_separator(self, character: OptionU8) -> Self
         ensures { result ≡ after self (write_byte layout.digit_separator (byte_of_option character) ∷ []) }
     {
-        self.with_byte(flags::DIGIT_SEPARATOR, byte_or_zero(character))
+        self.with_byte(DIGIT_SEPARATOR, byte_or_zero(character))
     }
 
     /// Sets the mantissa radix. This method is the same as [`mantissa_radix`][Self::mantissa_radix].
@@ -38,7 +41,7 @@ impl NumberFormatBuilder {
     pub const fn mantissa_radix(self, radix: u8) -> Self
         ensures { result ≡ after self (write_byte layout.mantissa_radix radix ∷ []) }
     {
-        self.with_byte(flags::MANTISSA_RADIX, radix)
+        self.with_byte(MANTISSA_RADIX, radix)
     }
 
     /// Sets the exponent base: the base that is raised to the exponent, such as the 2 in 1 × 2^3.
@@ -48,7 +51,7 @@ impl NumberFormatBuilder {
     pub const fn exponent_base(self, base: OptionU8) -> Self
         ensures { result ≡ after self (write_byte layout.exponent_base (byte_of_option base) ∷ []) }
     {
-        self.with_byte(flags::EXPONENT_BASE, byte_or_zero(base))
+        self.with_byte(EXPONENT_BASE, byte_or_zero(base))
     }
 
     /// Sets the exponent radix: the radix of the exponent digits.
@@ -57,7 +60,7 @@ impl NumberFormatBuilder {
     pub const fn exponent_radix(self, radix: OptionU8) -> Self
         ensures { result ≡ after self (write_byte layout.exponent_radix (byte_of_option radix) ∷ []) }
     {
-        self.with_byte(flags::EXPONENT_RADIX, byte_or_zero(radix))
+        self.with_byte(EXPONENT_RADIX, byte_or_zero(radix))
     }
 
     /// Sets the base prefix: the byte that may follow a leading zero to indicate the radix, such as the `x` in `0x1F`.
@@ -67,7 +70,7 @@ impl NumberFormatBuilder {
     pub const fn base_prefix(self, base_prefix: OptionU8) -> Self
         ensures { result ≡ after self (write_byte layout.base_prefix (byte_of_option base_prefix) ∷ []) }
     {
-        self.with_byte(flags::BASE_PREFIX, byte_or_zero(base_prefix))
+        self.with_byte(BASE_PREFIX, byte_or_zero(base_prefix))
     }
 
     /// Sets the base suffix: the byte that may follow the digits to indicate the radix, such as the `h` in `1Fh`.
@@ -77,7 +80,7 @@ impl NumberFormatBuilder {
     pub const fn base_suffix(self, base_suffix: OptionU8) -> Self
         ensures { result ≡ after self (write_byte layout.base_suffix (byte_of_option base_suffix) ∷ []) }
     {
-        self.with_byte(flags::BASE_SUFFIX, byte_or_zero(base_suffix))
+        self.with_byte(BASE_SUFFIX, byte_or_zero(base_suffix))
     }
 
     /// Sets whether the format requires digits before the decimal point. If so, a parser rejects `.5`.

@@ -1,19 +1,46 @@
-use Rattle.std.proofs.Common.{◌∙◌, ◌-◌, not, if◌then◌else◌, bit_and, ap, sym, subst}
-use Rattle.lexical_flags.specs.Additions.Masks.{byte_mask}
-use Rattle.lexical_flags.specs.Layout.{IsClean}
+use Rattle.std.proofs.Common.{◌≡◌, ◌∙◌, ℕ, if◌then◌else◌, ap, sym, subst, arith}
+use Rattle.std.proofs.Common.{◌*◌, ◌%◌, ◌^◌, ◌<◌, sum_by, slice_index}
+use Rattle.std.proofs.lemmas.Nat.{or_lt, shl_whole}
+use Rattle.lexical_flags.specs.Layout.{Byte, IsClean, flags}
 use Rattle.lexical_flags.specs.Layout as layout
-use Rattle.lexical_flags.specs.Record.{HasBytes, pack, raw}
-use Rattle.lexical_flags.proofs.Packing.{HasBytes-raw, raw-pack, pack-clean, pack-injective}
-use Rattle.lexical_builder.proofs.FieldMasks.{separator_dropped}
+use Rattle.lexical_flags.specs.Record.{Record, pack, trim, flag_bits, separator_allowed, raw, HasBytes}
+use Rattle.lexical_flags.proofs.Packing.{HasBytes-trim, raw-pack, pack-clean, pack-injective}
+use Rattle.lexical_flags.proofs.FlagBits.{separator_allowed-flags}
+use Rattle.lexical_builder.proofs.UpperHalf.{upper_of, upper-lt, halves_joined}
+use Rattle.lexical_builder.specs.BuilderBits.{byte_index, builder_record}
 use Rattle.lexical_builder.proofs.format_builder.NumberFormatBuilder.build_unchecked.Goals as goal
 
+pub overflow_cast-result : goal.overflow_cast-result
+overflow_cast-result c =
+    let moved : ℕ → ℕ → ℕ = λ i k. slice_index c.self.inside.bytes i * 2 ^ k % 2 ^ 64 in
+    let two = or_lt 128 (moved 1 24) (moved 2 32) (omega arith) (omega arith) in
+    let four = or_lt 128 _ c.kept_separator.result (or_lt 128 _ (moved 3 40) two (omega arith)) (omega arith) in
+    record { fits = or_lt 128 _ (moved 5 56) (or_lt 128 _ (moved 4 48) four (omega arith)) (omega arith) }
+
 pub returns-clause-bytes : goal.returns-clause-bytes
-returns-clause-bytes c = subst HasBytes c.self.view_is (HasBytes-raw c.self.inside.word)
+returns-clause-bytes c =
+    let each : (b : Byte) → (builder_record c.self.inside).byte b < 256 = λ b. grind arith in subst HasBytes c.self.view_is (record { each = each })
 
 pub returns-clause-word : goal.returns-clause-word
-returns-clause-word c = ap (λ bits. c.self.inside.word - bits) (c.bits_if.ensures
-    ∙ ap (λ allowed. if not allowed then bit_and c.self.inside.word (byte_mask layout.digit_separator) else 0)
-    c.is_separator_allowed-is_unused.ensures) ∙ separator_dropped c.self.inside.word c.self.invariant ∙ ap pack c.self.view_is
+returns-clause-word c =
+    let r : Record = builder_record c.self.inside in
+    let byte : Byte → ℕ = λ b. slice_index c.self.inside.bytes (byte_index b) in
+    let bytes : HasBytes r = record { each = λ b. grind arith } in
+    let flags_joined : c.word_flags-flags.result ≡ sum_by (flag_bits r) flags = c.word_flags-flags.ensures in
+    let kept : HasBytes (trim r) = HasBytes-trim r bytes in
+    let separator : c.kept_separator.result ≡ (trim r).byte layout.digit_separator =
+    c.kept_separator.ensures
+    ∙ ap (λ allowed. if allowed then r.byte layout.digit_separator else 0)
+    (ap (λ word. separator_allowed (raw word)) flags_joined ∙ separator_allowed-flags r) in
+    let same = ap pack c.self.view_is in
+    let joined = halves_joined r kept in
+    let prefix = shl_whole (byte layout.base_prefix) 8 24 64 (omega arith) (omega arith) in
+    let suffix = shl_whole (byte layout.base_suffix) 8 32 64 (omega arith) (omega arith) in
+    let radix = shl_whole (byte layout.mantissa_radix) 8 40 64 (omega arith) (omega arith) in
+    let exponent_base = shl_whole (byte layout.exponent_base) 8 48 64 (omega arith) (omega arith) in
+    let exponent_radix = shl_whole (byte layout.exponent_radix) 8 56 64 (omega arith) (omega arith) in
+    let upper = shl_whole (upper_of (trim r)) 64 64 128 (upper-lt (trim r) kept) (omega arith) in
+    cc
 
 pub returns-clause-fields : goal.returns-clause-fields
 returns-clause-fields c = ap raw (returns-clause-word c) ∙ raw-pack _ (returns-clause-bytes c)

@@ -1,10 +1,17 @@
-use Rattle.lexical_flags.specs.Record.{raw}
-use Rattle.lexical_flags.proofs.Packing.{HasBytes-raw}
-use Rattle.lexical_builder.proofs.FieldMasks.{fields_are, fields_alone}
+use Rattle.std.proofs.Common.{ℕ, ◌≡◌, ◌∙◌, ◌==◌, ◌/◌, ◌%◌, ◌^◌, ap, arith}
+use Rattle.lexical_flags.specs.Layout.{Flag, part, bit}
+use Rattle.lexical_flags.proofs.RecordLemmas.{record_same, bytes_same}
+use Rattle.lexical_builder.specs.BuilderBits.{builder_bit}
+use Rattle.lexical_builder.proofs.BuilderFlags.{part-flags_in, part-upper}
 use Rattle.lexical_builder.proofs.format_builder.NumberFormatBuilder.from_word.Goals as goal
 
 pub returns : goal.returns
-returns c = (fields_are _ (raw c.args.word) (HasBytes-raw c.args.word) (fields_alone c.args.word)).0
-
-pub invariant_of-result : goal.invariant_of-result
-invariant_of-result c = (fields_are _ (raw c.args.word) (HasBytes-raw c.args.word) (fields_alone c.args.word)).1
+returns c =
+    let word : ℕ = c.args.word in
+    let upper : ℕ = word / 2 ^ 64 in
+    let first : upper % 256 ≡ part upper 0 8 = omega arith in
+    let last : upper / 2 ^ 56 ≡ part upper 56 8 = omega arith in
+    let flag : (f : Flag) → part c.builder_flags.result (builder_bit f) 1 ≡ part word (bit f) 1 =
+    λ f. ap (λ n. part n (builder_bit f) 1) c.builder_flags.ensures ∙ part-flags_in word f in
+    record_same _ _ (λ f i. flag f i == 1) (bytes_same _ _ (first ∙ part-upper word 0) (part-upper word 24)
+    (part-upper word 32) (part-upper word 40) (part-upper word 48) (last ∙ part-upper word 56))

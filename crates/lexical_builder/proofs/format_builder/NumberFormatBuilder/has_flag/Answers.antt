@@ -1,9 +1,17 @@
-use Rattle.std.proofs.Common.{◌∙◌, ◌==◌, not, ap, sym, bit_and}
-use Rattle.lexical_flags.specs.Layout.{Flag, bit}
+use Rattle.std.proofs.Common.{◌∙◌, ◌≡◌, ◌==◌, ◌^◌, ℕ, not, ap, sym, bit_and}
+use Rattle.lexical_flags.specs.Layout.{Flag}
 use Rattle.lexical_flags.specs.Record.{Record}
 use Rattle.lexical_flags.proofs.FlagBits.{flag_test}
+use Rattle.lexical_builder.specs.BuilderBits.{builder_bit}
+use Rattle.lexical_builder.specs.Private.{flags_in}
+use Rattle.lexical_builder.proofs.BuilderFlags.{flags_in-mask}
 use Rattle.lexical_builder.proofs.format_builder.NumberFormatBuilder.has_flag.Goals as goal
 
 pub returns : goal.returns
-returns c = λ (f : Flag) alone. ap (λ mask. not (bit_and c.self.inside.word mask == 0)) (sym alone)
-    ∙ flag_test c.self.inside.word (bit f) ∙ ap (λ (r : Record). r.flag f) c.self.view_is
+returns c = λ (f : Flag) alone.
+    let held : ℕ = c.self.inside.flags in
+    let mask : c.builder_flags.result ≡ 2 ^ builder_bit f = c.builder_flags.ensures ∙ ap flags_in (sym alone)
+    ∙ flags_in-mask f in
+    ap (λ m. not (bit_and held m == 0)) mask
+    ∙ flag_test held (builder_bit f)
+    ∙ ap (λ (r : Record). r.flag f) c.self.view_is

@@ -1,22 +1,22 @@
-use Rattle.std.proofs.Common.{◌∙◌, ap, sym, subst, ◌<◌, ◌^◌}
-use Rattle.lexical_flags.specs.Record.{Record, raw}
-use Rattle.lexical_flags.proofs.Packing.{HasBytes-raw, word_of-lt}
+use Rattle.std.proofs.Common.{arith, ◌∙◌, ◌≡◌, ap, sym, ◌==◌, if◌then◌else◌, length}
+use Rattle.lexical_flags.specs.Layout.{Flag, part, bit, flags}
+use Rattle.lexical_flags.specs.Record.{Record}
+use Rattle.lexical_flags.proofs.RecordLemmas.{record_same}
+use Rattle.lexical_builder.specs.BuilderBits.{builder_bit, builder_record}
 use Rattle.lexical_builder.specs.Writes.{after, flags_with, write_flags}
-use Rattle.lexical_builder.proofs.FieldMasks.{fields_are, flags_changed, HasBytes-flags}
+use Rattle.lexical_builder.proofs.BuilderFlags.{builder_bit-lt, part-flags_in}
+use Rattle.lexical_builder.proofs.WriteLemmas.{after-mask, after-mask_byte}
 use Rattle.lexical_builder.proofs.format_builder.NumberFormatBuilder.with_flags.Goals as goal
-
-pub overflow_add-self : goal.overflow_add-self
-overflow_add-self c =
-    let is = flags_changed c.self.inside.word c.args.mask c.args.value c.bits_if.ensures c.self.invariant in
-    record { fits = subst (λ n. n < 2 ^ 128) (sym is) (word_of-lt _ (HasBytes-flags _ _ _ (HasBytes-raw _))) }
-
-pub invariant_of-self : goal.invariant_of-self
-invariant_of-self c =
-    let is = flags_changed c.self.inside.word c.args.mask c.args.value c.bits_if.ensures c.self.invariant in
-    (fields_are _ _ (HasBytes-flags _ _ _ (HasBytes-raw _)) is).1
 
 pub returns : goal.returns
 returns c =
-    let is = flags_changed c.self.inside.word c.args.mask c.args.value c.bits_if.ensures c.self.invariant in
-    (fields_are _ _ (HasBytes-flags (raw c.self.inside.word) (flags_with c.args.mask) c.args.value (HasBytes-raw _)) is).0
-    ∙ ap (λ (r : Record). after r (write_flags (flags_with c.args.mask) c.args.value)) c.self.view_is
+    let r : Record = builder_record c.self.inside in
+    let in_mask : (f : Flag) → part c.builder_flags.result (builder_bit f) 1 ≡ part c.args.mask (bit f) 1 =
+    λ f. ap (λ n. part n (builder_bit f) 1) c.builder_flags.ensures ∙ part-flags_in c.args.mask f in
+    record_same _ _ (λ f. c.replace_bits.ensures.each (builder_bit f) (omega (arith, builder_bit-lt f))
+    ∙ (λ i. if in_mask f i == 1 then c.args.value else r.flag f) ∙ sym (after-mask r c.args.mask c.args.value f))
+    (λ b. sym (after-mask_byte r (flags_with c.args.mask) c.args.value b))
+    ∙ ap (λ (s : Record). after s (write_flags (flags_with c.args.mask) c.args.value)) c.self.view_is
+
+pub invariant_of-self : goal.invariant_of-self
+invariant_of-self c = c.replace_bits.ensures.below (length flags) c.self.invariant (omega arith)
