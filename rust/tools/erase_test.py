@@ -89,10 +89,7 @@ def differing():
     for made in sorted(it for folder in {folder for folder, *_ in erase.PLACES.values()} for it in (erase.RUST / folder).rglob("*.rs")):
         if source := re.match(rf"{erase.MADE} from crates/((\w+)/src/\S+): ", made.read_text()):
             path = erase.CRATES / source[1]
-            text = path.read_text()
-            for old, new in [row[1:] for row in erase.REPLACED if path.match(row[0])] + erase.EVERYWHERE:
-                text = text.replace(old, new)
-            words = plain(words_of(erase.renamed(text, *erase.PLACES[source[2]][1:])))
+            words = plain(words_of(erase.renamed(erase.replaced(path), *erase.PLACES[source[2]][1:])))
             if normal(words) != normal(words_of(made.read_text())):
                 yield str(made.relative_to(erase.RUST))
 
