@@ -11,7 +11,7 @@ use Rattle.lexical_literal.specs.Additions.Summary.{Cuts, byte_class, in_part, s
 use Rattle.lexical_literal.specs.Additions.Summary.{tally, count, start, no_cuts, HasLengths}
 use Rattle.lexical_literal.specs.Front.{IsFront, IsValidUpTo, NoLiteral, ReadsFront}
 use Rattle.lexical_literal.specs.Additions.Longest.{IsCountedFront, IsFronted, IsLongest, IsScanned, IsStopped}
-use Rattle.lexical_literal.specs.Additions.Causes.{allows, class_of_next}
+use Rattle.lexical_literal.specs.Additions.Causes.{lets}
 use Rattle.lexical_literal.specs.Additions.Tables as tables
 use Rattle.lexical_literal.specs.declared.read.Found.{Found}
 use Rattle.lexical_literal.specs.declared.read.Stop.{Stop}
@@ -69,11 +69,10 @@ module _ (m : Notation) (text : List ℕ) where
       none_whole l reads = let all = all_right l reads in is.incomplete (partial (omega (arith, all, is.valid.within))) l (whole_front l reads)
 
       -- It does not allow what follows.
-      pub refused_there : allows m (tables.summary_at stop.row) (class_of_next m (slice_get text stop.size)) ≡ false
+      pub refused_there : lets m (tables.summary_at stop.row) (slice_get text stop.size) ≡ false
       refused_there = elim (cases_lt stop.size (length text)) [
         | inl short ↦ is.refused short
-        | inr long ↦ ap (λ next. allows m (tables.summary_at stop.row) (class_of_next m next)) (slice_get_past text stop.size long)
-            ∙ partial (omega (arith, is.valid.within))
+        | inr long ↦ ap (lets m (tables.summary_at stop.row)) (slice_get_past text stop.size long) ∙ partial (omega (arith, is.valid.within))
       ]
 
   -- The longest front that is a literal.
@@ -155,7 +154,7 @@ module _ (m : Notation) (ready : IsReady m) (text : List ℕ) where
 
     -- What the loop has found where it is left.
     pub is_scanned : (row : ℕ) (counts : List ℕ) → row < ROWS → s ≡ tables.summary_at row → c ≡ tables.cuts_of counts → IsValidUpTo m text i
-        → (i < length text → allows m (tables.summary_at row) (class_of_next m (slice_get text i)) ≡ false)
+        → (i < length text → lets m (tables.summary_at row) (slice_get text i) ≡ false)
         → IsScanned m seeks text (record { stop = record { size = i; row = row }; literal = longest; counts = counts })
     is_scanned row counts small at lengths wrong refused = let read = has.read ∙ ap Some at in record {
       stop = record {

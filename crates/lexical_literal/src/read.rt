@@ -4,7 +4,7 @@ ghost use Rattle.std.specs.Prelude.{◌≡◌, ◌++◌, ◌∷◌, ◌&&◌, �
 ghost use Rattle.lexical_literal.specs.Additions.Explained.{tail_byte, tail_size};
 ghost use Rattle.lexical_literal.specs.Additions.Longest.{IsCountedFront, IsFronted, IsGrouped, IsMeasured, IsScanned, IsStopped};
 ghost use Rattle.lexical_literal.specs.Additions.Summary.{HasLengths, is_complete};
-ghost use Rattle.lexical_literal.specs.Additions.Causes.{allows, class_of_next};
+ghost use Rattle.lexical_literal.specs.Additions.Causes.{lets};
 ghost use Rattle.lexical_literal.specs.Additions.Tables.{cuts_of, summary_at};
 ghost use Rattle.lexical_literal.specs.Cause.{IsRefusal};
 ghost use Rattle.lexical_literal.specs.Literal.{Literal, Reads, text_of};
@@ -261,7 +261,7 @@ impl Reader {
     #[cold]
     const fn refuse_byte(&self, text: &[u8], stop: Stop) -> ReadError
         requires stopped { IsStopped (notation_of self.now) text.now stop }
-        requires refused { allows (notation_of self.now) (summary_at stop.row) (class_of_next (notation_of self.now) (slice_get text.now stop.size)) ≡ false }
+        requires refused { lets (notation_of self.now) (summary_at stop.row) (slice_get text.now stop.size) ≡ false }
         ensures { IsRefusal (notation_of self.now) text.now result.refusal }
     {
         role_facts();

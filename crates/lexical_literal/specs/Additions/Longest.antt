@@ -7,7 +7,7 @@ use Rattle.lexical_literal.specs.declared.syntax.Grammar.{Grammar}
 use Rattle.lexical_literal.specs.Literal.{Literal, Reads}
 use Rattle.lexical_literal.specs.Cause.{Explained}
 use Rattle.lexical_literal.specs.Front.{IsValidUpTo, NoLiteral, ReadsFront}
-use Rattle.lexical_literal.specs.Additions.Causes.{allows, class_of_next}
+use Rattle.lexical_literal.specs.Additions.Causes.{lets}
 use Rattle.lexical_literal.specs.Additions.Summary.{HasLengths, is_complete, scan, start}
 use Rattle.lexical_literal.specs.Additions.Tables.{cuts_of, summary_at}
 use Rattle.lexical_literal.specs.declared.read.Found.{Found}
@@ -27,7 +27,7 @@ pub record IsStopped (m : Notation) (text : List ℕ) (stop : Stop) : Type 0 whe
   pub valid : IsValidUpTo m text stop.size
   pub row : stop.row < ROWS
   pub read : scan m (Some start) (take stop.size text) ≡ Some (summary_at stop.row)
-  pub refused : stop.size < length text → allows m (summary_at stop.row) (class_of_next m (slice_get text stop.size)) ≡ false
+  pub refused : stop.size < length text → lets m (summary_at stop.row) (slice_get text stop.size) ≡ false
   pub complete : is_complete m (summary_at stop.row) ≡ true → (l : Literal) × Reads m l (take stop.size text)
   pub incomplete : is_complete m (summary_at stop.row) ≡ false → NoLiteral m (take stop.size text)
 
