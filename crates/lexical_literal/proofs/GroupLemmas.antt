@@ -14,6 +14,9 @@ use Rattle.lexical_literal.specs.Groups.{are_groups, begins_in, group_begins, gr
 use Rattle.lexical_literal.specs.Literal.{Literal, Reads}
 use Rattle.lexical_literal.specs.Notation.{notation_of}
 use Rattle.lexical_literal.specs.Takes.{Refuses}
+use Rattle.lexical_literal.specs.Additions.Longest.{IsMeasured}
+use Rattle.lexical_literal.specs.Additions.Summary.{HasLengths}
+use Rattle.lexical_literal.specs.Additions.Tables.{cuts_of}
 use Rattle.lexical_literal.specs.declared.syntax.Grammar.{Grammar}
 
 module _ (S : ByteSet) (size : ℕ) where
@@ -140,6 +143,17 @@ not_grouped g text l reads refuses size required = false_from_ne_true _ (λ grou
   reads = reads;
   groups = subst (λ o. has_groups (notation_of g).separator o l.integer ≡ true) (sym required) grouped;
 }))
+
+-- Groups decide whether the syntax takes a literal of its notation.
+pub measured : (g : Grammar) (text counts : List ℕ) (is : Bool) → (l : Literal) × Reads (notation_of g) l text
+    → ((l : Literal) → Reads (notation_of g) l text → HasLengths l (cuts_of counts))
+    → ((l : Literal) → Reads (notation_of g) l text → has_groups (notation_of g).separator g.conditions.integer_group_size l.integer ≡ is)
+    → IsMeasured g text counts is
+measured g text counts is l counted same = record {
+  takes = λ yes. (l.0, record { reads = l.1; groups = same l.0 l.1 ∙ yes });
+  refuses = λ no k takes. false≢true (sym no ∙ sym (same k takes.reads) ∙ takes.groups);
+  counted = λ k takes. counted k takes.reads;
+}
 
 -- `NoneFrom S bytes start end` holds if no byte from the index `start` to `end` is in `S`.
 abbrev pub NoneFrom : ByteSet → List ℕ → ℕ → ℕ → Type 0

@@ -2,18 +2,20 @@
 use Rattle.std.proofs.Common.{ℕ, Bool, IsTrue, ◌&&◌, Option, if◌then◌else◌, ◌≡◌, ◌<◌, ◌≤◌, ◌+◌, inl, inr, true, false, List, [], ◌∷◌, ◌++◌}
 use Rattle.std.proofs.Common.{length, get_or, take, drop, Some, None, refl, sym, ap, subst, append_assoc, append-nil, take-append-drop, ◌∙◌, arith}
 use Rattle.std.specs.Prelude.{slice_get}
-use Rattle.std.proofs.lemmas.Bool.{false≢true, false_from_ne_true, cases_lt}
+use Rattle.std.proofs.lemmas.Bool.{false≢true, cases_lt}
 use Rattle.std.proofs.lemmas.Option.{slice_get_past}
 use Rattle.std.proofs.lemmas.List.{take-take, take_more, take_all}
-use Rattle.lexical_literal.specs.Notation.{Notation}
+use Rattle.lexical_literal.specs.Notation.{Notation, notation_of}
 use Rattle.lexical_literal.specs.Literal.{Literal, IsLiteral, Reads}
 use Rattle.lexical_literal.specs.Additions.Summary.{Cuts, byte_class, in_part, scan, step, is_accepted, is_complete}
 use Rattle.lexical_literal.specs.Additions.Summary.{tally, count, start, no_cuts, HasLengths}
 use Rattle.lexical_literal.specs.Front.{IsFront, IsValidUpTo, NoLiteral, ReadsFront}
-use Rattle.lexical_literal.specs.Additions.Longest.{IsLongest, IsRefusedAt, IsScanned}
-use Rattle.lexical_literal.specs.Additions.Causes.{allows, class_of_next}
+use Rattle.lexical_literal.specs.Additions.Longest.{IsCountedFront, IsFronted, IsLongest, IsScanned, IsStopped}
+use Rattle.lexical_literal.specs.Additions.Causes.{lets}
 use Rattle.lexical_literal.specs.Additions.Tables as tables
-use Rattle.lexical_literal.specs.declared.read.Scanned.{Scanned}
+use Rattle.lexical_literal.specs.declared.read.Found.{Found}
+use Rattle.lexical_literal.specs.declared.read.Stop.{Stop}
+use Rattle.lexical_literal.specs.declared.syntax.Grammar.{Grammar}
 use Rattle.lexical_literal.specs.declared.steps.Summary.{Summary}
 use Rattle.lexical_literal.specs.declared.tables.TheConstants.{ROWS}
 use Rattle.lexical_literal.proofs.ScanLemmas.{IsReady, scan_append, tally_append}
@@ -48,67 +50,50 @@ module _ (m : Notation) (text : List ℕ) where
       record { more = []; literal = l; reads = record { whole = append-nil (take more text) ∙ reads.whole; literal = reads.literal } } in
       let longer = λ (past : n < more). wrong.no_longer more past within front in grind arith
 
-  module _ (seeks : Bool) (scanned : Scanned) (is : IsScanned m seeks text scanned) where
-    -- If the front that was read is all of the text and a literal, then its parts have been counted.
-    pub whole_literal : scanned.valid_up_to ≡ length text → is_complete m (tables.summary_at scanned.row) ≡ true → (l : Literal) × Reads m l text
-    whole_literal all complete = let l = is.complete complete in (l.0, subst (Reads m l.0) (take_all scanned.valid_up_to text (omega (arith, all))) l.1)
+  module _ (stop : Stop) (is : IsStopped m text stop) where
+    -- If reading stopped at the end of the text and what was read is a literal, then the text is one.
+    pub whole_literal : stop.size ≡ length text → is_complete m (tables.summary_at stop.row) ≡ true → (l : Literal) × Reads m l text
+    whole_literal all complete = let l = is.complete complete in (l.0, subst (Reads m l.0) (take_all stop.size text (omega (arith, all))) l.1)
 
-    all_right : (l : Literal) → Reads m l text → length text ≤ scanned.valid_up_to
-    all_right l reads = no_longer_than scanned.valid_up_to is.error (length text) (omega arith) l
-        (subst (Reads m l) (sym (take_all (length text) text (omega arith))) reads)
+    -- If the text is a literal, then reading stopped at its end.
+    all_right : (l : Literal) → Reads m l text → length text ≤ stop.size
+    all_right l reads =
+        no_longer_than stop.size is.valid (length text) (omega arith) l (subst (Reads m l) (sym (take_all (length text) text (omega arith))) reads)
 
-    whole_front : (l : Literal) → Reads m l text → Reads m l (take scanned.valid_up_to text)
-    whole_front l reads = subst (Reads m l) (sym (take_all scanned.valid_up_to text (all_right l reads))) reads
+    pub whole_front : (l : Literal) → Reads m l text → Reads m l (take stop.size text)
+    whole_front l reads = subst (Reads m l) (sym (take_all stop.size text (all_right l reads))) reads
 
-    pub whole_counted : (l : Literal) → Reads m l text → HasLengths l (tables.cuts_of scanned.counts)
-    whole_counted l reads = is.counted l (whole_front l reads)
+    module _ (partial : stop.size ≡ length text → is_complete m (tables.summary_at stop.row) ≡ false) where
+      -- If what was read is not all of the text, or not a literal, then the text is not a literal.
+      pub none_whole : NoLiteral m text
+      none_whole l reads = let all = all_right l reads in is.incomplete (partial (omega (arith, all, is.valid.within))) l (whole_front l reads)
 
-    allows_end : length text ≤ scanned.valid_up_to
-        → allows m (tables.summary_at scanned.row) (class_of_next m (slice_get text scanned.valid_up_to)) ≡ is_complete m (tables.summary_at scanned.row)
-    allows_end long = ap (λ next. allows m (tables.summary_at scanned.row) (class_of_next m next)) (slice_get_past text scanned.valid_up_to long)
+      -- It does not allow what follows.
+      pub refused_there : lets m (tables.summary_at stop.row) (slice_get text stop.size) ≡ false
+      refused_there = elim (cases_lt stop.size (length text)) [
+        | inl short ↦ is.refused short
+        | inr long ↦ ap (lets m (tables.summary_at stop.row)) (slice_get_past text stop.size long) ∙ partial (omega (arith, is.valid.within))
+      ]
 
-    -- A front that is not all of the text, or not a literal, does not allow what follows.
-    refused_there : (scanned.valid_up_to ≡ length text → is_complete m (tables.summary_at scanned.row) ≡ false)
-        → allows m (tables.summary_at scanned.row) (class_of_next m (slice_get text scanned.valid_up_to)) ≡ false
-    refused_there partial = elim (cases_lt scanned.valid_up_to (length text)) [
-      | inl short ↦ is.refused short
-      | inr long ↦ allows_end long ∙ partial (omega (arith, is.error.within))
-    ]
+  -- The longest front that is a literal.
+  pub front_literal : (literal : Option ℕ) → IsLongest m text (length text) literal → (size : ℕ) → literal ≡ Some size → (l : Literal) × ReadsFront m l text size
+  front_literal literal longest size found = let l = longest.found size found in (
+    l.1,
+    record {
+      within = l.0;
+      reads = l.2;
+      no_longer = λ more past below. longest.no_longer more below (λ other same. let equal : size ≡ other = cc in subst (λ n. n < more) equal past);
+    },
+  )
 
-    -- Reading stops at the end of the text, unless the text is a literal, or before.
-    pub stops : (scanned.valid_up_to ≡ length text → is_complete m (tables.summary_at scanned.row) ≡ false) → IsRefusedAt m text scanned
-    stops partial = record { seeks = seeks; is = is; refused = refused_there partial }
-
-    -- If the text is a literal, then reading stops at its end.
-    pub whole_all : (l : Literal) → Reads m l text → scanned.valid_up_to ≡ length text
-    whole_all l reads = let all = all_right l reads in omega (arith, all, is.error.within)
-
-    -- If the front does not allow what follows, then the text is not a literal.
-    pub none_whole : allows m (tables.summary_at scanned.row) (class_of_next m (slice_get text scanned.valid_up_to)) ≡ false → NoLiteral m text
-    none_whole refused l reads = is.incomplete (sym (allows_end (all_right l reads)) ∙ refused) l (whole_front l reads)
-
-  module _ (scanned : Scanned) (is : IsScanned m true text scanned) where
-    -- The longest front that is a literal, and its parts, which have been counted if it is all that was read.
-    pub front_literal : (size : ℕ) → scanned.literal ≡ Some size → (l : Literal) × ReadsFront m l text size
-    front_literal size found = let l = (is.longest refl).found size found in (
-      l.1,
-      record {
-        within = l.0;
-        reads = l.2;
-        no_longer = λ more past below. (is.longest refl).no_longer more below (λ other same. let equal : size ≡ other = cc in subst (λ n. n < more) equal past);
-      },
-    )
-
-    pub front_counted : (size : ℕ) → size ≡ scanned.valid_up_to → (l : Literal) → Reads m l (take size text) → HasLengths l (tables.cuts_of scanned.counts)
-    front_counted size right l reads = is.counted l (subst (λ n. Reads m l (take n text)) right reads)
-
-    module _ (none : (size : ℕ) → scanned.literal ≡ Some size → ⊥) where
-      -- If none was found, no front is a literal.
-      pub no_front : (size : ℕ) → size ≤ length text → NoLiteral m (take size text)
-      no_front size below = (is.longest refl).no_longer size below (λ other same. absurd (none other same))
-
-      pub not_whole : scanned.valid_up_to ≡ length text → is_complete m (tables.summary_at scanned.row) ≡ false
-      not_whole all = false_from_ne_true _ (λ complete. let l = is.complete complete in no_front scanned.valid_up_to is.error.within l.0 l.1)
+-- What a pass finds that seeks the longest front.
+pub fronted : (g : Grammar) (text : List ℕ) (stop : Stop) (found : Found) → IsStopped (notation_of g) text stop
+    → IsCountedFront (notation_of g) text found → IsFronted g text stop (Some found)
+fronted g text stop found reached is = record {
+  reached = reached;
+  longest = λ other same. let equal : found ≡ other = cc in subst (IsCountedFront (notation_of g) text) equal is;
+  none = λ none. absurd (false≢true (sym none));
+}
 
 module _ (m : Notation) (ready : IsReady m) (text : List ℕ) where
   accepted : (n : ℕ) (l : Literal) → Reads m l (take n text) → is_accepted m (scan m (Some start) (take n text)) ≡ true
@@ -169,15 +154,17 @@ module _ (m : Notation) (ready : IsReady m) (text : List ℕ) where
 
     -- What the loop has found where it is left.
     pub is_scanned : (row : ℕ) (counts : List ℕ) → row < ROWS → s ≡ tables.summary_at row → c ≡ tables.cuts_of counts → IsValidUpTo m text i
-        → (i < length text → allows m (tables.summary_at row) (class_of_next m (slice_get text i)) ≡ false)
-        → IsScanned m seeks text (record { valid_up_to = i; row = row; literal = longest; counts = counts })
+        → (i < length text → lets m (tables.summary_at row) (slice_get text i) ≡ false)
+        → IsScanned m seeks text (record { stop = record { size = i; row = row }; literal = longest; counts = counts })
     is_scanned row counts small at lengths wrong refused = let read = has.read ∙ ap Some at in record {
-      error = wrong;
-      row = small;
-      read = read;
-      refused = refused;
-      complete = λ complete. literal_from m ready.roles (take i text) (ap (is_accepted m) read ∙ complete);
-      incomplete = λ incomplete l reads. false≢true (sym incomplete ∙ ap (is_accepted m) (sym read) ∙ accepted i l reads);
+      stop = record {
+        valid = wrong;
+        row = small;
+        read = read;
+        refused = refused;
+        complete = λ complete. literal_from m ready.roles (take i text) (ap (is_accepted m) read ∙ complete);
+        incomplete = λ incomplete l reads. false≢true (sym incomplete ∙ ap (is_accepted m) (sym read) ∙ accepted i l reads);
+      };
       longest = λ sought. record {
         found = λ size is. let old = (has.longest_is sought).found size is in (omega (arith, old.0, has.within), old.1, old.2);
         no_longer = λ more within past l reads. (has.longest_is sought).no_longer more (no_longer_than m text i wrong more within l reads) past l reads;

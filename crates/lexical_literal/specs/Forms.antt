@@ -23,7 +23,8 @@ pub record IsGreatest (P : Grammar → ℕ → Type 0) (forms : List Grammar) (f
   pub before : All (λ g. (other : ℕ) → P g other → other < size) (take form forms)
   pub others : All (λ g. (other : ℕ) → P g other → other ≤ size) forms
 
--- `GoesTo text g size` holds if some literal of the form `g` begins with the first `size` bytes of `text`, and none with more.
+-- `GoesTo text g size` holds if some literal of the form `g`, apart from its groups, begins with the first `size` bytes of
+-- `text`, and none with more.
 abbrev pub GoesTo : List ℕ → Grammar → ℕ → Type 0
 GoesTo text g size = IsValidUpTo (notation_of g) text size
 

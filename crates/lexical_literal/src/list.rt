@@ -1,11 +1,12 @@
 //! Lists of readers: the numbers of a language that has several forms, such as `10`, `0x1F` and `0b1`.
 
-ghost use Rattle.std.specs.Prelude.{◌≡◌, ◌<◌, All, IsSomeAnd, SomeIff, length, slice_get};
-ghost use Rattle.lexical_literal.specs.Additions.Forms.{IsFoundForm, IsFoundFrontForm, IsGroupedForm, IsReadFront, further, longer};
-ghost use Rattle.lexical_literal.specs.Takes.{IsError, Refuses};
+ghost use Rattle.std.specs.Prelude.{◌≡◌, ◌<◌, All, SomeIff, length};
+ghost use Rattle.lexical_literal.specs.Additions.Forms.{IsFoundForm, IsFoundFrontForm, IsFurthestForm, IsLongestForm, further, longer};
+ghost use Rattle.lexical_literal.specs.Forms.{IsFormError};
+ghost use Rattle.lexical_literal.specs.Takes.{Refuses};
 
 use crate::cause::ReadError;
-use crate::read::{Found, Reader};
+use crate::read::{Found, Reader, Stop};
 use std::marker::Model;
 
 /// The readers of the forms of numbers, at least one. The first form that takes a text decides what number it is.
@@ -34,13 +35,6 @@ pub struct FormError {
     pub error: ReadError,
 }
 
-// How far a form goes in a text: the index of the form, and a number of bytes.
-#[derive(Clone, Copy)]
-struct Reach {
-    form: usize,
-    size: usize,
-}
-
 impl<'a> ReaderList<'a> {
     /// Returns the list of `readers`, or `None` if there are none.
     #[must_use]
@@ -67,16 +61,19 @@ impl<'a> ReaderList<'a> {
     pub(crate) fn find(&self, text: &[u8]) -> Result<(usize, [usize; 9]), FormError>
         ensures { IsFoundForm self.now text.now result }
     {
-        let mut furthest = Reach { form: 0, size: 0 };
+        let mut furthest = None;
         let mut form = 0;
         while form < self.readers.len() {
-            match self.readers[form].lengths(text) {
-                Ok(counts) => return Ok((form, counts)),
-                Err(stopped) => furthest = further(furthest, form, stopped.valid_up_to),
+            let reader = &self.readers[form];
+            let scanned = reader.scan(text, false);
+            if reader.takes(text, scanned) {
+                let counts = scanned.counts;
+                return Ok((form, counts));
             }
+            furthest = further(furthest, form, scanned.stop);
             form += 1;
         }
-        Err(self.refuse(text, furthest.form))
+        Err(self.refuse(text, furthest))
     }
 
     // Returns the longest front of `text` that is a literal of a form, with the index of the form, the first of equals, or
@@ -84,42 +81,42 @@ impl<'a> ReaderList<'a> {
     pub(crate) fn find_front(&self, text: &[u8]) -> Result<(usize, Found), FormError>
         ensures { IsFoundFrontForm self.now text.now result }
     {
-        let mut furthest = Reach { form: 0, size: 0 };
+        let mut furthest = None;
         let mut longest = None;
         let mut form = 0;
         while form < self.readers.len() {
-            match self.readers[form].front(text) {
-                Ok(found) => longest = longer(longest, form, found),
-                Err(stopped) => furthest = further(furthest, form, stopped.valid_up_to),
-            }
+            let (stop, found) = self.readers[form].front(text);
+            furthest = further(furthest, form, stop);
+            longest = longer(longest, form, found);
             form += 1;
         }
         match longest {
             Some((form, found)) => self.grouped(text, form, found),
-            None => Err(self.refuse(text, furthest.form)),
+            None => Err(self.refuse(text, furthest)),
         }
     }
 
     // Returns the front `found` of a form, or why its integer is not in groups.
     fn grouped(&self, text: &[u8], form: usize, found: Found) -> Result<(usize, Found), FormError>
-        requires within { form < length self.now }
-        requires read { IsReadFront self.now text.now form found }
-        ensures { IsGroupedForm self.now text.now form found result }
+        requires { IsLongestForm self.now text.now form found }
+        ensures { IsFoundFrontForm self.now text.now result }
     {
         match self.readers()[form].grouped(text, found) {
-            Ok(found) => Ok((form, found)),
+            Ok(()) => Ok((form, found)),
             Err(error) => Err(FormError { form, error }),
         }
     }
 
-    // Returns why `text` is not a literal of a form.
-    fn refuse(&self, text: &[u8], form: usize) -> FormError
-        requires within { form < length self.now }
+    // Returns why `text` is not a literal of the form that goes furthest.
+    fn refuse(&self, text: &[u8], furthest: Option<(usize, Stop)>) -> FormError
+        requires furthest { IsFurthestForm self.now text.now furthest }
         requires none { All (λ g. Refuses g text.now) self.now }
-        ensures form { result.form ≡ form }
-        ensures refusal { IsSomeAnd (slice_get self.now form) (λ g. IsError g text.now result.error.refusal) }
+        ensures { IsFormError self.now text.now result }
     {
-        let error = self.readers()[form].explain(text);
+        let Some((form, stop)) = furthest else {
+            unreachable!()
+        };
+        let error = self.readers()[form].refuse(text, stop);
         FormError { form, error }
     }
 }
@@ -129,24 +126,24 @@ impl<'a> ReaderList<'a> {
 const fn longer(
     longest: Option<(usize, Found)>,
     form: usize,
-    found: Found,
+    found: Option<Found>,
 ) -> Option<(usize, Found)>
     ensures { result ≡ longer longest form found }
 {
-    match longest {
-        Some((_, best)) if best.size >= found.size => longest,
-        _ => Some((form, found)),
+    match (longest, found) {
+        (_, None) => longest,
+        (Some((_, best)), Some(found)) if best.size >= found.size => longest,
+        (_, Some(found)) => Some((form, found)),
     }
 }
 
 // Returns which of two forms goes further, the first of equals.
 #[inline(always)]
-const fn further(furthest: Reach, form: usize, size: usize) -> Reach
-    ensures { result ≡ further furthest form size }
+const fn further(furthest: Option<(usize, Stop)>, form: usize, stop: Stop) -> Option<(usize, Stop)>
+    ensures { result ≡ further furthest form stop }
 {
-    if size > furthest.size {
-        Reach { form, size }
-    } else {
-        furthest
+    match furthest {
+        Some((_, best)) if best.size >= stop.size => furthest,
+        _ => Some((form, stop)),
     }
 }

@@ -25,9 +25,11 @@ impl Reader {
     pub fn read<'a>(&self, text: &'a [u8]) -> Result<Parts<'a>, ReadError>
         ensures { IsRead self.now text.now result }
     {
-        match self.find(text) {
-            Ok(counts) => Ok(cut(text, counts)),
-            Err(error) => Err(error),
+        let scanned = self.scan(text, false);
+        if self.takes(text, scanned) {
+            Ok(cut(text, scanned.counts))
+        } else {
+            Err(self.refuse(text, scanned.stop))
         }
     }
 
@@ -41,13 +43,17 @@ impl Reader {
     pub fn read_prefix<'a>(&self, text: &'a [u8]) -> Result<Front<'a>, ReadError>
         ensures { IsReadPrefix self.now text.now result }
     {
-        match self.find_front(text) {
-            Ok(found) => {
-                let Found { size, counts } = found;
-                let parts = cut(front_of(text, size), counts);
-                Ok(Front { parts, size })
-            }
-            Err(error) => Err(error),
+        let (stop, found) = self.front(text);
+        match found {
+            None => Err(self.refuse(text, stop)),
+            Some(found) => match self.grouped(text, found) {
+                Ok(()) => {
+                    let Found { size, counts } = found;
+                    let parts = cut(front_of(text, size), counts);
+                    Ok(Front { parts, size })
+                }
+                Err(error) => Err(error),
+            },
         }
     }
 }

@@ -2,12 +2,11 @@
 
 ghost use Rattle.std.specs.Prelude.{◌≡◌, ◌++◌, ◌∷◌, ◌&&◌, ◌<◌, ◌≤◌, Bool, ℕ, List, [], false, length, slice_get, take};
 ghost use Rattle.lexical_literal.specs.Additions.Explained.{tail_byte, tail_size};
-ghost use Rattle.lexical_literal.specs.Additions.Longest.{HasParts, HasStopped, IsCountedFront, IsFound, IsFoundFront, IsGrouped, IsMeasured};
-ghost use Rattle.lexical_literal.specs.Additions.Longest.{IsMeasuredFront, IsRefusedAt, IsScanned};
+ghost use Rattle.lexical_literal.specs.Additions.Longest.{IsCountedFront, IsFronted, IsGrouped, IsMeasured, IsScanned, IsStopped};
 ghost use Rattle.lexical_literal.specs.Additions.Summary.{HasLengths, is_complete};
+ghost use Rattle.lexical_literal.specs.Additions.Causes.{lets};
 ghost use Rattle.lexical_literal.specs.Additions.Tables.{cuts_of, summary_at};
 ghost use Rattle.lexical_literal.specs.Cause.{IsRefusal};
-ghost use Rattle.lexical_literal.specs.Groups.{has_groups};
 ghost use Rattle.lexical_literal.specs.Literal.{Literal, Reads, text_of};
 ghost use Rattle.lexical_literal.specs.Notation.{notation_of};
 ghost use Rattle.lexical_literal.specs.Parts.{literal_of};
@@ -94,81 +93,25 @@ impl Reader {
         self.syntax
     }
 
-    // Returns the lengths of the parts of the literal `text`, or why it is not one.
+    // Returns whether `text` is a literal, of which a pass has found `scanned`.
     #[inline(always)]
-    pub(crate) fn find(&self, text: &[u8]) -> Result<[usize; 9], ReadError>
-        ensures { IsFound self.now text.now result }
+    pub(crate) fn takes(&self, text: &[u8], scanned: Scanned) -> bool
+        requires { IsScanned (notation_of self.now) false text.now scanned }
+        ensures { IsMeasured self.now text.now scanned.counts result }
     {
-        match self.lengths(text) {
-            Ok(counts) => Ok(counts),
-            Err(stopped) => Err(self.refuse(text, stopped)),
-        }
-    }
-
-    // Returns the longest front of `text` that is a literal, or why there is none. Its groups are tested last.
-    #[inline(always)]
-    pub(crate) fn find_front(&self, text: &[u8]) -> Result<Found, ReadError>
-        ensures { IsFoundFront self.now text.now result }
-    {
-        match self.front(text) {
-            Ok(found) => self.grouped(text, found),
-            Err(stopped) => Err(self.refuse_byte(text, stopped)),
-        }
-    }
-
-    // Returns the lengths of the parts of the literal `text`, or where reading stopped if it is not one.
-    #[inline(always)]
-    pub(crate) fn lengths(&self, text: &[u8]) -> Result<[usize; 9], Scanned>
-        ensures { IsMeasured self.now text.now result }
-    {
-        let scanned = self.scan(text, false);
-        if scanned.valid_up_to == text.len()
-            && self.is_complete(scanned.row)
-            && self.has_groups(text, scanned.counts)
-        {
-            Ok(scanned.counts)
+        if scanned.stop.size == text.len() && self.is_complete(scanned.stop.row) {
+            self.has_groups(text, scanned.counts)
         } else {
-            Err(scanned)
-        }
-    }
-
-    // Returns the longest front of `text` that is a literal, apart from its groups, or where reading stopped if there is none.
-    #[inline(always)]
-    pub(crate) fn front(&self, text: &[u8]) -> Result<Found, Scanned>
-        ensures { IsMeasuredFront (notation_of self.now) text.now result }
-    {
-        let scanned = self.scan(text, true);
-        let Some(size) = scanned.literal else {
-            return Err(scanned);
-        };
-        if size == scanned.valid_up_to {
-            let counts = scanned.counts;
-            return Ok(Found { size, counts });
-        }
-        let counts = self.scan(front_of(text, size), false).counts;
-        Ok(Found { size, counts })
-    }
-
-    // Returns the front `found` of `text`, or why its integer is not in groups.
-    #[inline(always)]
-    pub(crate) fn grouped(&self, text: &[u8], found: Found) -> Result<Found, ReadError>
-        requires { IsCountedFront (notation_of self.now) text.now found }
-        ensures { IsGrouped self.now text.now found result }
-    {
-        let front = front_of(text, found.size);
-        if self.has_groups(front, found.counts) {
-            Ok(found)
-        } else {
-            Err(self.ungrouped(front, found.counts))
+            false
         }
     }
 
     // Returns whether the integer of the literal `text` is in groups, if the syntax requires it.
     #[inline(always)]
     fn has_groups(&self, text: &[u8], counts: [usize; 9]) -> bool
-        requires { HasParts self.now text.now counts }
-        ensures { (l : Literal) → Reads (notation_of self.now) l text.now → HasLengths l (cuts_of counts)
-            → result ≡ has_groups (notation_of self.now).separator self.now.conditions.integer_group_size l.integer }
+        requires read { (l : Literal) × Reads (notation_of self.now) l text.now }
+        requires counted { (l : Literal) → Reads (notation_of self.now) l text.now → HasLengths l (cuts_of counts) }
+        ensures { IsMeasured self.now text.now counts result }
     {
         let grammar = self.syntax.grammar();
         match grammar.conditions.integer_group_size {
@@ -180,20 +123,44 @@ impl Reader {
         }
     }
 
-    // Returns why `text`, which is not a literal, is none.
-    #[cold]
-    pub(crate) fn explain(&self, text: &[u8]) -> ReadError
-        requires { Refuses self.now text.now }
-        ensures { IsError self.now text.now result.refusal }
+    // Returns where reading `text` stops, and the longest front that is a literal, apart from its groups, if there is one.
+    #[inline(always)]
+    pub(crate) fn front(&self, text: &[u8]) -> (Stop, Option<Found>)
+        ensures { IsFronted self.now text.now result.0 result.1 }
     {
-        let scanned = self.scan(text, false);
-        self.refuse(text, scanned)
+        let Scanned {
+            stop,
+            literal,
+            counts,
+        } = self.scan(text, true);
+        match literal {
+            None => (stop, None),
+            Some(size) if size == stop.size => (stop, Some(Found { size, counts })),
+            Some(size) => {
+                let counts = self.scan(front_of(text, size), false).counts;
+                (stop, Some(Found { size, counts }))
+            }
+        }
+    }
+
+    // Returns why the integer of the front `found` of `text` is not in groups, or `Ok` if it is.
+    #[inline(always)]
+    pub(crate) fn grouped(&self, text: &[u8], found: Found) -> Result<(), ReadError>
+        requires { IsCountedFront (notation_of self.now) text.now found }
+        ensures { IsGrouped self.now text.now found result }
+    {
+        let front = front_of(text, found.size);
+        if self.has_groups(front, found.counts) {
+            Ok(())
+        } else {
+            Err(self.ungrouped(front))
+        }
     }
 
     // Reads `text` until no literal begins with what has been read. Seeks the longest front that is a literal if `seeks`
     // is true.
     #[inline(always)]
-    const fn scan(&self, text: &[u8], seeks: bool) -> Scanned
+    pub(crate) const fn scan(&self, text: &[u8], seeks: bool) -> Scanned
         ensures { IsScanned (notation_of self.now) seeks text.now result }
     {
         role_facts();
@@ -204,9 +171,9 @@ impl Reader {
         let mut index = 0;
         while index < text.len() {
             let Some(next) = tables.step(row, text[index]) else {
+                let stop = Stop { size: index, row };
                 return Scanned {
-                    valid_up_to: index,
-                    row,
+                    stop,
                     literal,
                     counts,
                 };
@@ -218,9 +185,9 @@ impl Reader {
             }
             index += 1;
         }
+        let stop = Stop { size: index, row };
         Scanned {
-            valid_up_to: index,
-            row,
+            stop,
             literal,
             counts,
         }
@@ -244,26 +211,28 @@ impl Reader {
         self.tables.is_complete(row)
     }
 
-    // Returns why `text` is not a literal.
+    // Returns why `text`, of which reading stopped at `stop`, is not a literal.
     #[cold]
-    fn refuse(&self, text: &[u8], stopped: Scanned) -> ReadError
-        requires { HasStopped self.now text.now stopped }
+    pub(crate) fn refuse(&self, text: &[u8], stop: Stop) -> ReadError
+        requires stopped { IsStopped (notation_of self.now) text.now stop }
+        requires refuses { Refuses self.now text.now }
         ensures { IsError self.now text.now result.refusal }
     {
-        if stopped.valid_up_to == text.len() && self.is_complete(stopped.row) {
-            self.ungrouped(text, stopped.counts)
+        if stop.size == text.len() && self.is_complete(stop.row) {
+            self.ungrouped(text)
         } else {
-            self.refuse_byte(text, stopped)
+            self.refuse_byte(text, stop)
         }
     }
 
     // Returns that the integer of `text` is not in groups, and the first wrong group.
     #[cold]
-    fn ungrouped(&self, text: &[u8], counts: [usize; 9]) -> ReadError
-        requires parts { HasParts self.now text.now counts }
+    fn ungrouped(&self, text: &[u8]) -> ReadError
+        requires read { (l : Literal) × Reads (notation_of self.now) l text.now }
         requires refuses { Refuses self.now text.now }
         ensures { IsUngrouped self.now text.now result.refusal }
     {
+        let counts = self.scan(text, false).counts;
         let grammar = self.syntax.grammar();
         let Some(size) = grammar.conditions.integer_group_size else {
             unreachable!()
@@ -290,18 +259,19 @@ impl Reader {
 
     // Returns why the byte that follows is not allowed, or what is missing.
     #[cold]
-    const fn refuse_byte(&self, text: &[u8], scanned: Scanned) -> ReadError
-        requires { IsRefusedAt (notation_of self.now) text.now scanned }
+    const fn refuse_byte(&self, text: &[u8], stop: Stop) -> ReadError
+        requires stopped { IsStopped (notation_of self.now) text.now stop }
+        requires refused { lets (notation_of self.now) (summary_at stop.row) (slice_get text.now stop.size) ≡ false }
         ensures { IsRefusal (notation_of self.now) text.now result.refusal }
     {
         role_facts();
         let grammar = self.syntax.grammar();
-        let size = scanned.valid_up_to;
+        let size = stop.size;
         let byte = byte_at(text, size);
         ReadError {
             spot: Spot {
                 grammar,
-                row: scanned.row,
+                row: stop.row,
                 byte,
                 tail: tail_at(text, size, byte),
                 marks: marks(grammar, text, size),
@@ -311,14 +281,20 @@ impl Reader {
     }
 }
 
-// The length of the longest front of a text that some literal begins with, its row, the length of the longest front that is
-// a literal, if it was sought, and the lengths of the parts of what has been read.
+// Where reading a text stops: the length of its longest front that some literal begins with, and the row of this front.
+#[derive(Clone, Copy)]
+pub(crate) struct Stop {
+    pub(crate) size: usize,
+    row: u8,
+}
+
+// What a pass over a text finds: where it stops, the length of the longest front that is a literal, if it was sought, and
+// the lengths of the parts of what has been read.
 #[derive(Clone, Copy)]
 pub(crate) struct Scanned {
-    pub(crate) valid_up_to: usize,
-    row: u8,
+    pub(crate) stop: Stop,
     literal: Option<usize>,
-    counts: [usize; 9],
+    pub(crate) counts: [usize; 9],
 }
 
 // Returns the byte behind the first `size`, if there is one.

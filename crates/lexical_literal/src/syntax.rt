@@ -84,8 +84,8 @@ pub enum Condition {
     NegativeSign,
 }
 
-/// Why a syntax cannot have [`Conditions`]: no text could satisfy both them and the format. A lawful format that requires a
-/// sign allows `+`, so it can forbid `-`.
+/// Why a syntax cannot have [`Conditions`]: the format has no byte that they require, or they require groups that it cannot
+/// have. A lawful format that requires a sign allows `+`, so it can forbid `-`.
 #[derive(Debug, Clone, Copy, PartialEq, Eq, Hash)]
 pub enum ConditionsError {
     /// The base prefix is required, and the format has none.

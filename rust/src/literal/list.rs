@@ -3,7 +3,7 @@
 //! Lists of readers: the numbers of a language that has several forms, such as `10`, `0x1F` and `0b1`.
 
 use crate::literal::cause::ReadError;
-use crate::literal::read::{Found, Reader};
+use crate::literal::read::{Found, Reader, Stop};
 
 /// The readers of the forms of numbers, at least one. The first form that takes a text decides what number it is.
 #[derive(Debug, Clone, Copy, PartialEq, Eq)]
@@ -19,13 +19,6 @@ pub struct FormError {
     pub form: usize,
     /// Why the text is not a literal of this form.
     pub error: ReadError,
-}
-
-// How far a form goes in a text: the index of the form, and a number of bytes.
-#[derive(Clone, Copy)]
-struct Reach {
-    form: usize,
-    size: usize,
 }
 
 impl<'a> ReaderList<'a> {
@@ -47,67 +40,70 @@ impl<'a> ReaderList<'a> {
 
     // Returns the index of the first form that takes `text`, and the lengths of its parts, or why no form takes it.
     pub(crate) const fn find(&self, text: &[u8]) -> Result<(usize, [usize; 9]), FormError> {
-        let mut furthest = Reach { form: 0, size: 0 };
+        let mut furthest = None;
         let mut form = 0;
         while form < self.readers.len() {
-            match self.readers[form].lengths(text) {
-                Ok(counts) => return Ok((form, counts)),
-                Err(stopped) => furthest = further(furthest, form, stopped.valid_up_to),
+            let reader = &self.readers[form];
+            let scanned = reader.scan(text, false);
+            if reader.takes(text, scanned) {
+                let counts = scanned.counts;
+                return Ok((form, counts));
             }
+            furthest = further(furthest, form, scanned.stop);
             form += 1;
         }
-        Err(self.refuse(text, furthest.form))
+        Err(self.refuse(text, furthest))
     }
 
     // Returns the longest front of `text` that is a literal of a form, with the index of the form, the first of equals, or
     // why there is none. Its groups are tested last.
     pub(crate) const fn find_front(&self, text: &[u8]) -> Result<(usize, Found), FormError> {
-        let mut furthest = Reach { form: 0, size: 0 };
+        let mut furthest = None;
         let mut longest = None;
         let mut form = 0;
         while form < self.readers.len() {
-            match self.readers[form].front(text) {
-                Ok(found) => longest = longer(longest, form, found),
-                Err(stopped) => furthest = further(furthest, form, stopped.valid_up_to),
-            }
+            let (stop, found) = self.readers[form].front(text);
+            furthest = further(furthest, form, stop);
+            longest = longer(longest, form, found);
             form += 1;
         }
         match longest {
             Some((form, found)) => self.grouped(text, form, found),
-            None => Err(self.refuse(text, furthest.form)),
+            None => Err(self.refuse(text, furthest)),
         }
     }
 
     // Returns the front `found` of a form, or why its integer is not in groups.
     const fn grouped(&self, text: &[u8], form: usize, found: Found) -> Result<(usize, Found), FormError> {
         match self.readers()[form].grouped(text, found) {
-            Ok(found) => Ok((form, found)),
+            Ok(()) => Ok((form, found)),
             Err(error) => Err(FormError { form, error }),
         }
     }
 
-    // Returns why `text` is not a literal of a form.
-    const fn refuse(&self, text: &[u8], form: usize) -> FormError {
-        let error = self.readers()[form].explain(text);
+    // Returns why `text` is not a literal of the form that goes furthest.
+    const fn refuse(&self, text: &[u8], furthest: Option<(usize, Stop)>) -> FormError {
+        let Some((form, stop)) = furthest else { unreachable!() };
+        let error = self.readers()[form].refuse(text, stop);
         FormError { form, error }
     }
 }
 
 // Returns the longer of two fronts, the first of equals.
 #[inline(always)]
-const fn longer(longest: Option<(usize, Found)>, form: usize, found: Found) -> Option<(usize, Found)> {
-    match longest {
-        Some((_, best)) if best.size >= found.size => longest,
-        _ => Some((form, found)),
+const fn longer(longest: Option<(usize, Found)>, form: usize, found: Option<Found>) -> Option<(usize, Found)> {
+    match (longest, found) {
+        (_, None) => longest,
+        (Some((_, best)), Some(found)) if best.size >= found.size => longest,
+        (_, Some(found)) => Some((form, found)),
     }
 }
 
 // Returns which of two forms goes further, the first of equals.
 #[inline(always)]
-const fn further(furthest: Reach, form: usize, size: usize) -> Reach {
-    if size > furthest.size {
-        Reach { form, size }
-    } else {
-        furthest
+const fn further(furthest: Option<(usize, Stop)>, form: usize, stop: Stop) -> Option<(usize, Stop)> {
+    match furthest {
+        Some((_, best)) if best.size >= stop.size => furthest,
+        _ => Some((form, stop)),
     }
 }

@@ -36,10 +36,11 @@ impl Reader {
     ///
     /// If `text` is not a literal, returns why, and how far it is right.
     pub const fn read<'a>(&self, text: &'a [u8]) -> Result<Literal<'a>, ReadError> {
-        let view = self.syntax.format().view();
-        match self.find(text) {
-            Ok(counts) => Ok(Literal { text, counts, view }),
-            Err(error) => Err(error),
+        let scanned = self.scan(text, false);
+        if self.takes(text, scanned) {
+            Ok(Literal { text, counts: scanned.counts, view: self.syntax.format().view() })
+        } else {
+            Err(self.refuse(text, scanned.stop))
         }
     }
 
@@ -68,13 +69,16 @@ impl Reader {
     /// before it may have an error that states what is missing, as above. A text such as `1e;` begins with the literal
     /// `1`. To refuse it, the example `tokenizer` first finds the end of the token, and reads all of it.
     pub const fn read_prefix<'a>(&self, text: &'a [u8]) -> Result<(Literal<'a>, &'a [u8]), ReadError> {
-        let view = self.syntax.format().view();
-        match self.find_front(text) {
-            Ok(Found { size, counts }) => {
-                let (text, rest) = text.split_at(size);
-                Ok((Literal { text, counts, view }, rest))
-            }
-            Err(error) => Err(error),
+        match self.front(text) {
+            (stop, None) => Err(self.refuse(text, stop)),
+            (_, Some(found)) => match self.grouped(text, found) {
+                Ok(()) => {
+                    let Found { size, counts } = found;
+                    let (text, rest) = text.split_at(size);
+                    Ok((Literal { text, counts, view: self.syntax.format().view() }, rest))
+                }
+                Err(error) => Err(error),
+            },
         }
     }
 }

@@ -59,58 +59,13 @@ impl Reader {
         self.syntax
     }
 
-    // Returns the lengths of the parts of the literal `text`, or why it is not one.
+    // Returns whether `text` is a literal, of which a pass has found `scanned`.
     #[inline(always)]
-    pub(crate) const fn find(&self, text: &[u8]) -> Result<[usize; 9], ReadError> {
-        match self.lengths(text) {
-            Ok(counts) => Ok(counts),
-            Err(stopped) => Err(self.refuse(text, stopped)),
-        }
-    }
-
-    // Returns the longest front of `text` that is a literal, or why there is none. Its groups are tested last.
-    #[inline(always)]
-    pub(crate) const fn find_front(&self, text: &[u8]) -> Result<Found, ReadError> {
-        match self.front(text) {
-            Ok(found) => self.grouped(text, found),
-            Err(stopped) => Err(self.refuse_byte(text, stopped)),
-        }
-    }
-
-    // Returns the lengths of the parts of the literal `text`, or where reading stopped if it is not one.
-    #[inline(always)]
-    pub(crate) const fn lengths(&self, text: &[u8]) -> Result<[usize; 9], Scanned> {
-        let scanned = self.scan(text, false);
-        if scanned.valid_up_to == text.len() && self.is_complete(scanned.row) && self.has_groups(text, scanned.counts) {
-            Ok(scanned.counts)
+    pub(crate) const fn takes(&self, text: &[u8], scanned: Scanned) -> bool {
+        if scanned.stop.size == text.len() && self.is_complete(scanned.stop.row) {
+            self.has_groups(text, scanned.counts)
         } else {
-            Err(scanned)
-        }
-    }
-
-    // Returns the longest front of `text` that is a literal, apart from its groups, or where reading stopped if there is none.
-    #[inline(always)]
-    pub(crate) const fn front(&self, text: &[u8]) -> Result<Found, Scanned> {
-        let scanned = self.scan(text, true);
-        let Some(size) = scanned.literal else {
-            return Err(scanned);
-        };
-        if size == scanned.valid_up_to {
-            let counts = scanned.counts;
-            return Ok(Found { size, counts });
-        }
-        let counts = self.scan(front_of(text, size), false).counts;
-        Ok(Found { size, counts })
-    }
-
-    // Returns the front `found` of `text`, or why its integer is not in groups.
-    #[inline(always)]
-    pub(crate) const fn grouped(&self, text: &[u8], found: Found) -> Result<Found, ReadError> {
-        let front = front_of(text, found.size);
-        if self.has_groups(front, found.counts) {
-            Ok(found)
-        } else {
-            Err(self.ungrouped(front, found.counts))
+            false
         }
     }
 
@@ -127,17 +82,35 @@ impl Reader {
         }
     }
 
-    // Returns why `text`, which is not a literal, is none.
-    #[cold]
-    pub(crate) const fn explain(&self, text: &[u8]) -> ReadError {
-        let scanned = self.scan(text, false);
-        self.refuse(text, scanned)
+    // Returns where reading `text` stops, and the longest front that is a literal, apart from its groups, if there is one.
+    #[inline(always)]
+    pub(crate) const fn front(&self, text: &[u8]) -> (Stop, Option<Found>) {
+        let Scanned { stop, literal, counts } = self.scan(text, true);
+        match literal {
+            None => (stop, None),
+            Some(size) if size == stop.size => (stop, Some(Found { size, counts })),
+            Some(size) => {
+                let counts = self.scan(front_of(text, size), false).counts;
+                (stop, Some(Found { size, counts }))
+            }
+        }
+    }
+
+    // Returns why the integer of the front `found` of `text` is not in groups, or `Ok` if it is.
+    #[inline(always)]
+    pub(crate) const fn grouped(&self, text: &[u8], found: Found) -> Result<(), ReadError> {
+        let front = front_of(text, found.size);
+        if self.has_groups(front, found.counts) {
+            Ok(())
+        } else {
+            Err(self.ungrouped(front))
+        }
     }
 
     // Reads `text` until no literal begins with what has been read. Seeks the longest front that is a literal if `seeks`
     // is true.
     #[inline(always)]
-    const fn scan(&self, text: &[u8], seeks: bool) -> Scanned {
+    pub(crate) const fn scan(&self, text: &[u8], seeks: bool) -> Scanned {
         let tables = &self.tables;
         let mut row = START;
         let mut counts = [0; 9];
@@ -145,7 +118,8 @@ impl Reader {
         let mut index = 0;
         while index < text.len() {
             let Some(next) = tables.step(row, text[index]) else {
-                return Scanned { valid_up_to: index, row, literal, counts };
+                let stop = Stop { size: index, row };
+                return Scanned { stop, literal, counts };
             };
             row = next.row;
             counts[piece_number(next.piece)] += 1;
@@ -154,7 +128,8 @@ impl Reader {
             }
             index += 1;
         }
-        Scanned { valid_up_to: index, row, literal, counts }
+        let stop = Stop { size: index, row };
+        Scanned { stop, literal, counts }
     }
 
     // Returns whether `seeks` is true and a row is that of a literal.
@@ -169,19 +144,20 @@ impl Reader {
         self.tables.is_complete(row)
     }
 
-    // Returns why `text` is not a literal.
+    // Returns why `text`, of which reading stopped at `stop`, is not a literal.
     #[cold]
-    const fn refuse(&self, text: &[u8], stopped: Scanned) -> ReadError {
-        if stopped.valid_up_to == text.len() && self.is_complete(stopped.row) {
-            self.ungrouped(text, stopped.counts)
+    pub(crate) const fn refuse(&self, text: &[u8], stop: Stop) -> ReadError {
+        if stop.size == text.len() && self.is_complete(stop.row) {
+            self.ungrouped(text)
         } else {
-            self.refuse_byte(text, stopped)
+            self.refuse_byte(text, stop)
         }
     }
 
     // Returns that the integer of `text` is not in groups, and the first wrong group.
     #[cold]
-    const fn ungrouped(&self, text: &[u8], counts: [usize; 9]) -> ReadError {
+    const fn ungrouped(&self, text: &[u8]) -> ReadError {
+        let counts = self.scan(text, false).counts;
         let grammar = self.syntax.grammar();
         let Some(size) = grammar.conditions.integer_group_size else { unreachable!() };
         let parts = cut(text, counts);
@@ -201,14 +177,14 @@ impl Reader {
 
     // Returns why the byte that follows is not allowed, or what is missing.
     #[cold]
-    const fn refuse_byte(&self, text: &[u8], scanned: Scanned) -> ReadError {
+    const fn refuse_byte(&self, text: &[u8], stop: Stop) -> ReadError {
         let grammar = self.syntax.grammar();
-        let size = scanned.valid_up_to;
+        let size = stop.size;
         let byte = byte_at(text, size);
         ReadError {
             spot: Spot {
                 grammar,
-                row: scanned.row,
+                row: stop.row,
                 byte,
                 tail: tail_at(text, size, byte),
                 marks: marks(grammar, text, size),
@@ -218,14 +194,20 @@ impl Reader {
     }
 }
 
-// The length of the longest front of a text that some literal begins with, its row, the length of the longest front that is
-// a literal, if it was sought, and the lengths of the parts of what has been read.
+// Where reading a text stops: the length of its longest front that some literal begins with, and the row of this front.
+#[derive(Clone, Copy)]
+pub(crate) struct Stop {
+    pub(crate) size: usize,
+    row: u8,
+}
+
+// What a pass over a text finds: where it stops, the length of the longest front that is a literal, if it was sought, and
+// the lengths of the parts of what has been read.
 #[derive(Clone, Copy)]
 pub(crate) struct Scanned {
-    pub(crate) valid_up_to: usize,
-    row: u8,
+    pub(crate) stop: Stop,
     literal: Option<usize>,
-    counts: [usize; 9],
+    pub(crate) counts: [usize; 9],
 }
 
 // Returns the byte behind the first `size`, if there is one.

@@ -1,18 +1,18 @@
 -- What a reader finds in one pass over a text.
-use Rattle.std.specs.Prelude.{ℕ, Bool, IfErr, IfOk, IsErr, IsOkAnd, IsTrue, List, Option, Result, Some, false, true, length, slice_get, take}
-use Rattle.std.specs.Prelude.{◌≡◌, ◌<◌, ◌≤◌, ◌⊎◌}
+use Rattle.std.specs.Prelude.{ℕ, ◌≡◌, ◌<◌, ◌≤◌, ⊤, Bool, IfErr, IsFalse, IsNone, IsOk, IsTrue, List, Option, Result, Some, false, true, length, slice_get, take}
 use Rattle.std.specs.Option.{ForSome}
 use Rattle.lexical_literal.specs.Notation.{Notation, notation_of}
-use Rattle.lexical_literal.specs.Takes.{AreGroups, IsError, IsFrontError, IsUngroupedFront, Refuses, Takes}
+use Rattle.lexical_literal.specs.Takes.{AreGroups, IsUngroupedFront, NoFront, Refuses, Takes}
 use Rattle.lexical_literal.specs.declared.syntax.Grammar.{Grammar}
 use Rattle.lexical_literal.specs.Literal.{Literal, Reads}
 use Rattle.lexical_literal.specs.Cause.{Explained}
 use Rattle.lexical_literal.specs.Front.{IsValidUpTo, NoLiteral, ReadsFront}
-use Rattle.lexical_literal.specs.Additions.Causes.{allows, class_of_next}
+use Rattle.lexical_literal.specs.Additions.Causes.{lets}
 use Rattle.lexical_literal.specs.Additions.Summary.{HasLengths, is_complete, scan, start}
 use Rattle.lexical_literal.specs.Additions.Tables.{cuts_of, summary_at}
 use Rattle.lexical_literal.specs.declared.read.Found.{Found}
 use Rattle.lexical_literal.specs.declared.read.Scanned.{Scanned}
+use Rattle.lexical_literal.specs.declared.read.Stop.{Stop}
 use Rattle.lexical_literal.specs.declared.tables.TheConstants.{ROWS}
 
 -- `IsLongest m text bound longest` holds if `longest` is the length of the longest front of `text` that is a literal and has
@@ -21,51 +21,29 @@ pub record IsLongest (m : Notation) (text : List ℕ) (bound : ℕ) (longest : O
   pub found : ForSome longest (λ size. (size ≤ bound) × (l : Literal) × Reads m l (take size text))
   pub no_longer : (more : ℕ) → more ≤ bound → ForSome longest (λ size. size < more) → NoLiteral m (take more text)
 
--- `IsScanned m seeks text scanned` holds if `scanned` has the length of the longest front of `text` that some literal
--- begins with, its summary, which tells whether it is a literal and does not allow a byte that follows, the lengths of its
--- parts if it is a literal, and the length of the longest front that is a literal if `seeks` is true.
+-- `IsStopped m text stop` holds if `stop` has the length of the longest front of `text` that some literal begins with, and its
+-- summary, which tells whether it is a literal and does not allow a byte that follows.
+pub record IsStopped (m : Notation) (text : List ℕ) (stop : Stop) : Type 0 where
+  pub valid : IsValidUpTo m text stop.size
+  pub row : stop.row < ROWS
+  pub read : scan m (Some start) (take stop.size text) ≡ Some (summary_at stop.row)
+  pub refused : stop.size < length text → lets m (summary_at stop.row) (slice_get text stop.size) ≡ false
+  pub complete : is_complete m (summary_at stop.row) ≡ true → (l : Literal) × Reads m l (take stop.size text)
+  pub incomplete : is_complete m (summary_at stop.row) ≡ false → NoLiteral m (take stop.size text)
+
+-- `IsScanned m seeks text scanned` holds if `scanned` has where reading `text` stops, the lengths of the parts of what has
+-- been read if it is a literal, and the length of the longest front that is a literal if `seeks` is true.
 pub record IsScanned (m : Notation) (seeks : Bool) (text : List ℕ) (scanned : Scanned) : Type 0 where
-  pub error : IsValidUpTo m text scanned.valid_up_to
-  pub row : scanned.row < ROWS
-  pub read : scan m (Some start) (take scanned.valid_up_to text) ≡ Some (summary_at scanned.row)
-  pub refused : scanned.valid_up_to < length text
-      → allows m (summary_at scanned.row) (class_of_next m (slice_get text scanned.valid_up_to)) ≡ false
-  pub complete : is_complete m (summary_at scanned.row) ≡ true → (l : Literal) × Reads m l (take scanned.valid_up_to text)
-  pub incomplete : is_complete m (summary_at scanned.row) ≡ false → NoLiteral m (take scanned.valid_up_to text)
+  pub stop : IsStopped m text scanned.stop
   pub longest : IsTrue seeks → IsLongest m text (length text) scanned.literal
-  pub counted : (l : Literal) → Reads m l (take scanned.valid_up_to text) → HasLengths l (cuts_of scanned.counts)
+  pub counted : (l : Literal) → Reads m l (take scanned.stop.size text) → HasLengths l (cuts_of scanned.counts)
 
--- `IsRefusedAt m text scanned` holds if `scanned` is where reading `text` stopped, and the byte that follows is not allowed
--- there, or no byte follows and what has been read is not a literal.
-pub record IsRefusedAt (m : Notation) (text : List ℕ) (scanned : Scanned) : Type 0 where
-  pub seeks : Bool
-  pub is : IsScanned m seeks text scanned
-  pub refused : allows m (summary_at scanned.row) (class_of_next m (slice_get text scanned.valid_up_to)) ≡ false
-
--- `IsUngroupedAt g text scanned` holds if `scanned` is where reading stopped at the end of `text`, which is a literal of the
--- notation of `g`, and not one of `g`.
-pub record IsUngroupedAt (g : Grammar) (text : List ℕ) (scanned : Scanned) : Type 0 where
-  pub seeks : Bool
-  pub is : IsScanned (notation_of g) seeks text scanned
-  pub all : scanned.valid_up_to ≡ length text
-  pub complete : is_complete (notation_of g) (summary_at scanned.row) ≡ true
-  pub refuses : Refuses g text
-
--- `HasStopped g text scanned` holds if reading `text` stopped at `scanned` for one of these two reasons.
-abbrev pub HasStopped : Grammar → List ℕ → Scanned → Type 0
-HasStopped g text scanned = IsRefusedAt (notation_of g) text scanned ⊎ IsUngroupedAt g text scanned
-
--- `HasParts g text counts` holds if `text` is a literal of the notation of `g` whose parts have the lengths `counts`.
-abbrev pub HasParts : Grammar → List ℕ → List ℕ → Type 0
-HasParts g text counts = (l : Literal) × Reads (notation_of g) l text × HasLengths l (cuts_of counts)
-
--- `IsMeasured g text result` holds if `result` has the lengths of the parts of the literal `text`, or is where reading a
--- text that is not a literal stopped.
-pub record IsMeasured (g : Grammar) (text : List ℕ) (result : Result (List ℕ) Scanned) : Type 0 where
-  pub found : IfOk result (λ counts. (l : Literal) × Takes g l text)
-  pub counted : (l : Literal) → Takes g l text → IsOkAnd result (λ counts. HasLengths l (cuts_of counts))
-  pub valid_up_to : IfErr result (λ scanned. IsValidUpTo (notation_of g) text scanned.valid_up_to)
-  pub stopped : IfErr result (HasStopped g text)
+-- `IsMeasured g text counts is` holds if `is` is true if and only if `text` is a literal of the syntax `g`, and if its parts
+-- have the lengths `counts` then.
+pub record IsMeasured (g : Grammar) (text counts : List ℕ) (is : Bool) : Type 0 where
+  pub takes : IsTrue is → (l : Literal) × Takes g l text
+  pub refuses : IsFalse is → Refuses g text
+  pub counted : (l : Literal) → Takes g l text → HasLengths l (cuts_of counts)
 
 -- `IsCountedFront m text found` holds if `found` has the length of the longest front of `text` that is a literal, and the
 -- lengths of its parts.
@@ -74,35 +52,21 @@ pub record IsCountedFront (m : Notation) (text : List ℕ) (found : Found) : Typ
   pub reads : ReadsFront m literal text found.size
   pub counted : (l : Literal) → Reads m l (take found.size text) → HasLengths l (cuts_of found.counts)
 
--- `IsMeasuredFront m text result` holds if `result` has the length of the longest front of `text` that is a literal and
--- the lengths of its parts, or is where reading a text of which no front is a literal stopped.
-pub record IsMeasuredFront (m : Notation) (text : List ℕ) (result : Result Found Scanned) : Type 0 where
-  pub found : IfOk result (IsCountedFront m text)
-  pub none : IsErr result → (size : ℕ) → size ≤ length text → NoLiteral m (take size text)
-  pub stopped : IfErr result (IsRefusedAt m text)
+-- `IsFronted g text stop found` holds if `stop` is where reading `text` stops, and `found` the longest front that is a literal
+-- of the notation of `g`, or `None` if there is none.
+pub record IsFronted (g : Grammar) (text : List ℕ) (stop : Stop) (found : Option Found) : Type 0 where
+  pub reached : IsStopped (notation_of g) text stop
+  pub longest : ForSome found (IsCountedFront (notation_of g) text)
+  pub none : IsNone found → NoFront text g
 
--- `IsFound g text result` holds if `result` has the lengths of the parts of the literal `text`, or is the error of a text
--- that is not a literal.
-pub record IsFound (g : Grammar) (text : List ℕ) (result : Result (List ℕ) Explained) : Type 0 where
-  pub found : IfOk result (λ counts. (l : Literal) × Takes g l text)
-  pub counted : (l : Literal) → Takes g l text → IsOkAnd result (λ counts. HasLengths l (cuts_of counts))
-  pub error : IfErr result (λ error. IsError g text error.refusal)
-
--- `IsGroupedFront g text size found` holds if `found` has the length of the literal that the first bytes of `text` are, and
--- the lengths of its parts, and if its integer is in groups.
+-- `IsGroupedFront g text found` holds if `found` has the length of the longest front of `text` that is a literal, and the
+-- lengths of its parts, and if its integer is in groups.
 abbrev pub IsGroupedFront : Grammar → List ℕ → Found → Type 0
 IsGroupedFront g text found =
     (l : Literal) × ReadsFront (notation_of g) l text found.size × AreGroups g l × HasLengths l (cuts_of found.counts)
 
--- `IsGrouped g text found result` holds if `result` is the longest front `found` of `text`, which is in groups, or the error of
--- one that is not.
-pub record IsGrouped (g : Grammar) (text : List ℕ) (found : Found) (result : Result Found Explained) : Type 0 where
-  pub same : IfOk result (λ other. other ≡ found)
-  pub grouped : IfOk result (IsGroupedFront g text)
+-- `IsGrouped g text found result` holds if the longest front `found` of `text` is in groups, or if it is not, and `result` is an
+-- error that says this.
+pub record IsGrouped (g : Grammar) (text : List ℕ) (found : Found) (result : Result ⊤ Explained) : Type 0 where
+  pub grouped : IsOk result → IsGroupedFront g text found
   pub error : IfErr result (λ error. IsUngroupedFront g text found.size error.refusal)
-
--- `IsFoundFront g text result` holds if `result` has the length of the longest front of `text` that is a literal and the
--- lengths of its parts, or is the error of a text that does not begin with one.
-pub record IsFoundFront (g : Grammar) (text : List ℕ) (result : Result Found Explained) : Type 0 where
-  pub found : IfOk result (IsGroupedFront g text)
-  pub error : IfErr result (λ error. IsFrontError g text error.refusal)

@@ -1,12 +1,12 @@
 use Rattle.std.proofs.Common.{All, length, take, ◌-◌}
 use Rattle.lexical_literal.specs.Takes.{Refuses}
-use Rattle.lexical_literal.proofs.FormLemmas.{IsBest}
+use Rattle.lexical_literal.proofs.FormLemmas.{IsBest, goes}
 use Rattle.lexical_literal.proofs.list.ReaderList.find.Given as goal
 
 abbrev pub invariant-loop-form : goal.invariant-loop-form
 invariant-loop-form l = record {
   none : All (λ g. Refuses g l.text) (take l.form l.self-inside.readers.now);
-  best : IsBest l.self-inside.readers.now l.text l.form l.furthest;
+  furthest : IsBest (goes l.text) l.self-inside.readers.now l.form l.furthest;
 }
 
 abbrev pub decreases-loop-form : goal.decreases-loop-form

@@ -1,72 +1,41 @@
 -- The longest front that is a literal of a form, or the error of the form that goes furthest.
-use Rattle.std.proofs.Common.{inl, ◌+◌, refl, sym, ap, subst, ◌∙◌, is_some}
-use Rattle.lexical_literal.proofs.FormLemmas.{IsBest, IsLongestOf, best_error, best_more, best_within, longer_some, front_is, front_within, longest_more, longest_stays, none_front, none_reads_whole}
+use Rattle.std.proofs.Common.{inl, ◌+◌, sym, subst}
+use Rattle.lexical_literal.specs.Takes.{NoFront}
+use Rattle.lexical_literal.proofs.FormLemmas.{IsBest, all_tried, best_more, fronts, fronts_more, furthest_is, goes, longest_is, none_whole}
 use Rattle.lexical_literal.proofs.list.ReaderList.find_front.Goals as goal
-use Rattle.lexical_literal.proofs.list.ReaderList.find_front.Goals.{in-Ok, in-Err}
 
 pub loop-form-preserved : goal.loop-form-preserved
 loop-form-preserved c =
     let forms = c.self.inside.readers.now in
-    let text = c.args.text.now in
     let i = c.loop-form.form in
-    let d = c.index-self-form.result in
-    let inside = c.loop-form-test.true in
-    let now = c.loop-form.invariant in
-    elim c.match-front.branch [
-      | in-Ok w ↦
-          let longest = w.longest-is ∙ w.longer-longest.ensures in
-          record {
-            longest = subst (IsLongestOf forms text (i + 1)) (sym longest)
-                (longest_more forms text i d inside w.in-Ok.found w.in-Ok.ensures.found c.loop-form.longest now.longest);
-            best = λ none. absurd (longer_some c.loop-form.longest i w.in-Ok.found (sym (ap is_some longest) ∙ none));
-          }
-      | in-Err w ↦
-          record {
-            longest = subst (IsLongestOf forms text (i + 1)) (sym w.longest-is)
-                (longest_stays forms text i d inside (w.in-Err.ensures.none refl) c.loop-form.longest now.longest);
-            best = λ none. subst (IsBest forms text (i + 1)) (sym (w.furthest-is ∙ w.further-furthest.ensures))
-                (best_more forms text i d inside w.in-Err.stopped.valid_up_to w.in-Err.ensures.stopped.is.error c.loop-form.furthest
-                (now.best (sym (ap is_some w.longest-is) ∙ none)));
-          }
-    ]
+    record {
+      longest = subst (IsBest (fronts c.args.text.now) forms (i + 1)) (sym c.longer-longest.ensures)
+          (fronts_more c.args.text.now forms i c.index-self-form.result c.loop-form-test.true c.loop-form.longest c.loop-form.invariant.longest
+          c.front-found.result.1 c.front-found.ensures.longest c.front-found.ensures.none);
+      furthest = subst (IsBest (goes c.args.text.now) forms (i + 1)) (sym c.further-furthest.ensures)
+          (best_more (goes c.args.text.now) forms i c.index-self-form.result c.loop-form-test.true c.front-found.result.0 c.front-found.ensures.reached
+          c.loop-form.furthest c.loop-form.invariant.furthest);
+    }
 
-pub refuse-requires-clause-within : goal.refuse-requires-clause-within
-refuse-requires-clause-within c = rw (← c.self.view_is) (best_within c.self.inside.readers.now c.args.text.now c.loop-form.form
-    c.loop-form-test.false c.self.invariant c.loop-form.furthest (c.loop-form.invariant.best (ap is_some c.in-None.is)))
+pub grouped-requires : goal.grouped-requires
+grouped-requires c =
+    let is = subst (IsBest (fronts c.args.text.now) c.self.inside.readers.now c.loop-form.form) c.in-Some.is c.loop-form.invariant.longest in
+    rw (← c.self.view_is) (longest_is c.self.inside.readers.now c.args.text.now c.loop-form.form c.loop-form-test.false c.in-Some.form c.in-Some.found is)
+
+pub refuse-requires-clause-furthest : goal.refuse-requires-clause-furthest
+refuse-requires-clause-furthest c = rw (← c.self.view_is) (furthest_is c.self.inside.readers.now c.args.text.now c.loop-form.form
+    c.loop-form-test.false c.self.invariant c.loop-form.furthest c.loop-form.invariant.furthest)
 
 pub refuse-requires-clause-none : goal.refuse-requires-clause-none
 refuse-requires-clause-none c =
     let forms = c.self.inside.readers.now in
-    rw (← c.self.view_is) (none_reads_whole forms c.args.text.now c.loop-form.form c.loop-form-test.false c.self.invariant
-    (subst (IsLongestOf forms c.args.text.now c.loop-form.form) c.in-None.is c.loop-form.invariant.longest))
-
-pub grouped-requires-clause-within : goal.grouped-requires-clause-within
-grouped-requires-clause-within c =
-    let forms = c.self.inside.readers.now in
-    rw (← c.self.view_is) (front_within forms c.args.text.now c.loop-form.form c.loop-form-test.false c.self.invariant c.in-Some.form c.in-Some.found
-    (subst (IsLongestOf forms c.args.text.now c.loop-form.form) c.in-Some.is c.loop-form.invariant.longest))
-
-pub grouped-requires-clause-read : goal.grouped-requires-clause-read
-grouped-requires-clause-read c =
-    let is = subst (IsLongestOf c.self.inside.readers.now c.args.text.now c.loop-form.form) c.in-Some.is c.loop-form.invariant.longest in
-    rw (← c.self.view_is) is.read
-
-pub returns-in-Some : goal.returns-in-Some
-returns-in-Some c =
-    let forms = c.self.inside.readers.now in
-    rw (← c.self.view_is) (front_is forms c.args.text.now c.loop-form.form c.loop-form-test.false c.self.invariant c.in-Some.form c.in-Some.found
-    (subst (IsLongestOf forms c.args.text.now c.loop-form.form) c.in-Some.is c.loop-form.invariant.longest) c.grouped.result (rw c.self.view_is c.grouped.ensures))
+    let none = all_tried forms c.args.text.now c.loop-form.form c.loop-form-test.false (NoFront c.args.text.now)
+    (subst (IsBest (fronts c.args.text.now) forms c.loop-form.form) c.in-None.is c.loop-form.invariant.longest) in
+    rw (← c.self.view_is) (λ k d below. none_whole _ c.args.text.now (none k d below))
 
 pub returns-in-None : goal.returns-in-None
 returns-in-None c =
     let forms = c.self.inside.readers.now in
-    rw (← c.self.view_is) (record {
-      longest = tt;
-      found = tt;
-      error = inl (
-        none_front forms c.args.text.now c.loop-form.form c.loop-form-test.false c.self.invariant
-            (subst (IsLongestOf forms c.args.text.now c.loop-form.form) c.in-None.is c.loop-form.invariant.longest),
-        best_error forms c.args.text.now c.loop-form.form c.loop-form-test.false c.self.invariant c.loop-form.furthest
-            (c.loop-form.invariant.best (ap is_some c.in-None.is)) c.refuse.result c.refuse.ensures.form (rw c.self.view_is c.refuse.ensures.refusal),
-      );
-    })
+    let none = all_tried forms c.args.text.now c.loop-form.form c.loop-form-test.false (NoFront c.args.text.now)
+    (subst (IsBest (fronts c.args.text.now) forms c.loop-form.form) c.in-None.is c.loop-form.invariant.longest) in
+    record { longest = tt; found = tt; error = inl (rw (← c.self.view_is) none, c.refuse.ensures) }

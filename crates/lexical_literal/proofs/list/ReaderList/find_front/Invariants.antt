@@ -1,11 +1,11 @@
-use Rattle.std.proofs.Common.{IsNone, length, ◌-◌}
-use Rattle.lexical_literal.proofs.FormLemmas.{IsBest, IsLongestOf}
+use Rattle.std.proofs.Common.{length, ◌-◌}
+use Rattle.lexical_literal.proofs.FormLemmas.{IsBest, fronts, goes}
 use Rattle.lexical_literal.proofs.list.ReaderList.find_front.Given as goal
 
 abbrev pub invariant-loop-form : goal.invariant-loop-form
 invariant-loop-form l = record {
-  longest : IsLongestOf l.self-inside.readers.now l.text l.form l.longest;
-  best : IsNone l.longest → IsBest l.self-inside.readers.now l.text l.form l.furthest;
+  longest : IsBest (fronts l.text) l.self-inside.readers.now l.form l.longest;
+  furthest : IsBest (goes l.text) l.self-inside.readers.now l.form l.furthest;
 }
 
 abbrev pub decreases-loop-form : goal.decreases-loop-form

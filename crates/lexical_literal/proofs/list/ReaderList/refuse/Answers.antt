@@ -1,18 +1,33 @@
-use Rattle.std.proofs.Common.{get_or, sym, ap, subst, ◌∙◌}
+-- The form that goes furthest is refused, and its error says how far it goes.
+use Rattle.std.proofs.Common.{IsSomeAnd, sym, subst}
+use Rattle.lexical_literal.specs.Additions.Forms.{IsFurthestForm}
+use Rattle.lexical_literal.specs.Additions.Longest.{IsStopped}
+use Rattle.lexical_literal.specs.Forms.{GoesTo, IsGreatest}
+use Rattle.lexical_literal.specs.Notation.{notation_of}
 use Rattle.lexical_literal.specs.Takes.{IsError, Refuses}
-use Rattle.lexical_literal.proofs.FormLemmas.{at}
+use Rattle.lexical_literal.proofs.FormLemmas.{all_at, error_is, form_at}
 use Rattle.lexical_literal.proofs.list.ReaderList.refuse.Goals as goal
 
-pub explain-error-requires : goal.explain-error-requires
-explain-error-requires c =
-    let reader = c.index-readers-form.result in
-    subst (λ g. Refuses g c.args.text.now)
-    (sym (c.index-readers-form.is ∙ ap (λ forms. get_or forms c.args.form reader) c.readers.ensures.list))
-    (c.requires.none c.args.form reader c.requires.within)
+pub refuse-error-requires-clause-stopped : goal.refuse-error-requires-clause-stopped
+refuse-error-requires-clause-stopped c =
+    let best = subst (IsFurthestForm c.args.self.now c.args.text.now) c.in-Some.is c.requires.furthest in
+    (form_at (λ g. IsStopped (notation_of g) c.args.text.now c.in-Some.stop) c.args.self.now c.readers.result.now
+    c.index-readers-form.result c.in-Some.form c.readers.ensures.list c.index-readers-form.is best.1).1
 
-pub returns-clause-refusal : goal.returns-clause-refusal
-returns-clause-refusal c =
-    let reader = c.index-readers-form.result in
-    at c.args.self.now c.args.text.now c.args.form reader c.requires.within (λ g. IsError g c.args.text.now c.explain-error.result.refusal)
-    (subst (λ g. IsError g c.args.text.now c.explain-error.result.refusal)
-    (c.index-readers-form.is ∙ ap (λ forms. get_or forms c.args.form reader) c.readers.ensures.list) c.explain-error.ensures)
+pub refuse-error-requires-clause-refuses : goal.refuse-error-requires-clause-refuses
+refuse-error-requires-clause-refuses c =
+    let best = subst (IsFurthestForm c.args.self.now c.args.text.now) c.in-Some.is c.requires.furthest in
+    let form = form_at (λ g. IsStopped (notation_of g) c.args.text.now c.in-Some.stop) c.args.self.now c.readers.result.now
+    c.index-readers-form.result c.in-Some.form c.readers.ensures.list c.index-readers-form.is best.1 in
+    all_at (λ g. Refuses g c.args.text.now) c.args.self.now c.in-Some.form c.index-readers-form.result form.0 c.requires.none
+
+pub returns : goal.returns
+returns c =
+    let best = subst (IsFurthestForm c.args.self.now c.args.text.now) c.in-Some.is c.requires.furthest in
+    let form = form_at (λ g. IsStopped (notation_of g) c.args.text.now c.in-Some.stop) c.args.self.now c.readers.result.now
+    c.index-readers-form.result c.in-Some.form c.readers.ensures.list c.index-readers-form.is best.1 in
+    record {
+      furthest = subst (IsGreatest (GoesTo c.args.text.now) c.args.self.now c.in-Some.form)
+          (error_is c.index-readers-form.result c.args.text.now c.in-Some.stop.size _ form.1.valid c.refuse-error.ensures) best.0;
+      refusal = subst (λ o. IsSomeAnd o (λ g. IsError g c.args.text.now c.refuse-error.result.refusal)) (sym form.0) c.refuse-error.ensures;
+    }

@@ -1,7 +1,7 @@
 -- What has been read decides what may follow, and so why what follows is refused.
 use Rattle.std.proofs.Common.{◌≡◌, false, slice_get, sym, subst, take}
 use Rattle.lexical_literal.specs.Additions.Causes.{IsReadOf, lets}
-use Rattle.lexical_literal.specs.Additions.Longest.{IsScanned}
+use Rattle.lexical_literal.specs.Additions.Longest.{IsStopped}
 use Rattle.lexical_literal.specs.Additions.Summary.{start}
 use Rattle.lexical_literal.specs.Additions.Tables.{summary_at}
 use Rattle.lexical_literal.specs.Additions.Explained.{refusal_of}
@@ -19,21 +19,21 @@ pub returns : goal.returns
 returns c =
     let g = c.self.inside.syntax in
     let m = notation_of g in
-    let size = c.args.scanned.valid_up_to in
+    let size = c.args.stop.size in
     let front = take size c.args.text.now in
-    let s = summary_at c.args.scanned.row in
-    let scanned : IsScanned m c.requires.seeks c.args.text.now c.args.scanned = rw c.self.view_is c.requires.is in
+    let s = summary_at c.args.stop.row in
+    let stopped : IsStopped m c.args.text.now c.args.stop = rw c.self.view_is c.requires.stopped in
     let refused : lets m s (slice_get c.args.text.now size) ≡ false = rw c.self.view_is c.requires.refused in
     let is_ready = ready c.role_facts.ensures.disjoint c.role_facts.ensures.five c.role_facts.ensures.lawful g c.self.invariant.0 in
     let is_read : IsReadOf m s front = record {
-      decides = λ next A D weaker. decided m A D is_ready weaker front s scanned.read next;
-      part = ends_in m is_ready.roles start front s scanned.read;
+      decides = λ next A D weaker. decided m A D is_ready weaker front s stopped.read next;
+      part = ends_in m is_ready.roles start front s stopped.read;
     } in
     let same = c.grammar-grammar.ensures.value in
     let is_marks = subst (λ h. c.marks.result ≡ marks_of (notation_of h) front) same c.marks.ensures in
     let spot : Grammar → Spot = λ h. record {
       grammar = h;
-      row = c.args.scanned.row;
+      row = c.args.stop.row;
       byte = c.byte_at-byte.result;
       tail = c.tail_at.result;
       marks = c.marks.result;
@@ -42,5 +42,5 @@ returns c =
     let h = c.grammar-grammar.result in
     subst (λ now. IsRefusal (notation_of now) c.args.text.now (refusal_of (notation_of h) (spot h))) c.self.view_is
     (subst (λ h. IsRefusal m c.args.text.now (refusal_of (notation_of h) (spot h))) (sym same)
-    (refusal_at g c.args.text.now c.args.scanned.row c.tail_at.result c.marks.result size scanned.error.within scanned.error is_read refused
+    (refusal_at g c.args.text.now c.args.stop.row c.tail_at.result c.marks.result size stopped.valid.within stopped.valid is_read refused
     c.byte_at-byte.result c.byte_at-byte.ensures is_marks))

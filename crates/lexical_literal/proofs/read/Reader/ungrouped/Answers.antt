@@ -1,30 +1,50 @@
 -- The parts are those of the literal, which is not in groups.
-use Rattle.std.proofs.Common.{◌≡◌, ◌+◌, false, length, refl, sym, ap, subst, ◌∙◌}
+use Rattle.std.proofs.Common.{ℕ, ◌≡◌, ◌≤◌, ◌+◌, List, false, length, length-append, refl, sym, ap, subst, ◌∙◌, arith}
 use Rattle.lexical_literal.specs.Groups.{IsFirstWrongGroup, is_grouped}
-use Rattle.lexical_literal.specs.Literal.{Literal}
+use Rattle.lexical_literal.specs.Literal.{Literal, text_of}
 use Rattle.lexical_literal.specs.Notation.{notation_of}
 use Rattle.lexical_literal.specs.Parts.{literal_of}
 use Rattle.lexical_literal.specs.declared.syntax.Grammar.{Grammar}
 use Rattle.lexical_literal.proofs.GroupLemmas.{not_grouped}
+use Rattle.lexical_literal.proofs.LongestLemmas.{whole_front}
 use Rattle.lexical_literal.proofs.read.Reader.ungrouped.Goals as goal
+
+within : (text : List ℕ) (l : Literal) (n : ℕ) → text ≡ text_of l → n ≤ length l.integer → length l.sign + length l.prefix + n ≤ length text
+within text l n whole small = omega (arith, length-append {A = ℕ}, ap length whole, small)
+
+pub cut-parts-requires : goal.cut-parts-requires
+cut-parts-requires c = let l = c.requires.read in (l.0, l.1.whole, c.scan.ensures.counted l.0 (whole_front _ _ _ c.scan.ensures.stop l.0 l.1))
 
 pub wrong_group-start-requires : goal.wrong_group-start-requires
 wrong_group-start-requires c =
-    let l = c.requires.parts in
+    let l = c.requires.read in
     let same = c.grammar-grammar.ensures.value ∙ c.self.view_is in
     let required = sym (ap (λ (g : Grammar). g.conditions.integer_group_size) same) ∙ c.in-Some.is in
-    let parts : literal_of c.cut-parts.result ≡ l.0 = c.cut-parts.ensures l.0 l.1.whole l.2 in
+    let parts : literal_of c.cut-parts.result ≡ l.0 = c.cut-parts.ensures l.0 l.1.whole (c.scan.ensures.counted l.0 (whole_front _ _ _ c.scan.ensures.stop l.0 l.1)) in
     subst (λ (g : Grammar). is_grouped (notation_of g).separator c.in-Some.size c.cut-parts.result.integer.now ≡ false) (sym same)
     (subst (λ (k : Literal). is_grouped (notation_of c.args.self.now).separator c.in-Some.size k.integer ≡ false) (sym parts)
     (not_grouped c.args.self.now c.args.text.now l.0 l.1 c.requires.refuses c.in-Some.size required))
 
+pub overflow_add-result : goal.overflow_add-result
+overflow_add-result c =
+    let l = c.requires.read in
+    let parts = c.cut-parts.ensures l.0 l.1.whole (c.scan.ensures.counted l.0 (whole_front _ _ _ c.scan.ensures.stop l.0 l.1)) in
+    let group = c.wrong_group-start.ensures in
+    omega (arith, within c.args.text.now (literal_of c.cut-parts.result) c.wrong_group-start.result.0 (l.1.whole ∙ ap text_of (sym parts)) (omega (arith, group.ends, group.within)), c.type_inv.text)
+
+pub overflow_add-result-2 : goal.overflow_add-result-2
+overflow_add-result-2 c =
+    let l = c.requires.read in
+    let parts = c.cut-parts.ensures l.0 l.1.whole (c.scan.ensures.counted l.0 (whole_front _ _ _ c.scan.ensures.stop l.0 l.1)) in
+    omega (arith, within c.args.text.now (literal_of c.cut-parts.result) c.wrong_group-start.result.1 (l.1.whole ∙ ap text_of (sym parts)) c.wrong_group-start.ensures.within, c.type_inv.text)
+
 pub returns : goal.returns
 returns c =
-    let l = c.requires.parts in
+    let l = c.requires.read in
     let same = c.grammar-grammar.ensures.value ∙ c.self.view_is in
     let size = c.in-Some.size in
     let required = sym (ap (λ (g : Grammar). g.conditions.integer_group_size) same) ∙ c.in-Some.is in
-    let parts : literal_of c.cut-parts.result ≡ l.0 = c.cut-parts.ensures l.0 l.1.whole l.2 in
+    let parts : literal_of c.cut-parts.result ≡ l.0 = c.cut-parts.ensures l.0 l.1.whole (c.scan.ensures.counted l.0 (whole_front _ _ _ c.scan.ensures.stop l.0 l.1)) in
     record {
       literal = l.0;
       reads = l.1;
