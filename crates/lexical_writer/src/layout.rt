@@ -8,14 +8,15 @@ ghost use Rattle.lexical_literal.specs.Literal.{is_present, text_of};
 ghost use Rattle.lexical_literal.specs.Syntax.{IsSyntax};
 ghost use Rattle.lexical_literal.specs.Takes.{Takes};
 ghost use Rattle.lexical_writer.specs.Digits.{grouped, only_if, or_zero, run_text, size_of, values_of};
-ghost use Rattle.lexical_writer.specs.Layout.{after_zero, base_byte, given_fraction, group_of, has_exponent, has_point, has_zero};
+ghost use Rattle.lexical_writer.specs.Layout.{base_byte, given_fraction, group_of, has_exponent, has_point, has_zero};
 ghost use Rattle.lexical_writer.specs.Layout.{HasNumber, IsLaidOut, literal_of, needs_exponent, refusal, sign_of};
 ghost use Rattle.lexical_writer.specs.Private.{IsTaken};
 
-use crate::digits::{count, only_if, put_if_any, without_zeros};
+use crate::digits::{only_if, put_if_any, without_zeros};
 use crate::run::{Run, Source};
 use crate::sink::{Sink, Window};
 use lexical_literal::syntax::{Conditions, Options, Syntax};
+use lexical_number::parts::count;
 use lexical_util::format::{NumberFormat, base_prefix, base_suffix, digit_separator};
 use lexical_util::laws::byte_facts;
 
@@ -115,7 +116,8 @@ impl Layout<'_> {
             → S.has start sink.new (text ++ text_of (literal_of self.now)) }
     {
         put_if_any(sink, self.sign);
-        put_prefix(sink, self.prefix);
+        put_if_any(sink, only_if(self.prefix.is_some(), b'0'));
+        put_if_any(sink, self.prefix);
         self.integer.put(sink);
         put_if_any(sink, self.point);
         self.fraction.put(sink);
@@ -123,17 +125,6 @@ impl Layout<'_> {
         put_if_any(sink, self.exponent_sign);
         self.exponent.put(sink);
         put_if_any(sink, self.suffix);
-    }
-}
-
-// Writes a zero and a byte, if there is one.
-fn put_prefix<S: Sink>(sink: &mut S, byte: Option<u8>)
-    ensures { (start : S) → (text : List ℕ) → S.has start sink.old text
-        → S.has start sink.new (text ++ after_zero byte) }
-{
-    if let Some(byte) = byte {
-        sink.put(b'0');
-        sink.put(byte);
     }
 }
 

@@ -3,9 +3,10 @@
 //! Numbers are laid out as literals.
 
 use crate::literal::syntax::{Conditions, Options, Syntax};
-use crate::literal::writer::digits::{count, only_if, put_if_any, without_zeros};
+use crate::literal::writer::digits::{only_if, put_if_any, without_zeros};
 use crate::literal::writer::run::{Run, Source};
 use crate::literal::writer::sink::{Sink, Window};
+use crate::number::parts::count;
 use crate::word::{base_prefix, base_suffix, digit_separator, FormatView};
 
 /// How numbers are written where a syntax leaves a choice.
@@ -94,7 +95,8 @@ impl Layout<'_> {
     // Writes the text.
     pub(crate) fn put<S: Sink>(&self, sink: &mut S) {
         put_if_any(sink, self.sign);
-        put_prefix(sink, self.prefix);
+        put_if_any(sink, only_if(self.prefix.is_some(), b'0'));
+        put_if_any(sink, self.prefix);
         self.integer.put(sink);
         put_if_any(sink, self.point);
         self.fraction.put(sink);
@@ -102,14 +104,6 @@ impl Layout<'_> {
         put_if_any(sink, self.exponent_sign);
         self.exponent.put(sink);
         put_if_any(sink, self.suffix);
-    }
-}
-
-// Writes a zero and a byte, if there is one.
-fn put_prefix<S: Sink>(sink: &mut S, byte: Option<u8>) {
-    if let Some(byte) = byte {
-        sink.put(b'0');
-        sink.put(byte);
     }
 }
 
