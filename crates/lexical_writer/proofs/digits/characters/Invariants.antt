@@ -1,7 +1,7 @@
 use Rattle.std.proofs.Common.{length, drop, map, ◌++◌, ◌≡◌, ◌≤◌}
 use Rattle.std.specs.Int.Digits.{digits_of}
 use Rattle.lexical_writer.specs.Digits.{character}
-use Rattle.lexical_writer.proofs.digits.put_number.Given as goal
+use Rattle.lexical_writer.proofs.digits.characters.Given as goal
 
 -- The digits that are left come before those that have been written.
 abbrev pub invariant-loop-left : goal.invariant-loop-left
