@@ -155,9 +155,7 @@ class Page {
             return button("form", form.name, () => this.jump(stateOf(form)), { "aria-pressed": String(isShown(form)) });
         });
         find("forms").hidden = forms.length === 1;
-        const hadFocus = [...find("forms").children].indexOf(document.activeElement);
-        find("forms").replaceChildren(...buttons);
-        buttons[hadFocus]?.focus();
+        refill(find("forms"), buttons);
         return forms;
     }
 

@@ -97,10 +97,7 @@ class Report {
             const set = button("set", `set ${old.slice(name.length + 1)}`, () => this.edit(name, before), { "aria-label": `set ${old}` });
             return element("li", { class: "chip", "data-field": name }, element("code", {}, text), set);
         });
-        const hadFocus = [...find("changes").querySelectorAll("button")].indexOf(document.activeElement);
-        find("changes").replaceChildren(...chips);
-        if (hadFocus < 0) return;
-        (find("changes").querySelectorAll("button")[Math.min(hadFocus, chips.length - 1)] ?? find("compare")).focus();
+        refill(find("changes"), chips, find("compare"));
     }
 
     /* Returns lists of the texts that tell two formats apart, as `differ` of library.rs returns them. */

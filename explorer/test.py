@@ -336,14 +336,6 @@ class Walk(unittest.TestCase):
         self.click(".reason .use", "base_prefix=none")
         self.assertEqual((self.focused(), self.text("#verdict")), ("verdict", "Lawful"))
 
-    def test_numbers_are_read_if_only_an_option_does_not_fit(self):
-        self.load("#word=0x0000100000000000000000000000000C")
-        self.type("#literal", "1F.8\n1p3")
-        self.assertEqual((self.text("#verdict"), self.text("#count")), ("An option does not fit", "1 of 2 as expected"))
-        self.assertEqual(self.texts(".reason .use"), ["exponent='p'", "mantissa_radix=10"])
-        self.click(".reason .use", "exponent='p'")
-        self.assertEqual(self.text("#count"), "2 of 2 as expected")
-
     def test_words_are_typed_and_refused(self):
         self.type("#word", "0xC" + Keys.ENTER)
         self.assertEqual(self.texts(".reason strong"), ["the mantissa radix 0 is not between 2 and 36"])

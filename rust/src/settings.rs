@@ -1,5 +1,6 @@
 //! Settings that are read from texts, and what they build.
 
+use core::array;
 use core::fmt::{self, Write};
 use core::str::from_utf8;
 
@@ -174,8 +175,10 @@ impl Settings {
     fn push(&mut self, new: Setting) {
         let old = self.live.into_iter().flatten().map(|old| Setting { mask: old.mask & !new.mask, ..old });
         let gone = old.clone().filter(|old| old.mask == 0).map(|old| (old, new.index));
-        self.overridden = filled(self.overridden.into_iter().flatten().chain(gone));
-        self.live = filled(old.filter(|old| old.mask != 0).chain([new]));
+        let mut overridden = self.overridden.into_iter().flatten().chain(gone);
+        let mut live = old.filter(|old| old.mask != 0).chain([new]);
+        self.overridden = array::from_fn(|_| overridden.next());
+        self.live = array::from_fn(|_| live.next());
     }
 
     /// Returns the format. The exponent character and the decimal point do not matter.
@@ -242,21 +245,11 @@ impl Settings {
     }
 }
 
-/// Returns an array that begins with the items.
-fn filled<T: Copy, const N: usize>(items: impl Iterator<Item = T>) -> [Option<T>; N] {
-    let mut slots = [None; N];
-    let pairs = slots.iter_mut().zip(items);
-    pairs.for_each(|(slot, item)| *slot = Some(item));
-    slots
-}
-
 /// Returns the edit of a text. If it sets an option or a condition, returns its number, and an edit with its value.
 fn parse(index: usize, text: &[u8]) -> Result<(Option<usize>, Edit), LineError> {
     let refuse = |error, option, refused: &[u8]| {
-        let (length, mut piece) = (refused.len(), [0; SHOWN]);
-        let pairs = piece.iter_mut().zip(refused);
-        pairs.for_each(|(to, byte)| *to = *byte);
-        LineError { index, error, option, piece, length }
+        let piece = array::from_fn(|at| refused.get(at).copied().unwrap_or_default());
+        LineError { index, error, option, piece, length: refused.len() }
     };
     let equals = text.iter().position(|byte| *byte == b'=');
     let equals = equals.ok_or_else(|| refuse(EditError(Fault::NoEquals), None, text))?;

@@ -82,21 +82,13 @@ REPLACED = [
     ("digit.rt", "VALUES[c as usize] as u32", "VALUES[c as usize]"),
     # A constant panics with a text.
     ("short_text.rt", "pub fn as_str(", "pub const fn as_str("),
-    # Rattle's `split_at` is not const.
-    ("read.rt", "\nfn split_front<", "\nconst fn split_front<"),
-    ("read.rt", "pub(crate) fn front_of<", "pub(crate) const fn front_of<"),
-    ("read.rt", "pub(crate) fn cut<", "pub(crate) const fn cut<"),
     # Calls with these names are written by hand: they return a byte, a `Literal` or a range.
     ("syntax.rt", "pub const fn options(&self)", "pub(crate) const fn options(&self)"),
     ("cause.rt", "pub const fn span(&self)", "#[doc(hidden)] pub const fn bounds(&self)"),
 ]
 
-# Nor is what calls these.
-NOT_CONST = {
-    "read.rt": "explain find find_front front grouped has_groups lengths refuse ungrouped",
-    "list.rt": "find find_front grouped refuse",
-}
-REPLACED += [(file, f"fn {name}(", f"const fn {name}(") for file, names in NOT_CONST.items() for name in names.split()]
+# Files in which each function is const in plain Rust. Rattle's `split_at` is not, nor is what calls it.
+CONST = ("read.rt", "list.rt")
 
 # Texts that plain Rust replaces in every file, wherever they occur.
 EVERYWHERE = [
@@ -265,9 +257,10 @@ class Source:
         return text + self.text[last:]
 
 
-def source_of(path):
-    """Returns the source after the replacements. Each keeps the number of lines, so lines keep their numbers."""
+def replaced(path):
+    """Returns a source after the replacements. Each keeps the number of lines, so lines keep their numbers."""
     text = path.read_text()
+    text = re.sub(r"(?<!const )\bfn (?=\w+[<(])", "const fn ", text) if path.name in CONST else text
     for file, old, new in REPLACED:
         if path.match(file):
             if text.count(old) != 1:
@@ -275,7 +268,7 @@ def source_of(path):
             text = text.replace(old, new)
     for old, new in EVERYWHERE:
         text = text.replace(old, new)
-    return Source(path, text)
+    return text
 
 
 def renamed(text, root, own, std):
@@ -305,7 +298,7 @@ def made_files():
                 sources += path.read_text()
                 read.append(path)
                 head = f"{MADE} from crates/{crate}/src/{name}: change that file.\n\n"
-                text = head + renamed(source_of(path).erase(), *names)
+                text = head + renamed(Source(path, replaced(path)).erase(), *names)
                 files[RUST.joinpath(folder, stem, *others).with_suffix(".rs")] = laid_out(text)
     for pattern, folder in COPIED.items():
         for path in sorted(it for it in CRATES.glob(pattern) if it.name not in NOT_COPIED):

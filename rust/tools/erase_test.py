@@ -74,15 +74,6 @@ def plain(words):
     return kept
 
 
-def wanted_words(path, names):
-    """The words that the generated file of a source must have, by the names of plain Rust."""
-    text = path.read_text()
-    rows = [(old, new) for file, old, new in erase.REPLACED if path.match(file)]
-    for old, new in rows + erase.EVERYWHERE:
-        text = text.replace(old, new)
-    return plain(words_of(erase.renamed(text, *names)))
-
-
 IMPORT = re.compile(r"(?:# \[ [^\]]* \] )*(?:pub (?:\( \w+ \) )?)?(?<!\S)(?:use [^;]*|mod \w+) ;")
 
 
@@ -93,19 +84,16 @@ def normal(words):
     return sorted(split(" ".join(IMPORT.findall(text)))), split(IMPORT.sub("", text))
 
 
-def pairs():
-    """Each generated file with the words that it must have. Its first line names its source."""
-    for folder in sorted({folder for folder, *_ in erase.PLACES.values()}):
-        for made in sorted((erase.RUST / folder).rglob("*.rs")):
-            if source := re.match(rf"{erase.MADE} from crates/((\w+)/src/\S+): ", made.read_text()):
-                yield made, wanted_words(erase.CRATES / source[1], erase.PLACES[source[2]][1:])
-
-
-def main():
-    files = list(pairs())
-    found = [str(made.relative_to(erase.RUST)) for made, words in files if normal(words) != normal(words_of(made.read_text()))]
-    sys.exit(f"not the words of the source: {', '.join(found)}" if found or not files else 0)
+def differing():
+    """Yields the names of the generated files that differ from what their sources make. Their first lines name these."""
+    for made in sorted(it for folder in {folder for folder, *_ in erase.PLACES.values()} for it in (erase.RUST / folder).rglob("*.rs")):
+        if source := re.match(rf"{erase.MADE} from crates/((\w+)/src/\S+): ", made.read_text()):
+            path = erase.CRATES / source[1]
+            words = plain(words_of(erase.renamed(erase.replaced(path), *erase.PLACES[source[2]][1:])))
+            if normal(words) != normal(words_of(made.read_text())):
+                yield str(made.relative_to(erase.RUST))
 
 
 if __name__ == "__main__":
-    main()
+    found = ", ".join(differing())
+    sys.exit(f"not the words of the source: {found}" if found else 0)

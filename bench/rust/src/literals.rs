@@ -1,7 +1,7 @@
 //! The rows of literals: the reader and the writer of the library beside other calls over the same texts or numbers. A
 //! loop counts the texts that a call accepts, or in one loop those that it refuses.
 
-use crate::data::list;
+use crate::list;
 use crate::measure::Row;
 use crate::random::Random;
 use peltzivar::literal::{Language, Reader, Style};

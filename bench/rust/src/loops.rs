@@ -1,7 +1,7 @@
 // The loops, over the library and over `lexical-util`. `main.rs` includes them twice, each under its imports.
 
-use crate::data::Case;
 use crate::measure::Fold;
+use crate::Case;
 use std::hint::black_box;
 use std::num::NonZeroU8;
 

@@ -4,18 +4,43 @@
 //!
 //!     driver [--rounds N] [--only TEXT]
 
-mod data;
+#[allow(dead_code)]
+#[path = "../../../compare/rust/src/inputs.rs"]
+mod inputs;
 mod literals;
 mod measure;
 #[path = "../../../compare/rust/src/options.rs"]
 mod options;
 #[path = "../../../compare/rust/src/random.rs"]
 mod random;
+#[allow(dead_code, unused_imports, unused_macros)]
+#[path = "../../../compare/rust/src/rows.rs"]
+mod rows;
 
-use data::{broken, case, lawful, list};
 use measure::Row;
 use random::Random;
 use std::hint::black_box;
+
+/// A word, and the bits of an exponent character and a decimal point, with others above them.
+type Case = (u128, u64);
+
+/// Returns items for the whole program.
+fn list<T>(random: &mut Random, len: usize, item: impl Fn(&mut Random) -> T) -> &'static [T] {
+    (0..len).map(|_| item(random)).collect::<Vec<T>>().leak()
+}
+
+/// Returns a word that is lawful or not, for which the library does not differ from `lexical-util` on purpose.
+fn case(random: &mut Random, is_lawful: bool) -> Case {
+    loop {
+        let options = random.pick(b"ep^@") as u64 | (random.pick(b".;|") as u64) << 8;
+        let case = [(random.word(), options | random.next() << 16)];
+        let is_alike = ours::format_errors(&case) == theirs::format_errors(&case);
+        let is_wanted = peltzivar::FormatView::new(case[0].0).is_valid() == is_lawful;
+        if is_wanted && is_alike && ours::options(&case) == theirs::options(&case) {
+            return case[0];
+        }
+    }
+}
 
 /// The loops over the library, the crate in `rust/`.
 mod ours {
@@ -86,7 +111,8 @@ fn rows() -> Vec<Row> {
     let (text, any_bytes) = (list(random, SIZE, visible), list(random, SIZE, |it| it.next() as u8));
     let spoiled = list(random, SIZE, |it| if it.one_in(100) { it.pick(b"\0\x08\x0E\x7F\x80") } else { visible(it) });
     let letters = list(random, SIZE, |it| it.pick(&alphanumeric[10..]));
-    let [lawful, broken, any] = [lawful, broken, Random::bits].map(|word| list(random, 4096, |it| case(it, word)));
+    let [lawful, broken] = [true, false].map(|is_lawful| list(random, 4096, |it| case(it, is_lawful)));
+    let any = list(random, 4096, |it| (it.bits(), it.next()));
     rows! {
         "char_to_digit, read, radix 10", 1.0, digit_read(decimal, 10);
         "char_to_digit, read, radix 16", 1.0, digit_read(hexadecimal, 16);

@@ -1,4 +1,4 @@
-//! The inputs on which the calls are compared. All of them follow from one seed.
+//! The inputs on which the calls are compared. All of them follow from one seed. `bench/` has this file as a module too.
 
 use crate::random::Random;
 use crate::rows::with_setters;
