@@ -1,14 +1,13 @@
 -- The flags of masks, and the bytes to show.
-use Rattle.std.proofs.Common.{ℕ, ◌≡◌, ◌≢◌, ◌<◌, ◌+◌, ◌*◌, ◌%◌, ◌^◌, ◌==◌, ◌&&◌, ◌||◌, not, Bool, true, false, if◌then◌else◌}
+use Rattle.std.proofs.Common.{ℕ, ◌≡◌, ◌<◌, ◌+◌, ◌^◌, ◌==◌, ◌&&◌, ◌||◌, not, Bool, true, false, if◌then◌else◌}
 use Rattle.std.proofs.Common.{bit_and, bit_or, inl, inr, List, [], ◌∷◌, ◌++◌, length, sum_by, refl, sym, ap, ◌∙◌, arith}
 use Rattle.std.proofs.lemmas.Bool.Decides.{nat_tests}
 use Rattle.std.proofs.lemmas.List.Folds.{list_any-append}
-use Rattle.std.proofs.lemmas.Nat.Bits.{and_pow, bit_at_and, bit_at_or, bit_at_not, bit_at-zero, bit_at-pow_same, bit_at-pow_other, bit_at-trailing_zeros}
-use Rattle.std.proofs.Math.Nat.{eq-zero-or-pos, mod-lt}
-use Rattle.std.proofs.lemmas.Bool.{false≢true, and_from, cases_Bool, eq-eqb, eqb-true, or_left, or_parts, or_right}
-use Rattle.std.proofs.lemmas.Nat.{one_shl}
-use Rattle.std.specs.Int.Bits.{or_zero_l}
-use Rattle.std.specs.Int.{w128, bit_not, trailing_zeros}
+use Rattle.std.proofs.lemmas.Nat.Bits.{bit_at_and, bit_at_or, bit_at_not, bit_at-zero, bit_at-pow_same, bit_at-pow_other}
+use Rattle.std.proofs.Math.Nat.{mod-lt}
+use Rattle.std.proofs.lemmas.Bool.{false≢true, cases_Bool, eqb-true, or_parts}
+use Rattle.std.proofs.lemmas.Nat.{and_assoc}
+use Rattle.std.specs.Int.{w128, bit_not}
 use Rattle.lexical_util.specs.Ascii.{ByteSet}
 use Rattle.lexical_util.specs.Groups.{bits_of}
 use Rattle.lexical_util.specs.Layout as layout
@@ -20,8 +19,8 @@ use Rattle.lexical_flags.proofs.Packing.{raw-word_of}
 use Rattle.std.specs.List.{list_any}
 use Rattle.lexical_literal.specs.Additions.Explained.{mask_of}
 use Rattle.lexical_flags.specs.declared.format_flags.TheConstants.{FLAG_MASK}
-use Rattle.lexical_literal.specs.declared.cause.TheConstants.{FLOAT_REQUIREMENTS, REQUIREMENTS, ZEROS}
-use Rattle.lexical_literal.specs.Cause.{behind, flag_at, is_one_of, leading_zero_flags, requirement_flags}
+use Rattle.lexical_literal.specs.declared.cause.TheConstants.{FLOAT_REQUIREMENTS, REQUIREMENTS, SEPARATORS, ZEROS}
+use Rattle.lexical_literal.specs.Cause.{behind, flag_at, is_one_of, leading_zero_flags, number_separator_flags, requirement_flags}
 
 -- FLAGS
 
@@ -37,16 +36,16 @@ pub all_flags : (f : Flag) → is_one_of layout.flags f ≡ true
 all_flags layout.required_integer_digits = refl
 all_flags _ = refl
 
-module _ (P : Flag → Bool) where
-  -- A flag of a list for which a test is true.
-  pub found_in : (fs : List Flag) → list_any P fs ≡ true → (f : Flag) × (P f ≡ true)
-  found_in [] is = absurd (false≢true is)
-  found_in (f ∷ fs) is = elim (cases_Bool (P f)) [
-    | inl here ↦ (f, here)
-    | inr other ↦ found_in fs (ap (λ t. t || list_any P fs) (sym other) ∙ is)
-  ]
+-- An item of a list for which a test is true.
+pub found_in : {X : Type 0} (P : X → Bool) (xs : List X) → list_any P xs ≡ true → (x : X) × (P x ≡ true)
+found_in P [] is = absurd (false≢true is)
+found_in P (x ∷ xs) is = elim (cases_Bool (P x)) [
+  | inl here ↦ (x, here)
+  | inr other ↦ found_in P xs (ap (λ t. t || list_any P xs) (sym other) ∙ is)
+]
 
-  pub none_in : (fs : List Flag) (f : Flag) → list_any P fs ≡ false → is_one_of fs f ≡ true → P f ≡ false
+module _ (P : Flag → Bool) where
+  none_in : (fs : List Flag) (f : Flag) → list_any P fs ≡ false → is_one_of fs f ≡ true → P f ≡ false
   none_in [] f none is = absurd (false≢true is)
   none_in (g ∷ fs) f none is =
       let both = or_parts (P g) (list_any P fs) none in elim (cases_Bool (bit g == bit f)) [
@@ -83,23 +82,27 @@ pub requirement_mask : (f : Flag) → (raw REQUIREMENTS).flag f ≡ is_one_of re
 requirement_mask layout.required_integer_digits = refl
 requirement_mask _ = refl
 
-pub binding_mask : (f : Flag) → (raw FLOAT_REQUIREMENTS).flag f ≡ (is_one_of requirement_flags f && not ((bit f == 12) && true))
-binding_mask layout.required_integer_digits = refl
-binding_mask _ = refl
+pub float_mask : (f : Flag) → (raw FLOAT_REQUIREMENTS).flag f ≡ (is_one_of requirement_flags f && not (bit f == 12))
+float_mask layout.required_integer_digits = refl
+float_mask _ = refl
 
 pub zeros_mask : (f : Flag) → (raw ZEROS).flag f ≡ is_one_of leading_zero_flags f
 zeros_mask layout.required_integer_digits = refl
 zeros_mask _ = refl
 
-pub all_bind : (f : Flag) → (raw REQUIREMENTS).flag f ≡ (is_one_of requirement_flags f && not ((bit f == 12) && false))
-all_bind layout.required_integer_digits = refl
-all_bind _ = refl
+pub separators_mask : (f : Flag) → (raw SEPARATORS).flag f ≡ is_one_of number_separator_flags f
+separators_mask layout.required_integer_digits = refl
+separators_mask _ = refl
 
 -- The flags of a word without requirements.
 pub bare_flags : (word : ℕ) (f : Flag)
     → (raw (bit_and word (bit_not w128 REQUIREMENTS))).flag f ≡ ((raw word).flag f && not (is_one_of requirement_flags f))
 bare_flags word f = flag_and f word (bit_not w128 REQUIREMENTS)
     ∙ ap (λ t. (raw word).flag f && t) (flag_not f REQUIREMENTS (omega arith) ∙ ap not (requirement_mask f))
+
+-- Two sets of flags that have the same flags have the same mask.
+pub same_mask : (P Q : Flag → Bool) → ((f : Flag) → P f ≡ Q f) → mask_of P ≡ mask_of Q
+same_mask P Q same = λ j. mask_of (λ f. same f j)
 
 -- The flags of the mask of some flags are these flags.
 pub mask_flags : (P : Flag → Bool) (f : Flag) → (raw (mask_of P)).flag f ≡ P f
@@ -113,76 +116,44 @@ pub only_mask : (P : Flag → Bool) → mask_of P ≡ bits_of (mask_of P) layout
 unfolding bits_of
 only_mask P = sym (mask_sum P) ∙ (λ j. sum_by (λ f. if sym (mask_flags P f) j then 2 ^ bit f else 0) layout.flags)
 
+pub only_none : 0 ≡ bits_of 0 layout.flags
+unfolding bits_of
+only_none = refl
+
 -- A mask without the bits that are not those of flags.
 pub masked : (mask : ℕ) (P : Flag → Bool) → ((f : Flag) → (raw mask).flag f ≡ P f) → bit_and mask FLAG_MASK ≡ mask_of P
 unfolding bits_of
 masked mask P each = bits_by_mask mask FLAG_MASK layout.flags refl refl
     ∙ (λ j. sum_by (λ f. if each f j then 2 ^ bit f else 0) layout.flags) ∙ mask_sum P
 
--- A bit that a mask has, or has not.
-pub is_unset : (n k : ℕ) → bit_and n (2 ^ k) ≡ 0 → part n k 1 ≡ 0
-is_unset n k none = omega (arith, bit_small n k, bit_at-pow_same k, bit_at_and n (2 ^ k) k, ap (λ n. part n k 1) none, bit_at-zero k)
+-- A mask whose other bits a mask of flags clears.
+pub masked_by : (mask list : ℕ) (P : Flag → Bool) → bit_and list FLAG_MASK ≡ list → ((f : Flag) → (raw (bit_and mask list)).flag f ≡ P f)
+    → bit_and mask list ≡ mask_of P
+masked_by mask list P only each = ap (bit_and mask) (sym only) ∙ sym (and_assoc FLAG_MASK mask list) ∙ masked (bit_and mask list) P each
 
-pub is_set : (n k : ℕ) → bit_and n (2 ^ k) ≢ 0 → part n k 1 ≡ 1
-is_set n k some = let bits = and_pow n k in let small = bit_small n k in grind arith
+pub no_mask : mask_of (λ f. false) ≡ 0
+no_mask = sym (mask_sum (λ f. false))
 
--- A mask whose bits are flags has one, if it is not 0.
-pub some_flag : (n : ℕ) → n ≢ 0 → n < 2 ^ 128 → ((k : ℕ) → part n k 1 ≡ 1 → (f : Flag) × (bit f ≡ k)) → (f : Flag) × ((raw n).flag f ≡ true)
-some_flag n some fits owner =
-    let low = bit_at-trailing_zeros w128 n (omega (arith, some)) fits in
-    let f = owner (trailing_zeros w128 n) low.1 in
-    (f.0, ap (λ k. part n k 1 == 1) f.1 ∙ ap (λ n. n == 1) low.1)
+module _ (P : Flag → Bool) where
+  -- A mask that is 0 has no flag, and another one has one.
+  pub none_of : (mask_of P == 0) ≡ true → (f : Flag) → P f ≡ false
+  none_of zero f = sym (mask_flags P f) ∙ ap (λ n. (raw n).flag f) (eqb-true (mask_of P) 0 zero) ∙ flag_zero f
 
-pub shifted : (k : ℕ) → k < 44 → 1 * 2 ^ k % 2 ^ 128 ≡ 2 ^ k
-shifted k small = one_shl k 128 (omega arith)
-
--- The flags of one mask or another.
-pub either : (f : Flag) (a b : ℕ) (x y : Bool) → (raw a).flag f ≡ x → (raw b).flag f ≡ y → (raw (bit_or a b)).flag f ≡ (x || y)
-either f a b x y is_a is_b = flag_or f a b ∙ (λ j. is_a j || is_b j)
-
--- `HasFlag n` holds if the mask `n` has a flag, or is 0.
-abbrev pub HasFlag : ℕ → Type 0
-HasFlag n = n ≢ 0 → (f : Flag) × ((raw n).flag f ≡ true)
-
-module _ (P : Flag → Bool) (mask : ℕ) (each : (f : Flag) → (raw mask).flag f ≡ P f) where
-  pub any_flag : HasFlag mask → mask ≢ 0 → list_any P layout.flags ≡ true
-  any_flag has some = elim (cases_Bool (list_any P layout.flags)) [
-    | inl is ↦ is
+  pub some_of : (mask_of P == 0) ≡ false → (f : Flag) × (P f ≡ true)
+  some_of some = elim (cases_Bool (list_any P layout.flags)) [
+    | inl is ↦ found_in P layout.flags is
     | inr none ↦
-        let one = has some in absurd (false≢true (sym (none_in P layout.flags one.0 none (all_flags one.0)) ∙ sym (each one.0) ∙ one.1))
+        absurd (false≢true (sym some ∙ ap (λ n. n == 0) (same_mask P (λ f. false) (λ f. none_in P layout.flags f none (all_flags f)) ∙ no_mask)))
   ]
-
-  pub no_flag : mask ≡ 0 → list_any P layout.flags ≡ false
-  no_flag zero = elim (cases_Bool (list_any P layout.flags)) [
-    | inl is ↦
-        let one = found_in P layout.flags is in
-        absurd (false≢true (sym (sym (each one.0) ∙ ap (λ n. (raw n).flag one.0) zero ∙ flag_zero one.0) ∙ one.1))
-    | inr none ↦ none
-  ]
-
-pub has_either : (a b : ℕ) → HasFlag a → HasFlag b → HasFlag (bit_or a b)
-has_either a b of_a of_b some = elim (eq-zero-or-pos a) [
-  | inl none ↦
-      let found = of_b (λ zero. some (ap (λ n. bit_or n b) none ∙ or_zero_l b ∙ zero)) in
-      (found.0, flag_or found.0 a b ∙ or_right ((raw a).flag found.0) _ found.1)
-  | inr more ↦
-      let found = of_a (λ zero. absurd (omega (arith, more, zero))) in
-      (found.0, flag_or found.0 a b ∙ or_left _ _ found.1)
-]
-
--- The flags of a mask that is taken if `t` is true.
-pub flag_if : (t : Bool) (mask : ℕ) (f : Flag) → (raw (if t then mask else 0)).flag f ≡ (t && (raw mask).flag f)
-flag_if t mask f = let zero = flag_zero f in grind arith
-
-pub is_taken : (t : Bool) (mask : ℕ) → (if t then mask else 0) ≢ 0 → t ≡ true
-is_taken t mask some = grind arith
 
 -- A mask of one flag, if `t` is true.
-pub one_flag : (t : Bool) (k mask : ℕ) → mask ≡ (if t then 2 ^ k else 0) → (f : Flag) → (raw mask).flag f ≡ (t && (bit f == k))
-one_flag t k mask is f = ap (λ n. (raw n).flag f) is ∙ flag_if t (2 ^ k) f ∙ ap (λ b. t && b) (flag_pow f k)
+pub one_flag : (t : Bool) (k : ℕ) (f : Flag) → (raw (if t then 2 ^ k else 0)).flag f ≡ (t && (bit f == k))
+one_flag true k f = flag_pow f k
+one_flag false k f = flag_zero f
 
-pub has_one : (t : Bool) (g : Flag) (mask : ℕ) → mask ≡ (if t then 2 ^ bit g else 0) → HasFlag mask
-has_one t g mask is some = (g, one_flag t (bit g) mask is g ∙ and_from _ _ (is_taken t _ (λ zero. some (is ∙ zero))) (eq-eqb (bit g) (bit g) refl))
+-- A bit that a mask has not.
+pub is_unset : (n k : ℕ) → bit_and n (2 ^ k) ≡ 0 → part n k 1 ≡ 0
+is_unset n k none = omega (arith, bit_small n k, bit_at-pow_same k, bit_at_and n (2 ^ k) k, ap (λ n. part n k 1) none, bit_at-zero k)
 
 -- THE BYTES TO SHOW
 

@@ -10,8 +10,8 @@ use Rattle.lexical_util.specs.declared.format_flags.Part.{Part}
 use Rattle.lexical_util.specs.declared.format_flags.Part.TheVariants as parts
 use Rattle.lexical_literal.specs.Notation.{Notation}
 use Rattle.lexical_literal.specs.Run.{is_place}
-use Rattle.lexical_literal.specs.Cause.{adding, bare, binds, is_one_of, is_same, number_separator_flags, with_rules}
-use Rattle.lexical_literal.specs.Additions.Causes.{allows, is_plus_next, is_role, role_of_next, separates}
+use Rattle.lexical_literal.specs.Cause.{adding, bare, binds, is_at, is_one_of, is_same, number_separator_flags, with_rules}
+use Rattle.lexical_literal.specs.Additions.Causes.{allows, is_plus_next, is_separator, place_of, role_of_next}
 use Rattle.lexical_literal.specs.Additions.Summary.{admits, after, complete_by, continues, ends, finishes, has_digit, implies, in_part}
 use Rattle.lexical_literal.specs.Additions.Summary.{is_plus_class, is_zero, may_follow, move_by, no_condition, step_by, takes}
 use Rattle.lexical_literal.specs.declared.steps.Class.{Class}
@@ -79,12 +79,6 @@ each_passes C s (Some class) each = go (in_part s.part class) (λ c. each c) whe
   go None each = refl
   go (Some role) each = let prefix = each conditions.BasePrefix in let sign = each conditions.NegativeSign in grind arith
 
--- The flags do not ask for conditions.
-pub same_free : (n : Notation) (A : Flag → Bool) (D : Condition → Bool) (s : Summary) (next : Option Class)
-    → free_allows (with_rules n A D) s next ≡ free_allows (with_rules n A no_condition) s next
-same_free n A D s None = refl
-same_free n A D s (Some class) = refl
-
 moved : (n : Notation) (s : Summary) (ended plus zero : Bool) (o : Option Role)
     → is_some (move_by no_condition n (record s { ended = ended }) plus zero o) ≡ (not ended && taken n (reading s.part s.stage s.gap) plus o)
 moved n s ended plus zero None = grind arith
@@ -143,7 +137,7 @@ module _ (m : Notation) where
   -- Behind a leading zero that is refused, a separator would have to be trailing.
   led : (part : Part) (stage : Stage) (gap plus : Bool) (role : Role) → is_digits role ≡ true → Alone (λ n. takes n (reading part stage gap) plus role)
       → takes m (reading part stage gap) plus role ≡ false
-      → (may_follow m stage || (is_role roles.Separator (Some role) && is_place m part (has_digit stage) false)) ≡ false
+      → (may_follow m stage || (is_separator (Some role) && is_place m part (has_digit stage) false)) ≡ false
   led parts.Exponent stage gap plus role is a refused = let sign = met a layout.required_exponent_sign in grind arith
   led _ stage gap plus role is a refused = let sign = met a layout.required_mantissa_sign in grind arith
 
@@ -163,7 +157,7 @@ module _ (m : Notation) where
 
   at_role : (f : Flag) (part : Part) (stage : Stage) (gap plus : Bool) (o : Option Role) → is_one_of number_separator_flags f ≡ true
       → taken (bare m) (reading part stage gap) plus o ≡ false → taken (adding f (bare m)) (reading part stage gap) plus o ≡ true
-      → separates m (reading part stage gap) o f ≡ true
+      → is_at (place_of m (reading part stage gap) o) part f ≡ true
   at_role f part stage gap plus None is refused allowed = absurd (false≢true allowed)
   at_role layout.required_integer_digits part stage gap plus (Some role) is refused allowed = grind arith
   at_role _ part stage gap plus (Some role) is refused allowed = grind arith
@@ -190,9 +184,9 @@ module _ (m : Notation) where
 
   -- A flag that allows the byte is of the place and the part.
   pub at_next : (f : Flag) (s : Summary) (class : Class) → is_one_of number_separator_flags f ≡ true → free_allows (bare m) s (Some class) ≡ false
-      → free_allows (adding f (bare m)) s (Some class) ≡ true → separates m s (in_part s.part class) f ≡ true
+      → free_allows (adding f (bare m)) s (Some class) ≡ true → is_at (place_of m s (in_part s.part class)) s.part f ≡ true
   at_next f s class is refused allowed =
-      subst (λ (P : Notation → Bool). P (bare m) ≡ false → P (adding f (bare m)) ≡ true → separates m s (in_part s.part class) f ≡ true)
+      subst (λ (P : Notation → Bool). P (bare m) ≡ false → P (adding f (bare m)) ≡ true → is_at (place_of m s (in_part s.part class)) s.part f ≡ true)
       (same s (Some class) (let is = sym (moved (adding f (bare m)) s s.ended (is_plus_class class) (is_zero class) (in_part s.part class))
       ∙ allowed in grind arith))
       (at_role f s.part s.stage s.gap (is_plus_class class) (in_part s.part class) is) refused allowed

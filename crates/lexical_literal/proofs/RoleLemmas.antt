@@ -1,8 +1,12 @@
 -- In a syntax, no byte plays two roles.
-use Rattle.std.proofs.Common.{ℕ, ◌≡◌, ◌<◌, ◌↔◌, Bool, true, false, nat_lt, ◌&&◌, ◌==◌, IsTrue, List, [], ◌∷◌, Option, Some, None, refl, sym, arith}
+use Rattle.std.proofs.Common.{ℕ, ◌≡◌, ◌<◌, ◌↔◌, Bool, true, false, nat_lt, ◌==◌, IsTrue, List, [], ◌∷◌, Option, Some, None, refl, sym, arith}
 use Rattle.std.proofs.lemmas.Bool.{lt-ltb, false≢true}
 use Rattle.std.proofs.lemmas.Bool.Decides.{nat_tests}
 use Rattle.std.specs.List.{AllByRecursion}
+use Rattle.lexical_flags.proofs.RuleLemmas.{Holds-from_lawful}
+use Rattle.lexical_flags.specs.Rules.{Meets, shape_of}
+use Rattle.lexical_flags.specs.declared.format_flags.rule.Rule.{Rule}
+use Rattle.lexical_flags.specs.declared.format_flags.rule.Rule.TheVariants as rules
 use Rattle.lexical_util.specs.Additions.ByteRoles as bytes
 use Rattle.lexical_util.specs.Ascii.{ByteSet, allowed_ascii}
 use Rattle.lexical_util.specs.Layout as layout
@@ -58,16 +62,10 @@ module _ (r : Record) (c : Conditions) (none : contradiction r c ≡ None) where
   has_suffix : c.required_base_suffix ≡ true → (r.byte layout.base_suffix == 0) ≡ false
   has_suffix set = grind arith
 
--- The two flags on the exponent agree, and the two on the sign of the mantissa.
-exponent_flags_agree : (word : ℕ) → Lawful word
-    → ((raw word).flag layout.no_exponent_notation && (raw word).flag layout.required_exponent_notation) ≡ false
-unfolding Lawful Holds
-exponent_flags_agree word lawful = lawful.flags.0
-
-sign_flags_agree : (word : ℕ) → Lawful word
-    → ((raw word).flag layout.no_positive_mantissa_sign && (raw word).flag layout.required_mantissa_sign) ≡ false
-unfolding Lawful Holds
-sign_flags_agree word lawful = lawful.flags.1.0
+-- A lawful format is as each rule demands.
+demanded : (rule : Rule) (word : ℕ) → Lawful word → Meets (shape_of rule) word
+unfolding Holds
+demanded rule word lawful = Holds-from_lawful rule word lawful
 
 -- In a lawful format, 0 is a digit of each part.
 zero_is_digit : (word : ℕ) → Lawful word → (part : Part) → nat_lt (byte_value 48) (radix_of (raw word) part) ≡ true
@@ -113,8 +111,8 @@ module _ (law : (A B : ByteSet) → Disjoint A B ↔ ((byte : ℕ) → byte < 25
         (has_prefix (raw g.word) g.conditions is.conditions set);
     has_suffix = λ set. cased_present ((raw g.word).flag layout.case_sensitive_base_suffix) ((raw g.word).byte layout.base_suffix)
         (has_suffix (raw g.word) g.conditions is.conditions set);
-    some_sign = sign_flags_agree g.word is.lawful;
-    agree = exponent_flags_agree g.word is.lawful;
+    some_sign = demanded rules.MantissaSignFlagsAgree g.word is.lawful;
+    agree = demanded rules.ExponentFlagsAgree g.word is.lawful;
   } where
     integers : (o : Option Options) → lacks_options o ≡ true → (byte : ℕ) → (point_of o byte ≡ false) × (exponent_character_of (raw g.word) o byte ≡ false)
     integers o lacks byte = grind arith

@@ -50,6 +50,10 @@ number_separator_flags =
 abbrev pub is_one_of : List Flag → Flag → Bool
 is_one_of fs f = list_any (λ g. bit g == bit f) fs
 
+-- `all_conditions` lists the conditions.
+abbrev pub all_conditions : List Condition
+all_conditions = conditions.BasePrefix ∷ conditions.BaseSuffix ∷ conditions.NegativeSign ∷ []
+
 -- `is_same c d` is true if `c` and `d` are the same condition.
 abbrev pub is_same : Condition → Condition → Bool
 is_same conditions.BasePrefix conditions.BasePrefix = true
@@ -248,8 +252,7 @@ condition_span conditions.NegativeSign k = (k.size, k.size + 1)
 
 -- `first_unmet mask unmet` is the first of the conditions `unmet` if no flag of `mask` is to blame, and `None` otherwise.
 abbrev pub first_unmet : ℕ → Conditions → Option Condition
-first_unmet mask unmet =
-    if mask == 0 then find (has unmet) (conditions.BasePrefix ∷ conditions.BaseSuffix ∷ conditions.NegativeSign ∷ []) else None
+first_unmet mask unmet = if mask == 0 then find (has unmet) all_conditions else None
 
 -- `span_of m k next cause f c` has the first index and the end of the bytes to show for `cause` and its lowest flag `f`, or
 -- its first condition `c` if no flag is to blame.
@@ -261,25 +264,21 @@ span_of m k next (causes.Separator part place) f c = (k.run, if is_in m.separato
 span_of m k next (causes.Missing part) f c = (k.size, k.size)
 span_of m k next _ f c = (k.size, k.size + 1)
 
--- `sign_error f m start` is the error for the flag `f` if it is on signs, and otherwise that for leading zeros.
-abbrev pub sign_error : Flag → Notation → ℕ → Error
-sign_error layout.no_positive_mantissa_sign m start =
-    if m.integers_only then errors.InvalidPositiveSign start else errors.InvalidPositiveMantissaSign start
-sign_error layout.required_mantissa_sign m start = if m.integers_only then errors.MissingSign start else errors.MissingMantissaSign start
-sign_error layout.no_positive_exponent_sign m start = errors.InvalidPositiveExponentSign start
-sign_error layout.required_exponent_sign m start = errors.MissingExponentSign start
-sign_error _ m start = errors.InvalidLeadingZeros start
-
 -- `requirement_error f m start size` is the error for the flag `f`.
 abbrev pub requirement_error : Flag → Notation → ℕ → ℕ → Error
 requirement_error layout.required_integer_digits m start size = errors.EmptyInteger start
 requirement_error layout.required_fraction_digits m start size = errors.EmptyFraction start
 requirement_error layout.required_exponent_digits m start size = errors.EmptyExponent size
 requirement_error layout.required_mantissa_digits m start size = errors.EmptyMantissa start
+requirement_error layout.no_positive_mantissa_sign m start size =
+    if m.integers_only then errors.InvalidPositiveSign start else errors.InvalidPositiveMantissaSign start
+requirement_error layout.required_mantissa_sign m start size = if m.integers_only then errors.MissingSign start else errors.MissingMantissaSign start
 requirement_error layout.no_exponent_notation m start size = errors.InvalidExponent start
+requirement_error layout.no_positive_exponent_sign m start size = errors.InvalidPositiveExponentSign start
+requirement_error layout.required_exponent_sign m start size = errors.MissingExponentSign start
 requirement_error layout.no_exponent_without_fraction m start size = errors.ExponentWithoutFraction start
 requirement_error layout.required_exponent_notation m start size = errors.MissingExponent start
-requirement_error f m start size = sign_error f m start
+requirement_error _ m start size = errors.InvalidLeadingZeros start
 
 -- `error_of m k cause f c start` is the error for `cause` and its lowest flag `f`, or its first condition `c` if no flag is to
 -- blame, where the bytes to show begin at `start`.

@@ -1,22 +1,20 @@
 //! Why a text is not a literal.
 
-ghost use Rattle.std.specs.Prelude.{◌≡◌, ◌≢◌, ◌<◌, ◌^◌, Some, if◌then◌else◌, ◌&&◌, ◌||◌, ◌==◌, ℕ, false, not};
-ghost use Rattle.lexical_util.specs.Layout.{Flag, bit, part, separators_in};
+ghost use Rattle.std.specs.Prelude.{◌≡◌, ◌<◌, ◌^◌, Some, if◌then◌else◌, ◌&&◌, ℕ, not};
+ghost use Rattle.lexical_util.specs.Layout.{Flag, bit};
 ghost use Rattle.lexical_util.specs.Record.{raw};
 ghost use Rattle.lexical_util.specs.Roles.{other_case};
-ghost use Rattle.lexical_literal.specs.Additions.Causes.{allows, class_of_next, is_role, place_of, role_of_next};
-ghost use Rattle.lexical_literal.specs.Additions.Explained.{blame, cases, conditions_of, mask_of, refusal_of, requirements, separators, unmet};
-ghost use Rattle.lexical_literal.specs.Additions.Explained.{ungrouped_of, wrong};
-ghost use Rattle.lexical_literal.specs.Additions.Summary.{byte_class};
-ghost use Rattle.lexical_literal.specs.Additions.Tables.{summary_at};
-ghost use Rattle.lexical_literal.specs.Cause.{SomeFlag, adding, bare, binds, case_set, first_unmet, is_one_of, is_same, requirement_flags};
-ghost use Rattle.lexical_literal.specs.Cause.{requiring, with_rules};
+ghost use Rattle.lexical_literal.specs.Additions.Causes.{lets, place_of};
+ghost use Rattle.lexical_literal.specs.Additions.Explained.{alone, blame, cases, conditions_of, mask_of, refusal_of, requirements, separators};
+ghost use Rattle.lexical_literal.specs.Additions.Explained.{ungrouped_of, unmet, zeros};
+ghost use Rattle.lexical_literal.specs.Additions.Summary.{byte_class, in_part};
+ghost use Rattle.lexical_literal.specs.Cause.{adding, bare, binds, case_set, first_unmet, is_same, with_rules};
 ghost use Rattle.lexical_literal.specs.Notation.{has, notation_of};
 ghost use Rattle.lexical_literal.specs.declared.tables.TheConstants.{ROWS};
 
 use crate::span::{error, span};
 use crate::steps::{
-    self, Class, Summary, byte_class, has_digit, in_part, is_exponent_character, needs_exponent,
+    self, Summary, byte_class, has_digit, in_part, is_exponent_character, needs_exponent,
 };
 use crate::syntax::{Condition, Conditions, Grammar};
 use crate::tables::summary_at;
@@ -117,8 +115,10 @@ impl Model for ReadError {
 }
 
 impl ReadError {
-    /// Returns the length of the longest front of the text that some literal begins with: the index of the first byte
-    /// that cannot follow the bytes before it, or the length of the text if bytes are missing.
+    /// Returns the length of the longest front of the text that some literal begins with, apart from the condition on groups:
+    /// the index of the first byte that cannot follow the bytes before it, or the length of the text if bytes are missing, or if
+    /// groups of digits alone refuse the text. In the last two cases, `byte` is `None` and, outside Rattle, `is_incomplete` is
+    /// `true`.
     #[must_use]
     pub const fn valid_up_to(&self) -> usize
         ensures { result ≡ self.now.refusal.valid_up_to }
@@ -228,8 +228,13 @@ impl Spot {
             marks,
             ..
         } = self;
-        let Blame { kind, mask } = self.blame();
-        let conditions = self.stop().unmet();
+        let stop = Stop {
+            grammar,
+            read: summary_at(self.row),
+            byte,
+        };
+        let Blame { kind, mask } = stop.blame();
+        let conditions = stop.unmet();
         let number = mask.trailing_zeros();
         let unmet = first_unmet(mask, conditions);
         let (start, end) = span(grammar, marks, byte, kind, number, unmet);
@@ -242,34 +247,6 @@ impl Spot {
             start,
             end,
             code: error(grammar, marks, kind, number, unmet, start),
-        }
-    }
-
-    // Returns the kind, and the mask of the flags that are to blame.
-    const fn blame(self) -> Blame
-        requires { self.row < ROWS }
-        ensures kind { result.kind ≡ (blame (notation_of self.grammar) (summary_at self.row) self.byte).kind }
-        ensures mask { result.mask ≡ mask_of (blame (notation_of self.grammar) (summary_at self.row) self.byte).flags }
-    {
-        let Blame { kind, mask } = self.stop().blame(self.byte);
-        // No bit of the mask is set but those of flags.
-        Blame {
-            kind,
-            mask: mask & masks::FLAG_MASK,
-        }
-    }
-
-    // Returns what has been read, and what cannot follow.
-    const fn stop(self) -> Stop
-        requires { self.row < ROWS }
-        ensures grammar { result.grammar ≡ self.grammar }
-        ensures read { result.read ≡ summary_at self.row }
-        ensures next { result.next ≡ class_of_next (notation_of self.grammar) self.byte }
-    {
-        Stop {
-            grammar: self.grammar,
-            read: summary_at(self.row),
-            next: class_of_next(self.grammar, self.byte),
         }
     }
 }
@@ -303,16 +280,6 @@ const fn alone(condition: Condition) -> Conditions
     }
 }
 
-// Returns the class of a byte, if there is one.
-const fn class_of_next(grammar: Grammar, next: Option<u8>) -> Option<Class>
-    ensures { result ≡ class_of_next (notation_of grammar) next }
-{
-    match next {
-        None => None,
-        Some(byte) => Some(byte_class(grammar, byte)),
-    }
-}
-
 // The flags that require something of the parts of a literal.
 const REQUIREMENTS: u128 = masks::REQUIRED_DIGITS
     | masks::NO_POSITIVE_MANTISSA_SIGN
@@ -331,6 +298,9 @@ const FLOAT_REQUIREMENTS: u128 = REQUIREMENTS & !masks::NO_INTEGER_LEADING_ZEROS
 // The flags on leading zeros.
 const ZEROS: u128 = masks::NO_INTEGER_LEADING_ZEROS | masks::NO_FLOAT_LEADING_ZEROS;
 
+// The flags that allow a digit separator in a number.
+const SEPARATORS: u128 = masks::DIGIT_SEPARATOR_FLAG_MASK & !masks::SPECIAL_DIGIT_SEPARATOR;
+
 // A kind of error, and the flags that are to blame.
 #[derive(Clone, Copy)]
 struct Blame {
@@ -338,38 +308,34 @@ struct Blame {
     mask: u128,
 }
 
-// What has been read of a text, and the class of the byte that cannot follow, or `None` if bytes are missing.
+// What has been read of a text, and the byte that cannot follow, or `None` if bytes are missing.
 #[derive(Clone, Copy)]
 struct Stop {
     grammar: Grammar,
     read: Summary,
-    next: Option<Class>,
+    byte: Option<u8>,
 }
 
 impl Stop {
-    // Returns whether the text could go on if the flags of the format were `mask`, without conditions.
-    const fn allows(self, mask: u128) -> bool
-        ensures { result ≡ allows (with_rules (notation_of self.grammar) (raw mask).flag (λ c. false)) self.read self.next }
-    {
-        self.allows_with(mask, Conditions::NONE)
-    }
-
-    // Returns whether the text could go on if the flags of the format were `mask`, with other conditions.
-    const fn allows_with(self, mask: u128, conditions: Conditions) -> bool
-        ensures { result ≡ allows (with_rules (notation_of self.grammar) (raw mask).flag (has conditions)) self.read self.next }
+    // Returns whether the text could go on if the flags of the format were those of `word`, with other conditions.
+    const fn allows(self, word: u128, conditions: Conditions) -> bool
+        ensures { result ≡ lets (with_rules (notation_of self.grammar) (raw word).flag (has conditions)) self.read self.byte }
     {
         let other = Grammar {
-            word: mask,
+            word,
             options: self.grammar.options,
             conditions,
         };
-        match self.next {
+        match self.byte {
             None => steps::is_complete(other, self.read),
-            Some(class) => matches!(steps::step(other, self.read, class), Some(_)),
+            Some(byte) => matches!(
+                steps::step(other, self.read, byte_class(self.grammar, byte)),
+                Some(_)
+            ),
         }
     }
 
-    // Returns the flags without requirements.
+    // Returns the word without the flags that require something.
     #[tactic(auto, using(crate::proofs::CauseLemmas::bare_flags))]
     const fn bare(self) -> u128
         ensures { (f : Flag) → (raw result).flag f ≡ (bare (notation_of self.grammar)).flag f }
@@ -377,10 +343,38 @@ impl Stop {
         self.grammar.word & !REQUIREMENTS
     }
 
+    // Returns whether the text could go on without requirements.
+    const fn is_free(self) -> bool
+        ensures { result ≡ lets (bare (notation_of self.grammar)) self.read self.byte }
+    {
+        self.allows(self.bare(), Conditions::NONE)
+    }
+
+    // Returns whether the text could go on with the flag that has the number `number`, and no other requirement.
+    const fn is_permitted(self, number: u32) -> bool
+        requires { number < 45 }
+        ensures { (f : Flag) → bit f ≡ number → result ≡ lets (adding f (bare (notation_of self.grammar))) self.read self.byte }
+    {
+        self.allows((1 << number) | self.bare(), Conditions::NONE)
+    }
+
+    // Returns those of `flags` each of which, as the only requirement, refuses what cannot follow.
+    const fn refusing(self, flags: u128) -> u128
+        ensures { result ≡ mask_of (λ f. (raw flags).flag f && not (lets (adding f (bare (notation_of self.grammar))) self.read self.byte)) }
+    {
+        let mut mask = flags;
+        let mut number = 0;
+        while number < 45 {
+            let is_out = mask & (1 << number) != 0 && self.is_permitted(number);
+            mask &= !flag_if(is_out, 1 << number);
+            number += 1;
+        }
+        mask & masks::FLAG_MASK
+    }
+
     // Returns the flags that are set and require something.
     const fn binding(self) -> u128
-        ensures each { (f : Flag) → (raw result).flag f ≡ binds (notation_of self.grammar) f }
-        ensures flags { (k : ℕ) → part result k 1 ≡ 1 → (f : Flag) × (bit f ≡ k) }
+        ensures { (f : Flag) → (raw result).flag f ≡ binds (notation_of self.grammar) f }
     {
         if needs_exponent(self.grammar) {
             self.grammar.word & FLOAT_REQUIREMENTS
@@ -389,55 +383,36 @@ impl Stop {
         }
     }
 
-    // Returns the role of what cannot follow, or `None` if it plays none.
-    const fn role(self) -> Option<Role>
-        ensures { result ≡ role_of_next self.read self.next }
+    // Returns the flags that refuse alone.
+    const fn alone(self) -> u128
+        ensures { result ≡ mask_of (alone (notation_of self.grammar) self.read self.byte) }
     {
-        match self.next {
-            None => Some(Role::Suffix),
-            Some(class) => in_part(self.read.part, class),
-        }
+        self.refusing(self.binding())
     }
 
-    // Returns the flags that alone refuse what cannot follow.
-    const fn refusing(self) -> u128
-        ensures { (f : Flag) → (raw result).flag f ≡ (is_one_of requirement_flags f
-            && not (allows (adding f (bare (notation_of self.grammar))) self.read self.next)) }
+    // Returns the flags on leading zeros that require something.
+    const fn zeros(self) -> u128
+        ensures { result ≡ mask_of (zeros (notation_of self.grammar)) }
     {
-        let digits = self.permitted(0) | self.permitted(1) | self.permitted(2) | self.permitted(3);
-        let signs = self.permitted(4) | self.permitted(5) | self.permitted(7) | self.permitted(8);
-        let exponents = self.permitted(6) | self.permitted(9) | self.permitted(14);
-        let zeros = self.permitted(12) | self.permitted(13);
-        REQUIREMENTS & !(digits | signs | exponents | zeros)
+        self.binding() & ZEROS
     }
 
     // Returns the flags to blame for a requirement: those that refuse alone, or else those on leading zeros.
     const fn requirements(self) -> u128
-        ensures { (f : Flag) → (raw result).flag f ≡ requirements (notation_of self.grammar) self.read self.next f }
+        ensures { result ≡ requirements (notation_of self.grammar) self.read self.byte }
     {
-        let binding = self.binding();
-        let alone = self.refusing() & binding;
-        if alone != 0 {
-            return alone;
-        }
-        if self.unmet().are_free() {
-            binding & ZEROS
+        let alone = self.alone();
+        if alone == 0 && self.unmet().are_free() {
+            self.zeros()
         } else {
-            0
+            alone
         }
     }
 
     // Returns the conditions to blame for a requirement: those that refuse alone.
     const fn unmet(self) -> Conditions
-        ensures { result ≡ conditions_of (unmet (notation_of self.grammar) self.read self.next) }
+        ensures { result ≡ conditions_of (unmet (notation_of self.grammar) self.read self.byte) }
     {
-        let set = self.grammar.conditions;
-        if set.are_free() {
-            return Conditions::NONE;
-        }
-        if !self.allows(self.bare()) {
-            return Conditions::NONE;
-        }
         Conditions {
             required_base_prefix: self.is_unmet(Condition::BasePrefix),
             required_base_suffix: self.is_unmet(Condition::BaseSuffix),
@@ -448,52 +423,28 @@ impl Stop {
 
     // Returns whether the syntax has a condition, and it alone refuses what cannot follow.
     const fn is_unmet(self, condition: Condition) -> bool
-        ensures { result ≡ ((notation_of self.grammar).condition condition
-            && not (allows (requiring condition (bare (notation_of self.grammar))) self.read self.next)) }
+        ensures { result ≡ unmet (notation_of self.grammar) self.read self.byte condition }
     {
-        self.grammar.conditions.has(condition) && !self.allows_with(self.bare(), alone(condition))
-    }
-
-    // Returns whether what cannot follow is a separator, or is behind one.
-    const fn is_at_gap(self) -> bool
-        ensures { result ≡ (self.read.gap || is_role Role.Separator (role_of_next self.read self.next)) }
-    {
-        self.read.gap || matches!(self.role(), Some(Role::Separator))
-    }
-
-    // Returns the mask of the flag with the number `number` if it alone allows what cannot follow, and 0 otherwise.
-    const fn permitted(self, number: u32) -> u128
-        requires { number < 44 }
-        ensures each { (g : Flag) → bit g ≡ number → (f : Flag) → (raw result).flag f
-            ≡ ((bit g == bit f) && allows (adding f (bare (notation_of self.grammar))) self.read self.next) }
-        ensures some { (g : Flag) → bit g ≡ number → result ≢ 0 → SomeFlag (raw result).flag }
-    {
-        let flag = 1 << number;
-        flag_if(self.allows(flag | self.bare()), flag)
+        self.grammar.conditions.has(condition)
+            && self.is_free()
+            && !self.allows(self.bare(), alone(condition))
     }
 
     // Returns the flags each of which would allow a separator that is not allowed.
     const fn separators(self) -> u128
-        ensures each { (f : Flag) → (raw result).flag f ≡ separators (notation_of self.grammar) self.read self.next f }
-        ensures some { result ≢ 0 → SomeFlag (raw result).flag }
+        ensures { result ≡ mask_of (separators (notation_of self.grammar) self.read self.byte) }
     {
-        if !self.is_at_gap() {
-            return 0;
-        }
-        let internal = internal_number(self.read.part);
-        self.permitted(internal)
-            | self.permitted(internal + 3)
-            | self.permitted(internal + 6)
-            | self.permitted(internal + 9)
+        SEPARATORS & !self.refusing(SEPARATORS)
     }
 
-    // Returns where a separator is not allowed.
-    const fn place(self) -> Place
-        ensures { result ≡ place_of (notation_of self.grammar) self.read (role_of_next self.read self.next) }
+    // Returns where a separator is not allowed, before or after `byte`.
+    const fn place(self, byte: u8) -> Place
+        ensures { result ≡ place_of (notation_of self.grammar) self.read (in_part self.read.part (byte_class (notation_of self.grammar) byte)) }
     {
+        let role = in_part(self.read.part, byte_class(self.grammar, byte));
         let is_consecutive = self.read.gap
             && !self.grammar.view().separators(self.read.part).consecutive;
-        if is_consecutive && matches!(self.role(), Some(Role::Separator)) {
+        if is_consecutive && matches!(role, Some(Role::Separator)) {
             Place::Consecutive
         } else if has_digit(self.read.stage) {
             Place::AfterDigit
@@ -502,82 +453,53 @@ impl Stop {
         }
     }
 
-    // Returns the flag by which the case of `byte` counts, if its other case may be next.
-    const fn case_flag(self, byte: u8) -> u128
-        requires { allows (bare (notation_of self.grammar)) self.read (Some (byte_class (notation_of self.grammar) byte)) ≡ false }
-        ensures each { (f : Flag) → (raw result).flag f ≡ cases (notation_of self.grammar) self.read byte f }
-        ensures some { result ≢ 0 → SomeFlag (raw result).flag }
+    // Returns the flags by which the case of `byte` counts, if its other case may be next.
+    const fn case_flags(self, byte: u8) -> u128
+        ensures { result ≡ mask_of (cases (notation_of self.grammar) self.read byte) }
     {
         let other = other_case(byte);
-        if other == byte {
-            return 0;
-        }
-        let mask = case_mask(self.grammar, other);
-        if mask == 0 {
-            return 0;
-        }
         let stop = Stop {
             grammar: self.grammar,
             read: self.read,
-            next: Some(byte_class(self.grammar, other)),
+            byte: Some(other),
         };
-        flag_if(stop.allows(self.bare()), mask)
+        if stop.is_free() {
+            case_mask(self.grammar, other)
+        } else {
+            0
+        }
     }
 
-    // Returns why `byte` cannot follow, if no requirement is the cause.
-    const fn wrong(self, byte: u8) -> Blame
-        requires next { self.next ≡ class_of_next (notation_of self.grammar) (Some byte) }
-        requires refused { allows (bare (notation_of self.grammar)) self.read self.next ≡ false }
-        ensures kind { result.kind ≡ (wrong (notation_of self.grammar) self.read byte).kind }
-        ensures flags { (f : Flag) → (raw result.mask).flag f ≡ (wrong (notation_of self.grammar) self.read byte).flags f }
+    // Returns the kind, and the flags that are to blame.
+    const fn blame(self) -> Blame
+        ensures { result ≡ blame (notation_of self.grammar) self.read self.byte }
     {
+        if self.is_free() {
+            return Blame {
+                kind: ReadErrorKind::Requirement,
+                mask: self.requirements(),
+            };
+        }
+        let Some(byte) = self.byte else {
+            return Blame {
+                kind: ReadErrorKind::Missing(self.read.part),
+                mask: 0,
+            };
+        };
         let separators = self.separators();
         if separators != 0 {
             return Blame {
-                kind: ReadErrorKind::Separator(self.read.part, self.place()),
+                kind: ReadErrorKind::Separator(self.read.part, self.place(byte)),
                 mask: separators,
             };
         }
-        let mask = self.case_flag(byte);
+        let mask = self.case_flags(byte);
         let kind = if mask == 0 {
             ReadErrorKind::Byte
         } else {
             ReadErrorKind::Case
         };
         Blame { kind, mask }
-    }
-
-    // Returns the kind, and the flags that are to blame.
-    const fn blame(self, next: Option<u8>) -> Blame
-        requires next { self.next ≡ class_of_next (notation_of self.grammar) next }
-        ensures kind { result.kind ≡ (blame (notation_of self.grammar) self.read next).kind }
-        ensures flags { (f : Flag) → (raw result.mask).flag f ≡ (blame (notation_of self.grammar) self.read next).flags f }
-    {
-        if self.allows(self.bare()) {
-            return Blame {
-                kind: ReadErrorKind::Requirement,
-                mask: self.requirements(),
-            };
-        }
-        match next {
-            None => Blame {
-                kind: ReadErrorKind::Missing(self.read.part),
-                mask: 0,
-            },
-            Some(byte) => self.wrong(byte),
-        }
-    }
-}
-
-// Returns the number of the flag that allows a digit separator between digits of `part`. Those that allow it before digits,
-// behind them, and after another one have numbers that are higher by 3, 6 and 9.
-const fn internal_number(part: Part) -> u32
-    ensures { result ≡ bit (separators_in part).internal }
-{
-    match part {
-        Part::Integer => 32,
-        Part::Fraction => 33,
-        Part::Exponent => 34,
     }
 }
 
@@ -590,8 +512,7 @@ const fn flag_if(is_set: bool, flag: u128) -> u128
 
 // Returns the flags by which the case of `byte` counts.
 const fn case_mask(grammar: Grammar, byte: u8) -> u128
-    ensures each { (f : Flag) → (raw result).flag f ≡ case_set f (notation_of grammar) byte }
-    ensures some { result ≢ 0 → SomeFlag (raw result).flag }
+    ensures { result ≡ mask_of (λ f. case_set f (notation_of grammar) byte) }
 {
     flag_if(
         is_exponent_character(grammar, byte),

@@ -1,8 +1,7 @@
 -- The fraction that a literal is, by its parts, and floats that are no NaN.
-use Rattle.std.proofs.Common.{ℕ, ◌≡◌, ◌+◌, ◌*◌, ◌^◌, ◌≤◌, ◌++◌, length, not, Bool, true, false, cond, ap, ◌∙◌, refl, subst, sym, zero, suc}
+use Rattle.std.proofs.Common.{ℕ, ◌≡◌, ◌+◌, ◌*◌, ◌^◌, ◌++◌, length, not, Bool, true, false, cond, ap, ◌∙◌, refl, subst, sym, zero, suc}
 use lib.Ieee.{Float, Format, emax, inf, is_nan, low, odd, prec, round, units}
 use lib.Ieee.Fits.{round_is}
-use lib.Pow.{pow_mono}
 use Rattle.core.specs.Prelude.{T, ltb}
 use Rattle.std.specs.Float.{NotNan}
 use Rattle.std.specs.Str.Parse.{AllDigits}
@@ -53,9 +52,6 @@ round_number f s num den = ap is_nan (round_is f s num den) ∙ units_number f s
 
 pub not_nan : (f : Format) (s : Bool) (num den : ℕ) (value : Float) → value ≡ round f s num den → NotNan value
 not_nan f s num den value is = subst T (sym (ap (λ x. not (is_nan x)) is ∙ ap not (round_number f s num den))) tt
-
-pub two_le : (radix bits : ℕ) → radix ≡ 2 ^ bits → 1 ≤ bits → 2 ≤ radix
-two_le radix bits is some = subst (λ r. 2 ≤ r) (sym is) (pow_mono {i = 1} {j = bits} some)
 
 -- Leading digits in a radix by its number of bits.
 pub by_bits : (radix bits n digits dropped : ℕ) (more : Bool) → radix ≡ 2 ^ bits → Leads radix n digits more dropped → Leads (2 ^ bits) n digits more dropped

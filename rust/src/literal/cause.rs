@@ -4,9 +4,7 @@
 
 use crate::error::Error;
 use crate::literal::span::{error, span};
-use crate::literal::steps::{
-    self, byte_class, has_digit, in_part, is_exponent_character, needs_exponent, Class, Summary,
-};
+use crate::literal::steps::{self, byte_class, has_digit, in_part, is_exponent_character, needs_exponent, Summary};
 use crate::literal::syntax::{Condition, Conditions, Grammar};
 use crate::literal::tables::summary_at;
 use crate::word as masks;
@@ -90,8 +88,10 @@ pub struct ReadError {
 }
 
 impl ReadError {
-    /// Returns the length of the longest front of the text that some literal begins with: the index of the first byte
-    /// that cannot follow the bytes before it, or the length of the text if bytes are missing.
+    /// Returns the length of the longest front of the text that some literal begins with, apart from the condition on groups:
+    /// the index of the first byte that cannot follow the bytes before it, or the length of the text if bytes are missing, or if
+    /// groups of digits alone refuse the text. In the last two cases, `byte` is `None` and, outside Rattle, `is_incomplete` is
+    /// `true`.
     #[must_use]
     pub const fn valid_up_to(&self) -> usize {
         self.spot.marks.size
@@ -170,8 +170,9 @@ impl Spot {
     // Returns the answers of a text with which no literal goes on.
     const fn refusal(self) -> Refusal {
         let Spot { grammar, byte, marks, .. } = self;
-        let Blame { kind, mask } = self.blame();
-        let conditions = self.stop().unmet();
+        let stop = Stop { grammar, read: summary_at(self.row), byte };
+        let Blame { kind, mask } = stop.blame();
+        let conditions = stop.unmet();
         let number = mask.trailing_zeros();
         let unmet = first_unmet(mask, conditions);
         let (start, end) = span(grammar, marks, byte, kind, number, unmet);
@@ -185,18 +186,6 @@ impl Spot {
             end,
             code: error(grammar, marks, kind, number, unmet, start),
         }
-    }
-
-    // Returns the kind, and the mask of the flags that are to blame.
-    const fn blame(self) -> Blame {
-        let Blame { kind, mask } = self.stop().blame(self.byte);
-        // No bit of the mask is set but those of flags.
-        Blame { kind, mask: mask & masks::FLAG_MASK }
-    }
-
-    // Returns what has been read, and what cannot follow.
-    const fn stop(self) -> Stop {
-        Stop { grammar: self.grammar, read: summary_at(self.row), next: class_of_next(self.grammar, self.byte) }
     }
 }
 
@@ -225,14 +214,6 @@ const fn alone(condition: Condition) -> Conditions {
     }
 }
 
-// Returns the class of a byte, if there is one.
-const fn class_of_next(grammar: Grammar, next: Option<u8>) -> Option<Class> {
-    match next {
-        None => None,
-        Some(byte) => Some(byte_class(grammar, byte)),
-    }
-}
-
 // The flags that require something of the parts of a literal.
 const REQUIREMENTS: u128 = masks::REQUIRED_DIGITS
     | masks::NO_POSITIVE_MANTISSA_SIGN
@@ -251,6 +232,9 @@ const FLOAT_REQUIREMENTS: u128 = REQUIREMENTS & !masks::NO_INTEGER_LEADING_ZEROS
 // The flags on leading zeros.
 const ZEROS: u128 = masks::NO_INTEGER_LEADING_ZEROS | masks::NO_FLOAT_LEADING_ZEROS;
 
+// The flags that allow a digit separator in a number.
+const SEPARATORS: u128 = masks::DIGIT_SEPARATOR_FLAG_MASK & !masks::SPECIAL_DIGIT_SEPARATOR;
+
 // A kind of error, and the flags that are to blame.
 #[derive(Clone, Copy)]
 struct Blame {
@@ -258,32 +242,49 @@ struct Blame {
     mask: u128,
 }
 
-// What has been read of a text, and the class of the byte that cannot follow, or `None` if bytes are missing.
+// What has been read of a text, and the byte that cannot follow, or `None` if bytes are missing.
 #[derive(Clone, Copy)]
 struct Stop {
     grammar: Grammar,
     read: Summary,
-    next: Option<Class>,
+    byte: Option<u8>,
 }
 
 impl Stop {
-    // Returns whether the text could go on if the flags of the format were `mask`, without conditions.
-    const fn allows(self, mask: u128) -> bool {
-        self.allows_with(mask, Conditions::NONE)
-    }
-
-    // Returns whether the text could go on if the flags of the format were `mask`, with other conditions.
-    const fn allows_with(self, mask: u128, conditions: Conditions) -> bool {
-        let other = Grammar { word: mask, options: self.grammar.options, conditions };
-        match self.next {
+    // Returns whether the text could go on if the flags of the format were those of `word`, with other conditions.
+    const fn allows(self, word: u128, conditions: Conditions) -> bool {
+        let other = Grammar { word, options: self.grammar.options, conditions };
+        match self.byte {
             None => steps::is_complete(other, self.read),
-            Some(class) => matches!(steps::step(other, self.read, class), Some(_)),
+            Some(byte) => matches!(steps::step(other, self.read, byte_class(self.grammar, byte)), Some(_)),
         }
     }
 
-    // Returns the flags without requirements.
+    // Returns the word without the flags that require something.
     const fn bare(self) -> u128 {
         self.grammar.word & !REQUIREMENTS
+    }
+
+    // Returns whether the text could go on without requirements.
+    const fn is_free(self) -> bool {
+        self.allows(self.bare(), Conditions::NONE)
+    }
+
+    // Returns whether the text could go on with the flag that has the number `number`, and no other requirement.
+    const fn is_permitted(self, number: u32) -> bool {
+        self.allows((1 << number) | self.bare(), Conditions::NONE)
+    }
+
+    // Returns those of `flags` each of which, as the only requirement, refuses what cannot follow.
+    const fn refusing(self, flags: u128) -> u128 {
+        let mut mask = flags;
+        let mut number = 0;
+        while number < 45 {
+            let is_out = mask & (1 << number) != 0 && self.is_permitted(number);
+            mask &= !flag_if(is_out, 1 << number);
+            number += 1;
+        }
+        mask & masks::FLAG_MASK
     }
 
     // Returns the flags that are set and require something.
@@ -295,46 +296,28 @@ impl Stop {
         }
     }
 
-    // Returns the role of what cannot follow, or `None` if it plays none.
-    const fn role(self) -> Option<Role> {
-        match self.next {
-            None => Some(Role::Suffix),
-            Some(class) => in_part(self.read.part, class),
-        }
+    // Returns the flags that refuse alone.
+    const fn alone(self) -> u128 {
+        self.refusing(self.binding())
     }
 
-    // Returns the flags that alone refuse what cannot follow.
-    const fn refusing(self) -> u128 {
-        let digits = self.permitted(0) | self.permitted(1) | self.permitted(2) | self.permitted(3);
-        let signs = self.permitted(4) | self.permitted(5) | self.permitted(7) | self.permitted(8);
-        let exponents = self.permitted(6) | self.permitted(9) | self.permitted(14);
-        let zeros = self.permitted(12) | self.permitted(13);
-        REQUIREMENTS & !(digits | signs | exponents | zeros)
+    // Returns the flags on leading zeros that require something.
+    const fn zeros(self) -> u128 {
+        self.binding() & ZEROS
     }
 
     // Returns the flags to blame for a requirement: those that refuse alone, or else those on leading zeros.
     const fn requirements(self) -> u128 {
-        let binding = self.binding();
-        let alone = self.refusing() & binding;
-        if alone != 0 {
-            return alone;
-        }
-        if self.unmet().are_free() {
-            binding & ZEROS
+        let alone = self.alone();
+        if alone == 0 && self.unmet().are_free() {
+            self.zeros()
         } else {
-            0
+            alone
         }
     }
 
     // Returns the conditions to blame for a requirement: those that refuse alone.
     const fn unmet(self) -> Conditions {
-        let set = self.grammar.conditions;
-        if set.are_free() {
-            return Conditions::NONE;
-        }
-        if !self.allows(self.bare()) {
-            return Conditions::NONE;
-        }
         Conditions {
             required_base_prefix: self.is_unmet(Condition::BasePrefix),
             required_base_suffix: self.is_unmet(Condition::BaseSuffix),
@@ -345,36 +328,19 @@ impl Stop {
 
     // Returns whether the syntax has a condition, and it alone refuses what cannot follow.
     const fn is_unmet(self, condition: Condition) -> bool {
-        self.grammar.conditions.has(condition) && !self.allows_with(self.bare(), alone(condition))
-    }
-
-    // Returns whether what cannot follow is a separator, or is behind one.
-    const fn is_at_gap(self) -> bool {
-        self.read.gap || matches!(self.role(), Some(Role::Separator))
-    }
-
-    // Returns the mask of the flag with the number `number` if it alone allows what cannot follow, and 0 otherwise.
-    const fn permitted(self, number: u32) -> u128 {
-        let flag = 1 << number;
-        flag_if(self.allows(flag | self.bare()), flag)
+        self.grammar.conditions.has(condition) && self.is_free() && !self.allows(self.bare(), alone(condition))
     }
 
     // Returns the flags each of which would allow a separator that is not allowed.
     const fn separators(self) -> u128 {
-        if !self.is_at_gap() {
-            return 0;
-        }
-        let internal = internal_number(self.read.part);
-        self.permitted(internal)
-            | self.permitted(internal + 3)
-            | self.permitted(internal + 6)
-            | self.permitted(internal + 9)
+        SEPARATORS & !self.refusing(SEPARATORS)
     }
 
-    // Returns where a separator is not allowed.
-    const fn place(self) -> Place {
+    // Returns where a separator is not allowed, before or after `byte`.
+    const fn place(self, byte: u8) -> Place {
+        let role = in_part(self.read.part, byte_class(self.grammar, byte));
         let is_consecutive = self.read.gap && !self.grammar.view().separators(self.read.part).consecutive;
-        if is_consecutive && matches!(self.role(), Some(Role::Separator)) {
+        if is_consecutive && matches!(role, Some(Role::Separator)) {
             Place::Consecutive
         } else if has_digit(self.read.stage) {
             Place::AfterDigit
@@ -383,50 +349,32 @@ impl Stop {
         }
     }
 
-    // Returns the flag by which the case of `byte` counts, if its other case may be next.
-    const fn case_flag(self, byte: u8) -> u128 {
+    // Returns the flags by which the case of `byte` counts, if its other case may be next.
+    const fn case_flags(self, byte: u8) -> u128 {
         let other = other_case(byte);
-        if other == byte {
-            return 0;
+        let stop = Stop { grammar: self.grammar, read: self.read, byte: Some(other) };
+        if stop.is_free() {
+            case_mask(self.grammar, other)
+        } else {
+            0
         }
-        let mask = case_mask(self.grammar, other);
-        if mask == 0 {
-            return 0;
-        }
-        let stop = Stop { grammar: self.grammar, read: self.read, next: Some(byte_class(self.grammar, other)) };
-        flag_if(stop.allows(self.bare()), mask)
-    }
-
-    // Returns why `byte` cannot follow, if no requirement is the cause.
-    const fn wrong(self, byte: u8) -> Blame {
-        let separators = self.separators();
-        if separators != 0 {
-            return Blame { kind: ReadErrorKind::Separator(self.read.part, self.place()), mask: separators };
-        }
-        let mask = self.case_flag(byte);
-        let kind = if mask == 0 { ReadErrorKind::Byte } else { ReadErrorKind::Case };
-        Blame { kind, mask }
     }
 
     // Returns the kind, and the flags that are to blame.
-    const fn blame(self, next: Option<u8>) -> Blame {
-        if self.allows(self.bare()) {
+    const fn blame(self) -> Blame {
+        if self.is_free() {
             return Blame { kind: ReadErrorKind::Requirement, mask: self.requirements() };
         }
-        match next {
-            None => Blame { kind: ReadErrorKind::Missing(self.read.part), mask: 0 },
-            Some(byte) => self.wrong(byte),
+        let Some(byte) = self.byte else {
+            return Blame { kind: ReadErrorKind::Missing(self.read.part), mask: 0 };
+        };
+        let separators = self.separators();
+        if separators != 0 {
+            return Blame { kind: ReadErrorKind::Separator(self.read.part, self.place(byte)), mask: separators };
         }
-    }
-}
-
-// Returns the number of the flag that allows a digit separator between digits of `part`. Those that allow it before digits,
-// behind them, and after another one have numbers that are higher by 3, 6 and 9.
-const fn internal_number(part: Part) -> u32 {
-    match part {
-        Part::Integer => 32,
-        Part::Fraction => 33,
-        Part::Exponent => 34,
+        let mask = self.case_flags(byte);
+        let kind = if mask == 0 { ReadErrorKind::Byte } else { ReadErrorKind::Case };
+        Blame { kind, mask }
     }
 }
 

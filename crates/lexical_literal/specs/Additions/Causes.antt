@@ -1,13 +1,12 @@
 -- What decides the cause of a refusal, computed from what has been read.
-use Rattle.std.specs.Prelude.{ℕ, ◌≡◌, ◌&&◌, ◌||◌, ◌↔◌, IsTrue, List, [], ◌∷◌, not, if◌then◌else◌, Bool, true, false, Option, Some, None, is_some}
+use Rattle.std.specs.Prelude.{ℕ, ◌≡◌, ◌&&◌, ◌||◌, ◌↔◌, IsTrue, List, not, if◌then◌else◌, Bool, true, false, Option, Some, None, is_some}
 use Rattle.lexical_util.specs.Ascii.{ByteSet}
-use Rattle.lexical_util.specs.Layout.{Flag, part, separators_in}
+use Rattle.lexical_util.specs.Layout.{Flag, separators_in}
 use Rattle.lexical_util.specs.Roles.{signs}
 use Rattle.lexical_util.specs.declared.feature_format.roles.Role.{Role}
 use Rattle.lexical_util.specs.declared.feature_format.roles.Role.TheVariants as roles
-use Rattle.lexical_util.specs.declared.format_flags.Part.{Part}
 use Rattle.lexical_util.specs.declared.format_flags.Part.TheVariants as parts
-use Rattle.lexical_literal.specs.Cause.{Allows, is_at, is_one_of, last_part, requirement_flags, with_rules}
+use Rattle.lexical_literal.specs.Cause.{Allows, is_one_of, last_part, requirement_flags, with_rules}
 use Rattle.lexical_literal.specs.Notation.{Notation}
 use Rattle.lexical_literal.specs.Additions.Summary.{byte_class, has_digit, in_part, is_complete, is_plus_class, step}
 use Rattle.lexical_literal.specs.declared.span.Kind.{Kind}
@@ -29,14 +28,10 @@ kind_set m kinds.Digit byte = m.digit parts.Integer byte
 kind_set m kinds.NotSeparator byte = not (m.separator byte)
 kind_set m kinds.Body byte = not (m.separator byte || signs byte)
 
--- `is_role role other` is true if `other` is the role `role`.
-abbrev pub is_role : Role → Option Role → Bool
-is_role roles.Exponent (Some roles.Exponent) = true
-is_role roles.Suffix (Some roles.Suffix) = true
-is_role roles.Sign (Some roles.Sign) = true
-is_role roles.Point (Some roles.Point) = true
-is_role roles.Separator (Some roles.Separator) = true
-is_role _ _ = false
+-- `is_separator role` is true if `role` is that of digit separators.
+abbrev pub is_separator : Option Role → Bool
+is_separator (Some roles.Separator) = true
+is_separator _ = false
 
 -- `IsWeaker m A D` holds if the flags for which `A` is true require no more than those of `m`, and are no less otherwise, and
 -- if each condition for which `D` is true is one of `m`.
@@ -45,21 +40,20 @@ pub record IsWeaker (m : Notation) (A : Flag → Bool) (D : Condition → Bool) 
   pub no_less : (f : Flag) → IsTrue (m.flag f) → IsTrue (A f || is_one_of requirement_flags f)
   pub conditions : (c : Condition) → IsTrue (D c) → IsTrue (m.condition c)
 
--- `Decides m s class front next` holds if what is allowed after `s` is what is allowed after `front`, with fewer
--- requirements too.
-abbrev pub Decides : Notation → Summary → Option Class → List ℕ → Option ℕ → Type 0
-Decides m s class front next = (A : Flag → Bool) → (D : Condition → Bool) → IsWeaker m A D
-    → (allows (with_rules m A D) s class ≡ true) ↔ Allows (with_rules m A D) front next
-
 -- `class_of_next m next` is the class of the byte `next`, if there is one.
 abbrev pub class_of_next : Notation → Option ℕ → Option Class
 class_of_next m None = None
 class_of_next m (Some byte) = Some (byte_class m byte)
 
--- `IsReadOf m s front` holds if what is allowed after `s` is what is allowed after `front`, and if `s` is in the part that
--- `front` ends in, unless a suffix has been read.
+-- `lets m s next` is true if the byte `next` may follow, or if a literal has been read, where `next` is `None`.
+abbrev pub lets : Notation → Summary → Option ℕ → Bool
+lets m s next = allows m s (class_of_next m next)
+
+-- `IsReadOf m s front` holds if what may follow `s` is what is allowed after `front`, with fewer requirements too, and if `s`
+-- is in the part that `front` ends in, unless a suffix has been read.
 pub record IsReadOf (m : Notation) (s : Summary) (front : List ℕ) : Type 0 where
-  pub decides : (next : Option ℕ) → Decides m s (class_of_next m next) front next
+  pub decides : (next : Option ℕ) (A : Flag → Bool) (D : Condition → Bool) → IsWeaker m A D
+      → (lets (with_rules m A D) s next ≡ true) ↔ Allows (with_rules m A D) front next
   pub part : s.ended ≡ false → s.part ≡ last_part m front
 
 -- `role_of_next s next` is the role of a byte of the class `next` after `s`, or that of a suffix, where `next` is `None`.
@@ -75,14 +69,5 @@ is_plus_next (Some class) = is_plus_class class
 -- `place_of m s role` is where `m` does not allow a separator after `s`, before a byte with the role `role`.
 abbrev pub place_of : Notation → Summary → Option Role → Place
 place_of m s role =
-    if (s.gap && not (m.flag (separators_in s.part).consecutive)) && is_role roles.Separator role then places.Consecutive
+    if (s.gap && not (m.flag (separators_in s.part).consecutive)) && is_separator role then places.Consecutive
     else (if has_digit s.stage then places.AfterDigit else places.BeforeDigits)
-
--- `separates m s role f` is true if the flag `f` could allow a separator that `m` does not allow.
-abbrev pub separates : Notation → Summary → Option Role → Flag → Bool
-separates m s role f = (s.gap || is_role roles.Separator role) && is_at (place_of m s role) s.part f
-
--- `is_own part f` is true if the flag `f` is about digit separators in `part`.
-abbrev pub is_own : Part → Flag → Bool
-is_own part f = is_one_of ((separators_in part).internal ∷ (separators_in part).leading ∷ (separators_in part).trailing
-    ∷ (separators_in part).consecutive ∷ []) f

@@ -1,22 +1,19 @@
 -- What an error answers, computed from where reading stopped.
-use Rattle.std.specs.Prelude.{ℕ, ◌+◌, ◌&&◌, ◌||◌, not, nat_lt, if◌then◌else◌, Bool, false, Option, Some, None, List, get_or}
-use Rattle.std.specs.List.{list_any}
+use Rattle.std.specs.Prelude.{ℕ, ◌+◌, ◌==◌, ◌&&◌, ◌||◌, not, nat_lt, if◌then◌else◌, Bool, Option, Some, None, List, get_or}
 use Rattle.lexical_util.specs.declared.error.Error.TheVariants as errors
-use Rattle.lexical_util.specs.Layout.{Flag, flags}
+use Rattle.lexical_util.specs.Layout.{Flag}
 use Rattle.lexical_util.specs.Record.{word_of}
 use Rattle.lexical_util.specs.Roles.{other_case}
-use Rattle.lexical_util.specs.declared.feature_format.roles.Role.TheVariants as roles
-use Rattle.lexical_literal.specs.Additions.Causes.{allows, class_of_next, is_own, is_role, place_of, role_of_next}
-use Rattle.lexical_literal.specs.Additions.Summary.{byte_class}
+use Rattle.lexical_literal.specs.Additions.Causes.{lets, place_of}
+use Rattle.lexical_literal.specs.Additions.Summary.{byte_class, in_part}
 use Rattle.lexical_literal.specs.Additions.Tables.{summary_at}
-use Rattle.lexical_literal.specs.Cause.{Explained, adding, bare, binds, case_set, error_of, first_unmet, is_one_of, leading_zero_flags, lowest}
-use Rattle.lexical_literal.specs.Cause.{requiring, span_of}
+use Rattle.lexical_literal.specs.Cause.{Explained, adding, bare, binds, case_set, error_of, first_unmet, is_one_of}
+use Rattle.lexical_literal.specs.Cause.{leading_zero_flags, lowest, number_separator_flags, requiring, span_of}
 use Rattle.lexical_literal.specs.Notation.{Notation, no_conditions, notation_of}
-use Rattle.lexical_literal.specs.declared.cause.ReadErrorKind.{ReadErrorKind}
+use Rattle.lexical_literal.specs.declared.cause.Blame.{Blame}
 use Rattle.lexical_literal.specs.declared.cause.ReadErrorKind.TheVariants as causes
 use Rattle.lexical_literal.specs.declared.cause.Refusal.{Refusal}
 use Rattle.lexical_literal.specs.declared.cause.Spot.{Spot}
-use Rattle.lexical_literal.specs.declared.steps.Class.{Class}
 use Rattle.lexical_literal.specs.declared.syntax.Condition.{Condition}
 use Rattle.lexical_literal.specs.declared.syntax.Condition.TheVariants as conditions
 use Rattle.lexical_literal.specs.declared.syntax.Conditions.{Conditions}
@@ -27,16 +24,12 @@ abbrev pub mask_of : (Flag → Bool) → ℕ
 mask_of flag = word_of (record { flag = flag; byte = λ b. 0 })
 
 -- `alone m s next f` is true if the flag `f` requires something, and alone refuses what cannot follow `s`.
-abbrev pub alone : Notation → Summary → Option Class → Flag → Bool
-alone m s next f = binds m f && not (allows (adding f (bare m)) s next)
+abbrev pub alone : Notation → Summary → Option ℕ → Flag → Bool
+alone m s next f = binds m f && not (lets (adding f (bare m)) s next)
 
 -- `unmet m s next c` is true if the condition `c` alone refuses what cannot follow `s`.
-abbrev pub unmet : Notation → Summary → Option Class → Condition → Bool
-unmet m s next c = m.condition c && (allows (bare m) s next && not (allows (requiring c (bare m)) s next))
-
--- `some_unmet m s next` is true if some condition alone refuses what cannot follow `s`.
-abbrev pub some_unmet : Notation → Summary → Option Class → Bool
-some_unmet m s next = unmet m s next conditions.BasePrefix || (unmet m s next conditions.BaseSuffix || unmet m s next conditions.NegativeSign)
+abbrev pub unmet : Notation → Summary → Option ℕ → Condition → Bool
+unmet m s next c = m.condition c && (lets (bare m) s next && not (lets (requiring c (bare m)) s next))
 
 -- `conditions_of C` has the conditions for which `C` is true.
 abbrev pub conditions_of : (Condition → Bool) → Conditions
@@ -47,57 +40,41 @@ conditions_of C = record {
   integer_group_size = None;
 }
 
--- `requirements m s next f` is true if the flag `f` is to blame for a requirement.
-abbrev pub requirements : Notation → Summary → Option Class → Flag → Bool
-requirements m s next f =
-    if list_any (alone m s next) flags || some_unmet m s next then alone m s next f else binds m f && is_one_of leading_zero_flags f
+-- `zeros m f` is true if the flag `f` is on leading zeros, and requires something.
+abbrev pub zeros : Notation → Flag → Bool
+zeros m f = binds m f && is_one_of leading_zero_flags f
+
+-- `some_unmet m s next` is true if some condition alone refuses what cannot follow `s`.
+abbrev pub some_unmet : Notation → Summary → Option ℕ → Bool
+some_unmet m s next = unmet m s next conditions.BasePrefix || (unmet m s next conditions.BaseSuffix || unmet m s next conditions.NegativeSign)
+
+-- `requirements m s next` is the mask of the flags that are to blame for a requirement.
+abbrev pub requirements : Notation → Summary → Option ℕ → ℕ
+requirements m s next =
+    if mask_of (alone m s next) == 0 && not (some_unmet m s next) then mask_of (zeros m) else mask_of (alone m s next)
 
 -- `separators m s next f` is true if the flag `f` would allow a separator that is not allowed.
-abbrev pub separators : Notation → Summary → Option Class → Flag → Bool
-separators m s next f = (s.gap || is_role roles.Separator (role_of_next s next)) && (is_own s.part f && allows (adding f (bare m)) s next)
+abbrev pub separators : Notation → Summary → Option ℕ → Flag → Bool
+separators m s next f = is_one_of number_separator_flags f && lets (adding f (bare m)) s next
 
 -- `cases m s byte f` is true if the other case of `byte` may follow `s`, and counts by the flag `f`.
 abbrev pub cases : Notation → Summary → ℕ → Flag → Bool
-cases m s byte f = allows (bare m) s (Some (byte_class m (other_case byte))) && case_set f m (other_case byte)
+cases m s byte f = lets (bare m) s (Some (other_case byte)) && case_set f m (other_case byte)
 
--- `Blamed` has a kind of error and the flags that are to blame.
-pub record Blamed : Type 0 where
-  pub kind : ReadErrorKind
-  pub flags : Flag → Bool
-
--- `wrong m s byte` is why `byte` cannot follow `s`, if no requirement is the cause.
-abbrev pub wrong : Notation → Summary → ℕ → Blamed
-wrong m s byte =
-    if list_any (separators m s (Some (byte_class m byte))) flags then record {
-      kind = causes.Separator s.part (place_of m s (role_of_next s (Some (byte_class m byte))));
-      flags = separators m s (Some (byte_class m byte));
-    } else (if list_any (cases m s byte) flags then record { kind = causes.Case; flags = cases m s byte }
-    else record { kind = causes.Byte; flags = λ f. false })
-
--- `otherwise m s next` is the cause if it is no requirement.
-abbrev pub otherwise : Notation → Summary → Option ℕ → Blamed
-otherwise m s None = record { kind = causes.Missing s.part; flags = λ f. false }
-otherwise m s (Some byte) = wrong m s byte
+-- `otherwise m s next` is the cause, and the mask of the flags that are to blame, if no requirement is the cause.
+abbrev pub otherwise : Notation → Summary → Option ℕ → Blame
+otherwise m s None = record { kind = causes.Missing s.part; mask = 0 }
+otherwise m s (Some byte) =
+    if mask_of (separators m s (Some byte)) == 0
+    then record { kind = if mask_of (cases m s byte) == 0 then causes.Byte else causes.Case; mask = mask_of (cases m s byte) }
+    else record {
+      kind = causes.Separator s.part (place_of m s (in_part s.part (byte_class m byte)));
+      mask = mask_of (separators m s (Some byte));
+    }
 
 -- `blame m s next` is why the byte `next` cannot follow `s`, or why `s` is not a literal, where `next` is `None`.
-abbrev pub blame : Notation → Summary → Option ℕ → Blamed
-blame m s next =
-    if allows (bare m) s (class_of_next m next)
-    then record { kind = causes.Requirement; flags = requirements m s (class_of_next m next) } else otherwise m s next
-
--- `answers m spot b unmet f c` has the answers for the cause of `b`, its flags, the lowest of them, which is `f`, and the
--- conditions `unmet`, the first of which is `c` if no flag is to blame.
-abbrev pub answers : Notation → Spot → Blamed → Conditions → Flag → Option Condition → Refusal
-answers m spot b unmet f c = record {
-  valid_up_to = spot.marks.size;
-  byte = spot.byte;
-  kind = b.kind;
-  mask = mask_of b.flags;
-  conditions = unmet;
-  start = (span_of m spot.marks spot.byte b.kind f c).0;
-  end = (span_of m spot.marks spot.byte b.kind f c).1;
-  code = error_of m spot.marks b.kind f c (span_of m spot.marks spot.byte b.kind f c).0;
-}
+abbrev pub blame : Notation → Summary → Option ℕ → Blame
+blame m s next = if lets (bare m) s next then record { kind = causes.Requirement; mask = requirements m s next } else otherwise m s next
 
 -- `ungrouped_of spot` is what an error answers that was made at `spot` since the integer is not in groups.
 abbrev pub ungrouped_of : Spot → Refusal
@@ -116,9 +93,19 @@ ungrouped_of spot = record {
 abbrev pub refusal_of : Notation → Spot → Refusal
 refusal_of m spot =
     let b = blame m (summary_at spot.row) spot.byte in
-    let mask = mask_of b.flags in
-    let conditions = conditions_of (unmet m (summary_at spot.row) (class_of_next m spot.byte)) in
-    answers m spot b conditions (lowest mask) (first_unmet mask conditions)
+    let unmet = conditions_of (unmet m (summary_at spot.row) spot.byte) in
+    let f = lowest b.mask in
+    let c = first_unmet b.mask unmet in
+    let span = span_of m spot.marks spot.byte b.kind f c in record {
+      valid_up_to = spot.marks.size;
+      byte = spot.byte;
+      kind = b.kind;
+      mask = b.mask;
+      conditions = unmet;
+      start = span.0;
+      end = span.1;
+      code = error_of m spot.marks b.kind f c span.0;
+    }
 
 -- `answers_of spot` is what an error answers that was made at `spot`, and `explained spot` is this error.
 abbrev pub answers_of : Spot → Refusal

@@ -1,58 +1,56 @@
--- A requirement, missing digits, or what is wrong with a byte.
-use Rattle.std.proofs.Common.{ℕ, ◌≡◌, ◌∙◌, Bool, true, false, if◌then◌else◌, Option, None, refl, sym, ap}
-use Rattle.lexical_util.specs.Layout.{Flag}
-use Rattle.lexical_literal.specs.Additions.Causes.{allows, class_of_next}
-use Rattle.lexical_literal.specs.Additions.Explained.{Blamed, blame, otherwise, requirements}
-use Rattle.lexical_literal.specs.Cause.{bare, with_rules}
-use Rattle.lexical_util.specs.Record.{raw}
-use Rattle.lexical_literal.specs.declared.cause.Stop.{Stop}
+-- A separator, the case of a letter, or a byte.
+use Rattle.std.proofs.Common.{ℕ, ◌≡◌, ◌≢◌, ◌==◌, Bool, true, false, if◌then◌else◌, Option, Some, refl, sym, ap, ◌∙◌, arith}
+use Rattle.std.proofs.lemmas.Bool.Decides.{nat_tests}
+use Rattle.lexical_literal.specs.Additions.Causes.{lets, place_of}
+use Rattle.lexical_literal.specs.Additions.Explained.{blame, cases, mask_of, otherwise, requirements, separators}
+use Rattle.lexical_literal.specs.Additions.Summary.{byte_class, in_part}
+use Rattle.lexical_literal.specs.Cause.{bare}
 use Rattle.lexical_literal.specs.Notation.{Notation, notation_of}
+use Rattle.lexical_literal.specs.declared.cause.Blame.{Blame}
 use Rattle.lexical_literal.specs.declared.cause.ReadErrorKind.TheVariants as causes
-use Rattle.lexical_literal.proofs.BlameLemmas.{as_bare}
-use Rattle.lexical_literal.proofs.CauseLemmas.{flag_zero}
+use Rattle.lexical_literal.specs.declared.steps.Summary.{Summary}
 use Rattle.lexical_literal.proofs.cause.Stop.blame.Goals as goal
 
-module _ (stop : Stop) (next : Option ℕ) (is_next : stop.next ≡ class_of_next (notation_of stop.grammar) next)
-    (bits : ℕ) (each : (f : Flag) → (raw bits).flag f ≡ (bare (notation_of stop.grammar)).flag f) where
-  abbrev m : Notation
-  m = notation_of stop.grammar
+nonzero : (n : ℕ) → n ≢ 0 → (n == 0) ≡ false
+nonzero n some = grind (arith, nat_tests)
 
-  by_test : (t : Bool) → t ≡ allows (with_rules m (raw bits).flag (λ c. false)) stop.read stop.next → (o : Option ℕ) → next ≡ o
-      → blame m stop.read next
-      ≡ (if t then record { kind = causes.Requirement; flags = requirements m stop.read (class_of_next m next) } else otherwise m stop.read o)
-  by_test t is o same = λ j. if sym (is ∙ (λ j. allows (as_bare m bits each j) stop.read (is_next j))) j
-      then record { kind = causes.Requirement; flags = requirements m stop.read (class_of_next m next) } else otherwise m stop.read (same j)
+module _ (m : Notation) (s : Summary) (byte : ℕ) where
+  -- `by_tests t u` is why the byte cannot follow, if `t` is true of no separators and `u` of no other case.
+  abbrev by_tests : Bool → Bool → Blame
+  by_tests t u =
+      if t then record { kind = if u then causes.Byte else causes.Case; mask = mask_of (cases m s byte) } else record {
+        kind = causes.Separator s.part (place_of m s (in_part s.part (byte_class m byte)));
+        mask = mask_of (separators m s (Some byte));
+      }
 
-pub wrong-requires-clause-refused : goal.wrong-requires-clause-refused
-wrong-requires-clause-refused c = rw (← as_bare (notation_of c.args.self.grammar) c.bare.result c.bare.ensures) (sym c.allows.ensures ∙ c.if-allows.false)
+  is_blame : (next : Option ℕ) (t u : Bool) → lets (bare m) s next ≡ false → next ≡ Some byte → (mask_of (separators m s (Some byte)) == 0) ≡ t
+      → (mask_of (cases m s byte) == 0) ≡ u → by_tests t u ≡ blame m s next
+  is_blame next t u none is is_t is_u = (λ j. by_tests (sym is_t j) (sym is_u j))
+      ∙ (λ j. if sym none j then record { kind = causes.Requirement; mask = requirements m s next } else otherwise m s (sym is j))
 
-pub returns-then-allows-clause-kind : goal.returns-then-allows-clause-kind
-returns-then-allows-clause-kind c = sym (ap (λ (b : Blamed). b.kind) (by_test c.args.self c.args.next c.requires.next c.bare.result
-    c.bare.ensures true (sym c.if-allows.true ∙ c.allows.ensures) c.args.next refl))
+pub returns-then-separators-ne0 : goal.returns-then-separators-ne0
+returns-then-separators-ne0 c =
+    let s = c.args.self.read in
+    let m = notation_of c.args.self.grammar in
+    let mask = c.separators-separators.ensures ∙ ap (λ next. mask_of (separators m s next)) c.in-Some.is in
+    (λ j. record { kind = causes.Separator s.part (c.place.ensures j); mask = mask j })
+    ∙ is_blame m s c.in-Some.byte c.args.self.byte false _ (sym c.is_free.ensures ∙ c.if-is_free.false) c.in-Some.is
+    (nonzero _ (λ zero. c.if-separators-ne0.true (mask ∙ zero))) refl
 
-pub returns-then-allows-clause-flags : goal.returns-then-allows-clause-flags
-returns-then-allows-clause-flags c f =
-    c.requirements.ensures f ∙ ap (λ next. requirements (notation_of c.args.self.grammar) c.args.self.read next f) c.requires.next
-    ∙ sym (ap (λ (b : Blamed). b.flags f) (by_test c.args.self c.args.next c.requires.next c.bare.result
-    c.bare.ensures true (sym c.if-allows.true ∙ c.allows.ensures) c.args.next refl))
+pub returns-then-mask-eq0 : goal.returns-then-mask-eq0
+returns-then-mask-eq0 c =
+    let s = c.args.self.read in
+    let m = notation_of c.args.self.grammar in
+    let mask = c.separators-separators.ensures ∙ ap (λ next. mask_of (separators m s next)) c.in-Some.is in
+    (λ j. record { kind = causes.Byte; mask = c.case_flags-mask.ensures j })
+    ∙ is_blame m s c.in-Some.byte c.args.self.byte true true (sym c.is_free.ensures ∙ c.if-is_free.false) c.in-Some.is
+    (ap (λ n. n == 0) (sym mask ∙ c.if-separators-ne0.false)) (ap (λ n. n == 0) (sym c.case_flags-mask.ensures ∙ c.if-mask-eq0.true))
 
-pub returns-in-None-clause-kind : goal.returns-in-None-clause-kind
-returns-in-None-clause-kind c =
-    sym (ap (λ (b : Blamed). b.kind) (by_test c.args.self c.args.next c.requires.next c.bare.result
-    c.bare.ensures false (sym c.if-allows.false ∙ c.allows.ensures) None c.in-None.is))
-
-pub returns-in-None-clause-flags : goal.returns-in-None-clause-flags
-returns-in-None-clause-flags c f =
-    flag_zero f ∙ sym (ap (λ (b : Blamed). b.flags f) (by_test c.args.self c.args.next c.requires.next c.bare.result
-    c.bare.ensures false (sym c.if-allows.false ∙ c.allows.ensures) None c.in-None.is))
-
-pub returns-in-Some-clause-kind : goal.returns-in-Some-clause-kind
-returns-in-Some-clause-kind c =
-    c.wrong.ensures.kind ∙ sym (ap (λ (b : Blamed). b.kind) (by_test c.args.self c.args.next c.requires.next c.bare.result
-    c.bare.ensures false (sym c.if-allows.false ∙ c.allows.ensures) _ c.in-Some.is))
-
-pub returns-in-Some-clause-flags : goal.returns-in-Some-clause-flags
-returns-in-Some-clause-flags c f =
-    c.wrong.ensures.flags f
-    ∙ sym (ap (λ (b : Blamed). b.flags f) (by_test c.args.self c.args.next c.requires.next c.bare.result
-    c.bare.ensures false (sym c.if-allows.false ∙ c.allows.ensures) _ c.in-Some.is))
+pub returns-else-mask-eq0 : goal.returns-else-mask-eq0
+returns-else-mask-eq0 c =
+    let s = c.args.self.read in
+    let m = notation_of c.args.self.grammar in
+    let mask = c.separators-separators.ensures ∙ ap (λ next. mask_of (separators m s next)) c.in-Some.is in
+    (λ j. record { kind = causes.Case; mask = c.case_flags-mask.ensures j })
+    ∙ is_blame m s c.in-Some.byte c.args.self.byte true false (sym c.is_free.ensures ∙ c.if-is_free.false) c.in-Some.is
+    (ap (λ n. n == 0) (sym mask ∙ c.if-separators-ne0.false)) (nonzero _ (λ zero. c.if-mask-eq0.false (c.case_flags-mask.ensures ∙ zero)))

@@ -1,50 +1,35 @@
--- A requirement that does not permit what follows refuses it.
-use Rattle.std.proofs.Common.{ℕ, ◌≡◌, ◌<◌, ◌^◌, ◌==◌, ◌&&◌, ◌||◌, not, Bool, bit_or, refl, ap, ◌∙◌, arith}
-use Rattle.std.proofs.lemmas.Nat.{or_lt}
-use Rattle.lexical_util.specs.Layout as layout
-use Rattle.lexical_util.specs.Layout.{Flag, bit}
+-- One flag is asked after the other.
+use Rattle.std.proofs.Common.{ℕ, ◌≡◌, bit_and, ◌<◌, ◌+◌, ◌==◌, ◌&&◌, Bool, nat_lt, if◌then◌else◌, not, true, false, sym, ap, ◌∙◌, arith}
+use Rattle.std.proofs.lemmas.Bool.Decides.{nat_tests}
+use Rattle.std.proofs.lemmas.Nat.{one_shl}
+use Rattle.lexical_util.specs.Layout.{bit, part}
 use Rattle.lexical_util.specs.Record.{raw}
-use Rattle.lexical_literal.specs.declared.cause.TheConstants.{REQUIREMENTS}
-use Rattle.lexical_literal.specs.Additions.Causes.{allows}
-use Rattle.lexical_literal.specs.Cause.{adding, bare, is_one_of, requirement_flags}
-use Rattle.lexical_literal.specs.Notation.{notation_of}
-use Rattle.lexical_literal.proofs.CauseLemmas.{either, flag_and, flag_not, requirement_mask}
+use Rattle.lexical_literal.proofs.CauseLemmas.{bit_below, flag_and, flag_not, is_unset, masked, one_flag}
 use Rattle.lexical_literal.proofs.cause.Stop.refusing.Goals as goal
+use Rattle.lexical_literal.proofs.cause.Stop.refusing.Goals.{then-mask-number-ne0, else-mask-number-ne0}
 
--- Each row has one flag.
-module _ (P : Flag → Bool) where
-  abbrev row : ℕ → Flag → Bool
-  row k f = (k == bit f) && P f
+asked : (x l p out : Bool) (i k : ℕ) → x ≡ (l && (if nat_lt i k then p else true)) → (i ≡ k → (x && not out) ≡ (x && p))
+    → (x && not (out && (i == k))) ≡ (l && (if nat_lt i (k + 1) then p else true))
+asked x l p out i k old at = grind (arith, nat_tests)
 
-  decides : (f : Flag) → (is_one_of requirement_flags f && not ((((((row 0 f || row 1 f) || row 2 f) || row 3 f)
-      || (((row 4 f || row 5 f) || row 7 f) || row 8 f))
-      || ((row 6 f || row 9 f) || row 14 f)) || (row 12 f || row 13 f)))
-      ≡ (is_one_of requirement_flags f && not (P f))
-  decides layout.required_integer_digits = grind arith
-  decides _ = grind arith
+gone : (x a b : Bool) → x ≡ false → (x && a) ≡ (x && b)
+gone x a b none = grind arith
 
-module _ (f : Flag) where
-  abbrev Has : ℕ → Bool → Type 0
-  Has a x = (a < 2 ^ 128) × ((raw a).flag f ≡ x)
-
-  join : (a b : ℕ) (x y : Bool) → Has a x → Has b y → Has (bit_or a b) (x || y)
-  join a b x y one two = (or_lt 128 a b one.0 two.0, either f a b x y one.1 two.1)
+pub loop-number-preserved : goal.loop-number-preserved
+loop-number-preserved c f =
+    let k = c.loop-number.number in
+    let n = c.loop-number.mask in
+    let shift = one_shl k 128 (omega arith) in
+    let is = c.flag_if.ensures ∙ ap (λ n. if c.if-mask-number-ne0.is_out then n else 0) shift in
+    flag_and f n _ ∙ ap (λ t. (raw n).flag f && t) (flag_not f c.flag_if.result c.flag_if.type_inv
+    ∙ ap not (ap (λ n. (raw n).flag f) is ∙ one_flag c.if-mask-number-ne0.is_out k f))
+    ∙ asked _ _ _ c.if-mask-number-ne0.is_out (bit f) k (c.loop-number.invariant f) (λ same. elim c.if-mask-number-ne0.branch [
+      | then-mask-number-ne0 w ↦ ap (λ t. (raw n).flag f && not t) (w.is_out-is ∙ w.is_permitted-is_out.ensures f same)
+      | else-mask-number-ne0 w ↦ gone _ _ _ (ap (λ k. part n k 1 == 1) same
+          ∙ ap (λ v. v == 1) (is_unset n k (ap (bit_and n) (sym shift) ∙ w.if-mask-number-ne0.false)))
+    ])
 
 pub returns : goal.returns
-returns c f =
-    let P = λ (f : Flag). allows (adding f (bare (notation_of c.args.self.grammar))) c.args.self.read c.args.self.next in
-    let digits = join f _ _ _ _ (join f _ _ _ _ (join f _ _ _ _ (c.permitted.type_inv, c.permitted.ensures.each layout.required_integer_digits refl f)
-    (c.permitted-2.type_inv, c.permitted-2.ensures.each layout.required_fraction_digits refl f))
-    (c.permitted-3.type_inv, c.permitted-3.ensures.each layout.required_exponent_digits refl f))
-    (c.permitted-4.type_inv, c.permitted-4.ensures.each layout.required_mantissa_digits refl f) in
-    let signs = join f _ _ _ _ (join f _ _ _ _ (join f _ _ _ _ (c.permitted-5.type_inv, c.permitted-5.ensures.each layout.no_positive_mantissa_sign refl f)
-    (c.permitted-6.type_inv, c.permitted-6.ensures.each layout.required_mantissa_sign refl f))
-    (c.permitted-7.type_inv, c.permitted-7.ensures.each layout.no_positive_exponent_sign refl f))
-    (c.permitted-8.type_inv, c.permitted-8.ensures.each layout.required_exponent_sign refl f) in
-    let exponents = join f _ _ _ _ (join f _ _ _ _ (c.permitted-9.type_inv, c.permitted-9.ensures.each layout.no_exponent_notation refl f)
-    (c.permitted-10.type_inv, c.permitted-10.ensures.each layout.no_exponent_without_fraction refl f))
-    (c.permitted-11.type_inv, c.permitted-11.ensures.each layout.required_exponent_notation refl f) in
-    let zeros = join f _ _ _ _ (c.permitted-12.type_inv, c.permitted-12.ensures.each layout.no_integer_leading_zeros refl f)
-    (c.permitted-13.type_inv, c.permitted-13.ensures.each layout.no_float_leading_zeros refl f) in
-    let all = join f _ _ _ _ (join f _ _ _ _ (join f _ _ _ _ digits signs) exponents) zeros in
-    flag_and f REQUIREMENTS _ ∙ (λ j. requirement_mask f j && (flag_not f _ all.0 ∙ ap not all.1) j) ∙ decides P f
+returns c = masked c.loop-number.mask _ (λ f. c.loop-number.invariant f ∙ last _ _ (bit f) c.loop-number.number (omega (arith, bit_below f))) where
+  last : (l p : Bool) (i k : ℕ) → i < k → (l && (if nat_lt i k then p else true)) ≡ (l && p)
+  last l p i k below = grind (arith, nat_tests)

@@ -1,11 +1,14 @@
 -- What has been read decides what may follow, and so why what follows is refused.
-use Rattle.std.proofs.Common.{◌≡◌, false, slice_get, subst, take}
-use Rattle.lexical_literal.specs.Additions.Causes.{IsReadOf, allows, class_of_next}
+use Rattle.std.proofs.Common.{◌≡◌, false, slice_get, sym, subst, take}
+use Rattle.lexical_literal.specs.Additions.Causes.{IsReadOf, lets}
 use Rattle.lexical_literal.specs.Additions.Longest.{IsScanned}
 use Rattle.lexical_literal.specs.Additions.Summary.{start}
 use Rattle.lexical_literal.specs.Additions.Tables.{summary_at}
-use Rattle.lexical_literal.specs.Cause.{marks_of}
+use Rattle.lexical_literal.specs.Additions.Explained.{refusal_of}
+use Rattle.lexical_literal.specs.Cause.{IsRefusal, marks_of}
 use Rattle.lexical_literal.specs.Notation.{notation_of}
+use Rattle.lexical_literal.specs.declared.cause.Spot.{Spot}
+use Rattle.lexical_literal.specs.declared.syntax.Grammar.{Grammar}
 use Rattle.lexical_literal.proofs.BlameLemmas.{refusal_at}
 use Rattle.lexical_literal.proofs.PartOfLemmas.{ends_in}
 use Rattle.lexical_literal.proofs.RefusalLemmas.{decided}
@@ -20,7 +23,7 @@ returns c =
     let front = take size c.args.text.now in
     let s = summary_at c.args.scanned.row in
     let scanned : IsScanned m c.requires.seeks c.args.text.now c.args.scanned = rw c.self.view_is c.requires.is in
-    let refused : allows m s (class_of_next m (slice_get c.args.text.now size)) ≡ false = rw c.self.view_is c.requires.refused in
+    let refused : lets m s (slice_get c.args.text.now size) ≡ false = rw c.self.view_is c.requires.refused in
     let is_ready = ready c.role_facts.ensures.disjoint c.role_facts.ensures.five c.role_facts.ensures.lawful g c.self.invariant.0 in
     let is_read : IsReadOf m s front = record {
       decides = λ next A D weaker. decided m A D is_ready weaker front s scanned.read next;
@@ -28,5 +31,16 @@ returns c =
     } in
     let same = c.grammar-grammar.ensures.value in
     let is_marks = subst (λ h. c.marks.result ≡ marks_of (notation_of h) front) same c.marks.ensures in
-    rw (same, ← c.self.view_is) (refusal_at g c.args.text.now c.args.scanned.row c.tail_at.result c.marks.result size
-    scanned.error.within scanned.error is_read refused c.byte_at-byte.result c.byte_at-byte.ensures is_marks)
+    let spot : Grammar → Spot = λ h. record {
+      grammar = h;
+      row = c.args.scanned.row;
+      byte = c.byte_at-byte.result;
+      tail = c.tail_at.result;
+      marks = c.marks.result;
+      is_ungrouped = false;
+    } in
+    let h = c.grammar-grammar.result in
+    subst (λ now. IsRefusal (notation_of now) c.args.text.now (refusal_of (notation_of h) (spot h))) c.self.view_is
+    (subst (λ h. IsRefusal m c.args.text.now (refusal_of (notation_of h) (spot h))) (sym same)
+    (refusal_at g c.args.text.now c.args.scanned.row c.tail_at.result c.marks.result size scanned.error.within scanned.error is_read refused
+    c.byte_at-byte.result c.byte_at-byte.ensures is_marks))
