@@ -91,7 +91,7 @@ REPLACED = [
 
 # Nor is what calls these.
 NOT_CONST = {
-    "read.rt": "explain find find_front front grouped has_groups lengths refuse ungrouped",
+    "read.rt": "explain find find_front front grouped has_groups lengths refuse refuse_byte ungrouped",
     "list.rt": "find find_front grouped refuse",
 }
 REPLACED += [(file, f"fn {name}(", f"const fn {name}(") for file, names in NOT_CONST.items() for name in names.split()]

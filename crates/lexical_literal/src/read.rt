@@ -290,7 +290,7 @@ impl Reader {
 
     // Returns why the byte that follows is not allowed, or what is missing.
     #[cold]
-    const fn refuse_byte(&self, text: &[u8], scanned: Scanned) -> ReadError
+    fn refuse_byte(&self, text: &[u8], scanned: Scanned) -> ReadError
         requires { IsRefusedAt (notation_of self.now) text.now scanned }
         ensures { IsRefusal (notation_of self.now) text.now result.refusal }
     {
@@ -304,7 +304,7 @@ impl Reader {
                 row: scanned.row,
                 byte,
                 tail: tail_at(text, size, byte),
-                marks: marks(grammar, text, size),
+                marks: marks(grammar, front_of(text, size)),
                 is_ungrouped: false,
             },
         }
