@@ -39,11 +39,12 @@ int main(int argc, char **argv) {
         if (size && line[size - 1] == '\r') size--;
         peltzivar_literal literal;
         peltzivar_read_error error;
+        peltzivar_explanation why;
         if (peltzivar_read(&reader, line, size, &literal, &error)) {
             print_value(&literal);
-        } else {
+        } else if (peltzivar_explain(&error, &why)) {
             peltzivar_read_error_text(&error, message, sizeof message);
-            printf("line %d, column %zu: %s\n", number, error.valid_up_to + 1, message);
+            printf("line %d, column %zu: %s\n", number, why.span.start + 1, message);
         }
     }
     return 0;

@@ -126,7 +126,9 @@ def languages():
     _, *parts = re.split(r"((?:^ +///.*\n)+) +(\w+) = \{", LANGUAGES, flags=re.M)
     documented = [*zip(parts[::3], parts[1::3], parts[2::3])]
     yield '"""How a language, or a file, writes numbers. `languages` is another name of this class.'
-    yield from ("", "`read(text)` returns a `Literal` of a syntax of `forms`, or a `Special` with a spelling of `specials`.")
+    yield from ("", "`read(text)` returns a `Literal` of one of its forms, or a `Special`. Raises LiteralError if the text is neither.")
+    yield "`read_prefix(text)` returns the longest literal that a text begins with, and the rest. Raises LiteralError if there"
+    yield "is none. `forms` has the syntax of each form by its name, and `specials` the spellings of NaN and infinity."
     for text, name, forms in documented:
         about = " ".join(text.replace("///", " ").replace("×", "*").split())
         names = "; ".join(re.findall(r'"([^"]+)":', forms))

@@ -105,23 +105,25 @@ typedef struct {
 /* SETTINGS
  *
  * A syntax is a lawful word with an exponent character and a decimal point, or with 0 for both. If both are 0, numbers
- * are integers. The other members are conditions: that a number has the base prefix or the base suffix, that its sign is
- * not `-`, and that the digit separators of its integer, if it has any, make groups of 2 to 8 digits, as in `1,234`.
- * Members that an initialiser leaves out are 0 or false, which is no condition. */
+ * are integers. The other members are conditions: that a number has the base prefix or the base suffix, that its sign
+ * is not `-`, and that the digit separators of its integer, if it has any, make groups of 2 to 8 digits, as in `1,234`.
+ * Members that an initialiser leaves out are 0 or false, which is no condition. A later version may have conditions in
+ * `reserved`, so a syntax is refused if one of these bytes is not 0. */
 typedef struct {
     peltzivar_word format;
     uint8_t exponent, decimal_point;
     bool required_base_prefix, required_base_suffix, no_negative_mantissa_sign;
     uint8_t integer_group_size;
+    uint8_t reserved[10];
 } peltzivar_syntax;
 
 /* Settings build a syntax. A text, such as a file, has one setting a line, NAME=VALUE, of a field, a group, an option
- * or a condition. SETTINGS.md describes the values, and FORMAT.md lists the names. Lines end with \n. A byte order mark at the start of the text is
- * skipped, and so are lines that are blank or begin with `#`. No comment can follow a setting. A setting overrides
- * those before it. Fields without a setting have the values of PELTZIVAR_NEW_FIELDS, the exponent character is `e`,
- * and the decimal point is `.`. In a mantissa or exponent radix above 14, `e` is a digit, so `exponent` must be set.
- * If both options are `none`, numbers are integers. One alone cannot be `none`: for numbers with a point but no
- * exponent, set no_exponent_notation, and an `exponent` that is not a digit, such as '~'. */
+ * or a condition. SETTINGS.md describes the values, and FORMAT.md lists the names. Lines end with \n. A byte order mark
+ * at the start of the text is skipped, and so are lines that are blank or begin with `#`. No comment can follow a
+ * setting. A setting overrides those before it. Fields without a setting have the values of PELTZIVAR_NEW_FIELDS, the
+ * exponent character is `e`, and the decimal point is `.`. In a mantissa or exponent radix above 14, `e` is a digit, so
+ * `exponent` must be set. If both options are `none`, numbers are integers. One alone cannot be `none`: for numbers
+ * with a point but no exponent, set no_exponent_notation, and an `exponent` that is not a digit, such as '~'. */
 
 /* Reads the settings of a text of len bytes, and writes the syntax that they build to *out. Returns the number of
  * problems: first the lines that are refused, and then the reasons why the others do not build a lawful word or, if
@@ -155,14 +157,14 @@ size_t peltzivar_settings_lines(const char *text, size_t len, size_t index, size
 typedef struct {
     PELTZIVAR_ALIGNED uint64_t magic;
     peltzivar_syntax syntax;
-    uint64_t tables[508];
+    uint64_t tables[507];
 } peltzivar_reader;
 
 /* Writes the reader of a syntax to *reader and returns PELTZIVAR_SUCCESS if the word is lawful, if the options fit its
  * normal form or are both 0, and if the format does not contradict the conditions. Otherwise, leaves *reader unchanged
  * and returns the error of the first rule that the word breaks, the error that peltzivar_check_options returns for the
- * normal form, or the format error of the field that contradicts a condition. peltzivar_syntax_error_text has the words
- * for all of them. It takes as long as reading some 400 texts. */
+ * normal form, the format error of the field that contradicts a condition, or PELTZIVAR_INVALID_FLAGS for a reserved
+ * byte. peltzivar_syntax_error_text has the words for all of them. It takes as long as reading some 400 texts. */
 PELTZIVAR_MUST_USE peltzivar_error peltzivar_reader_init(peltzivar_reader *reader, const peltzivar_syntax *syntax);
 
 /* Writes why peltzivar_reader_init refuses a syntax as a sentence, such as "the exponent character 'e' is a digit in
@@ -192,9 +194,9 @@ typedef struct {
 } peltzivar_literal;
 
 /* Where reading stopped. The first `valid_up_to` bytes are the longest beginning of the text that some literal begins
- * with. If these are all of its bytes, bytes are missing, and a longer text may be a literal. integer_group_size is tested
- * last: a text that it alone refuses is valid up to its end, and a longer text may not be a literal. `form` is the form of a
- * language for which this beginning is the longest, the first of equals, and otherwise 0. */
+ * with. If these are all of its bytes, bytes are missing, and a longer text may be a literal. integer_group_size is
+ * tested last: a text that it alone refuses is valid up to its end, and a longer text may not be a literal. `form` is
+ * the form of a language for which this beginning is the longest, the first of equals, and otherwise 0. */
 typedef struct {
     PELTZIVAR_ALIGNED uint64_t magic;
     size_t valid_up_to, form;
@@ -254,8 +256,8 @@ const char *peltzivar_value_description(peltzivar_value_status status);
 
 /* ERRORS */
 
-/* Writes why a text was refused as a sentence, such as "unexpected character 'x'", which may be in UTF-8. EXPLANATIONS.md describes them. If
- * no call has written *error, writes an empty string. */
+/* Writes why a text was refused as a sentence, such as "unexpected character 'x'", which may be in UTF-8.
+ * EXPLANATIONS.md describes them. If no call has written *error, writes an empty string. */
 size_t peltzivar_read_error_text(const peltzivar_read_error *error, char *text, size_t len);
 
 /* The parts of a number, and the number of no part. */
@@ -350,13 +352,14 @@ PELTZIVAR_MUST_USE bool peltzivar_form_syntax(const peltzivar_reader *reader, si
  *
  * Each call writes a number as a literal of a reader's syntax, or of the first form of a language, and a null
  * terminator to a buffer of len bytes. It writes to *needed the length with the terminator, and returns
- * PELTZIVAR_WRITE_OK if len is at least that. Otherwise, it writes only the beginning and a terminator, if len is not 0,
- * and returns PELTZIVAR_WRITE_BUFFER. If the number cannot be written, it leaves the buffer and *needed unchanged and
- * returns why. Reading the text returns the same value. */
+ * PELTZIVAR_WRITE_OK if len is at least that. Otherwise, it writes only the beginning and a terminator, if len is not
+ * 0, and returns PELTZIVAR_WRITE_BUFFER. If the number cannot be written, it leaves the buffer and *needed unchanged
+ * and returns why. Reading the text returns the same value. */
 
 /* How numbers are written where a syntax leaves a choice: the number of integer digits in a group, if the format allows
- * separators between them, or 0 for no groups, and whether the base prefix and the base suffix are left out. A condition
- * comes first: integer_group_size replaces any group but 0, and a required prefix or suffix is written. A null pointer is the same as zeros. */
+ * separators between them, or 0 for no groups, and whether the base prefix and the base suffix are left out. A
+ * condition comes first: integer_group_size replaces any group but 0, and a required prefix or suffix is written. A
+ * null pointer is the same as zeros. */
 typedef struct {
     uint8_t group;
     bool without_base;
@@ -384,8 +387,8 @@ PELTZIVAR_MUST_USE peltzivar_write_status peltzivar_format_u64(const peltzivar_r
 PELTZIVAR_MUST_USE peltzivar_write_status peltzivar_format_i128(const peltzivar_reader *reader, peltzivar_i128 value,
     const peltzivar_style *style, char *text, size_t len, size_t *needed);
 
-/* Writes the shortest decimal digits that are read as this float, for radix 10. A very large or very small one has an exponent, if
- * the syntax has one. */
+/* Writes the shortest decimal digits that are read as this float, for radix 10. A very large or very small one has an
+ * exponent, if the syntax has one. */
 PELTZIVAR_MUST_USE peltzivar_write_status peltzivar_format_f64(const peltzivar_reader *reader, double value,
     const peltzivar_style *style, char *text, size_t len, size_t *needed);
 

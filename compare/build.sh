@@ -44,7 +44,7 @@ features=(format power-of-two radix parse-integers parse-floats write-integers w
 
 # driver TREE FOLDER NAME PROCESSOR: builds the driver in a folder of a tree over the tree's library, as $work/NAME. Each
 # tree is copied to the same place, because paths decide the order of functions. No jump crosses a 32-byte boundary.
-# Otherwise, times would depend on the addresses of code. If `regex` has a line of the manifest, it is a dependency.
+# Otherwise, times would depend on the addresses of code.
 driver() {
     rm -rf "$work/tree"
     mkdir -p "$work/tree" "$work/driver"
@@ -54,10 +54,9 @@ driver() {
     "$repository/compare/rows.py" "$work/upstream/src" > "$work/tree/compare/rust/src/rows.rs"
     {
         manifest driver "peltzivar=$work/tree/rust" "upstream=$work/upstream"
-        echo "${regex:-}"
         printf '\n[[bin]]\nname = "driver"\npath = "%s/rust/src/main.rs"\n' "$work/tree/$2"
     } > "$work/driver/Cargo.toml"
-    local flags="-C target-cpu=$4 -C llvm-args=-x86-branches-within-32B-boundaries --check-cfg=cfg(regex) ${regex:+--cfg regex}"
+    local flags="-C target-cpu=$4 -C llvm-args=-x86-branches-within-32B-boundaries"
     (cd "$work/driver" && RUSTFLAGS=$flags CARGO_TARGET_DIR=$work/target-$4 cargo build --release --offline --quiet)
     cp "$work/target-$4/release/driver" "$work/$3"
 }

@@ -1,21 +1,13 @@
 #!/usr/bin/env python3
 """Prints the module `rows`: macros that pass the setters, getters and outcomes of lexical-util 1.0.7 to another macro.
 
-The comparison and the benchmark of the library use them, so that none is left out.
+The comparison uses them, so that none is left out.
 
     compare/rows.py FOLDER      FOLDER has the modules of lexical-util as NAME.rs
 """
 import pathlib
 import re
 import sys
-
-# Passes the arguments and the flags, which are getters of a view too, to a macro by `with_getters`.
-FLAG_GETTERS = """macro_rules! flag_getters {
-    (($then:ident $args:tt) { $($Flag:ident $flag:ident $get:ident $CONST:ident;)* } $groups:tt) => {
-        with_getters! { $then ($args $($flag $CONST)*) }
-    };
-}
-"""
 
 
 def found(module, pattern):
@@ -24,10 +16,6 @@ def found(module, pattern):
 
 def constant(getter):
     return re.sub("FLAGS$", "FLAG_MASK", getter.upper())
-
-
-def variant(setter):
-    return setter.title().replace("_", "")
 
 
 def macro(name, *blocks):
@@ -41,13 +29,13 @@ bytes_ = found("format_builder", r"pub const fn get_(\w+)\(&self\) -> (?:u8|Opti
 groups = [it for it in found("format_builder", r"pub const fn (\w+)\(mut self, flag: bool\)") if it not in flags]
 getters = found("feature_format", r"pub const fn (\w+)\(&self\) -> (bool|u8|u32|u128)")
 # Those that return a `bool`, a byte, a radix, and a masked word.
-kinds = {"bool": groups, "u8": bytes_, "u32": bytes_, "u128": dict(getters)}
-blocks = [[name for name, result in getters if result == kind and name in of] for kind, of in kinds.items()]
+kinds = {"bool": flags + groups, "u8": bytes_, "u32": bytes_, "u128": dict(getters)}
+blocks = [[f"{it} {constant(it)}" for it, result in getters if result == kind and it in of] for kind, of in kinds.items()]
 outcomes = list(enumerate(found("error", r"is_error_type!\(\s*(\w+),\s*(\w+)(\(_\))?\s*\)")))
-
-print(f"#[allow(dead_code)]\npub const FIELDS: usize = {len(flags + bytes_)};\n\n{FLAG_GETTERS}")
-print(macro("with_setters", [f"{variant(it)} {it} get_{it} {constant(it)}" for it in flags], [f"{variant(it)} {it}" for it in groups]))
-print(macro("with_getters", *([f"{it} {constant(it)}" for it in block] for block in blocks)))
 indexed = [[f"{rank} {name} {test}" for rank, (test, name, index) in outcomes if bool(index) == it] for it in (True, False)]
+
+print(f"pub const FIELDS: usize = {len(flags + bytes_)};\n")
+print(macro("with_setters", [f"{it} get_{it} {constant(it)}" for it in flags], groups))
+print(macro("with_getters", *blocks))
 print(macro("with_outcomes", *indexed))
-print("#[allow(unused_imports)]\npub(crate) use {flag_getters, with_getters, with_outcomes, with_setters};")
+print("pub(crate) use {with_getters, with_outcomes, with_setters};")

@@ -124,29 +124,40 @@ def contracts(call):
                 yield path, kind, f"fn {name}{text}", re.split(r"^ *(?=requires|ensures)", text, maxsplit=1, flags=re.M)[-1]
 
 
-def model(kind):
-    """Yields what contracts take a value of a type for, and the contracts of the calls that make such a value."""
+def ghosts(kind):
+    """Yields the path and the items for contracts of `impl Model` of a type, or of a trait and of each of its impls."""
+    heads = rf"impl(?:<.*?>)? Model for {kind}\b|pub trait {kind}\b|impl {kind} for "
     for path, source in SOURCES.items():
-        if found := re.search(rf"^impl Model for {kind} {{\n.*?ghost Value = {{ (\w+) }}.*?^}}", source, re.M | re.S):
-            texts = [found[0], *re.findall(rf"^pub struct {found[1]} {{.*?^}}", source, re.M | re.S)]
-            makers = [it for it in FUNCTION.finditer(source) if owner(source, it) == kind and "self" not in it[2]]
-            texts += [f"fn {it[1]}{it[2]}" for it in makers if re.search(rf"-> .*\b(Self|{kind})\b", it[2])]
-            yield from "\n".join([f"==== {path}: what {kind} is", *texts]).splitlines()
+        for block in re.findall(rf"^(?:{heads}).*?(?=^}})", source if kind else "", re.M | re.S):
+            items = [it.splitlines() for it in block.split("\n\n") if not re.search(r"^ *fn ", it, re.M)]
+            yield path, [*(it for it in itertools.chain(*items) if "ghost use" not in it), "}"]
+
+
+def model(kind):
+    """Yields what contracts take a type or a trait for, and the contracts of the calls that make a value of a type."""
+    for path, found in itertools.groupby(ghosts(kind), lambda it: it[0]):
+        text = "\n".join([f"==== {path}: what {kind} is", *itertools.chain(*(lines for _, lines in found))])
+        value = re.search(r"ghost Value = { (?:List )?(\w+) }|$", text)[1]
+        yield from [text, *re.findall(rf"^pub struct {value} {{.*?^}}", "".join(SOURCES.values()), re.M | re.S)]
+        makers = [it for it in FUNCTION.finditer(SOURCES[path]) if owner(SOURCES[path], it) == kind]
+        yield from (f"fn {it[1]}{it[2]}" for it in makers if re.search(rf"^((?!self).)* -> .*\b(Self|{kind})\b", it[2]))
 
 
 def text_of(call):
     """Returns the lines to read for a call, and why its contract is unfit."""
-    found = list(contracts(call))
-    reached = reached_from([it for path, *_, clauses in found for it in cited(clauses, imports(SOURCES[path]))])
+    found = [(*it, dict.fromkeys(re.findall(r"\w: &?(\w+)", it[2].partition(" ensures ")[0]))) for it in contracts(call)]
+    texts = [(path, [clauses]) for path, *_, clauses, _ in found]
+    texts += [it for *_, kinds in found for kind in kinds for it in ghosts(kind) if " Model for " not in it[1][0]]
+    reached = reached_from([it for path, text in texts for it in cited("\n".join(text), imports(SOURCES[path]))])
     lines = []
     for file in reading_order():
         names = [name for name in file.lines if f"{file.path.stem}.{name}" in reached]
         lines += [f"==== {file.path}", *file.header] if names else []
         for module, inner in itertools.groupby(names, file.module.get):
             lines += [*module, *(line for name in inner for line in ["", *file.lines[name]])]
-    for path, kind, text, _ in found:
-        kinds = dict.fromkeys([kind, *re.findall(r"\w: &?(\w+)", text.partition(" ensures ")[0])])
-        lines += [f"==== {path}{kind and f': impl {kind}'}", *text.splitlines(), *itertools.chain(*map(model, kinds))]
+    for path, kind, text, _, kinds in found:
+        made = itertools.chain([text], *map(model, dict.fromkeys([kind, *kinds])))
+        lines += [f"==== {path}{kind and f': impl {kind}'}", *"\n".join(made).splitlines()]
     unfit = [f"it reaches {name} by {above}" for name, above in reached.items()
              if name not in FILE_OF or FILE_OF[name].is_addition]
     return lines, unfit if found else ["no public function"]

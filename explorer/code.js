@@ -5,16 +5,17 @@ function character(byte, prefix) {
     return quoted(byte, prefix).replace(/'(['\\])'/, "'\\$1'");
 }
 
+/* Returns a comment with the reader of all forms of a language. */
+const COMMENTS = {
+    rust: (name) => `// The reader of all forms is peltzivar::literal::Language::${name}.\n`,
+    c: (name) => `/* The reader of all forms is peltzivar_language("${name}", ${name.length}, NULL). */\n`,
+    python: (name) => `# The reader of all forms is peltzivar.languages.${name}.\n`,
+    settings: () => "",
+};
+
 class Code {
     constructor(library) {
         this.library = library;
-    }
-
-    /* Returns the fields in which the word differs from the standard format, each with its value. */
-    edits(word) {
-        return this.library.changes(word, this.library.standard).map((field) => {
-            return { ...field, value: this.library.get(word, field.name) };
-        });
     }
 
     /* Returns why a state has no reader: the first reason, or an empty text. */
@@ -27,7 +28,8 @@ class Code {
         const { word, exponent, point } = state;
         const problem = this.problem(shown);
         if (problem) return `// ${problem}\npub const WORD: u128 = ${wordText(word)};\n`;
-        const calls = this.edits(word).map(({ name, isByte, isNumber, value }) => {
+        const changes = this.library.differences(state);
+        const calls = changes.filter(({ name }) => this.library.named.has(name)).map(({ name, isByte, isNumber, value }) => {
             const byte = isNumber ? String(value) : character(value, "b");
             const optional = value ? `NonZeroU8::new(${byte})` : "None";
             return `    .${name}(${!isByte ? Boolean(value) : name === "mantissa_radix" ? byte : optional})\n`;
@@ -35,10 +37,8 @@ class Code {
         const build = `NumberFormatBuilder::new()\n${calls.join("")}    .build_format_or_panic()`;
         const isFloat = exponent || point;
         const options = [exponent, point].map((it) => character(it, "b")).join(", ");
-        const set = this.library.conditions.filter((field) => this.library.condition(state, field));
-        const conditions = set.map((field) => {
-            return `.${field.name}(${field.isNumber ? `Some(${this.library.condition(state, field)})` : "true"})`;
-        });
+        const set = changes.filter(({ shift }) => shift !== undefined);
+        const conditions = set.map(({ name, isNumber, value }) => `.${name}(${isNumber ? `Some(${value})` : "true"})`);
         const hasBytes = shown.isBuilt && calls.some((call) => call.includes("NonZeroU8"));
         const syntax = isFloat ? `Syntax::new_or_panic(FORMAT, ${options})` : "Syntax::integers(FORMAT)";
         const names = `${conditions.length ? "Conditions, " : ""}ParseError, Reader, Syntax`;
@@ -106,11 +106,9 @@ def read(text):
 `;
     }
 
-    /* Returns the settings of a state: those of the word, and then those of options and conditions that are not the usual
-     * ones. */
+    /* Returns the settings of a state that are not the usual ones. */
     lines(state) {
-        const settings = this.edits(state.word).map((edit) => this.library.setting(edit, edit.value));
-        return [...settings, ...this.library.differences(state, { ...this.library.usual, word: state.word }).map(({ text }) => text)];
+        return this.library.differences(state).map(({ text }) => text);
     }
 
     settings(state, { isBuilt }) {

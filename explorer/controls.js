@@ -176,7 +176,7 @@ class Controls {
         }
         for (const { name } of OPTIONS) this.showByte(name, state[name], state[name]);
         for (const field of this.library.conditions) {
-            const value = this.library.condition(state, field);
+            const value = this.library.value(state, field);
             if (field.isNumber) find(field.name).value = value;
             else find(field.name).checked = Boolean(value);
         }

@@ -24,6 +24,15 @@ function withCode(text) {
     return text.split("`").map((part, index) => (index % 2 ? element("code", {}, part) : part));
 }
 
+/* Replaces the children of a node. If one of its buttons had the focus, the one at its place has it then, or else another
+ * node. */
+function refill(node, children, other) {
+    const buttons = () => [...node.querySelectorAll("button")];
+    const place = buttons().indexOf(document.activeElement);
+    node.replaceChildren(...children);
+    if (place >= 0) (buttons()[place] ?? buttons().at(-1) ?? other).focus();
+}
+
 function find(id) {
     return document.getElementById(id);
 }

@@ -7,8 +7,8 @@ const MOST_WORD = (1n << 128n) - 1n;
 const MOST_TEXT = 60000;
 /* The options of a parser, which are not in the word. If both are 0, numbers are integers alone. */
 const OPTIONS = [
-    { name: "exponent", title: "exponent character", meaning: "an option of the parser, such as the `e` in `1e5`" },
-    { name: "point", title: "decimal point", meaning: "an option of the parser, such as the `.` in `1.5`" },
+    { name: "exponent", isByte: true, title: "exponent character", meaning: "an option of the parser, such as the `e` in `1e5`" },
+    { name: "point", isByte: true, title: "decimal point", meaning: "an option of the parser, such as the `.` in `1.5`" },
 ];
 const STANDARD_OPTIONS = { exponent: 101, point: 46, conditions: 0 };
 
@@ -98,14 +98,10 @@ class Library {
         }, conditions);
     }
 
-    /* Returns a condition of a state as a number, and as a setting. */
-    condition({ conditions }, { mask, shift }) {
-        return (conditions & mask) >> shift;
-    }
-
-    conditionText(state, field) {
-        const value = this.condition(state, field);
-        return `${field.name}=${field.isNumber ? value || "none" : Boolean(value)}`;
+    /* Returns the value of a field, an option or a condition of a state as a number: 1 for a flag that is set. */
+    value(state, { name, mask, shift }) {
+        if (name in STANDARD_OPTIONS) return state[name];
+        return shift === undefined ? this.get(state.word, name) : (state.conditions & mask) >> shift;
     }
 
     /* Returns {value}, or {error} if the setter does not take the text. A separator needs a flag that allows it. */
@@ -137,27 +133,14 @@ class Library {
         return [text, `'${text}'`].map((it) => this.parse("digit_separator", it).value).find((it) => it !== undefined);
     }
 
-    /* Returns the fields in which two words differ. */
-    changes(word, other) {
-        return this.fields.filter(({ mask }) => (word & mask) !== (other & mask));
-    }
-
-    /* Returns the fields and options in which two states differ, each with its settings in both. */
-    differences(state, other) {
-        const fields = this.changes(state.word, other.word).map((field) => {
-            const [text, before] = [state, other].map(({ word }) => this.setting(field, this.get(word, field.name)));
-            return { ...field, text, before, value: this.get(other.word, field.name) };
+    /* Returns the fields, options and conditions in which a state differs from another one, by default the usual one: each
+     * with its value and its settings in both. */
+    differences(state, other = this.usual) {
+        return [...this.fields, ...OPTIONS, ...this.conditions].flatMap((field) => {
+            const [value, before] = [state, other].map((it) => this.value(it, field));
+            const [text, old] = [value, before].map((it) => this.setting(field, it));
+            return value === before ? [] : [{ ...field, value, before, text, old }];
         });
-        const options = OPTIONS.filter(({ name }) => state[name] !== other[name]).map(({ name }) => {
-            const [text, before] = [state, other].map((it) => `${name}=${it[name] ? quoted(it[name], "") : "none"}`);
-            return { name, isByte: true, text, before, value: other[name] };
-        });
-        const changed = this.conditions.filter(({ mask }) => (state.conditions ^ other.conditions) & mask);
-        const conditions = changed.map((field) => {
-            const [text, before] = [state, other].map((it) => this.conditionText(it, field));
-            return { name: field.name, text, before, value: this.condition(other, field) };
-        });
-        return [...fields, ...options, ...conditions];
     }
 
     /* Returns the names of the fields with bits in a mask. All separator flags together have one name. */
@@ -169,9 +152,9 @@ class Library {
         return [...(hasAll ? [group.name] : []), ...names, ...(mask & ~this.known ? ["reserved"] : [])];
     }
 
-    /* Returns a field and its value as a setting. */
+    /* Returns a field, an option or a condition and its value as a setting. */
     setting({ name, isByte, isNumber }, value) {
-        if (!isByte) return `${name}=${Boolean(value)}`;
+        if (!isByte && !isNumber) return `${name}=${Boolean(value)}`;
         if (value === 0 && name !== "mantissa_radix") return `${name}=none`;
         return `${name}=${isNumber ? value : quoted(value, "")}`;
     }

@@ -155,9 +155,7 @@ class Page {
             return button("form", form.name, () => this.jump(stateOf(form)), { "aria-pressed": String(isShown(form)) });
         });
         find("forms").hidden = forms.length === 1;
-        const hadFocus = [...find("forms").children].indexOf(document.activeElement);
-        find("forms").replaceChildren(...buttons);
-        buttons[hadFocus]?.focus();
+        refill(find("forms"), buttons);
         return forms;
     }
 
@@ -228,8 +226,8 @@ class Page {
 
     fragment() {
         const { word, exponent, point, numbers } = this.state;
-        const set = this.library.conditions.filter((field) => this.library.condition(this.state, field));
-        const conditions = set.map((field) => this.library.conditionText(this.state, field)).join(" ");
+        const set = this.library.differences({ ...this.library.usual, conditions: this.state.conditions });
+        const conditions = set.map(({ text }) => text).join(" ");
         const compared = find("compare").value === "another" ? find("other").value : find("compare").value;
         const tab = this.language === LANGUAGES[0] ? "" : this.language;
         const language = find("language").value;
@@ -306,7 +304,7 @@ class Page {
         const nothing = count ? "" : "The word satisfies all rules. Type numbers to try it.";
         setText(find("first-error"), reasons[0]?.text ?? first ?? nothing);
         const blamed = reasons.flatMap((reason) => reason.fields);
-        this.blame(new Set(blamed), new Set(this.library.differences(this.state, this.library.usual).map(({ name }) => name)));
+        this.blame(new Set(blamed), new Set(this.library.differences(this.state).map(({ name }) => name)));
         this.showCode();
         this.saveLater();
     }
@@ -322,7 +320,9 @@ class Page {
     }
 
     showCode() {
-        setText(find("code"), this.code[this.language](this.state, this.shown));
+        const name = find("language").value;
+        const all = name && COMMENTS[this.language](name);
+        setText(find("code"), all + this.code[this.language](this.state, this.shown));
     }
 
     /* Marks each element with the same field as this one. Beside this one, a hint describes the field, unless it does. */

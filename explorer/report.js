@@ -93,14 +93,11 @@ class Report {
         const texts = isTold ? [] : this.texts(this.library.differ(this.forms, forms));
         find("texts").replaceChildren(...texts);
         setText(find("same"), isTold ? (error ?? told) : texts.length ? "Not the same." : "No text was found that tells them apart.");
-        const chips = changes.map(({ name, text, before, value }) => {
-            const set = button("set", `set ${before.slice(name.length + 1)}`, () => this.edit(name, value), { "aria-label": `set ${before}` });
+        const chips = changes.map(({ name, text, before, old }) => {
+            const set = button("set", `set ${old.slice(name.length + 1)}`, () => this.edit(name, before), { "aria-label": `set ${old}` });
             return element("li", { class: "chip", "data-field": name }, element("code", {}, text), set);
         });
-        const hadFocus = [...find("changes").querySelectorAll("button")].indexOf(document.activeElement);
-        find("changes").replaceChildren(...chips);
-        if (hadFocus < 0) return;
-        (find("changes").querySelectorAll("button")[Math.min(hadFocus, chips.length - 1)] ?? find("compare")).focus();
+        refill(find("changes"), chips, find("compare"));
     }
 
     /* Returns lists of the texts that tell two formats apart, as `differ` of library.rs returns them. */

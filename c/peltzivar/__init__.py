@@ -265,6 +265,7 @@ class _Syntax(Structure):
         ("required_base_suffix", c_bool),
         ("no_negative_mantissa_sign", c_bool),
         ("integer_group_size", c_uint8),
+        ("reserved", c_uint8 * 10),
     ]
 
 
@@ -272,7 +273,7 @@ class _Reader(Structure):
     _fields_ = [
         ("magic", c_uint64),
         ("syntax", _Syntax),
-        ("tables", c_uint64 * 508),
+        ("tables", c_uint64 * 507),
     ]
 
 
@@ -509,7 +510,7 @@ _RADIXES = (Setter.MANTISSA_RADIX, Setter.EXPONENT_BASE, Setter.EXPONENT_RADIX)
 _BYTES = (Setter.DIGIT_SEPARATOR, Setter.BASE_PREFIX, Setter.BASE_SUFFIX)
 _SETTERS = {**{it.name.lower(): it for it in Setter}, "radix": Setter.MANTISSA_RADIX}
 # The conditions of a syntax, with their types.
-_CONDITIONS: Dict[str, Any] = dict(_Syntax._fields_[3:])
+_CONDITIONS: Dict[str, Any] = dict(_Syntax._fields_[3:-1])
 _SETTING = "a str or an Edit (pass a list as `*settings`)"
 # The default of an argument whose field keeps its value.
 _KEPT: Any = ...
@@ -1429,6 +1430,8 @@ class Syntax:
             Syntax.of("mantissa_radix = 16", "base_prefix = 'x'", "exponent = 'p'")
             Syntax.of(mantissa_radix=16, base_prefix="x", exponent="p")
 
+        The keyword arguments are the attributes of a `FormatView` that are fields or groups, `radix`, and the other
+        attributes of a `Syntax`: `exponent`, `point` and its conditions.
         A setting has the form that `Edit` takes, and a setting of `exponent` or `point` that of `base_prefix`. If both
         are `none`, or None, literals are integers, and one alone is refused: for floats without an exponent, keep its
         character and set `no_exponent_notation`. A setting that is blank or begins with `#` is skipped. A setting
@@ -1541,8 +1544,8 @@ class Syntax:
             '1.234.567,50'
 
         Of a float, the digits are those of `repr`. `group` is the number of integer digits in a group, if the format
-        allows separators between them. `without_base` leaves out the base prefix and the base suffix, unless conditions
-        require them. Raises ValueError if no literal has this value, or if the digits have another radix, as those of a
+        allows separators between them, or 0 for no groups. If the syntax has an `integer_group_size`, this replaces any
+        `group` but 0. `without_base` leaves out the base prefix and the base suffix, unless conditions require them. Raises ValueError if no literal has this value, or if the digits have another radix, as those of a
         Decimal and of an int with more than 128 bits, which are decimal.
         """
         style, needed = _Style(_number("group", group), _typed("without_base", without_base, bool)), c_size_t(64)
@@ -1553,7 +1556,7 @@ class Syntax:
             call, number = _library.format_f64, float(value)
         elif isinstance(value, (int, Decimal)):
             text = str(value) if isinstance(value, int) or abs(value.adjusted()) > 400 else f"{value:f}"
-            literal = Syntax(Format()).read(text)
+            literal = _decimals().read(text)
             call, number = _library.format_literal, literal._found
         else:
             call, number = _library.format_literal, _typed("value", value, Literal, "a number or a Literal")._found
@@ -1568,6 +1571,11 @@ class Syntax:
         return (self,)
 
     _names = ("",)
+
+
+@functools.lru_cache(None)
+def _decimals() -> Syntax:
+    return Syntax(Format())
 
 
 def _read(owner: Union[Syntax, Language], call: Any, text: AnyStr) -> Union[Literal[AnyStr], _ReadError]:
@@ -1677,7 +1685,9 @@ class Language(_Named):
     # Made by make_python.py: languages
     """How a language, or a file, writes numbers. `languages` is another name of this class.
 
-    `read(text)` returns a `Literal` of a syntax of `forms`, or a `Special` with a spelling of `specials`.
+    `read(text)` returns a `Literal` of one of its forms, or a `Special`. Raises LiteralError if the text is neither.
+    `read_prefix(text)` returns the longest literal that a text begins with, and the rest. Raises LiteralError if there
+    is none. `forms` has the syntax of each form by its name, and `specials` the spellings of NaN and infinity.
 
     ADA: Ada's decimal literals (Reference Manual 2012, 2.4.1). A format cannot accept based literals, such as
         `16#FF#`, or accept `1.0E-3` but reject `1E-3`. Forms: decimal.

@@ -1,5 +1,5 @@
-/* Calls the functions of peltzivar.h with random words, edits, strings and buffers, and checks that their results agree.
- * The argument is the number of cases. */
+/* Calls the functions of peltzivar.h with random words, edits, strings and buffers, for sanitizers to watch. A call that
+ * fails writes nothing, and what is written can be read. The argument is the number of cases. */
 #include "peltzivar.h"
 
 #include <stdio.h>
@@ -23,7 +23,6 @@
         free(part); \
     } while (0)
 
-static const peltzivar_word NONE = {0, 0};
 static unsigned long number;
 static uint64_t state = 0x9E3779B97F4A7C15;
 static char text[PELTZIVAR_SOURCE_SIZE];
@@ -60,8 +59,6 @@ static peltzivar_word draw_word(void) {
 }
 
 static void test_word(peltzivar_word word) {
-    const peltzivar_word normal = peltzivar_normal_form(word);
-    const peltzivar_fields filled = peltzivar_fields_of(word);
     peltzivar_word other = {1, 2};
     size_t index = 0;
     WRITE(peltzivar_word_text, word);
@@ -69,11 +66,7 @@ static void test_word(peltzivar_word word) {
     const size_t len = strlen(text);
     text[draw() % len] = (char)draw();
     CHECK(!peltzivar_parse_word(text, len, &other, &index) || index < len);
-    CHECK(peltzivar_same_format(word, normal) && is_same(peltzivar_normal_form(normal), normal));
-    CHECK(is_same(peltzivar_pack(&filled), normal) && peltzivar_is_built(normal));
-    const peltzivar_error error = peltzivar_migrate(word, &other);
-    CHECK(error == peltzivar_check(normal) && (error || is_same(other, normal)));
-    WRITE(peltzivar_error_text, error, 7);
+    WRITE(peltzivar_error_text, peltzivar_migrate(word, &other), 7);
     WRITE(peltzivar_source, word);
     const size_t count = peltzivar_edits_of(word, NULL, 0), room = (size_t)draw() % (count + 1);
     peltzivar_edit *const edits = malloc(count * sizeof *edits + 1);
@@ -82,37 +75,22 @@ static void test_word(peltzivar_word word) {
     free(edits);
 }
 
-/* A word has a reason if and only if it is not lawful. */
+/* Reasons and notes have a sentence and bits, and behind the last one, there is nothing. */
 static void test_reasons(peltzivar_word word) {
-    size_t count = 0;
-    WRITE(peltzivar_reason_text, word, count);
-    while (*text) {
-        CHECK(peltzivar_reason_rules(word, count) >> 1 && !is_same(peltzivar_reason_mask(word, count), NONE));
-        count++;
-        WRITE(peltzivar_reason_text, word, count);
-    }
-    const size_t behind = count + (size_t)draw() % (draw() % 2 ? 4 : SIZE_MAX - count);
-    WRITE(peltzivar_reason_text, word, behind);
-    CHECK((count == 0) == !peltzivar_check(word) && !*text && !peltzivar_reason_rules(word, behind));
-    CHECK(is_same(peltzivar_reason_mask(word, behind), NONE));
     const peltzivar_fields fields = peltzivar_fields_of(word);
-    for (count = 0; count < 4; count++) {
-        const size_t index = count < 3 ? count : behind;
-        WRITE(peltzivar_note_text, &fields, index);
-        CHECK(!*text == is_same(peltzivar_note_mask(&fields, index), NONE));
-    }
-}
-
-/* The options fit a word if and only if there is no reason why they do not. */
-static void test_options(peltzivar_word word) {
     const uint8_t exponent = draw_edit().value, point = draw_edit().value;
-    WRITE(peltzivar_options_reason_text, word, exponent, point, 0);
-    CHECK(!*text == !peltzivar_check_options(word, exponent, point));
-    CHECK(!*text == !peltzivar_options_reason_roles(word, exponent, point, 0));
-    const size_t behind = 9 + (size_t)draw() % (SIZE_MAX - 9);
-    WRITE(peltzivar_options_reason_text, word, exponent, point, behind);
-    CHECK(!*text && !peltzivar_options_reason_roles(word, exponent, point, behind));
-    CHECK(is_same(peltzivar_options_reason_mask(word, exponent, point, behind), NONE));
+    for (size_t i = 0; i < 6; i++) {
+        const size_t index = i < 5 ? i : (size_t)draw();
+        WRITE(peltzivar_reason_text, word, index);
+        CHECK(*text ? index < 99 : !peltzivar_reason_mask(word, index).low && !peltzivar_reason_rules(word, index));
+        CHECK(index || !*text == !peltzivar_check(word));
+        WRITE(peltzivar_note_text, &fields, index);
+        CHECK(*text ? index < 99 : !peltzivar_note_mask(&fields, index).high);
+        WRITE(peltzivar_options_reason_text, word, exponent, point, index);
+        CHECK(!*text == !peltzivar_options_reason_roles(word, exponent, point, index));
+        CHECK(index || !*text == !peltzivar_check_options(word, exponent, point));
+        CHECK(*text || !peltzivar_options_reason_mask(word, exponent, point, index).high);
+    }
 }
 
 /* Returns the first `len` bytes of `text` in memory of this size. */
@@ -128,7 +106,7 @@ static bool draw_reader(peltzivar_word word, peltzivar_reader *reader) {
     for (int tries = 0; peltzivar_check(word) && tries < 9; tries++) word = draw_word();
     const uint8_t *const drawn = options[draw() % 8];
     peltzivar_syntax syntax = {word, drawn[0], drawn[1], draw() % 8 == 0, draw() % 8 == 0, draw() % 8 == 0,
-        (uint8_t)(draw() % 4 ? 0 : draw() % 5)};
+        (uint8_t)(draw() % 4 ? 0 : draw() % 5), {0}};
     if (draw() % 16 == 0) for (size_t i = 0; i < sizeof syntax; i++) ((unsigned char *)&syntax)[i] = (unsigned char)draw();
     memset(reader, (int)draw(), sizeof *reader), reader->syntax = syntax;
     const peltzivar_error refused = peltzivar_reader_init(reader, &syntax);
@@ -137,34 +115,24 @@ static bool draw_reader(peltzivar_word word, peltzivar_reader *reader) {
     return !refused;
 }
 
-/* Integer types agree on the value of a literal, or on why there is none, and the float types on whether there is one. */
-static void test_values(const peltzivar_literal *literal) {
-    int64_t integer = 7;
-    uint64_t natural = 7;
-    peltzivar_i128 wide = {7, 7};
-    double real = 7;
-    const peltzivar_value_status status = peltzivar_to_i64(literal, &integer), other = peltzivar_to_u64(literal, &natural);
-    const peltzivar_value_status of_wide = peltzivar_to_i128(literal, &wide);
-    CHECK((status == PELTZIVAR_VALUE_FLOAT) == literal->is_float && (other == PELTZIVAR_VALUE_FLOAT) == literal->is_float);
-    CHECK(status || (!of_wide && wide.low == (uint64_t)integer && wide.high == (integer < 0 ? -1 : 0)));
-    CHECK(other || (!of_wide && wide.low == natural && wide.high == 0));
-    CHECK(!status || integer == 7);
-    CHECK(!of_wide || (wide.low == 7 && wide.high == 7));
-    const peltzivar_value_status of_float = peltzivar_to_f64(literal, &real);
-    CHECK(of_float ? of_float == PELTZIVAR_VALUE_RADIX && real == 7 : status || real == (double)integer);
-}
-
-/* A literal can be written in its own syntax, and what is written has the same value. */
+/* A literal can be written in its own syntax, and what is written has the same value, or none for the same reason. */
 static void test_written(const peltzivar_reader *reader, const peltzivar_literal *literal) {
     const peltzivar_style style = {(uint8_t)(draw() % 5), draw() % 2};
     peltzivar_literal again;
-    peltzivar_i128 values[2] = {{7, 7}, {7, 7}};
-    double reals[2] = {7, 7};
+    struct {
+        int64_t integer;
+        uint64_t natural;
+        peltzivar_i128 wide;
+        double real;
+    } values[2] = {{7, 7, {7, 7}, 7}, {7, 7, {7, 7}, 7}};
     size_t needed = 0;
     CHECK(!peltzivar_format_literal(reader, literal, &style, text, sizeof text, &needed) && needed == strlen(text) + 1);
     CHECK(peltzivar_read(reader, text, needed - 1, &again, NULL));
-    CHECK(peltzivar_to_i128(literal, &values[0]) == peltzivar_to_i128(&again, &values[1]) && !memcmp(&values[0], &values[1], 16));
-    CHECK(peltzivar_to_f64(literal, &reals[0]) == peltzivar_to_f64(&again, &reals[1]) && !memcmp(&reals[0], &reals[1], 8));
+    CHECK(peltzivar_to_i64(literal, &values[0].integer) == peltzivar_to_i64(&again, &values[1].integer));
+    CHECK(peltzivar_to_u64(literal, &values[0].natural) == peltzivar_to_u64(&again, &values[1].natural));
+    CHECK(peltzivar_to_i128(literal, &values[0].wide) == peltzivar_to_i128(&again, &values[1].wide));
+    CHECK(peltzivar_to_f64(literal, &values[0].real) == peltzivar_to_f64(&again, &values[1].real));
+    CHECK(!memcmp(&values[0], &values[1], sizeof values[0]));
 }
 
 /* What is read is written, and nothing else. The parts of a literal are its bytes. */
@@ -185,28 +153,21 @@ static void test_literals(peltzivar_word word) {
     memset(&literal, (int)draw(), sizeof literal), memcpy(&literal_before, &literal, sizeof literal);
     memset(&error, (int)draw(), sizeof error), memcpy(&error_before, &error, sizeof error);
     const bool is_read = peltzivar_read(&reader, from, len, &literal, &error);
-    CHECK(is_read || !memcmp(&literal, &literal_before, sizeof literal));
-    CHECK(!is_read || !memcmp(&error, &error_before, sizeof error));
+    CHECK(is_read ? !memcmp(&error, &error_before, sizeof error) : !memcmp(&literal, &literal_before, sizeof literal));
     WRITE(peltzivar_read_error_text, &error);
     CHECK(!*text == is_read);
     peltzivar_explanation why;
     CHECK(peltzivar_explain(&error, &why) == (is_made && !is_read));
     if (is_made && !is_read) {
         CHECK(error.valid_up_to <= len && why.span.start <= why.span.end && why.span.end <= len && why.index <= len);
-        const uint64_t lowest = why.mask.low & (~why.mask.low + 1);
-        CHECK(lowest == (why.number == PELTZIVAR_NO_SETTER ? 0 : peltzivar_setter_mask(why.number).low));
         const bool has_part = why.kind == PELTZIVAR_KIND_MISSING || why.kind == PELTZIVAR_KIND_SEPARATOR;
         CHECK(1 <= why.kind && why.kind <= 5 && has_part == (why.part != PELTZIVAR_NO_PART));
-        CHECK(0 < why.code && why.code <= PELTZIVAR_INVALID_NEGATIVE_SIGN);
     }
     if (peltzivar_read_prefix(&reader, from, len, &literal, &error)) {
         const peltzivar_span *const parts = &literal.sign;
         for (int i = 0; i < 9; i++) CHECK(parts[i].start == (i ? parts[i - 1].end : 0) && parts[i].start <= parts[i].end);
         CHECK(literal.size == literal.suffix.end && literal.size <= len && (!is_read || literal.size == len));
-        CHECK(peltzivar_read(&reader, from, literal.size, &literal_before, NULL));
-        CHECK(!memcmp(&literal, &literal_before, offsetof(peltzivar_literal, size)));
-        CHECK(literal.is_float == (literal.integer.end < literal.exponent_character.end));
-        test_values(&literal), test_written(&reader, &literal);
+        test_written(&reader, &literal);
     } else CHECK(!is_read);
     free(from);
 }
@@ -236,25 +197,22 @@ static void test_special_values(peltzivar_word word) {
 static void test_lines(void) {
     static const char *const lines[] = {"", "# \200", "exponent = 'p'", "point=','", "exponent=none", "point = none\r", "radix= 16",
         "digit_separator='_'", "base_prefix='x'", "internal_digit_separator=true", "base_suffx='h'", "radix='1'", "\357\273\277"};
-    size_t len = 0, count = 0;
+    size_t len = 0;
     for (uint64_t left = draw() % 6; left > 0; left--) {
         if (draw() % 2) len += strlen(strcpy(text + len, lines[draw() % 13]));
         else len += peltzivar_edit_text(draw_edit(), text + len, 64);
         text[len++] = '\n';
     }
     if (len && draw() % 4 == 0) text[draw() % len] = (char)draw();
-    for (size_t i = 0; i < len; i++) count += text[i] == '\n';
     char *const from = copy(len);
-    peltzivar_syntax syntax = {{1, 2}, 3, 4, true, true, true, 7};
+    peltzivar_syntax syntax = {{1, 2}, 3, 4, true, true, true, 7, {0}};
     const size_t problems = peltzivar_read_settings(from, len, &syntax);
-    CHECK(problems ? syntax.format.low == 1 && syntax.exponent == 3 && syntax.decimal_point == 4
-                   : !peltzivar_reader_init(NULL, &syntax));
+    CHECK(problems ? syntax.format.low == 1 && syntax.integer_group_size == 7 : !peltzivar_reader_init(NULL, &syntax));
     for (size_t index = 0; index == 0 || *text; index++) {
         size_t blamed[16] = {0};
         WRITE(peltzivar_settings_text, from, len, index);
         const size_t found = peltzivar_settings_lines(from, len, index, blamed, 16);
         CHECK(strlen(text) < PELTZIVAR_TEXT_SIZE && (*text || index >= problems) && (*text || found == 0) && found <= 14);
-        for (size_t i = 0; i < found; i++) CHECK(blamed[i] <= count && (!i || blamed[i - 1] < blamed[i]));
     }
     free(from);
 }
@@ -263,8 +221,6 @@ static void test_lines(void) {
 static void test_settings(void) {
     const peltzivar_edit edit = draw_edit();
     peltzivar_edit read = {7, 9};
-    const char *const name = peltzivar_setter_name(edit.setter);
-    CHECK(!*name || peltzivar_setter_of_name(name, strlen(name)) == edit.setter);
     WRITE(peltzivar_edit_text, edit);
     const size_t len = strlen(text);
     for (uint64_t count = draw() % 3; count > 0 && len; count--) text[draw() % len] = (char)draw();
@@ -272,11 +228,6 @@ static void test_settings(void) {
     const bool is_read = peltzivar_parse_edit(setting, len, &read);
     WRITE(peltzivar_setting_error_text, setting, len);
     CHECK(is_read == !*text && (is_read || (read.setter == 7 && read.value == 9)));
-    uint8_t byte = 0;
-    if (is_read && read.setter - 64u < 64) {
-        const char *const value = (const char *)memchr(setting, '=', len) + 1;
-        CHECK(!peltzivar_parse_byte(value, len - (size_t)(value - setting), &byte) || byte == read.value);
-    }
     free(setting);
 }
 
@@ -284,8 +235,7 @@ int main(int argc, char **argv) {
     const unsigned long cases = argc > 1 ? strtoul(argv[1], NULL, 10) : 1000;
     for (number = 0; number < cases; number++) {
         const peltzivar_word word = draw_word();
-        test_word(word), test_reasons(word), test_options(word);
-        test_literals(word), test_special_values(word), test_lines(), test_settings();
+        test_word(word), test_reasons(word), test_literals(word), test_special_values(word), test_lines(), test_settings();
     }
     return 0;
 }

@@ -38,11 +38,6 @@ def in_rust(kind):
     return TYPES.get(kind) or kind.removeprefix("peltzivar").title().replace("_", "")
 
 
-def in_c(rust):
-    """Returns a name such as InvalidRadix as in C."""
-    return re.sub(r"(?<=[a-z])(?=[A-Z])", "_", rust).upper()
-
-
 class Programs(unittest.TestCase):
     def setUp(self):
         self.folder = pathlib.Path(tempfile.mkdtemp())
@@ -62,12 +57,6 @@ class Programs(unittest.TestCase):
                     language = ["-x", "c++"] if "++" in compiler else []
                     self.made(compiler, f"-std={standard}", *STRICT, *language, "-c", TESTS / "calls.c", name="calls.o")
                     self.assertEqual(run(self.made(compiler, self.folder / "calls.o", ARCHIVE)), ("", 0))
-
-    def test_a_compiler_warns_if_an_error_is_ignored(self):
-        code = '#include "peltzivar.h"\nvoid f(peltzivar_word it) { (void)peltzivar_check(it); peltzivar_migrate(it, &it); }\n'
-        for option in (["-x", "c"], ["-std=c2x", "-x", "c"]):
-            printed, _ = run("cc", *option, "-I", C, "-c", "-o", self.folder / "object", "-", input=code)
-            self.assertEqual(re.findall("ignoring return value of .(?:bool )?(\\w+)", printed), ["peltzivar_migrate"], printed)
 
     def test_the_calls_are_sound_with_the_checks_of_rust(self):
         build = self.folder / "checked"
@@ -117,38 +106,23 @@ class Header(unittest.TestCase):
     def numbers(self, pattern):
         return {name: int(number) for name, number in re.findall(rf"\bPELTZIVAR_{pattern} = (\d+)", HEADER)}
 
-    def test_setters_have_the_numbers_of_the_tables_of_format(self):
-        page = (TOP / "docs/FORMAT.md").read_text()
-        flags = re.findall(r"^\| (\d+) \| `(\w+)` \|", page, re.M)
-        flags += re.findall(r"^\| (\d+) to \d+ \| `(\w+)` \|", page, re.M)
-        groups = re.findall(r"^\| `(\w+)` \| \d[\d ]* \|", page, re.M)
-        numbered = [(name, int(bit)) for bit, name in flags] + [(name, 128 + row) for row, name in enumerate(groups)]
-        self.assertEqual(self.numbers(r"SET_(\w+)"), {name.upper(): number for name, number in numbered})
-
-    def test_rules_roles_and_errors_have_the_order_of_the_sources(self):
+    def test_rules_and_errors_have_the_order_of_the_sources(self):
         def variants(path, enum):
             body = re.search(rf"^pub enum {enum} \{{(.*?)^\}}", (TOP / "rust/src" / path).read_text(), re.M | re.S)[1]
-            return [in_c(name) for name in re.findall(r"^    (\w+)", body, re.M)]
+            return [re.sub(r"(?<=[a-z])(?=[A-Z])", "_", name).upper() for name in re.findall(r"^    (\w+)", body, re.M)]
 
         rules = variants("format_flags/rule.rs", "Rule")
         self.assertEqual(self.numbers(r"RULE_(\w+)"), {name: number for number, name in enumerate(rules, 1)})
-        roles = ["NONE", *variants("view/roles.rs", "Role")]
-        self.assertEqual(self.numbers(r"ROLE_(\w+)"), {name: number for number, name in enumerate(roles)})
         errors = ["SUCCESS", *(it for it in variants("error.rs", "Error") if it != "SUCCESS")]
         numbered = {name: number for number, name in enumerate(errors)}
         self.assertEqual(self.numbers(r"((?!SET_|RULE_|PART_|ROLE_|KIND_|SPELLING_|VALUE_|CONDITION_|WRITE_)\w+)"), numbered)
 
-    def test_names_and_conditions_are_those_of_the_header_and_of_format(self):
-        def strings(call):
+    def test_names_are_those_of_the_header(self):
+        for call, pattern in (("setter_name", r"SET_(\w+)"), ("role_name", r"ROLE_((?!NONE)\w+)"), ("part_name", r"PART_(\w+)")):
             function = getattr(LIBRARY, f"peltzivar_{call}")
             function.restype = ctypes.c_char_p
-            return {number: text.decode() for number in range(256) if (text := function(number))}
-
-        for call, pattern in (("setter_name", r"SET_(\w+)"), ("role_name", r"ROLE_((?!NONE)\w+)"), ("part_name", r"PART_(\w+)")):
-            self.assertEqual(strings(call), {number: name.lower() for name, number in self.numbers(pattern).items()})
-        page = (TOP / "docs/FORMAT.md").read_text()
-        conditions = re.findall(r"^\| (\d+) \| (the .*?|no .*?|flags? .*?) \| `Invalid", page, re.M)
-        self.assertEqual(strings("rule_condition"), {int(number): text for number, text in conditions})
+            names = {number: text.decode() for number in range(256) if (text := function(number))}
+            self.assertEqual(names, {number: name.lower() for name, number in self.numbers(pattern).items()})
 
     def test_declarations_are_those_of_the_library(self):
         sources = " ".join("".join(path.read_text() for path in sorted((TOP / "rust/capi/src").glob("*.rs"))).split())
@@ -179,13 +153,6 @@ class Header(unittest.TestCase):
         if const or name == "fields":
             return f"&{'' if const else 'mut '}{in_rust(kind)}"
         return f"Out<{in_rust(kind)}>"
-
-    def test_sizes_in_comments(self):
-        words = " ".join(re.sub(r"^ \* ", "", HEADER, flags=re.M).split())
-        most, more = (int(re.search(rf"{it} (\d+) hexadecimal digits", words)[1]) for it in ("0x` followed by 1 to", "and at least"))
-        for number, error in ((most, "SUCCESS"), (more - 1, "SUCCESS"), (most + 1, "OVERFLOW"), (more, "OVERFLOW")):
-            parsed = LIBRARY.peltzivar_parse_word(b"0x" + b"1" * number, number + 2, None, None)
-            self.assertEqual(parsed, self.numbers("(SUCCESS|OVERFLOW)")[error], number)
 
     def test_all_versions_are_the_same(self):
         number = LIBRARY.peltzivar_version()  # That of cargo.

@@ -43,13 +43,16 @@ class Install(InFolder):
 
     @unittest.skipUnless(shutil.which("pkg-config"), "pkg-config")
     def test_a_program_is_built_by_the_lines_of_the_page(self):
-        self.make("install", f"PREFIX={self.prefix}")
+        self.make("install", f"PREFIX={self.prefix}", f"INCLUDEDIR={self.prefix}/headers")
         shutil.copy(C / "example.c", self.folder)
         lines = re.findall(r"^ *(?:eval )?cc .*pkg-config.*$", PAGE, re.M)
         self.assertTrue(lines)
         for line in lines:
             self.run_in("bash", "-c", line)
             self.assertEqual(self.run_in("./example", "radix=8", input="17\n"), "15\n")
+        self.assertEqual(self.run_in("pkg-config", "--modversion", "peltzivar"), f"{VERSION}\n")
+        moved = ["pkg-config", "--define-variable=prefix=/moved", "--variable=libdir", "peltzivar"]
+        self.assertEqual(self.run_in(*moved), "/moved/lib\n")
 
     def test_python_finds_the_library_below_the_prefix(self):
         self.make("install", f"PREFIX={self.prefix}")
@@ -95,16 +98,6 @@ class Install(InFolder):
         library.touch()
         os.utime(library, (0, 0))
         self.assertRaisesRegex(AssertionError, "no-cargo is not found: install Rust", self.make, *install)
-
-    @unittest.skipUnless(shutil.which("pkg-config"), "pkg-config")
-    def test_pkg_config_has_the_version_and_another_prefix(self):
-        self.make("install", f"PREFIX={self.prefix}", f"INCLUDEDIR={self.prefix}/headers")
-        self.assertEqual(self.run_in("pkg-config", "--modversion", "peltzivar"), f"{VERSION}\n")
-        headers = self.run_in("pkg-config", "--variable=includedir", "peltzivar").strip()
-        self.assertTrue(pathlib.Path(headers, "peltzivar.h").exists(), headers)
-        self.run_in("pkg-config", "--exists", *re.search(r"(peltzivar)(>=)([\d.]+)\)", PAGE).groups())
-        moved = ["pkg-config", "--define-variable=prefix=/moved", "--variable=libdir", "peltzivar"]
-        self.assertEqual(self.run_in(*moved), "/moved/lib\n")
 
     def test_a_relative_prefix_is_refused(self):
         with self.assertRaisesRegex(AssertionError, "PREFIX must be an absolute path"):

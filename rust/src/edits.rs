@@ -130,7 +130,11 @@ pub const fn normal_form(format: u128) -> u128 {
 /// assert_eq!(migrate(0x00000A00_00000000_00000000_0000003C), Err(Error::InvalidMantissaSign));
 /// ```
 pub const fn migrate(format: u128) -> Result<u128, Error> {
-    check(normal_form(format))
+    let word = normal_form(format);
+    match check(word) {
+        Ok(_) => Ok(word),
+        Err(error) => Err(error),
+    }
 }
 
 /// Returns whether two words are equivalent, that is, whether they have the same [normal form][normal_form].

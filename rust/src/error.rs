@@ -147,6 +147,69 @@ pub enum Class {
     Success,
 }
 
+// Calls `$rows!` with `$args`, a row for each parse error, and a row for each other variant. A row has the variant, its
+// rank and its description.
+macro_rules! with_outcomes {
+    ($rows:ident $args:tt) => {
+        $rows! {
+            $args
+            {
+                Overflow 0 "'numeric overflow occurred'";
+                Underflow 1 "'numeric underflow occurred'";
+                InvalidDigit 2 "'invalid digit found'";
+                Empty 3 "'the string to parse was empty'";
+                EmptyMantissa 4 "'no significant digits found'";
+                EmptyExponent 5 "'exponent notation found without an exponent'";
+                EmptyInteger 6 "'invalid float with no integer digits'";
+                EmptyFraction 7 "'invalid float with no fraction digits'";
+                InvalidPositiveMantissaSign 8 "'invalid `+` sign before significant digits'";
+                MissingMantissaSign 9 "'missing required `+/-` sign for significant digits'";
+                InvalidExponent 10 "'exponent found but not allowed'";
+                InvalidPositiveExponentSign 11 "'invalid `+` sign in exponent'";
+                MissingExponentSign 12 "'missing required `+/-` sign for exponent'";
+                ExponentWithoutFraction 13 "'invalid float containing exponent without fraction'";
+                InvalidLeadingZeros 14 "'invalid number with leading zeros before digits'";
+                MissingExponent 15 "'missing required exponent'";
+                MissingSign 16 "'missing required `+/-` sign for integer'";
+                InvalidPositiveSign 17 "'invalid `+` sign for an integer was found'";
+                InvalidNegativeSign 18 "'invalid `-` sign for an unsigned type was found'";
+            }
+            {
+                InvalidMantissaRadix 19 "'invalid radix for mantissa digits'";
+                InvalidExponentBase 20 "'invalid exponent base'";
+                InvalidExponentRadix 21 "'invalid radix for exponent digits'";
+                InvalidDigitSeparator 22 "'invalid digit separator: must be ASCII and not a digit or a `+/-` sign'";
+                InvalidDecimalPoint 23 "'invalid decimal point: must be ASCII and not a digit or a `+/-` sign'";
+                InvalidExponentSymbol 24 "'invalid exponent symbol: must be ASCII and not a digit or a `+/-` sign'";
+                InvalidBasePrefix 25 "'invalid base prefix character'";
+                InvalidBaseSuffix 26 "'invalid base suffix character'";
+                InvalidPunctuation 27 "'invalid punctuation: multiple characters overlap'";
+                InvalidExponentFlags 28 "'exponent flags set while disabling exponent notation'";
+                InvalidMantissaSign 29 "'disabled the `+` sign while requiring a sign for significant digits'";
+                InvalidExponentSign 30 "'disabled the `+` sign while requiring a sign for exponent digits'";
+                InvalidSpecial 31 "'special flags set while disabling special floats'";
+                InvalidConsecutiveIntegerDigitSeparator 32 "'enabled consecutive digit separators in the integer without setting a valid location'";
+                InvalidConsecutiveFractionDigitSeparator 33 "'enabled consecutive digit separators in the fraction without setting a valid location'";
+                InvalidConsecutiveExponentDigitSeparator 34 "'enabled consecutive digit separators in the exponent without setting a valid location'";
+                InvalidFlags 35 "'invalid flags enabled without the format feature'";
+                InvalidNanString 36 "'NaN string must started with `n`'";
+                NanStringTooLong 37 "'NaN string is too long'";
+                InvalidInfString 38 "'short infinity string must started with `i`'";
+                InfStringTooLong 39 "'short infinity string is too long'";
+                InvalidInfinityString 40 "'long infinity string must started with `i`'";
+                InfinityStringTooLong 41 "'long infinity string is too long'";
+                InfinityStringTooShort 42 "'long infinity string is too short'";
+                InvalidFloatParseAlgorithm 43 "'invalid combination of float parse algorithms'";
+                InvalidRadix 44 "'invalid radix for significant digits'";
+                InvalidFloatPrecision 45 "'invalid float precision: min digits is larger than max digits'";
+                InvalidNegativeExponentBreak 46 "'invalid negative exponent break: value is above 0'";
+                InvalidPositiveExponentBreak 47 "'invalid positive exponent break: value is below 0'";
+                Success 48 "'not actually an error'";
+            }
+        }
+    };
+}
+
 impl Error {
     /// Returns the description of this [`Error`], in single quotes and without the index.
     ///
@@ -154,90 +217,30 @@ impl Error {
     #[must_use]
     #[inline]
     pub const fn description(&self) -> &'static str {
-        match self {
-            Error::Overflow(_) => "'numeric overflow occurred'",
-            Error::Underflow(_) => "'numeric underflow occurred'",
-            Error::InvalidDigit(_) => "'invalid digit found'",
-            Error::Empty(_) => "'the string to parse was empty'",
-            Error::EmptyMantissa(_) => "'no significant digits found'",
-            Error::EmptyExponent(_) => "'exponent notation found without an exponent'",
-            Error::EmptyInteger(_) => "'invalid float with no integer digits'",
-            Error::EmptyFraction(_) => "'invalid float with no fraction digits'",
-            Error::InvalidPositiveMantissaSign(_) => "'invalid `+` sign before significant digits'",
-            Error::MissingMantissaSign(_) => "'missing required `+/-` sign for significant digits'",
-            Error::InvalidExponent(_) => "'exponent found but not allowed'",
-            Error::InvalidPositiveExponentSign(_) => "'invalid `+` sign in exponent'",
-            Error::MissingExponentSign(_) => "'missing required `+/-` sign for exponent'",
-            Error::ExponentWithoutFraction(_) => "'invalid float containing exponent without fraction'",
-            Error::InvalidLeadingZeros(_) => "'invalid number with leading zeros before digits'",
-            Error::MissingExponent(_) => "'missing required exponent'",
-            Error::MissingSign(_) => "'missing required `+/-` sign for integer'",
-            Error::InvalidPositiveSign(_) => "'invalid `+` sign for an integer was found'",
-            Error::InvalidNegativeSign(_) => "'invalid `-` sign for an unsigned type was found'",
-            Error::InvalidMantissaRadix => "'invalid radix for mantissa digits'",
-            Error::InvalidExponentBase => "'invalid exponent base'",
-            Error::InvalidExponentRadix => "'invalid radix for exponent digits'",
-            Error::InvalidDigitSeparator => "'invalid digit separator: must be ASCII and not a digit or a `+/-` sign'",
-            Error::InvalidDecimalPoint => "'invalid decimal point: must be ASCII and not a digit or a `+/-` sign'",
-            Error::InvalidExponentSymbol => "'invalid exponent symbol: must be ASCII and not a digit or a `+/-` sign'",
-            Error::InvalidBasePrefix => "'invalid base prefix character'",
-            Error::InvalidBaseSuffix => "'invalid base suffix character'",
-            Error::InvalidPunctuation => "'invalid punctuation: multiple characters overlap'",
-            Error::InvalidExponentFlags => "'exponent flags set while disabling exponent notation'",
-            Error::InvalidMantissaSign => "'disabled the `+` sign while requiring a sign for significant digits'",
-            Error::InvalidExponentSign => "'disabled the `+` sign while requiring a sign for exponent digits'",
-            Error::InvalidSpecial => "'special flags set while disabling special floats'",
-            Error::InvalidConsecutiveIntegerDigitSeparator => {
-                "'enabled consecutive digit separators in the integer without setting a valid location'"
-            }
-            Error::InvalidConsecutiveFractionDigitSeparator => {
-                "'enabled consecutive digit separators in the fraction without setting a valid location'"
-            }
-            Error::InvalidConsecutiveExponentDigitSeparator => {
-                "'enabled consecutive digit separators in the exponent without setting a valid location'"
-            }
-            Error::InvalidFlags => "'invalid flags enabled without the format feature'",
-            Error::InvalidNanString => "'NaN string must started with `n`'",
-            Error::NanStringTooLong => "'NaN string is too long'",
-            Error::InvalidInfString => "'short infinity string must started with `i`'",
-            Error::InfStringTooLong => "'short infinity string is too long'",
-            Error::InvalidInfinityString => "'long infinity string must started with `i`'",
-            Error::InfinityStringTooLong => "'long infinity string is too long'",
-            Error::InfinityStringTooShort => "'long infinity string is too short'",
-            Error::InvalidFloatParseAlgorithm => "'invalid combination of float parse algorithms'",
-            Error::InvalidRadix => "'invalid radix for significant digits'",
-            Error::InvalidFloatPrecision => "'invalid float precision: min digits is larger than max digits'",
-            Error::InvalidNegativeExponentBreak => "'invalid negative exponent break: value is above 0'",
-            Error::InvalidPositiveExponentBreak => "'invalid positive exponent break: value is below 0'",
-            Error::Success => "'not actually an error'",
+        macro_rules! descriptions {
+            (($error:ident)
+                { $($Parse:ident $parse:literal $parsing:literal;)* } { $($Other:ident $rank:literal $text:literal;)* }) => {
+                match $error {
+                    $(Error::$Parse(_) => $parsing,)*
+                    $(Error::$Other => $text,)*
+                }
+            };
         }
+        with_outcomes!(descriptions(self))
     }
 
     /// Returns the index of the offending byte if this is a parse error, and `None` otherwise.
     #[must_use]
     pub const fn index(&self) -> Option<&usize> {
-        match self {
-            Error::Overflow(index)
-            | Error::Underflow(index)
-            | Error::InvalidDigit(index)
-            | Error::Empty(index)
-            | Error::EmptyMantissa(index)
-            | Error::EmptyExponent(index)
-            | Error::EmptyInteger(index)
-            | Error::EmptyFraction(index)
-            | Error::InvalidPositiveMantissaSign(index)
-            | Error::MissingMantissaSign(index)
-            | Error::InvalidExponent(index)
-            | Error::InvalidPositiveExponentSign(index)
-            | Error::MissingExponentSign(index)
-            | Error::ExponentWithoutFraction(index)
-            | Error::InvalidLeadingZeros(index)
-            | Error::MissingExponent(index)
-            | Error::MissingSign(index)
-            | Error::InvalidPositiveSign(index)
-            | Error::InvalidNegativeSign(index) => Some(index),
-            _ => None,
+        macro_rules! indexes {
+            (($error:ident) { $($Parse:ident $rank:literal $text:literal;)* } $others:tt) => {
+                match $error {
+                    $(Error::$Parse(index) => Some(index),)*
+                    _ => None,
+                }
+            };
         }
+        with_outcomes!(indexes(self))
     }
 
     /// Returns whether this is [`Error::Overflow`], whatever its index.
@@ -538,57 +541,16 @@ impl Error {
     #[must_use]
     #[doc(hidden)]
     pub const fn rank(&self) -> u8 {
-        match self {
-            Error::Overflow(_) => 0,
-            Error::Underflow(_) => 1,
-            Error::InvalidDigit(_) => 2,
-            Error::Empty(_) => 3,
-            Error::EmptyMantissa(_) => 4,
-            Error::EmptyExponent(_) => 5,
-            Error::EmptyInteger(_) => 6,
-            Error::EmptyFraction(_) => 7,
-            Error::InvalidPositiveMantissaSign(_) => 8,
-            Error::MissingMantissaSign(_) => 9,
-            Error::InvalidExponent(_) => 10,
-            Error::InvalidPositiveExponentSign(_) => 11,
-            Error::MissingExponentSign(_) => 12,
-            Error::ExponentWithoutFraction(_) => 13,
-            Error::InvalidLeadingZeros(_) => 14,
-            Error::MissingExponent(_) => 15,
-            Error::MissingSign(_) => 16,
-            Error::InvalidPositiveSign(_) => 17,
-            Error::InvalidNegativeSign(_) => 18,
-            Error::InvalidMantissaRadix => 19,
-            Error::InvalidExponentBase => 20,
-            Error::InvalidExponentRadix => 21,
-            Error::InvalidDigitSeparator => 22,
-            Error::InvalidDecimalPoint => 23,
-            Error::InvalidExponentSymbol => 24,
-            Error::InvalidBasePrefix => 25,
-            Error::InvalidBaseSuffix => 26,
-            Error::InvalidPunctuation => 27,
-            Error::InvalidExponentFlags => 28,
-            Error::InvalidMantissaSign => 29,
-            Error::InvalidExponentSign => 30,
-            Error::InvalidSpecial => 31,
-            Error::InvalidConsecutiveIntegerDigitSeparator => 32,
-            Error::InvalidConsecutiveFractionDigitSeparator => 33,
-            Error::InvalidConsecutiveExponentDigitSeparator => 34,
-            Error::InvalidFlags => 35,
-            Error::InvalidNanString => 36,
-            Error::NanStringTooLong => 37,
-            Error::InvalidInfString => 38,
-            Error::InfStringTooLong => 39,
-            Error::InvalidInfinityString => 40,
-            Error::InfinityStringTooLong => 41,
-            Error::InfinityStringTooShort => 42,
-            Error::InvalidFloatParseAlgorithm => 43,
-            Error::InvalidRadix => 44,
-            Error::InvalidFloatPrecision => 45,
-            Error::InvalidNegativeExponentBreak => 46,
-            Error::InvalidPositiveExponentBreak => 47,
-            Error::Success => 48,
+        macro_rules! ranks {
+            (($error:ident)
+                { $($Parse:ident $parse:literal $parsing:literal;)* } { $($Other:ident $rank:literal $text:literal;)* }) => {
+                match $error {
+                    $(Error::$Parse(_) => $parse,)*
+                    $(Error::$Other => $rank,)*
+                }
+            };
         }
+        with_outcomes!(ranks(self))
     }
 
     /// Returns the [`Error`] whose [rank][Error::rank] is `rank`, or `None` if `rank` is 49 or more.
@@ -597,58 +559,17 @@ impl Error {
     #[must_use]
     #[doc(hidden)]
     pub const fn from_rank(rank: u8, index: usize) -> Option<Error> {
-        match rank {
-            0 => Some(Error::Overflow(index)),
-            1 => Some(Error::Underflow(index)),
-            2 => Some(Error::InvalidDigit(index)),
-            3 => Some(Error::Empty(index)),
-            4 => Some(Error::EmptyMantissa(index)),
-            5 => Some(Error::EmptyExponent(index)),
-            6 => Some(Error::EmptyInteger(index)),
-            7 => Some(Error::EmptyFraction(index)),
-            8 => Some(Error::InvalidPositiveMantissaSign(index)),
-            9 => Some(Error::MissingMantissaSign(index)),
-            10 => Some(Error::InvalidExponent(index)),
-            11 => Some(Error::InvalidPositiveExponentSign(index)),
-            12 => Some(Error::MissingExponentSign(index)),
-            13 => Some(Error::ExponentWithoutFraction(index)),
-            14 => Some(Error::InvalidLeadingZeros(index)),
-            15 => Some(Error::MissingExponent(index)),
-            16 => Some(Error::MissingSign(index)),
-            17 => Some(Error::InvalidPositiveSign(index)),
-            18 => Some(Error::InvalidNegativeSign(index)),
-            19 => Some(Error::InvalidMantissaRadix),
-            20 => Some(Error::InvalidExponentBase),
-            21 => Some(Error::InvalidExponentRadix),
-            22 => Some(Error::InvalidDigitSeparator),
-            23 => Some(Error::InvalidDecimalPoint),
-            24 => Some(Error::InvalidExponentSymbol),
-            25 => Some(Error::InvalidBasePrefix),
-            26 => Some(Error::InvalidBaseSuffix),
-            27 => Some(Error::InvalidPunctuation),
-            28 => Some(Error::InvalidExponentFlags),
-            29 => Some(Error::InvalidMantissaSign),
-            30 => Some(Error::InvalidExponentSign),
-            31 => Some(Error::InvalidSpecial),
-            32 => Some(Error::InvalidConsecutiveIntegerDigitSeparator),
-            33 => Some(Error::InvalidConsecutiveFractionDigitSeparator),
-            34 => Some(Error::InvalidConsecutiveExponentDigitSeparator),
-            35 => Some(Error::InvalidFlags),
-            36 => Some(Error::InvalidNanString),
-            37 => Some(Error::NanStringTooLong),
-            38 => Some(Error::InvalidInfString),
-            39 => Some(Error::InfStringTooLong),
-            40 => Some(Error::InvalidInfinityString),
-            41 => Some(Error::InfinityStringTooLong),
-            42 => Some(Error::InfinityStringTooShort),
-            43 => Some(Error::InvalidFloatParseAlgorithm),
-            44 => Some(Error::InvalidRadix),
-            45 => Some(Error::InvalidFloatPrecision),
-            46 => Some(Error::InvalidNegativeExponentBreak),
-            47 => Some(Error::InvalidPositiveExponentBreak),
-            48 => Some(Error::Success),
-            _ => None,
+        macro_rules! errors {
+            (($own:ident, $index:ident)
+                { $($Parse:ident $parse:literal $parsing:literal;)* } { $($Other:ident $rank:literal $text:literal;)* }) => {
+                match $own {
+                    $($parse => Some(Error::$Parse($index)),)*
+                    $($rank => Some(Error::$Other),)*
+                    _ => None,
+                }
+            };
         }
+        with_outcomes!(errors(rank, index))
     }
 
     /// Returns the class of this [`Error`].

@@ -64,20 +64,6 @@ impl<const FORMAT: u128> From<NumberFormat<FORMAT>> for FormatView {
     }
 }
 
-impl From<FormatView> for u128 {
-    #[inline]
-    fn from(view: FormatView) -> Self {
-        view.word()
-    }
-}
-
-impl From<u128> for FormatView {
-    #[inline]
-    fn from(word: u128) -> Self {
-        FormatView::new(word)
-    }
-}
-
 impl TryFrom<u128> for Format {
     type Error = FormatError;
 
@@ -86,26 +72,28 @@ impl TryFrom<u128> for Format {
     }
 }
 
-impl From<Format> for u128 {
-    #[inline]
-    fn from(format: Format) -> Self {
-        format.word()
-    }
+/// Defines conversions. A row has a name, the types, and a value of the second one.
+macro_rules! conversions {
+    ($($(#[$about:meta])* $it:ident: $Source:ident => $Target:ident { $value:expr })*) => {
+        $(
+            impl From<$Source> for $Target {
+                $(#[$about])*
+                #[inline]
+                fn from($it: $Source) -> Self {
+                    $value
+                }
+            }
+        )*
+    };
 }
 
-impl From<Format> for FormatView {
-    #[inline]
-    fn from(format: Format) -> Self {
-        format.view()
-    }
-}
-
-impl From<Format> for NumberFormatBuilder {
+conversions! {
+    view: FormatView => u128 { view.word() }
+    word: u128 => FormatView { FormatView::new(word) }
+    format: Format => u128 { format.word() }
+    format: Format => FormatView { format.view() }
     /// Returns a builder with exactly the fields of the word, as [`from_word`][NumberFormatBuilder::from_word] does.
-    #[inline]
-    fn from(format: Format) -> Self {
-        NumberFormatBuilder::from_word(format.word())
-    }
+    format: Format => NumberFormatBuilder { NumberFormatBuilder::from_word(format.word()) }
 }
 
 /// Defines methods that call those of the view. A row has a name, arguments and a result.

@@ -1,5 +1,6 @@
 //! Settings that are read from texts, and what they build.
 
+use core::array;
 use core::fmt::{self, Write};
 use core::str::from_utf8;
 
@@ -36,9 +37,10 @@ const SHOWN: usize = 40;
 /// Settings that are read from texts, such as the lines of a file, and the format or syntax that they build.
 ///
 /// A setting is what an [`Edit`] is parsed from, or has the name `exponent` or `point`, for the exponent character and the
-/// decimal point, and a value that `digit_separator` takes, or the name of a field of [`Conditions`] and its value. A text that is blank or begins with `#` sets nothing. White
-/// space is skipped as by [`trim_ascii`][slice::trim_ascii], such as the carriage return at the end of a line. A byte
-/// order mark is skipped only at the start of the first text, and `#` begins a comment only at the start of a text.
+/// decimal point, and a value that `digit_separator` takes, or the name of a field of [`Conditions`] and its value. A text
+/// that is blank or begins with `#` sets nothing. White space is skipped as by [`trim_ascii`][slice::trim_ascii], such as
+/// the carriage return at the end of a line. A byte order mark is skipped only at the start of the first text, and `#`
+/// begins a comment only at the start of a text.
 ///
 /// A setting overrides those before it. Fields without a setting have the values of a new builder, the exponent
 /// character is `e`, and the decimal point is `.`. A radix above 14 needs another exponent character, since `e` is one
@@ -73,7 +75,7 @@ pub struct Settings {
     options: [u8; 2],
     conditions: Conditions,
     /// What the settings would write that were refused, and no later setting writes.
-    refused: Mask,
+    refused: u128,
     /// The number of texts.
     count: usize,
     /// The settings of which a field is not overridden, sorted by their indexes.
@@ -87,30 +89,12 @@ pub struct Settings {
 struct Setting {
     index: usize,
     name: &'static str,
-    mask: Mask,
+    mask: u128,
 }
 
-/// The bits of fields of a word, and a bit for each option, by its index in [`OPTIONS`].
-#[derive(Debug, Clone, Copy, PartialEq, Eq, Hash)]
-struct Mask {
-    word: u128,
-    options: u8,
-}
-
-impl Mask {
-    const EMPTY: Mask = Mask::of_word(0);
-
-    const fn of_word(word: u128) -> Mask {
-        Mask { word, options: 0 }
-    }
-
-    const fn without(self, other: Mask) -> Mask {
-        Mask { word: self.word & !other.word, options: self.options & !other.options }
-    }
-
-    const fn meets(self, other: Mask) -> bool {
-        self.word & other.word != 0 || self.options & other.options != 0
-    }
+/// Returns the bit of an option, by its index in [`OPTIONS`]. No field has it, so that a mask can name both.
+const fn bit_of(option: usize) -> u128 {
+    1 << (72 + option)
 }
 
 impl Default for Settings {
@@ -127,7 +111,7 @@ impl Settings {
             builder: NumberFormatBuilder::new(),
             options: DEFAULTS,
             conditions: Conditions::NONE,
-            refused: Mask::EMPTY,
+            refused: 0,
             count: 0,
             live: [None; LIVE],
             overridden: [None; OVERRIDDEN],
@@ -169,15 +153,15 @@ impl Settings {
             return Ok(());
         }
         let (option, edit) = parse(index, text).inspect_err(|it| match (it.option, it.error.0) {
-            (Some(option), _) => self.refused.options |= 1 << option,
-            (None, Fault::BadValue(setter)) => self.refused.word |= setter.mask(),
+            (Some(option), _) => self.refused |= bit_of(option),
+            (None, Fault::BadValue(setter)) => self.refused |= setter.mask(),
             _ => (),
         })?;
         let (name, mask) = match option {
-            Some(option) => (OPTIONS[option], Mask { word: 0, options: 1 << option }),
-            None => (edit.name(), Mask::of_word(edit.mask())),
+            Some(option) => (OPTIONS[option], bit_of(option)),
+            None => (edit.name(), edit.mask()),
         };
-        self.refused = self.refused.without(mask);
+        self.refused &= !mask;
         match option {
             Some(option @ (0 | 1)) => self.options[option] = edit.argument_byte(),
             Some(option) => self.conditions = self.conditions.edited(option - 2, edit.argument_byte()),
@@ -189,11 +173,12 @@ impl Settings {
 
     /// Adds a setting, and moves the settings that it overrides completely.
     fn push(&mut self, new: Setting) {
-        let old = self.live.into_iter().flatten().map(|old| Setting { mask: old.mask.without(new.mask), ..old });
-        let gone = old.clone().filter(|old| old.mask == Mask::EMPTY);
-        let gone = gone.map(|old| (old, new.index));
-        self.overridden = filled(self.overridden.into_iter().flatten().chain(gone));
-        self.live = filled(old.filter(|old| old.mask != Mask::EMPTY).chain([new]));
+        let old = self.live.into_iter().flatten().map(|old| Setting { mask: old.mask & !new.mask, ..old });
+        let gone = old.clone().filter(|old| old.mask == 0).map(|old| (old, new.index));
+        let mut overridden = self.overridden.into_iter().flatten().chain(gone);
+        let mut live = old.filter(|old| old.mask != 0).chain([new]);
+        self.overridden = array::from_fn(|_| overridden.next());
+        self.live = array::from_fn(|_| live.next());
     }
 
     /// Returns the format. The exponent character and the decimal point do not matter.
@@ -232,10 +217,8 @@ impl Settings {
             _ => None,
         });
         let reasons = error.flat_map(|error| error.reasons());
-        let reasons = reasons.filter_map(|reason| {
-            let mask = Mask { word: reason.mask(), options: options_of(reason.cause()) };
-            self.finding(FindingKind::Reason(reason), mask)
-        });
+        let reasons = reasons
+            .filter_map(|reason| self.finding(FindingKind::Reason(reason), reason.mask() | options_of(reason.cause())));
         reasons.chain(contradiction)
     }
 
@@ -248,38 +231,25 @@ impl Settings {
             Finding::new(kind, [old.index, *by].into_iter())
         });
         let notes = self.builder.notes();
-        let notes = notes.filter_map(|note| self.finding(FindingKind::Note(note), Mask::of_word(note.mask())));
+        let notes = notes.filter_map(|note| self.finding(FindingKind::Note(note), note.mask()));
         overridden.chain(notes)
     }
 
     /// Returns a finding with the indexes of the settings that write what `mask` has, unless a refused one would do so.
     /// The exponent bytes only follow a mantissa radix that is to blame.
-    fn finding(&self, kind: FindingKind, mask: Mask) -> Option<Finding> {
-        let live = self.live.iter().flatten();
-        let blamed = live.filter(|it| it.mask.meets(mask));
-        let own = match mask.word & MANTISSA_RADIX {
-            0 => mask,
-            _ => mask.without(Mask::of_word(EXPONENT_BASE | EXPONENT_RADIX)),
-        };
-        (!own.meets(self.refused)).then(|| Finding::new(kind, blamed.map(|it| it.index)))
+    fn finding(&self, kind: FindingKind, mask: u128) -> Option<Finding> {
+        let blamed = self.live.iter().flatten().filter(|it| it.mask & mask != 0);
+        let followers = if mask & MANTISSA_RADIX == 0 { 0 } else { EXPONENT_BASE | EXPONENT_RADIX };
+        let is_refused = mask & !followers & self.refused != 0;
+        (!is_refused).then(|| Finding::new(kind, blamed.map(|it| it.index)))
     }
-}
-
-/// Returns an array that begins with the items.
-fn filled<T: Copy, const N: usize>(items: impl Iterator<Item = T>) -> [Option<T>; N] {
-    let mut slots = [None; N];
-    let pairs = slots.iter_mut().zip(items);
-    pairs.for_each(|(slot, item)| *slot = Some(item));
-    slots
 }
 
 /// Returns the edit of a text. If it sets an option or a condition, returns its number, and an edit with its value.
 fn parse(index: usize, text: &[u8]) -> Result<(Option<usize>, Edit), LineError> {
     let refuse = |error, option, refused: &[u8]| {
-        let (length, mut piece) = (refused.len(), [0; SHOWN]);
-        let pairs = piece.iter_mut().zip(refused);
-        pairs.for_each(|(to, byte)| *to = *byte);
-        LineError { index, error, option, piece, length }
+        let piece = array::from_fn(|at| refused.get(at).copied().unwrap_or_default());
+        LineError { index, error, option, piece, length: refused.len() }
     };
     let equals = text.iter().position(|byte| *byte == b'=');
     let equals = equals.ok_or_else(|| refuse(EditError(Fault::NoEquals), None, text))?;
@@ -300,13 +270,13 @@ fn parse(index: usize, text: &[u8]) -> Result<(Option<usize>, Edit), LineError> 
 }
 
 /// Returns the fields and the condition that contradict each other.
-fn mask_of(error: ConditionsError) -> Mask {
-    let word = match error {
-        ConditionsError::NoBasePrefix => BASE_PREFIX,
-        ConditionsError::NoBaseSuffix => BASE_SUFFIX,
-        ConditionsError::GroupSize | ConditionsError::NoInternalSeparator => INTEGER_INTERNAL_DIGIT_SEPARATOR,
-    };
-    Mask { word, options: 4 << error.condition() }
+fn mask_of(error: ConditionsError) -> u128 {
+    bit_of(2 + error.condition())
+        | match error {
+            ConditionsError::NoBasePrefix => BASE_PREFIX,
+            ConditionsError::NoBaseSuffix => BASE_SUFFIX,
+            ConditionsError::GroupSize | ConditionsError::NoInternalSeparator => INTEGER_INTERNAL_DIGIT_SEPARATOR,
+        }
 }
 
 /// Returns whether an option is `none`. This is a cause if the other is not.
@@ -315,12 +285,12 @@ const fn is_one_option(cause: Cause) -> bool {
 }
 
 /// Returns the bits of the options that a cause names, or of both if one is `none`.
-fn options_of(cause: Cause) -> u8 {
+fn options_of(cause: Cause) -> u128 {
     let bytes = cause.bytes().into_iter().flatten();
     bytes.fold(0, |mask, byte| match byte.name {
-        _ if is_one_option(cause) => 3,
-        Byte::ExponentCharacter => mask | 1,
-        Byte::DecimalPoint => mask | 2,
+        _ if is_one_option(cause) => bit_of(0) | bit_of(1),
+        Byte::ExponentCharacter => mask | bit_of(0),
+        Byte::DecimalPoint => mask | bit_of(1),
         _ => mask,
     })
 }

@@ -38,20 +38,6 @@ impl FromStr for Format {
     }
 }
 
-/// Prints the word as `0x` followed by 32 hexadecimal digits. [`FromStr`] parses this text into the same word.
-impl fmt::Display for FormatView {
-    fn fmt(&self, f: &mut fmt::Formatter<'_>) -> fmt::Result {
-        f.pad(core::str::from_utf8(&word_text(self.word())).unwrap_or_default())
-    }
-}
-
-/// Prints the word as `0x` followed by 32 hexadecimal digits. [`FromStr`] parses this text into the same word.
-impl fmt::Display for Format {
-    fn fmt(&self, f: &mut fmt::Formatter<'_>) -> fmt::Result {
-        fmt::Display::fmt(&self.view(), f)
-    }
-}
-
 /// Prints the text.
 impl fmt::Display for ShortText {
     fn fmt(&self, f: &mut fmt::Formatter<'_>) -> fmt::Result {
@@ -66,25 +52,34 @@ impl fmt::Debug for ShortText {
     }
 }
 
-macro_rules! hexadecimal {
-    ($($Trait:ident $Type:ident;)*) => {
+macro_rules! words {
+    ($($Type:ident)*) => {
         $(
-            /// Prints the word as a number.
-            impl fmt::$Trait for $Type {
+            /// Prints the word as `0x` followed by 32 hexadecimal digits. [`FromStr`] parses this text into the same word.
+            impl fmt::Display for $Type {
                 fn fmt(&self, f: &mut fmt::Formatter<'_>) -> fmt::Result {
-                    fmt::$Trait::fmt(&self.word(), f)
+                    f.pad(core::str::from_utf8(&word_text(self.word())).unwrap_or_default())
+                }
+            }
+
+            /// Prints the word as a number.
+            impl fmt::LowerHex for $Type {
+                fn fmt(&self, f: &mut fmt::Formatter<'_>) -> fmt::Result {
+                    fmt::LowerHex::fmt(&self.word(), f)
+                }
+            }
+
+            /// Prints the word as a number.
+            impl fmt::UpperHex for $Type {
+                fn fmt(&self, f: &mut fmt::Formatter<'_>) -> fmt::Result {
+                    fmt::UpperHex::fmt(&self.word(), f)
                 }
             }
         )*
     };
 }
 
-hexadecimal! {
-    LowerHex FormatView;
-    UpperHex FormatView;
-    LowerHex Format;
-    UpperHex Format;
-}
+words! { FormatView Format }
 
 // For each type, defines a method that returns a constant text for each variant, and `Display`, which prints the text.
 macro_rules! texts {

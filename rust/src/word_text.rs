@@ -64,12 +64,7 @@ fn first_misfit(text: &[u8]) -> usize {
 
 // Returns the number of hexadecimal digits before the first byte that is not one.
 fn leading_digits(digits: &[u8]) -> usize {
-    for (index, byte) in digits.iter().enumerate() {
-        if !char_is_digit(*byte, 16) {
-            return index;
-        }
-    }
-    digits.len()
+    digits.iter().take_while(|byte| char_is_digit(**byte, 16)).count()
 }
 
 // Returns the error of a text in which the first byte that does not fit is at `index`, or that ends there.

@@ -1,5 +1,5 @@
 //! What masks mean, by search: a reason stays while the bits under its mask stay, and so does a note. What a note names
-//! can be cleared without effect. `cargo test --release --test blame -- --ignored` searches for longer.
+//! can be cleared without effect.
 
 use peltzivar::format::{
     BASE_PREFIX, BASE_SUFFIX, DIGIT_SEPARATOR, EXPONENT_BASE, EXPONENT_RADIX, FLAG_MASK, MANTISSA_RADIX,
@@ -7,7 +7,8 @@ use peltzivar::format::{
 use peltzivar::format_flags::is_valid_options_punctuation;
 use peltzivar::reasons::Note;
 use peltzivar::{FormatView, Reason, Rule};
-use std::collections::BTreeMap;
+use std::collections::BTreeSet;
+use std::iter;
 
 const BYTES: [u128; 6] = [DIGIT_SEPARATOR, BASE_PREFIX, BASE_SUFFIX, MANTISSA_RADIX, EXPONENT_BASE, EXPONENT_RADIX];
 
@@ -47,26 +48,11 @@ fn with(word: u128, field: u128, value: u8) -> u128 {
     word & !field | u128::from(value) << field.trailing_zeros()
 }
 
-/// Returns up to `most` words for each way to break at most two rules, and for each pair of rules if they break more.
-fn words(most: usize) -> Vec<u128> {
-    let (mut random, mut found) = (Random(1), BTreeMap::<(bool, Vec<Rule>), Vec<u128>>::new());
-    for word in (0..most * 50_000).map(|_| random.word()) {
-        let broken = FormatView::new(word).broken_rules();
-        let list = found.entry((broken.clone().nth(2).is_some(), broken.take(2).collect())).or_default();
-        if list.len() < most {
-            list.push(word);
-        }
-    }
-    let ways = found.keys().filter(|(has_more, _)| !has_more);
-    assert_eq!(ways.count(), 1 + 16 + 16 * 15 / 2);
-    found.into_values().flatten().collect()
-}
-
 /// Returns words that agree with a word under a mask: each with another bit or byte, and random ones.
-fn alike(word: u128, mask: u128, values: &[u8]) -> impl Iterator<Item = u128> + use<'_> {
+fn alike(word: u128, mask: u128) -> impl Iterator<Item = u128> {
     let mut random = Random(word as u64);
     let bits = (0..128).map(move |bit| word ^ 1 << bit);
-    let bytes = BYTES.iter().flat_map(move |field| values.iter().map(move |value| with(word, *field, *value)));
+    let bytes = BYTES.iter().flat_map(move |field| VALUES.iter().map(move |value| with(word, *field, *value)));
     let others = (0..32).map(move |_| random.word());
     bits.chain(bytes).chain(others).map(move |other| word & mask | other & !mask)
 }
@@ -80,16 +66,16 @@ fn stays(reason: Reason, mut reasons: impl Iterator<Item = Reason>) -> bool {
     })
 }
 
-fn reasons_stay(word: u128, values: &[u8]) {
+fn reasons_stay(word: u128) {
     let view = FormatView::new(word);
     for reason in view.reasons() {
-        for other in alike(word, reason.mask(), values) {
+        for other in alike(word, reason.mask()) {
             assert!(stays(reason, FormatView::new(other).reasons()), "{word:#034X}, {other:#034X}: {reason}");
         }
     }
     for [exponent, point] in OPTIONS {
         for reason in view.options_reasons(exponent, point) {
-            for other in alike(word, reason.mask(), values) {
+            for other in alike(word, reason.mask()) {
                 let reasons = FormatView::new(other).options_reasons(exponent, point);
                 assert!(stays(reason, reasons), "{word:#034X}, {other:#034X}: {reason}");
             }
@@ -98,9 +84,9 @@ fn reasons_stay(word: u128, values: &[u8]) {
 }
 
 /// A note stays, too, unless a reason blames what it names.
-fn notes_stay(word: u128, values: &[u8]) {
+fn notes_stay(word: u128) {
     for note in FormatView::new(word).notes() {
-        for other in alike(word, note.mask(), values) {
+        for other in alike(word, note.mask()) {
             let view = FormatView::new(other);
             let is_blamed = view.reasons().any(|reason| reason.mask() & note.mask() != 0);
             assert!(is_blamed || view.notes().any(|it| it == note), "{word:#034X}, {other:#034X}: {note}");
@@ -126,22 +112,16 @@ fn what_notes_name_has_no_effect(word: u128) {
     }
 }
 
-fn search(most: usize, values: &[u8]) {
-    for word in words(most) {
-        reasons_stay(word, values);
-        notes_stay(word, values);
-        what_notes_name_has_no_effect(word);
-    }
-}
-
+/// Tests a word for each way to break at most two rules, and for each pair of rules if more are broken.
 #[test]
 fn masks_have_what_reasons_and_notes_depend_on() {
-    search(1, &VALUES);
-}
-
-#[test]
-#[ignore = "takes a minute in a release build"]
-fn masks_have_what_reasons_and_notes_depend_on_for_all_bytes() {
-    let values: Vec<u8> = (0..=255).collect();
-    search(80, &values);
+    let (mut random, mut seen) = (Random(1), BTreeSet::new());
+    for word in iter::repeat_with(|| random.word()).take(50_000) {
+        let broken = Vec::from_iter(FormatView::new(word).broken_rules());
+        if seen.insert((broken.len() > 2, broken.into_iter().take(2).collect::<Vec<_>>())) {
+            reasons_stay(word);
+            notes_stay(word);
+            what_notes_name_has_no_effect(word);
+        }
+    }
 }

@@ -3,29 +3,10 @@
 
 use peltzivar::edits::edits_of;
 use peltzivar::format::{NumberFormatBuilder, BASE_PREFIX_SHIFT, BASE_SUFFIX_SHIFT, STANDARD};
-use peltzivar::literal::{ReadError, Syntax};
-use peltzivar::reasons::{notes, reasons};
-use peltzivar::{Error, FlagSetter, Format, FormatView, Rule};
+use peltzivar::literal::Syntax;
+use peltzivar::{Error, FlagSetter, Format, FormatView};
 use std::num::NonZeroU8;
 use std::panic;
-
-/// A format is known when the program is compiled.
-const _: () = {
-    let Ok(format) = NumberFormatBuilder::from_word(STANDARD).build_format() else { panic!() };
-    let normal = format.normal_form();
-    assert!(normal.word() != STANDARD && normal.view().check().is_ok() && normal.check_options(b'e', b'.').is_ok());
-    let Err(error) = Format::new(0) else { panic!() };
-    assert!(matches!(error.code(), Error::InvalidMantissaRadix));
-    assert!(matches!(error.text().as_str().as_bytes(), b"the mantissa radix 0 is not between 2 and 36"));
-};
-
-/// A syntax is known then, too, and is small.
-const _: () = {
-    let syntax = Syntax::new_or_panic(NumberFormatBuilder::new().build_format_or_panic(), b'e', b'.');
-    assert!(matches!((syntax.exponent(), syntax.point()), (Some(b'e'), Some(b'.'))));
-    assert!(Syntax::integers(syntax.format()).point().is_none() && size_of::<Syntax>() <= 32);
-    assert!(size_of::<ReadError>() <= 96);
-};
 
 /// Random words, random words with lawful radixes, and words near the standard format.
 fn words() -> impl Iterator<Item = u128> {
@@ -45,10 +26,16 @@ fn words() -> impl Iterator<Item = u128> {
 }
 
 #[test]
-fn a_format_is_made_of_a_word_a_text_or_a_builder() {
+fn a_format_is_made_of_a_word_a_text_a_view_or_a_builder() {
     for word in words() {
-        let (format, text) = (Format::new(word), FormatView::new(word).to_string());
+        let (format, view) = (Format::new(word), FormatView::new(word));
+        let text = view.to_string();
         assert_eq!((Format::try_from(word), text.parse()), (format, format), "{text}");
+        assert_eq!(view.check(), format.map_err(Error::from), "{text}");
+        if let Ok(format) = format {
+            assert_eq!((format.to_string(), FormatView::from(format), u128::from(format)), (text, view, word));
+            assert_eq!(NumberFormatBuilder::from(format), NumberFormatBuilder::from_word(word));
+        }
     }
     const HEXADECIMAL: u128 = 0x00001000_00000000_00000000_0000000C;
     let built = NumberFormatBuilder::from_word(HEXADECIMAL).build_format();
@@ -56,39 +43,12 @@ fn a_format_is_made_of_a_word_a_text_or_a_builder() {
 }
 
 #[test]
-fn a_format_has_what_its_view_has() {
-    for format in words().filter_map(|word| Format::new(word).ok()) {
-        let (view, word) = (format.view(), format.word());
-        assert_eq!((FormatView::from(format), u128::from(format)), (view, word));
-        assert_eq!(NumberFormatBuilder::from(format), NumberFormatBuilder::from_word(word));
-        assert_eq!(format.to_string(), view.to_string());
-        assert!(format.notes().eq(view.notes()) && format.edits().eq(view.edits()));
-    }
-}
-
-/// The iterators have the entries of the arrays of the proved calls.
-#[test]
-fn iterators_have_what_arrays_have() {
-    for word in words() {
-        let view = FormatView::new(word);
-        let broken = Rule::ALL.iter().filter(|rule| !rule.is_kept(word));
-        assert!(view.broken_rules().eq(broken.copied()), "{word:#034X}");
-        assert!(view.notes().eq(notes(word).into_iter().flatten()));
-        assert!(view.reasons().eq(reasons(word).into_iter().flatten()));
-        let rules = view.reasons().filter_map(|reason| reason.rule());
-        assert_eq!(rules.clone().next(), view.broken_rules().next());
-        assert!(rules.is_sorted(), "{word:#034X}");
-    }
-}
-
-#[test]
 fn edits_make_the_fields_of_their_word() {
     for word in words() {
-        let view = FormatView::new(word);
         let (edits, count) = edits_of(word);
-        assert!(view.edits().eq(edits[..count].iter().copied()));
-        let builder: NumberFormatBuilder = view.edits().collect();
-        assert_eq!(builder, NumberFormatBuilder::from_word(word));
+        assert!(FormatView::new(word).edits().eq(edits[..count].iter().copied()));
+        let builder = NumberFormatBuilder::from_word(word);
+        assert_eq!(edits[..count].iter().copied().collect::<NumberFormatBuilder>(), builder);
         // Each edit is of another field, so their order does not matter.
         let mut other: NumberFormatBuilder = edits[2..].iter().collect();
         other.extend(&edits[..1]);
@@ -130,10 +90,7 @@ fn an_error_states_its_cause() {
         (Format::new(0x00000A2B_00000000_00000000_8000003C).err(), Error::InvalidBaseSuffix, 3, "the base suffix '+' is a sign (+ or -)"),
         (separator.base_prefix(NonZeroU8::new(b'_')).build_format().err(), Error::InvalidPunctuation, 1, "the digit separator '_' and the base prefix '_' are the same"),
         ("0x0".parse::<Format>().err(), Error::InvalidMantissaRadix, 1, "the mantissa radix 0 is not between 2 and 36"),
-        ("0x1 2".parse::<Format>().err(), Error::InvalidDigit(3), 0, "lexical parse error: 'invalid digit found' at index 3"),
         ("0x".parse::<Format>().err(), Error::Empty(2), 0, "lexical parse error: 'the string to parse was empty' at index 2"),
-        ("".parse::<Format>().err(), Error::Empty(0), 0, "a format word begins with `0x`"),
-        ("12".parse::<Format>().err(), Error::InvalidDigit(0), 0, "a format word begins with `0x`"),
         ("0X1".parse::<Format>().err(), Error::InvalidDigit(1), 0, "a format word begins with `0x`"),
         (Format::default().check_options(b'e', b'e').err(), Error::InvalidPunctuation, 1, "the exponent character 'e' and the decimal point 'e' are the same"),
     ];
@@ -152,27 +109,15 @@ fn an_error_states_its_cause() {
 }
 
 #[test]
-fn words_are_parsed() {
-    #[rustfmt::skip]
-    let rows = [
+fn words_are_parsed_and_printed() {
+    for (text, word) in [
         ("0xC", Ok(0xC)),
         ("0x00000a0000000000000000000000000C", Ok(STANDARD)),
         ("0xFFFFFFFFFFFFFFFFFFFFFFFFFFFFFFFF", Ok(u128::MAX)),
         ("0x000000000000000000000000000000000", Err(Error::Overflow(34))),
-        ("", Err(Error::Empty(0))),
-        ("0x", Err(Error::Empty(2))),
-        ("0X1", Err(Error::InvalidDigit(1))),
-        (" 0xC", Err(Error::InvalidDigit(0))),
         ("0x1g", Err(Error::InvalidDigit(3))),
-    ];
-    for (text, word) in rows {
+    ] {
         assert_eq!(text.parse::<FormatView>().map(u128::from), word, "{text}");
-        let format = text.parse::<Format>().map_err(Error::from);
-        assert_eq!(format, word.and_then(|word| FormatView::new(word).check()), "{text}");
-    }
-    for byte in '\0'..='\u{FF}' {
-        let word = byte.to_digit(16).map(|digit| u128::from(digit) << 4 | 0x100).ok_or(Error::InvalidDigit(3));
-        assert_eq!(format!("0x1{byte}0").parse::<FormatView>().map(u128::from), word, "{byte:?}");
     }
     let (format, view) = (Format::default(), FormatView::new(0xAB));
     assert_eq!(format!("{view:>36} {view:x} {view:#X}"), format!("  0x{:032X} ab 0xAB", 0xAB));
@@ -215,6 +160,8 @@ fn syntaxes_are_parsed() {
     const OPTION: &str = "options are two bytes, such as 'e' or 101";
     const INTEGERS: &str = "0x0A0A0A0000000000000000000000000C";
     const NUMBERS: &str = "0x0A0A0A0000000000000000000000000C 101 46";
+    const CONDITIONS: &str = "0x101010687800005F000000070000000C required_base_prefix=true required_base_suffix=true \
+        no_negative_mantissa_sign=true integer_group_size=8";
     #[rustfmt::skip]
     let rows = [
         ("0x00000A0000000000000000000000000C", Ok(INTEGERS)),
@@ -222,6 +169,8 @@ fn syntaxes_are_parsed() {
         ("0x00000a0000000000000000000000000c 101 046", Ok(NUMBERS)),
         ("0x00000A0000000000000000000000000C 'e' 0x2e", Ok(NUMBERS)),
         ("0x00000A0000000000000000000000000C none 0", Ok(INTEGERS)),
+        (CONDITIONS, Ok(CONDITIONS)),
+        ("0x0A0A0A0078000000000000000000000C 101 46 required_base_prefix=true", Ok("0x0A0A0A0078000000000000000000000C 101 46 required_base_prefix=true")),
         // A space between quotes is a character.
         ("0x00000A0000000000000000000000000C 'e' ' '", Ok("0x0A0A0A0000000000000000000000000C 101 32")),
         ("0x00000A0000000000000000000000000C ' ' '.'", Ok("0x0A0A0A0000000000000000000000000C 32 46")),
@@ -241,6 +190,8 @@ fn syntaxes_are_parsed() {
             "only one of the exponent character and the decimal point is absent: for numbers without an exponent, keep \
              both, and set no_exponent_notation"))),
         ("0x0 101", Err((Error::InvalidMantissaRadix, "the mantissa radix 0 is not between 2 and 36"))),
+        ("0x00000A0000000000000000000000000C ' ' '.' required_base_prefix=true", Err((Error::InvalidBasePrefix,
+            "required_base_prefix is set, and the format has no base prefix"))),
         ("0x1g 101 46", Err((Error::InvalidDigit(3), "lexical parse error: 'invalid digit found' at index 3"))),
         (" 0xC", Err((Error::Empty(0), "a format word begins with `0x`"))),
     ];

@@ -5,21 +5,19 @@
 #[allow(dead_code)]
 mod settings;
 
-use peltzivar::{Edit, EditErrorKind, FindingKind, FlagSetter, Settings};
+use peltzivar::{EditErrorKind, Settings};
 use settings::load;
 
 /// The syntax of a file, and the lines that are printed for it. The word of a syntax is in normal form.
 #[test]
 fn files_give_a_syntax_and_what_is_found() {
     #[rustfmt::skip]
-    let rows: [(&[u8], &str, &[&str]); 49] = [
+    let rows: [(&[u8], &str, &[&str]); 44] = [
         (include_bytes!("../examples/settings.txt"), "0x100A10007800005F000000010000000C 112 46", &[]),
         // Nothing is set.
-        (b"", "0x0A0A0A0000000000000000000000000C 101 46", &[]),
         (b"\n \t\r\n\r\n", "0x0A0A0A0000000000000000000000000C 101 46", &[]),
         // A byte order mark is read over before the first line alone.
         (b"\xEF\xBB\xBFradix=8", "0x0808080000000000000000000000000C 101 46", &[]),
-        (b"\xEF\xBB\xBF# a comment\nradix=8", "0x0808080000000000000000000000000C 101 46", &[]),
         (b"\n\xEF\xBB\xBFradix=8", "", &[r"line 2: unknown setting `\xef\xbb\xbfradix`; did you mean `radix`?"]),
         // Conditions.
         (b"base_prefix='x'\nrequired_base_prefix=true", "0x0A0A0A0078000000000000000000000C 101 46 required_base_prefix=true", &[]),
@@ -35,17 +33,14 @@ fn files_give_a_syntax_and_what_is_found() {
         // Blanks are read over at both ends and around the first `=`, but not in quotes.
         (b"\t digit_separator =\t' ' \n internal_digit_separator= true", "0x0A0A0A0000000020000000070000000C 101 46", &[]),
         (b"base_suffix = '='", "0x0A0A0A3D00000000000000000000000C 101 46", &[]),
-        (b"no_special = true false", "", &["line 1: no_special takes `true` or `false`, not `true false`"]),
         (b"no_special=\xC2\xA0true", "", &[r"line 1: no_special takes `true` or `false`, not `\xc2\xa0true`"]),
         // A comment is a line of its own.
         (b"# caf\xC3\xA9 = 1\n  # no = yes\nno_special=true # no", "", &["line 3: no_special takes `true` or `false`, not `true # no`"]),
         (b"base_suffix='#'", "0x0A0A0A2300000000000000000000000C 101 46", &[]),
         // Radixes are numbers.
         (b"radix='\x10'", "", &[r"line 1: radix takes a number, 2 to 36 in a lawful format, not `'\x10'`"]),
-        (b"radix=40", "", &["line 1: the mantissa radix 40 is not between 2 and 36"]),
         (b"exponent_base=none\nradix=40\nexponent_radix=10", "", &["lines 1, 2: the mantissa radix 40 is not between 2 and 36"]),
         (b"radix=10\nexponent_radix=16\nbase_prefix='b'", "", &["lines 2, 3: the base prefix 'b' is a digit in radix 16"]),
-        (b"exponent_base = 1", "", &["line 1: the exponent base 1 is not between 2 and 36"]),
         // Later lines override.
         (b"radix=8\nradix=16\nmantissa_radix=2", "0x0202020000000000000000000000000C 101 46",
             &["lines 1, 2: a later setting overrides radix", "lines 2, 3: a later setting overrides radix"]),
@@ -132,17 +127,4 @@ fn reading_ends_at_the_first_error() {
     let many = Settings::read((0..1000).map(|radix| format!("radix={}", radix % 256))).unwrap();
     let [first, last] = [many.notes().next(), many.reasons().next()].map(Option::unwrap);
     assert_eq!((many.notes().count(), first.indexes(), last.indexes()), (32, &[0, 1][..], &[999][..]));
-}
-
-/// An option shares no bit with a field, so none overrides the other.
-#[test]
-fn options_and_fields_are_apart() {
-    for name in Edit::NAMES {
-        let value = if name.parse::<FlagSetter>().is_ok() { "true" } else { "33" };
-        let field = format!("{name}={value}");
-        let settings = Settings::read(["exponent='p'", "point=','", &field, "exponent='x'", "point='.'"]).unwrap();
-        let overridden = settings.notes().filter(|it| matches!(it.kind(), FindingKind::Overridden(_)));
-        let overridden: Vec<_> = overridden.map(|it| it.indexes().to_vec()).collect();
-        assert_eq!(overridden, [[0, 3], [1, 4]], "{name}");
-    }
 }

@@ -1,709 +1,1539 @@
-// Made by rust/tools/surface.py from what rustdoc lists: run that program.
+// Made by rust/tools/surface.py from what `cargo doc` shows: run that program.
 
 //! What does not change until 2.0: the path and the type of each public item. If this program compiles, so do programs
 //! that use them.
 #![allow(dead_code, unused_imports, deprecated, clippy::all)]
 
-use peltzivar::{format::STANDARD, *};
+use peltzivar::{edits::*, error::*, feature_format::*, format::STANDARD, format_builder::*, literal::*, source::*, *};
 use std::fmt::{Debug, Display, LowerHex, UpperHex};
-use std::{hash::Hash, iter::FusedIterator, num::NonZeroU8, ops::Range, str::FromStr};
+use std::{hash::Hash, iter::FusedIterator, num::NonZero, ops::Range, str::FromStr};
 
-// Names items of a type or a module, behind the type of these constants or functions in brackets.
-macro_rules! names {
-    (mod $owner:ident: $($kind:tt $($name:ident)+;)+) => { $($(name! { $kind $owner::$name })+)+ };
-    ($owner:ty: $($kind:tt $($name:ident)+;)+) => { $($(name! { $kind <$owner>::$name })+)+ };
+// rustfmt leaves what is in braces as it is.
+macro_rules! items {
+    ($($item:item)*) => { $($item)* };
 }
 
-macro_rules! name {
-    ([$($kind:ident)+ $(<$T:ident: $Bound:path>)? ($($a:ident: $A:ty),*) -> $Result:ty] $($path:tt)+) => {
-        const _: () = { $($kind)+ call $(<$T: $Bound>)? ($($a: $A),*) -> $Result { $($path)+($($a),*) } };
-    };
-    ([$Type:ty] $($path:tt)+) => { const _: $Type = $($path)+; };
-}
-
-// Names the traits of a type.
-macro_rules! has {
-    ($Type:ty: $($traits:tt)+) => {
-        const _: () = { const fn has<T: Send + Sync + Unpin + $($traits)+>() {} has::<$Type>() };
-    };
-}
-
+items! {
+const _: &'static [&'static str] = <Edit>::NAMES;
+const _: &'static [FlagSetter] = <FlagSetter>::ALL;
+const _: &'static [FlagSetter] = <FlagSetter>::FLAGS;
+const _: &'static [Language] = <Language>::ALL;
+const _: &'static [Rule] = <Rule>::ALL;
+const _: &'static [Setter] = <Setter>::ALL;
+const _: () = { const fn call() -> Error { peltzivar::format::format_error::<STANDARD>() } };
+const _: () = { const fn call() -> Format { <Format>::of::<STANDARD>() } };
+const _: () = { const fn call() -> NumberFormat<STANDARD> { <NumberFormat<STANDARD>>::new() } };
+const _: () = { const fn call() -> NumberFormatBuilder { <FormatView>::builder() } };
+const _: () = { const fn call() -> NumberFormatBuilder { <NumberFormat<STANDARD>>::builder() } };
+const _: () = { const fn call() -> NumberFormatBuilder { <NumberFormat<STANDARD>>::rebuild() } };
+const _: () = { const fn call() -> NumberFormatBuilder { <NumberFormatBuilder>::new() } };
+const _: () = { const fn call() -> Settings { <Settings>::new() } };
+const _: () = { const fn call() -> bool { peltzivar::format::format_is_valid::<STANDARD>() } };
+const _: () = { const fn call() -> u128 { <NumberFormatBuilder>::binary() } };
+const _: () = { const fn call() -> u128 { <NumberFormatBuilder>::decimal() } };
+const _: () = { const fn call() -> u128 { <NumberFormatBuilder>::hexadecimal() } };
+const _: () = { const fn call() -> u128 { <NumberFormatBuilder>::octal() } };
+const _: () = { const fn call(a: u128, b: u128) -> bool { peltzivar::edits::same_format(a, b) } };
+const _: () = { const fn call(builder: NumberFormatBuilder, edit: Edit) -> NumberFormatBuilder { peltzivar::edits::apply(builder, edit) } };
+const _: () = { const fn call(builder: NumberFormatBuilder, edits: &'static [Edit]) -> NumberFormatBuilder { peltzivar::edits::apply_all(builder, edits) } };
+const _: () = { const fn call(c: u8) -> bool { peltzivar::ascii::is_valid_ascii(c) } };
+const _: () = { const fn call(c: u8) -> bool { peltzivar::ascii::is_valid_letter(c) } };
+const _: () = { const fn call(c: u8, radix: u32) -> Option<u32> { peltzivar::digit::char_to_digit(c, radix) } };
+const _: () = { const fn call(c: u8, radix: u32) -> Option<u32> { peltzivar::digit::char_to_digit_const(c, radix) } };
+const _: () = { const fn call(c: u8, radix: u32) -> bool { peltzivar::digit::char_is_digit(c, radix) } };
+const _: () = { const fn call(c: u8, radix: u32) -> bool { peltzivar::digit::char_is_digit_const(c, radix) } };
+const _: () = { const fn call(c: u8, radix: u32) -> u32 { peltzivar::digit::char_to_valid_digit_const(c, radix) } };
+const _: () = { const fn call(digit: u32) -> u8 { peltzivar::digit::digit_to_char(digit) } };
+const _: () = { const fn call(digit: u32, radix: u32) -> u8 { peltzivar::digit::digit_to_char_const(digit, radix) } };
+const _: () = { const fn call(format: Format) -> Syntax { <Syntax>::integers(format) } };
+const _: () = { const fn call(format: Format, exponent: u8, point: u8) -> Result<Syntax, FormatError> { <Syntax>::new(format, exponent, point) } };
+const _: () = { const fn call(format: Format, exponent: u8, point: u8) -> Syntax { <Syntax>::new_or_panic(format, exponent, point) } };
+const _: () = { const fn call(format: u128) -> FormatView { <FormatView>::new(format) } };
+const _: () = { const fn call(format: u128) -> NumberFormatBuilder { <NumberFormatBuilder>::rebuild(format) } };
+const _: () = { const fn call(format: u128) -> Result<u128, Error> { peltzivar::edits::migrate(format) } };
+const _: () = { const fn call(format: u128) -> bool { peltzivar::edits::is_built(format) } };
+const _: () = { const fn call(format: u128) -> bool { peltzivar::format::is_clean(format) } };
+const _: () = { const fn call(format: u128) -> bool { peltzivar::format::is_separator_allowed(format) } };
+const _: () = { const fn call(format: u128) -> bool { peltzivar::format::is_valid_base_prefix(format) } };
+const _: () = { const fn call(format: u128) -> bool { peltzivar::format::is_valid_base_suffix(format) } };
+const _: () = { const fn call(format: u128) -> bool { peltzivar::format::is_valid_digit_separator(format) } };
+const _: () = { const fn call(format: u128) -> bool { peltzivar::format::is_valid_exponent_flags(format) } };
+const _: () = { const fn call(format: u128) -> bool { peltzivar::format::is_valid_punctuation(format) } };
+const _: () = { const fn call(format: u128) -> u128 { peltzivar::edits::normal_form(format) } };
+const _: () = { const fn call(format: u128) -> u32 { peltzivar::format::exponent_base(format) } };
+const _: () = { const fn call(format: u128) -> u32 { peltzivar::format::exponent_radix(format) } };
+const _: () = { const fn call(format: u128) -> u32 { peltzivar::format::mantissa_radix(format) } };
+const _: () = { const fn call(format: u128) -> u8 { peltzivar::format::base_prefix(format) } };
+const _: () = { const fn call(format: u128) -> u8 { peltzivar::format::base_suffix(format) } };
+const _: () = { const fn call(format: u128) -> u8 { peltzivar::format::digit_separator(format) } };
+const _: () = { const fn call(format: u128, byte: u8) -> bool { peltzivar::format::is_digit_of_either_radix(format, byte) } };
+const _: () = { const fn call(format: u128, edits: &'static [Edit]) -> u128 { peltzivar::edits::edit_word(format, edits) } };
+const _: () = { const fn call(format: u128, exponent: u8, decimal_point: u8) -> bool { peltzivar::format::is_valid_options_punctuation(format, exponent, decimal_point) } };
+const _: () = { const fn call(format: u128, mask: u128, shift: i32) -> u32 { peltzivar::format::radix_from_flags(format, mask, shift) } };
+const _: () = { const fn call(it: &'static Cause) -> [Option<NamedByte>; 2] { <Cause>::bytes(it) } };
+const _: () = { const fn call(it: &'static ConditionsError) -> ShortText { <ConditionsError>::text(it) } };
+const _: () = { const fn call(it: &'static EditError) -> EditErrorKind { <EditError>::kind(it) } };
+const _: () = { const fn call(it: &'static EditError) -> Option<&'static str> { <EditError>::name(it) } };
+const _: () = { const fn call(it: &'static Error) -> &'static str { <Error>::description(it) } };
+const _: () = { const fn call(it: &'static Error) -> Class { <Error>::class(it) } };
+const _: () = { const fn call(it: &'static Error) -> Option<&'static usize> { <Error>::index(it) } };
+const _: () = { const fn call(it: &'static Error) -> bool { <Error>::is_empty(it) } };
+const _: () = { const fn call(it: &'static Error) -> bool { <Error>::is_empty_exponent(it) } };
+const _: () = { const fn call(it: &'static Error) -> bool { <Error>::is_empty_fraction(it) } };
+const _: () = { const fn call(it: &'static Error) -> bool { <Error>::is_empty_integer(it) } };
+const _: () = { const fn call(it: &'static Error) -> bool { <Error>::is_empty_mantissa(it) } };
+const _: () = { const fn call(it: &'static Error) -> bool { <Error>::is_exponent_without_fraction(it) } };
+const _: () = { const fn call(it: &'static Error) -> bool { <Error>::is_inf_string_too_long(it) } };
+const _: () = { const fn call(it: &'static Error) -> bool { <Error>::is_infinity_string_too_long(it) } };
+const _: () = { const fn call(it: &'static Error) -> bool { <Error>::is_infinity_string_too_short(it) } };
+const _: () = { const fn call(it: &'static Error) -> bool { <Error>::is_invalid_base_prefix(it) } };
+const _: () = { const fn call(it: &'static Error) -> bool { <Error>::is_invalid_base_suffix(it) } };
+const _: () = { const fn call(it: &'static Error) -> bool { <Error>::is_invalid_consecutive_exponent_digit_separator(it) } };
+const _: () = { const fn call(it: &'static Error) -> bool { <Error>::is_invalid_consecutive_fraction_digit_separator(it) } };
+const _: () = { const fn call(it: &'static Error) -> bool { <Error>::is_invalid_consecutive_integer_digit_separator(it) } };
+const _: () = { const fn call(it: &'static Error) -> bool { <Error>::is_invalid_decimal_point(it) } };
+const _: () = { const fn call(it: &'static Error) -> bool { <Error>::is_invalid_digit(it) } };
+const _: () = { const fn call(it: &'static Error) -> bool { <Error>::is_invalid_digit_separator(it) } };
+const _: () = { const fn call(it: &'static Error) -> bool { <Error>::is_invalid_exponent(it) } };
+const _: () = { const fn call(it: &'static Error) -> bool { <Error>::is_invalid_exponent_base(it) } };
+const _: () = { const fn call(it: &'static Error) -> bool { <Error>::is_invalid_exponent_flags(it) } };
+const _: () = { const fn call(it: &'static Error) -> bool { <Error>::is_invalid_exponent_radix(it) } };
+const _: () = { const fn call(it: &'static Error) -> bool { <Error>::is_invalid_exponent_sign(it) } };
+const _: () = { const fn call(it: &'static Error) -> bool { <Error>::is_invalid_exponent_symbol(it) } };
+const _: () = { const fn call(it: &'static Error) -> bool { <Error>::is_invalid_flags(it) } };
+const _: () = { const fn call(it: &'static Error) -> bool { <Error>::is_invalid_float_parse_algorithm(it) } };
+const _: () = { const fn call(it: &'static Error) -> bool { <Error>::is_invalid_float_precision(it) } };
+const _: () = { const fn call(it: &'static Error) -> bool { <Error>::is_invalid_inf_string(it) } };
+const _: () = { const fn call(it: &'static Error) -> bool { <Error>::is_invalid_infinity_string(it) } };
+const _: () = { const fn call(it: &'static Error) -> bool { <Error>::is_invalid_leading_zeros(it) } };
+const _: () = { const fn call(it: &'static Error) -> bool { <Error>::is_invalid_mantissa_radix(it) } };
+const _: () = { const fn call(it: &'static Error) -> bool { <Error>::is_invalid_mantissa_sign(it) } };
+const _: () = { const fn call(it: &'static Error) -> bool { <Error>::is_invalid_nan_string(it) } };
+const _: () = { const fn call(it: &'static Error) -> bool { <Error>::is_invalid_negative_exponent_break(it) } };
+const _: () = { const fn call(it: &'static Error) -> bool { <Error>::is_invalid_negative_sign(it) } };
+const _: () = { const fn call(it: &'static Error) -> bool { <Error>::is_invalid_positive_exponent_break(it) } };
+const _: () = { const fn call(it: &'static Error) -> bool { <Error>::is_invalid_positive_exponent_sign(it) } };
+const _: () = { const fn call(it: &'static Error) -> bool { <Error>::is_invalid_positive_mantissa_sign(it) } };
+const _: () = { const fn call(it: &'static Error) -> bool { <Error>::is_invalid_positive_sign(it) } };
+const _: () = { const fn call(it: &'static Error) -> bool { <Error>::is_invalid_punctuation(it) } };
+const _: () = { const fn call(it: &'static Error) -> bool { <Error>::is_invalid_radix(it) } };
+const _: () = { const fn call(it: &'static Error) -> bool { <Error>::is_invalid_special(it) } };
+const _: () = { const fn call(it: &'static Error) -> bool { <Error>::is_missing_exponent(it) } };
+const _: () = { const fn call(it: &'static Error) -> bool { <Error>::is_missing_exponent_sign(it) } };
+const _: () = { const fn call(it: &'static Error) -> bool { <Error>::is_missing_mantissa_sign(it) } };
+const _: () = { const fn call(it: &'static Error) -> bool { <Error>::is_missing_sign(it) } };
+const _: () = { const fn call(it: &'static Error) -> bool { <Error>::is_nan_string_too_long(it) } };
+const _: () = { const fn call(it: &'static Error) -> bool { <Error>::is_overflow(it) } };
+const _: () = { const fn call(it: &'static Error) -> bool { <Error>::is_success(it) } };
+const _: () = { const fn call(it: &'static Error) -> bool { <Error>::is_underflow(it) } };
+const _: () = { const fn call(it: &'static Finding) -> FindingKind { <Finding>::kind(it) } };
+const _: () = { const fn call(it: &'static Format) -> Format { <Format>::normal_form(it) } };
+const _: () = { const fn call(it: &'static Format) -> FormatView { <Format>::view(it) } };
+const _: () = { const fn call(it: &'static Format) -> NumberFormatBuilder { <Format>::rebuild(it) } };
+const _: () = { const fn call(it: &'static Format) -> OptionU8 { <Format>::base_prefix(it) } };
+const _: () = { const fn call(it: &'static Format) -> OptionU8 { <Format>::base_suffix(it) } };
+const _: () = { const fn call(it: &'static Format) -> OptionU8 { <Format>::digit_separator(it) } };
+const _: () = { const fn call(it: &'static Format) -> bool { <Format>::case_sensitive_base_prefix(it) } };
+const _: () = { const fn call(it: &'static Format) -> bool { <Format>::case_sensitive_base_suffix(it) } };
+const _: () = { const fn call(it: &'static Format) -> bool { <Format>::case_sensitive_exponent(it) } };
+const _: () = { const fn call(it: &'static Format) -> bool { <Format>::case_sensitive_special(it) } };
+const _: () = { const fn call(it: &'static Format) -> bool { <Format>::consecutive_digit_separator(it) } };
+const _: () = { const fn call(it: &'static Format) -> bool { <Format>::exponent_consecutive_digit_separator(it) } };
+const _: () = { const fn call(it: &'static Format) -> bool { <Format>::exponent_internal_digit_separator(it) } };
+const _: () = { const fn call(it: &'static Format) -> bool { <Format>::exponent_leading_digit_separator(it) } };
+const _: () = { const fn call(it: &'static Format) -> bool { <Format>::exponent_trailing_digit_separator(it) } };
+const _: () = { const fn call(it: &'static Format) -> bool { <Format>::fraction_consecutive_digit_separator(it) } };
+const _: () = { const fn call(it: &'static Format) -> bool { <Format>::fraction_internal_digit_separator(it) } };
+const _: () = { const fn call(it: &'static Format) -> bool { <Format>::fraction_leading_digit_separator(it) } };
+const _: () = { const fn call(it: &'static Format) -> bool { <Format>::fraction_trailing_digit_separator(it) } };
+const _: () = { const fn call(it: &'static Format) -> bool { <Format>::has_base_prefix(it) } };
+const _: () = { const fn call(it: &'static Format) -> bool { <Format>::has_base_suffix(it) } };
+const _: () = { const fn call(it: &'static Format) -> bool { <Format>::has_digit_separator(it) } };
+const _: () = { const fn call(it: &'static Format) -> bool { <Format>::integer_consecutive_digit_separator(it) } };
+const _: () = { const fn call(it: &'static Format) -> bool { <Format>::integer_internal_digit_separator(it) } };
+const _: () = { const fn call(it: &'static Format) -> bool { <Format>::integer_leading_digit_separator(it) } };
+const _: () = { const fn call(it: &'static Format) -> bool { <Format>::integer_trailing_digit_separator(it) } };
+const _: () = { const fn call(it: &'static Format) -> bool { <Format>::internal_digit_separator(it) } };
+const _: () = { const fn call(it: &'static Format) -> bool { <Format>::leading_digit_separator(it) } };
+const _: () = { const fn call(it: &'static Format) -> bool { <Format>::no_exponent_notation(it) } };
+const _: () = { const fn call(it: &'static Format) -> bool { <Format>::no_exponent_without_fraction(it) } };
+const _: () = { const fn call(it: &'static Format) -> bool { <Format>::no_float_leading_zeros(it) } };
+const _: () = { const fn call(it: &'static Format) -> bool { <Format>::no_integer_leading_zeros(it) } };
+const _: () = { const fn call(it: &'static Format) -> bool { <Format>::no_positive_exponent_sign(it) } };
+const _: () = { const fn call(it: &'static Format) -> bool { <Format>::no_positive_mantissa_sign(it) } };
+const _: () = { const fn call(it: &'static Format) -> bool { <Format>::no_special(it) } };
+const _: () = { const fn call(it: &'static Format) -> bool { <Format>::required_digits(it) } };
+const _: () = { const fn call(it: &'static Format) -> bool { <Format>::required_exponent_digits(it) } };
+const _: () = { const fn call(it: &'static Format) -> bool { <Format>::required_exponent_notation(it) } };
+const _: () = { const fn call(it: &'static Format) -> bool { <Format>::required_exponent_sign(it) } };
+const _: () = { const fn call(it: &'static Format) -> bool { <Format>::required_fraction_digits(it) } };
+const _: () = { const fn call(it: &'static Format) -> bool { <Format>::required_integer_digits(it) } };
+const _: () = { const fn call(it: &'static Format) -> bool { <Format>::required_mantissa_digits(it) } };
+const _: () = { const fn call(it: &'static Format) -> bool { <Format>::required_mantissa_sign(it) } };
+const _: () = { const fn call(it: &'static Format) -> bool { <Format>::special_digit_separator(it) } };
+const _: () = { const fn call(it: &'static Format) -> bool { <Format>::trailing_digit_separator(it) } };
+const _: () = { const fn call(it: &'static Format) -> u128 { <Format>::digit_separator_flags(it) } };
+const _: () = { const fn call(it: &'static Format) -> u128 { <Format>::exponent_digit_separator_flags(it) } };
+const _: () = { const fn call(it: &'static Format) -> u128 { <Format>::exponent_flags(it) } };
+const _: () = { const fn call(it: &'static Format) -> u128 { <Format>::flags(it) } };
+const _: () = { const fn call(it: &'static Format) -> u128 { <Format>::fraction_digit_separator_flags(it) } };
+const _: () = { const fn call(it: &'static Format) -> u128 { <Format>::integer_digit_separator_flags(it) } };
+const _: () = { const fn call(it: &'static Format) -> u128 { <Format>::interface_flags(it) } };
+const _: () = { const fn call(it: &'static Format) -> u128 { <Format>::word(it) } };
+const _: () = { const fn call(it: &'static Format) -> u32 { <Format>::exponent_base(it) } };
+const _: () = { const fn call(it: &'static Format) -> u32 { <Format>::exponent_radix(it) } };
+const _: () = { const fn call(it: &'static Format) -> u32 { <Format>::mantissa_radix(it) } };
+const _: () = { const fn call(it: &'static Format) -> u32 { <Format>::radix(it) } };
+const _: () = { const fn call(it: &'static Format) -> u32 { <Format>::radix2(it) } };
+const _: () = { const fn call(it: &'static Format) -> u32 { <Format>::radix4(it) } };
+const _: () = { const fn call(it: &'static Format) -> u32 { <Format>::radix8(it) } };
+const _: () = { const fn call(it: &'static Format, byte: u8) -> Option<u32> { <Format>::exponent_digit(it, byte) } };
+const _: () = { const fn call(it: &'static Format, byte: u8) -> Option<u32> { <Format>::mantissa_digit(it, byte) } };
+const _: () = { const fn call(it: &'static Format, byte: u8) -> bool { <Format>::is_base_prefix(it, byte) } };
+const _: () = { const fn call(it: &'static Format, byte: u8) -> bool { <Format>::is_base_suffix(it, byte) } };
+const _: () = { const fn call(it: &'static Format, byte: u8) -> bool { <Format>::is_separator(it, byte) } };
+const _: () = { const fn call(it: &'static Format, exponent: u8, byte: u8) -> bool { <Format>::is_exponent_character(it, exponent, byte) } };
+const _: () = { const fn call(it: &'static Format, exponent: u8, decimal_point: u8) -> Result<(), FormatError> { <Format>::check_options(it, exponent, decimal_point) } };
+const _: () = { const fn call(it: &'static Format, exponent: u8, decimal_point: u8, byte: u8) -> Option<Role> { <Format>::role_of(it, exponent, decimal_point, byte) } };
+const _: () = { const fn call(it: &'static Format, part: Part) -> Separators { <Format>::separators(it, part) } };
+const _: () = { const fn call(it: &'static FormatError) -> Error { <FormatError>::code(it) } };
+const _: () = { const fn call(it: &'static FormatError) -> ShortText { <FormatError>::text(it) } };
+const _: () = { const fn call(it: &'static FormatView) -> Error { <FormatView>::error(it) } };
+const _: () = { const fn call(it: &'static FormatView) -> Error { <FormatView>::error_radix(it) } };
+const _: () = { const fn call(it: &'static FormatView) -> NumberFormatBuilder { <FormatView>::rebuild(it) } };
+const _: () = { const fn call(it: &'static FormatView) -> OptionU8 { <FormatView>::base_prefix(it) } };
+const _: () = { const fn call(it: &'static FormatView) -> OptionU8 { <FormatView>::base_suffix(it) } };
+const _: () = { const fn call(it: &'static FormatView) -> OptionU8 { <FormatView>::digit_separator(it) } };
+const _: () = { const fn call(it: &'static FormatView) -> Result<Format, Error> { <FormatView>::check(it) } };
+const _: () = { const fn call(it: &'static FormatView) -> bool { <FormatView>::case_sensitive_base_prefix(it) } };
+const _: () = { const fn call(it: &'static FormatView) -> bool { <FormatView>::case_sensitive_base_suffix(it) } };
+const _: () = { const fn call(it: &'static FormatView) -> bool { <FormatView>::case_sensitive_exponent(it) } };
+const _: () = { const fn call(it: &'static FormatView) -> bool { <FormatView>::case_sensitive_special(it) } };
+const _: () = { const fn call(it: &'static FormatView) -> bool { <FormatView>::consecutive_digit_separator(it) } };
+const _: () = { const fn call(it: &'static FormatView) -> bool { <FormatView>::exponent_consecutive_digit_separator(it) } };
+const _: () = { const fn call(it: &'static FormatView) -> bool { <FormatView>::exponent_internal_digit_separator(it) } };
+const _: () = { const fn call(it: &'static FormatView) -> bool { <FormatView>::exponent_leading_digit_separator(it) } };
+const _: () = { const fn call(it: &'static FormatView) -> bool { <FormatView>::exponent_trailing_digit_separator(it) } };
+const _: () = { const fn call(it: &'static FormatView) -> bool { <FormatView>::fraction_consecutive_digit_separator(it) } };
+const _: () = { const fn call(it: &'static FormatView) -> bool { <FormatView>::fraction_internal_digit_separator(it) } };
+const _: () = { const fn call(it: &'static FormatView) -> bool { <FormatView>::fraction_leading_digit_separator(it) } };
+const _: () = { const fn call(it: &'static FormatView) -> bool { <FormatView>::fraction_trailing_digit_separator(it) } };
+const _: () = { const fn call(it: &'static FormatView) -> bool { <FormatView>::has_base_prefix(it) } };
+const _: () = { const fn call(it: &'static FormatView) -> bool { <FormatView>::has_base_suffix(it) } };
+const _: () = { const fn call(it: &'static FormatView) -> bool { <FormatView>::has_digit_separator(it) } };
+const _: () = { const fn call(it: &'static FormatView) -> bool { <FormatView>::integer_consecutive_digit_separator(it) } };
+const _: () = { const fn call(it: &'static FormatView) -> bool { <FormatView>::integer_internal_digit_separator(it) } };
+const _: () = { const fn call(it: &'static FormatView) -> bool { <FormatView>::integer_leading_digit_separator(it) } };
+const _: () = { const fn call(it: &'static FormatView) -> bool { <FormatView>::integer_trailing_digit_separator(it) } };
+const _: () = { const fn call(it: &'static FormatView) -> bool { <FormatView>::internal_digit_separator(it) } };
+const _: () = { const fn call(it: &'static FormatView) -> bool { <FormatView>::is_valid(it) } };
+const _: () = { const fn call(it: &'static FormatView) -> bool { <FormatView>::is_valid_radix(it) } };
+const _: () = { const fn call(it: &'static FormatView) -> bool { <FormatView>::leading_digit_separator(it) } };
+const _: () = { const fn call(it: &'static FormatView) -> bool { <FormatView>::no_exponent_notation(it) } };
+const _: () = { const fn call(it: &'static FormatView) -> bool { <FormatView>::no_exponent_without_fraction(it) } };
+const _: () = { const fn call(it: &'static FormatView) -> bool { <FormatView>::no_float_leading_zeros(it) } };
+const _: () = { const fn call(it: &'static FormatView) -> bool { <FormatView>::no_integer_leading_zeros(it) } };
+const _: () = { const fn call(it: &'static FormatView) -> bool { <FormatView>::no_positive_exponent_sign(it) } };
+const _: () = { const fn call(it: &'static FormatView) -> bool { <FormatView>::no_positive_mantissa_sign(it) } };
+const _: () = { const fn call(it: &'static FormatView) -> bool { <FormatView>::no_special(it) } };
+const _: () = { const fn call(it: &'static FormatView) -> bool { <FormatView>::required_digits(it) } };
+const _: () = { const fn call(it: &'static FormatView) -> bool { <FormatView>::required_exponent_digits(it) } };
+const _: () = { const fn call(it: &'static FormatView) -> bool { <FormatView>::required_exponent_notation(it) } };
+const _: () = { const fn call(it: &'static FormatView) -> bool { <FormatView>::required_exponent_sign(it) } };
+const _: () = { const fn call(it: &'static FormatView) -> bool { <FormatView>::required_fraction_digits(it) } };
+const _: () = { const fn call(it: &'static FormatView) -> bool { <FormatView>::required_integer_digits(it) } };
+const _: () = { const fn call(it: &'static FormatView) -> bool { <FormatView>::required_mantissa_digits(it) } };
+const _: () = { const fn call(it: &'static FormatView) -> bool { <FormatView>::required_mantissa_sign(it) } };
+const _: () = { const fn call(it: &'static FormatView) -> bool { <FormatView>::special_digit_separator(it) } };
+const _: () = { const fn call(it: &'static FormatView) -> bool { <FormatView>::trailing_digit_separator(it) } };
+const _: () = { const fn call(it: &'static FormatView) -> u128 { <FormatView>::digit_separator_flags(it) } };
+const _: () = { const fn call(it: &'static FormatView) -> u128 { <FormatView>::exponent_digit_separator_flags(it) } };
+const _: () = { const fn call(it: &'static FormatView) -> u128 { <FormatView>::exponent_flags(it) } };
+const _: () = { const fn call(it: &'static FormatView) -> u128 { <FormatView>::flags(it) } };
+const _: () = { const fn call(it: &'static FormatView) -> u128 { <FormatView>::fraction_digit_separator_flags(it) } };
+const _: () = { const fn call(it: &'static FormatView) -> u128 { <FormatView>::integer_digit_separator_flags(it) } };
+const _: () = { const fn call(it: &'static FormatView) -> u128 { <FormatView>::interface_flags(it) } };
+const _: () = { const fn call(it: &'static FormatView) -> u128 { <FormatView>::word(it) } };
+const _: () = { const fn call(it: &'static FormatView) -> u32 { <FormatView>::exponent_base(it) } };
+const _: () = { const fn call(it: &'static FormatView) -> u32 { <FormatView>::exponent_radix(it) } };
+const _: () = { const fn call(it: &'static FormatView) -> u32 { <FormatView>::mantissa_radix(it) } };
+const _: () = { const fn call(it: &'static FormatView) -> u32 { <FormatView>::radix(it) } };
+const _: () = { const fn call(it: &'static FormatView) -> u32 { <FormatView>::radix2(it) } };
+const _: () = { const fn call(it: &'static FormatView) -> u32 { <FormatView>::radix4(it) } };
+const _: () = { const fn call(it: &'static FormatView) -> u32 { <FormatView>::radix8(it) } };
+const _: () = { const fn call(it: &'static FormatView, byte: u8) -> Option<u32> { <FormatView>::exponent_digit(it, byte) } };
+const _: () = { const fn call(it: &'static FormatView, byte: u8) -> Option<u32> { <FormatView>::mantissa_digit(it, byte) } };
+const _: () = { const fn call(it: &'static FormatView, byte: u8) -> bool { <FormatView>::is_base_prefix(it, byte) } };
+const _: () = { const fn call(it: &'static FormatView, byte: u8) -> bool { <FormatView>::is_base_suffix(it, byte) } };
+const _: () = { const fn call(it: &'static FormatView, byte: u8) -> bool { <FormatView>::is_separator(it, byte) } };
+const _: () = { const fn call(it: &'static FormatView, exponent: u8, byte: u8) -> bool { <FormatView>::is_exponent_character(it, exponent, byte) } };
+const _: () = { const fn call(it: &'static FormatView, exponent: u8, decimal_point: u8, byte: u8) -> Option<Role> { <FormatView>::role_of(it, exponent, decimal_point, byte) } };
+const _: () = { const fn call(it: &'static FormatView, part: Part) -> Separators { <FormatView>::separators(it, part) } };
+const _: () = { const fn call(it: &'static Language) -> &'static [Form] { <Language>::forms(it) } };
+const _: () = { const fn call(it: &'static Language) -> &'static str { <Language>::name(it) } };
+const _: () = { const fn call(it: &'static Language) -> Specials<'static> { <Language>::specials(it) } };
+const _: () = { const fn call(it: &'static LineError) -> EditErrorKind { <LineError>::kind(it) } };
+const _: () = { const fn call(it: &'static LineError) -> usize { <LineError>::index(it) } };
+const _: () = { const fn call(it: &'static Literal<'static>) -> &'static [u8] { <Literal<'static>>::as_bytes(it) } };
+const _: () = { const fn call(it: &'static Literal<'static>) -> &'static [u8] { <Literal<'static>>::exponent(it) } };
+const _: () = { const fn call(it: &'static Literal<'static>) -> &'static [u8] { <Literal<'static>>::exponent_character(it) } };
+const _: () = { const fn call(it: &'static Literal<'static>) -> &'static [u8] { <Literal<'static>>::exponent_sign(it) } };
+const _: () = { const fn call(it: &'static Literal<'static>) -> &'static [u8] { <Literal<'static>>::fraction(it) } };
+const _: () = { const fn call(it: &'static Literal<'static>) -> &'static [u8] { <Literal<'static>>::integer(it) } };
+const _: () = { const fn call(it: &'static Literal<'static>) -> &'static [u8] { <Literal<'static>>::point(it) } };
+const _: () = { const fn call(it: &'static Literal<'static>) -> &'static [u8] { <Literal<'static>>::prefix(it) } };
+const _: () = { const fn call(it: &'static Literal<'static>) -> &'static [u8] { <Literal<'static>>::sign(it) } };
+const _: () = { const fn call(it: &'static Literal<'static>) -> &'static [u8] { <Literal<'static>>::suffix(it) } };
+const _: () = { const fn call(it: &'static Literal<'static>) -> &'static str { <Literal<'static>>::as_str(it) } };
+const _: () = { const fn call(it: &'static Literal<'static>) -> bool { <Literal<'static>>::is_float(it) } };
+const _: () = { const fn call(it: &'static Literal<'static>) -> bool { <Literal<'static>>::is_negative(it) } };
+const _: () = { const fn call(it: &'static Literal<'static>, part: Part) -> u32 { <Literal<'static>>::radix(it, part) } };
+const _: () = { const fn call(it: &'static Note) -> u128 { <Note>::mask(it) } };
+const _: () = { const fn call(it: &'static Number<'static>) -> Option<Literal<'static>> { <Number<'static>>::literal(it) } };
+const _: () = { const fn call(it: &'static Number<'static>) -> Option<usize> { <Number<'static>>::form(it) } };
+const _: () = { const fn call(it: &'static NumberFormat<STANDARD>) -> Error { <NumberFormat<STANDARD>>::error(it) } };
+const _: () = { const fn call(it: &'static NumberFormat<STANDARD>) -> Error { <NumberFormat<STANDARD>>::error_radix(it) } };
+const _: () = { const fn call(it: &'static NumberFormat<STANDARD>) -> FormatView { <NumberFormat<STANDARD>>::view(it) } };
+const _: () = { const fn call(it: &'static NumberFormat<STANDARD>) -> bool { <NumberFormat<STANDARD>>::case_sensitive_base_prefix(it) } };
+const _: () = { const fn call(it: &'static NumberFormat<STANDARD>) -> bool { <NumberFormat<STANDARD>>::case_sensitive_base_suffix(it) } };
+const _: () = { const fn call(it: &'static NumberFormat<STANDARD>) -> bool { <NumberFormat<STANDARD>>::case_sensitive_exponent(it) } };
+const _: () = { const fn call(it: &'static NumberFormat<STANDARD>) -> bool { <NumberFormat<STANDARD>>::case_sensitive_special(it) } };
+const _: () = { const fn call(it: &'static NumberFormat<STANDARD>) -> bool { <NumberFormat<STANDARD>>::consecutive_digit_separator(it) } };
+const _: () = { const fn call(it: &'static NumberFormat<STANDARD>) -> bool { <NumberFormat<STANDARD>>::exponent_consecutive_digit_separator(it) } };
+const _: () = { const fn call(it: &'static NumberFormat<STANDARD>) -> bool { <NumberFormat<STANDARD>>::exponent_internal_digit_separator(it) } };
+const _: () = { const fn call(it: &'static NumberFormat<STANDARD>) -> bool { <NumberFormat<STANDARD>>::exponent_leading_digit_separator(it) } };
+const _: () = { const fn call(it: &'static NumberFormat<STANDARD>) -> bool { <NumberFormat<STANDARD>>::exponent_trailing_digit_separator(it) } };
+const _: () = { const fn call(it: &'static NumberFormat<STANDARD>) -> bool { <NumberFormat<STANDARD>>::fraction_consecutive_digit_separator(it) } };
+const _: () = { const fn call(it: &'static NumberFormat<STANDARD>) -> bool { <NumberFormat<STANDARD>>::fraction_internal_digit_separator(it) } };
+const _: () = { const fn call(it: &'static NumberFormat<STANDARD>) -> bool { <NumberFormat<STANDARD>>::fraction_leading_digit_separator(it) } };
+const _: () = { const fn call(it: &'static NumberFormat<STANDARD>) -> bool { <NumberFormat<STANDARD>>::fraction_trailing_digit_separator(it) } };
+const _: () = { const fn call(it: &'static NumberFormat<STANDARD>) -> bool { <NumberFormat<STANDARD>>::has_base_prefix(it) } };
+const _: () = { const fn call(it: &'static NumberFormat<STANDARD>) -> bool { <NumberFormat<STANDARD>>::has_base_suffix(it) } };
+const _: () = { const fn call(it: &'static NumberFormat<STANDARD>) -> bool { <NumberFormat<STANDARD>>::has_digit_separator(it) } };
+const _: () = { const fn call(it: &'static NumberFormat<STANDARD>) -> bool { <NumberFormat<STANDARD>>::integer_consecutive_digit_separator(it) } };
+const _: () = { const fn call(it: &'static NumberFormat<STANDARD>) -> bool { <NumberFormat<STANDARD>>::integer_internal_digit_separator(it) } };
+const _: () = { const fn call(it: &'static NumberFormat<STANDARD>) -> bool { <NumberFormat<STANDARD>>::integer_leading_digit_separator(it) } };
+const _: () = { const fn call(it: &'static NumberFormat<STANDARD>) -> bool { <NumberFormat<STANDARD>>::integer_trailing_digit_separator(it) } };
+const _: () = { const fn call(it: &'static NumberFormat<STANDARD>) -> bool { <NumberFormat<STANDARD>>::internal_digit_separator(it) } };
+const _: () = { const fn call(it: &'static NumberFormat<STANDARD>) -> bool { <NumberFormat<STANDARD>>::is_valid(it) } };
+const _: () = { const fn call(it: &'static NumberFormat<STANDARD>) -> bool { <NumberFormat<STANDARD>>::is_valid_radix(it) } };
+const _: () = { const fn call(it: &'static NumberFormat<STANDARD>) -> bool { <NumberFormat<STANDARD>>::leading_digit_separator(it) } };
+const _: () = { const fn call(it: &'static NumberFormat<STANDARD>) -> bool { <NumberFormat<STANDARD>>::no_exponent_notation(it) } };
+const _: () = { const fn call(it: &'static NumberFormat<STANDARD>) -> bool { <NumberFormat<STANDARD>>::no_exponent_without_fraction(it) } };
+const _: () = { const fn call(it: &'static NumberFormat<STANDARD>) -> bool { <NumberFormat<STANDARD>>::no_float_leading_zeros(it) } };
+const _: () = { const fn call(it: &'static NumberFormat<STANDARD>) -> bool { <NumberFormat<STANDARD>>::no_integer_leading_zeros(it) } };
+const _: () = { const fn call(it: &'static NumberFormat<STANDARD>) -> bool { <NumberFormat<STANDARD>>::no_positive_exponent_sign(it) } };
+const _: () = { const fn call(it: &'static NumberFormat<STANDARD>) -> bool { <NumberFormat<STANDARD>>::no_positive_mantissa_sign(it) } };
+const _: () = { const fn call(it: &'static NumberFormat<STANDARD>) -> bool { <NumberFormat<STANDARD>>::no_special(it) } };
+const _: () = { const fn call(it: &'static NumberFormat<STANDARD>) -> bool { <NumberFormat<STANDARD>>::required_digits(it) } };
+const _: () = { const fn call(it: &'static NumberFormat<STANDARD>) -> bool { <NumberFormat<STANDARD>>::required_exponent_digits(it) } };
+const _: () = { const fn call(it: &'static NumberFormat<STANDARD>) -> bool { <NumberFormat<STANDARD>>::required_exponent_notation(it) } };
+const _: () = { const fn call(it: &'static NumberFormat<STANDARD>) -> bool { <NumberFormat<STANDARD>>::required_exponent_sign(it) } };
+const _: () = { const fn call(it: &'static NumberFormat<STANDARD>) -> bool { <NumberFormat<STANDARD>>::required_fraction_digits(it) } };
+const _: () = { const fn call(it: &'static NumberFormat<STANDARD>) -> bool { <NumberFormat<STANDARD>>::required_integer_digits(it) } };
+const _: () = { const fn call(it: &'static NumberFormat<STANDARD>) -> bool { <NumberFormat<STANDARD>>::required_mantissa_digits(it) } };
+const _: () = { const fn call(it: &'static NumberFormat<STANDARD>) -> bool { <NumberFormat<STANDARD>>::required_mantissa_sign(it) } };
+const _: () = { const fn call(it: &'static NumberFormat<STANDARD>) -> bool { <NumberFormat<STANDARD>>::special_digit_separator(it) } };
+const _: () = { const fn call(it: &'static NumberFormat<STANDARD>) -> bool { <NumberFormat<STANDARD>>::trailing_digit_separator(it) } };
+const _: () = { const fn call(it: &'static NumberFormat<STANDARD>) -> u128 { <NumberFormat<STANDARD>>::digit_separator_flags(it) } };
+const _: () = { const fn call(it: &'static NumberFormat<STANDARD>) -> u128 { <NumberFormat<STANDARD>>::exponent_digit_separator_flags(it) } };
+const _: () = { const fn call(it: &'static NumberFormat<STANDARD>) -> u128 { <NumberFormat<STANDARD>>::exponent_flags(it) } };
+const _: () = { const fn call(it: &'static NumberFormat<STANDARD>) -> u128 { <NumberFormat<STANDARD>>::flags(it) } };
+const _: () = { const fn call(it: &'static NumberFormat<STANDARD>) -> u128 { <NumberFormat<STANDARD>>::fraction_digit_separator_flags(it) } };
+const _: () = { const fn call(it: &'static NumberFormat<STANDARD>) -> u128 { <NumberFormat<STANDARD>>::integer_digit_separator_flags(it) } };
+const _: () = { const fn call(it: &'static NumberFormat<STANDARD>) -> u128 { <NumberFormat<STANDARD>>::interface_flags(it) } };
+const _: () = { const fn call(it: &'static NumberFormat<STANDARD>) -> u32 { <NumberFormat<STANDARD>>::exponent_base(it) } };
+const _: () = { const fn call(it: &'static NumberFormat<STANDARD>) -> u32 { <NumberFormat<STANDARD>>::exponent_radix(it) } };
+const _: () = { const fn call(it: &'static NumberFormat<STANDARD>) -> u32 { <NumberFormat<STANDARD>>::mantissa_radix(it) } };
+const _: () = { const fn call(it: &'static NumberFormat<STANDARD>) -> u32 { <NumberFormat<STANDARD>>::radix(it) } };
+const _: () = { const fn call(it: &'static NumberFormat<STANDARD>) -> u32 { <NumberFormat<STANDARD>>::radix2(it) } };
+const _: () = { const fn call(it: &'static NumberFormat<STANDARD>) -> u32 { <NumberFormat<STANDARD>>::radix4(it) } };
+const _: () = { const fn call(it: &'static NumberFormat<STANDARD>) -> u32 { <NumberFormat<STANDARD>>::radix8(it) } };
+const _: () = { const fn call(it: &'static NumberFormat<STANDARD>) -> u8 { <NumberFormat<STANDARD>>::base_prefix(it) } };
+const _: () = { const fn call(it: &'static NumberFormat<STANDARD>) -> u8 { <NumberFormat<STANDARD>>::base_suffix(it) } };
+const _: () = { const fn call(it: &'static NumberFormat<STANDARD>) -> u8 { <NumberFormat<STANDARD>>::digit_separator(it) } };
+const _: () = { const fn call(it: &'static NumberFormat<STANDARD>, byte: u8) -> Option<u32> { <NumberFormat<STANDARD>>::exponent_digit(it, byte) } };
+const _: () = { const fn call(it: &'static NumberFormat<STANDARD>, byte: u8) -> Option<u32> { <NumberFormat<STANDARD>>::mantissa_digit(it, byte) } };
+const _: () = { const fn call(it: &'static NumberFormat<STANDARD>, byte: u8) -> bool { <NumberFormat<STANDARD>>::is_base_prefix(it, byte) } };
+const _: () = { const fn call(it: &'static NumberFormat<STANDARD>, byte: u8) -> bool { <NumberFormat<STANDARD>>::is_base_suffix(it, byte) } };
+const _: () = { const fn call(it: &'static NumberFormat<STANDARD>, byte: u8) -> bool { <NumberFormat<STANDARD>>::is_separator(it, byte) } };
+const _: () = { const fn call(it: &'static NumberFormat<STANDARD>, exponent: u8, byte: u8) -> bool { <NumberFormat<STANDARD>>::is_exponent_character(it, exponent, byte) } };
+const _: () = { const fn call(it: &'static NumberFormat<STANDARD>, exponent: u8, decimal_point: u8, byte: u8) -> Option<Role> { <NumberFormat<STANDARD>>::role_of(it, exponent, decimal_point, byte) } };
+const _: () = { const fn call(it: &'static NumberFormat<STANDARD>, part: Part) -> Separators { <NumberFormat<STANDARD>>::separators(it, part) } };
+const _: () = { const fn call(it: &'static NumberFormatBuilder) -> Format { <NumberFormatBuilder>::build_format_or_panic(it) } };
+const _: () = { const fn call(it: &'static NumberFormatBuilder) -> FormatView { <NumberFormatBuilder>::view(it) } };
+const _: () = { const fn call(it: &'static NumberFormatBuilder) -> OptionU8 { <NumberFormatBuilder>::get_base_prefix(it) } };
+const _: () = { const fn call(it: &'static NumberFormatBuilder) -> OptionU8 { <NumberFormatBuilder>::get_base_suffix(it) } };
+const _: () = { const fn call(it: &'static NumberFormatBuilder) -> OptionU8 { <NumberFormatBuilder>::get_digit_separator(it) } };
+const _: () = { const fn call(it: &'static NumberFormatBuilder) -> OptionU8 { <NumberFormatBuilder>::get_exponent_base(it) } };
+const _: () = { const fn call(it: &'static NumberFormatBuilder) -> OptionU8 { <NumberFormatBuilder>::get_exponent_radix(it) } };
+const _: () = { const fn call(it: &'static NumberFormatBuilder) -> Result<Format, FormatError> { <NumberFormatBuilder>::build_format(it) } };
+const _: () = { const fn call(it: &'static NumberFormatBuilder) -> Result<u128, Error> { <NumberFormatBuilder>::build_strict(it) } };
+const _: () = { const fn call(it: &'static NumberFormatBuilder) -> bool { <NumberFormatBuilder>::get_case_sensitive_base_prefix(it) } };
+const _: () = { const fn call(it: &'static NumberFormatBuilder) -> bool { <NumberFormatBuilder>::get_case_sensitive_base_suffix(it) } };
+const _: () = { const fn call(it: &'static NumberFormatBuilder) -> bool { <NumberFormatBuilder>::get_case_sensitive_exponent(it) } };
+const _: () = { const fn call(it: &'static NumberFormatBuilder) -> bool { <NumberFormatBuilder>::get_case_sensitive_special(it) } };
+const _: () = { const fn call(it: &'static NumberFormatBuilder) -> bool { <NumberFormatBuilder>::get_exponent_consecutive_digit_separator(it) } };
+const _: () = { const fn call(it: &'static NumberFormatBuilder) -> bool { <NumberFormatBuilder>::get_exponent_internal_digit_separator(it) } };
+const _: () = { const fn call(it: &'static NumberFormatBuilder) -> bool { <NumberFormatBuilder>::get_exponent_leading_digit_separator(it) } };
+const _: () = { const fn call(it: &'static NumberFormatBuilder) -> bool { <NumberFormatBuilder>::get_exponent_trailing_digit_separator(it) } };
+const _: () = { const fn call(it: &'static NumberFormatBuilder) -> bool { <NumberFormatBuilder>::get_fraction_consecutive_digit_separator(it) } };
+const _: () = { const fn call(it: &'static NumberFormatBuilder) -> bool { <NumberFormatBuilder>::get_fraction_internal_digit_separator(it) } };
+const _: () = { const fn call(it: &'static NumberFormatBuilder) -> bool { <NumberFormatBuilder>::get_fraction_leading_digit_separator(it) } };
+const _: () = { const fn call(it: &'static NumberFormatBuilder) -> bool { <NumberFormatBuilder>::get_fraction_trailing_digit_separator(it) } };
+const _: () = { const fn call(it: &'static NumberFormatBuilder) -> bool { <NumberFormatBuilder>::get_integer_consecutive_digit_separator(it) } };
+const _: () = { const fn call(it: &'static NumberFormatBuilder) -> bool { <NumberFormatBuilder>::get_integer_internal_digit_separator(it) } };
+const _: () = { const fn call(it: &'static NumberFormatBuilder) -> bool { <NumberFormatBuilder>::get_integer_leading_digit_separator(it) } };
+const _: () = { const fn call(it: &'static NumberFormatBuilder) -> bool { <NumberFormatBuilder>::get_integer_trailing_digit_separator(it) } };
+const _: () = { const fn call(it: &'static NumberFormatBuilder) -> bool { <NumberFormatBuilder>::get_no_exponent_notation(it) } };
+const _: () = { const fn call(it: &'static NumberFormatBuilder) -> bool { <NumberFormatBuilder>::get_no_exponent_without_fraction(it) } };
+const _: () = { const fn call(it: &'static NumberFormatBuilder) -> bool { <NumberFormatBuilder>::get_no_float_leading_zeros(it) } };
+const _: () = { const fn call(it: &'static NumberFormatBuilder) -> bool { <NumberFormatBuilder>::get_no_integer_leading_zeros(it) } };
+const _: () = { const fn call(it: &'static NumberFormatBuilder) -> bool { <NumberFormatBuilder>::get_no_positive_exponent_sign(it) } };
+const _: () = { const fn call(it: &'static NumberFormatBuilder) -> bool { <NumberFormatBuilder>::get_no_positive_mantissa_sign(it) } };
+const _: () = { const fn call(it: &'static NumberFormatBuilder) -> bool { <NumberFormatBuilder>::get_no_special(it) } };
+const _: () = { const fn call(it: &'static NumberFormatBuilder) -> bool { <NumberFormatBuilder>::get_required_exponent_digits(it) } };
+const _: () = { const fn call(it: &'static NumberFormatBuilder) -> bool { <NumberFormatBuilder>::get_required_exponent_notation(it) } };
+const _: () = { const fn call(it: &'static NumberFormatBuilder) -> bool { <NumberFormatBuilder>::get_required_exponent_sign(it) } };
+const _: () = { const fn call(it: &'static NumberFormatBuilder) -> bool { <NumberFormatBuilder>::get_required_fraction_digits(it) } };
+const _: () = { const fn call(it: &'static NumberFormatBuilder) -> bool { <NumberFormatBuilder>::get_required_integer_digits(it) } };
+const _: () = { const fn call(it: &'static NumberFormatBuilder) -> bool { <NumberFormatBuilder>::get_required_mantissa_digits(it) } };
+const _: () = { const fn call(it: &'static NumberFormatBuilder) -> bool { <NumberFormatBuilder>::get_required_mantissa_sign(it) } };
+const _: () = { const fn call(it: &'static NumberFormatBuilder) -> bool { <NumberFormatBuilder>::get_special_digit_separator(it) } };
+const _: () = { const fn call(it: &'static NumberFormatBuilder) -> u128 { <NumberFormatBuilder>::build(it) } };
+const _: () = { const fn call(it: &'static NumberFormatBuilder) -> u128 { <NumberFormatBuilder>::build_or_panic(it) } };
+const _: () = { const fn call(it: &'static NumberFormatBuilder) -> u128 { <NumberFormatBuilder>::build_unchecked(it) } };
+const _: () = { const fn call(it: &'static NumberFormatBuilder) -> u8 { <NumberFormatBuilder>::get_mantissa_radix(it) } };
+const _: () = { const fn call(it: &'static ReadError) -> Conditions { <ReadError>::conditions(it) } };
+const _: () = { const fn call(it: &'static ReadError) -> Error { <ReadError>::code(it) } };
+const _: () = { const fn call(it: &'static ReadError) -> Option<u8> { <ReadError>::byte(it) } };
+const _: () = { const fn call(it: &'static ReadError) -> Range<usize> { <ReadError>::span(it) } };
+const _: () = { const fn call(it: &'static ReadError) -> ReadErrorKind { <ReadError>::kind(it) } };
+const _: () = { const fn call(it: &'static ReadError) -> ShortText { <ReadError>::text(it) } };
+const _: () = { const fn call(it: &'static ReadError) -> bool { <ReadError>::is_incomplete(it) } };
+const _: () = { const fn call(it: &'static ReadError) -> u128 { <ReadError>::mask(it) } };
+const _: () = { const fn call(it: &'static ReadError) -> usize { <ReadError>::valid_up_to(it) } };
+const _: () = { const fn call(it: &'static Reader) -> Syntax { <Reader>::syntax(it) } };
+const _: () = { const fn call(it: &'static Reader, text: &'static [u8]) -> Result<(Literal<'static>, &'static [u8]), ReadError> { <Reader>::read_prefix(it, text) } };
+const _: () = { const fn call(it: &'static Reader, text: &'static [u8]) -> Result<Literal<'static>, ReadError> { <Reader>::read(it, text) } };
+const _: () = { const fn call(it: &'static Readers<'static>) -> &'static [Reader] { <Readers<'static>>::as_slice(it) } };
+const _: () = { const fn call(it: &'static Readers<'static>) -> Specials<'static> { <Readers<'static>>::specials(it) } };
+const _: () = { const fn call(it: &'static Readers<'static>, text: &'static [u8]) -> Result<(Number<'static>, &'static [u8]), FormError> { <Readers<'static>>::read_prefix(it, text) } };
+const _: () = { const fn call(it: &'static Readers<'static>, text: &'static [u8]) -> Result<Number<'static>, FormError> { <Readers<'static>>::read(it, text) } };
+const _: () = { const fn call(it: &'static Reason) -> Cause { <Reason>::cause(it) } };
+const _: () = { const fn call(it: &'static Reason) -> Option<Rule> { <Reason>::rule(it) } };
+const _: () = { const fn call(it: &'static Reason) -> u128 { <Reason>::mask(it) } };
+const _: () = { const fn call(it: &'static Reason, rule: Rule) -> bool { <Reason>::breaks(it, rule) } };
+const _: () = { const fn call(it: &'static Settings) -> Result<Format, FormatError> { <Settings>::build_format(it) } };
+const _: () = { const fn call(it: &'static ShortText) -> &'static str { <ShortText>::as_str(it) } };
+const _: () = { const fn call(it: &'static Specials<'static>, syntax: &'static Syntax, text: &'static [u8]) -> Option<Special> { <Specials<'static>>::read(it, syntax, text) } };
+const _: () = { const fn call(it: &'static Syntax) -> Conditions { <Syntax>::conditions(it) } };
+const _: () = { const fn call(it: &'static Syntax) -> Format { <Syntax>::format(it) } };
+const _: () = { const fn call(it: &'static Syntax) -> Option<u8> { <Syntax>::exponent(it) } };
+const _: () = { const fn call(it: &'static Syntax) -> Option<u8> { <Syntax>::point(it) } };
+const _: () = { const fn call(it: &'static Syntax) -> bool { <Syntax>::supports_floats(it) } };
+const _: () = { const fn call(it: &'static Syntax, byte: u8) -> Option<Role> { <Syntax>::role_of(it, byte) } };
+const _: () = { const fn call(it: &'static ValueError) -> &'static str { <ValueError>::target(it) } };
+const _: () = { const fn call(it: &'static ValueError) -> ValueErrorKind { <ValueError>::kind(it) } };
+const _: () = { const fn call(it: Byte) -> u128 { <Byte>::mask(it) } };
+const _: () = { const fn call(it: Conditions) -> bool { <Conditions>::is_none(it) } };
+const _: () = { const fn call(it: Conditions, forbidden: bool) -> Conditions { <Conditions>::no_negative_mantissa_sign(it, forbidden) } };
+const _: () = { const fn call(it: Conditions, required: bool) -> Conditions { <Conditions>::required_base_prefix(it, required) } };
+const _: () = { const fn call(it: Conditions, required: bool) -> Conditions { <Conditions>::required_base_suffix(it, required) } };
+const _: () = { const fn call(it: Conditions, size: Option<u8>) -> Conditions { <Conditions>::integer_group_size(it, size) } };
+const _: () = { const fn call(it: Edit) -> &'static str { <Edit>::name(it) } };
+const _: () = { const fn call(it: Edit) -> Setter { <Edit>::setter(it) } };
+const _: () = { const fn call(it: Edit) -> u128 { <Edit>::mask(it) } };
+const _: () = { const fn call(it: Edit) -> u8 { <Edit>::argument_byte(it) } };
+const _: () = { const fn call(it: FlagSetter) -> &'static str { <FlagSetter>::name(it) } };
+const _: () = { const fn call(it: FlagSetter, format: u128) -> bool { <FlagSetter>::is_set(it, format) } };
+const _: () = { const fn call(it: Literal<'static>) -> Result<f32, ValueError> { <Literal<'static>>::binary_to_f32(it) } };
+const _: () = { const fn call(it: Literal<'static>) -> Result<f64, ValueError> { <Literal<'static>>::binary_to_f64(it) } };
+const _: () = { const fn call(it: Literal<'static>) -> Result<i128, ValueError> { <Literal<'static>>::to_i128(it) } };
+const _: () = { const fn call(it: Literal<'static>) -> Result<i64, ValueError> { <Literal<'static>>::to_i64(it) } };
+const _: () = { const fn call(it: Literal<'static>) -> Result<u128, ValueError> { <Literal<'static>>::to_u128(it) } };
+const _: () = { const fn call(it: Literal<'static>) -> Result<u64, ValueError> { <Literal<'static>>::to_u64(it) } };
+const _: () = { const fn call(it: NumberFormatBuilder, base: OptionU8) -> NumberFormatBuilder { <NumberFormatBuilder>::exponent_base(it, base) } };
+const _: () = { const fn call(it: NumberFormatBuilder, base_prefix: OptionU8) -> NumberFormatBuilder { <NumberFormatBuilder>::base_prefix(it, base_prefix) } };
+const _: () = { const fn call(it: NumberFormatBuilder, base_suffix: OptionU8) -> NumberFormatBuilder { <NumberFormatBuilder>::base_suffix(it, base_suffix) } };
+const _: () = { const fn call(it: NumberFormatBuilder, character: OptionU8) -> NumberFormatBuilder { <NumberFormatBuilder>::digit_separator(it, character) } };
+const _: () = { const fn call(it: NumberFormatBuilder, flag: bool) -> NumberFormatBuilder { <NumberFormatBuilder>::case_sensitive_base_prefix(it, flag) } };
+const _: () = { const fn call(it: NumberFormatBuilder, flag: bool) -> NumberFormatBuilder { <NumberFormatBuilder>::case_sensitive_base_suffix(it, flag) } };
+const _: () = { const fn call(it: NumberFormatBuilder, flag: bool) -> NumberFormatBuilder { <NumberFormatBuilder>::case_sensitive_exponent(it, flag) } };
+const _: () = { const fn call(it: NumberFormatBuilder, flag: bool) -> NumberFormatBuilder { <NumberFormatBuilder>::case_sensitive_special(it, flag) } };
+const _: () = { const fn call(it: NumberFormatBuilder, flag: bool) -> NumberFormatBuilder { <NumberFormatBuilder>::consecutive_digit_separator(it, flag) } };
+const _: () = { const fn call(it: NumberFormatBuilder, flag: bool) -> NumberFormatBuilder { <NumberFormatBuilder>::digit_separator_flags(it, flag) } };
+const _: () = { const fn call(it: NumberFormatBuilder, flag: bool) -> NumberFormatBuilder { <NumberFormatBuilder>::exponent_consecutive_digit_separator(it, flag) } };
+const _: () = { const fn call(it: NumberFormatBuilder, flag: bool) -> NumberFormatBuilder { <NumberFormatBuilder>::exponent_digit_separator_flags(it, flag) } };
+const _: () = { const fn call(it: NumberFormatBuilder, flag: bool) -> NumberFormatBuilder { <NumberFormatBuilder>::exponent_internal_digit_separator(it, flag) } };
+const _: () = { const fn call(it: NumberFormatBuilder, flag: bool) -> NumberFormatBuilder { <NumberFormatBuilder>::exponent_leading_digit_separator(it, flag) } };
+const _: () = { const fn call(it: NumberFormatBuilder, flag: bool) -> NumberFormatBuilder { <NumberFormatBuilder>::exponent_trailing_digit_separator(it, flag) } };
+const _: () = { const fn call(it: NumberFormatBuilder, flag: bool) -> NumberFormatBuilder { <NumberFormatBuilder>::fraction_consecutive_digit_separator(it, flag) } };
+const _: () = { const fn call(it: NumberFormatBuilder, flag: bool) -> NumberFormatBuilder { <NumberFormatBuilder>::fraction_digit_separator_flags(it, flag) } };
+const _: () = { const fn call(it: NumberFormatBuilder, flag: bool) -> NumberFormatBuilder { <NumberFormatBuilder>::fraction_internal_digit_separator(it, flag) } };
+const _: () = { const fn call(it: NumberFormatBuilder, flag: bool) -> NumberFormatBuilder { <NumberFormatBuilder>::fraction_leading_digit_separator(it, flag) } };
+const _: () = { const fn call(it: NumberFormatBuilder, flag: bool) -> NumberFormatBuilder { <NumberFormatBuilder>::fraction_trailing_digit_separator(it, flag) } };
+const _: () = { const fn call(it: NumberFormatBuilder, flag: bool) -> NumberFormatBuilder { <NumberFormatBuilder>::integer_consecutive_digit_separator(it, flag) } };
+const _: () = { const fn call(it: NumberFormatBuilder, flag: bool) -> NumberFormatBuilder { <NumberFormatBuilder>::integer_digit_separator_flags(it, flag) } };
+const _: () = { const fn call(it: NumberFormatBuilder, flag: bool) -> NumberFormatBuilder { <NumberFormatBuilder>::integer_internal_digit_separator(it, flag) } };
+const _: () = { const fn call(it: NumberFormatBuilder, flag: bool) -> NumberFormatBuilder { <NumberFormatBuilder>::integer_leading_digit_separator(it, flag) } };
+const _: () = { const fn call(it: NumberFormatBuilder, flag: bool) -> NumberFormatBuilder { <NumberFormatBuilder>::integer_trailing_digit_separator(it, flag) } };
+const _: () = { const fn call(it: NumberFormatBuilder, flag: bool) -> NumberFormatBuilder { <NumberFormatBuilder>::internal_digit_separator(it, flag) } };
+const _: () = { const fn call(it: NumberFormatBuilder, flag: bool) -> NumberFormatBuilder { <NumberFormatBuilder>::leading_digit_separator(it, flag) } };
+const _: () = { const fn call(it: NumberFormatBuilder, flag: bool) -> NumberFormatBuilder { <NumberFormatBuilder>::no_exponent_notation(it, flag) } };
+const _: () = { const fn call(it: NumberFormatBuilder, flag: bool) -> NumberFormatBuilder { <NumberFormatBuilder>::no_exponent_without_fraction(it, flag) } };
+const _: () = { const fn call(it: NumberFormatBuilder, flag: bool) -> NumberFormatBuilder { <NumberFormatBuilder>::no_float_leading_zeros(it, flag) } };
+const _: () = { const fn call(it: NumberFormatBuilder, flag: bool) -> NumberFormatBuilder { <NumberFormatBuilder>::no_integer_leading_zeros(it, flag) } };
+const _: () = { const fn call(it: NumberFormatBuilder, flag: bool) -> NumberFormatBuilder { <NumberFormatBuilder>::no_positive_exponent_sign(it, flag) } };
+const _: () = { const fn call(it: NumberFormatBuilder, flag: bool) -> NumberFormatBuilder { <NumberFormatBuilder>::no_positive_mantissa_sign(it, flag) } };
+const _: () = { const fn call(it: NumberFormatBuilder, flag: bool) -> NumberFormatBuilder { <NumberFormatBuilder>::no_special(it, flag) } };
+const _: () = { const fn call(it: NumberFormatBuilder, flag: bool) -> NumberFormatBuilder { <NumberFormatBuilder>::required_digits(it, flag) } };
+const _: () = { const fn call(it: NumberFormatBuilder, flag: bool) -> NumberFormatBuilder { <NumberFormatBuilder>::required_exponent_digits(it, flag) } };
+const _: () = { const fn call(it: NumberFormatBuilder, flag: bool) -> NumberFormatBuilder { <NumberFormatBuilder>::required_exponent_notation(it, flag) } };
+const _: () = { const fn call(it: NumberFormatBuilder, flag: bool) -> NumberFormatBuilder { <NumberFormatBuilder>::required_exponent_sign(it, flag) } };
+const _: () = { const fn call(it: NumberFormatBuilder, flag: bool) -> NumberFormatBuilder { <NumberFormatBuilder>::required_fraction_digits(it, flag) } };
+const _: () = { const fn call(it: NumberFormatBuilder, flag: bool) -> NumberFormatBuilder { <NumberFormatBuilder>::required_integer_digits(it, flag) } };
+const _: () = { const fn call(it: NumberFormatBuilder, flag: bool) -> NumberFormatBuilder { <NumberFormatBuilder>::required_mantissa_digits(it, flag) } };
+const _: () = { const fn call(it: NumberFormatBuilder, flag: bool) -> NumberFormatBuilder { <NumberFormatBuilder>::required_mantissa_sign(it, flag) } };
+const _: () = { const fn call(it: NumberFormatBuilder, flag: bool) -> NumberFormatBuilder { <NumberFormatBuilder>::special_digit_separator(it, flag) } };
+const _: () = { const fn call(it: NumberFormatBuilder, flag: bool) -> NumberFormatBuilder { <NumberFormatBuilder>::trailing_digit_separator(it, flag) } };
+const _: () = { const fn call(it: NumberFormatBuilder, radix: OptionU8) -> NumberFormatBuilder { <NumberFormatBuilder>::exponent_radix(it, radix) } };
+const _: () = { const fn call(it: NumberFormatBuilder, radix: u8) -> NumberFormatBuilder { <NumberFormatBuilder>::mantissa_radix(it, radix) } };
+const _: () = { const fn call(it: NumberFormatBuilder, radix: u8) -> NumberFormatBuilder { <NumberFormatBuilder>::radix(it, radix) } };
+const _: () = { const fn call(it: Part) -> &'static str { <Part>::name(it) } };
+const _: () = { const fn call(it: Readers<'static>, specials: Specials<'static>) -> Readers<'static> { <Readers<'static>>::with_specials(it, specials) } };
+const _: () = { const fn call(it: Role) -> &'static str { <Role>::name(it) } };
+const _: () = { const fn call(it: Rule) -> &'static str { <Rule>::condition(it) } };
+const _: () = { const fn call(it: Rule) -> Error { <Rule>::error(it) } };
+const _: () = { const fn call(it: Rule) -> u128 { <Rule>::mask(it) } };
+const _: () = { const fn call(it: Rule, format: u128) -> bool { <Rule>::is_kept(it, format) } };
+const _: () = { const fn call(it: Setter) -> &'static str { <Setter>::name(it) } };
+const _: () = { const fn call(it: Setter) -> ArgumentKind { <Setter>::kind(it) } };
+const _: () = { const fn call(it: Setter) -> u128 { <Setter>::mask(it) } };
+const _: () = { const fn call(it: Setter, byte: u8) -> Edit { <Setter>::with_byte(it, byte) } };
+const _: () = { const fn call(it: ShortText, byte: u8) -> ShortText { <ShortText>::quoted(it, byte) } };
+const _: () = { const fn call(it: ShortText, n: u128) -> ShortText { <ShortText>::hexadecimal(it, n) } };
+const _: () = { const fn call(it: ShortText, n: usize) -> ShortText { <ShortText>::decimal(it, n) } };
+const _: () = { const fn call(it: ShortText, words: &'static str) -> ShortText { <ShortText>::and(it, words) } };
+const _: () = { const fn call(it: Special) -> f32 { <Special>::to_f32(it) } };
+const _: () = { const fn call(it: Special) -> f64 { <Special>::to_f64(it) } };
+const _: () = { const fn call(it: Style) -> Style { <Style>::without_base(it) } };
+const _: () = { const fn call(it: Style, size: usize) -> Style { <Style>::group(it, size) } };
+const _: () = { const fn call(it: Syntax, conditions: Conditions) -> Result<Syntax, ConditionsError> { <Syntax>::with(it, conditions) } };
+const _: () = { const fn call(it: Syntax, conditions: Conditions) -> Syntax { <Syntax>::with_or_panic(it, conditions) } };
+const _: () = { const fn call(radix: u32) -> bool { peltzivar::format::is_valid_radix(radix) } };
+const _: () = { const fn call(radix: u8) -> u128 { <NumberFormatBuilder>::from_radix(radix) } };
+const _: () = { const fn call(readers: &'static [Reader]) -> Option<Readers<'static>> { <Readers<'static>>::new(readers) } };
+const _: () = { const fn call(readers: &'static [Reader]) -> Readers<'static> { <Readers<'static>>::new_or_panic(readers) } };
+const _: () = { const fn call(slc: &'static [u8]) -> bool { peltzivar::ascii::is_valid_ascii_slice(slc) } };
+const _: () = { const fn call(slc: &'static [u8]) -> bool { peltzivar::ascii::is_valid_letter_slice(slc) } };
+const _: () = { const fn call(syntax: Syntax) -> Reader { <Reader>::new(syntax) } };
+const _: () = { const fn call(word: u128) -> NumberFormatBuilder { <NumberFormatBuilder>::from_word(word) } };
+const _: () = { const fn call(word: u128) -> Result<Format, FormatError> { <Format>::new(word) } };
+const _: () = { const fn call(words: &'static str) -> ShortText { <ShortText>::of(words) } };
+const _: () = { fn call(it: &'static Finding) -> &'static [usize] { <Finding>::indexes(it) } };
+const _: () = { fn call(it: &'static Format) -> impl Iterator<Item = Edit> + Clone { <Format>::edits(it) } };
+const _: () = { fn call(it: &'static Format) -> impl Iterator<Item = Note> + Clone { <Format>::notes(it) } };
+const _: () = { fn call(it: &'static FormatError) -> impl Iterator<Item = Reason> + Clone { <FormatError>::reasons(it) } };
+const _: () = { fn call(it: &'static FormatView) -> impl Iterator<Item = Edit> + Clone { <FormatView>::edits(it) } };
+const _: () = { fn call(it: &'static FormatView) -> impl Iterator<Item = Note> + Clone { <FormatView>::notes(it) } };
+const _: () = { fn call(it: &'static FormatView) -> impl Iterator<Item = Reason> + Clone { <FormatView>::reasons(it) } };
+const _: () = { fn call(it: &'static FormatView) -> impl Iterator<Item = Rule> + Clone { <FormatView>::broken_rules(it) } };
+const _: () = { fn call(it: &'static FormatView, exponent: u8, decimal_point: u8) -> impl Iterator<Item = Reason> + Clone { <FormatView>::options_reasons(it, exponent, decimal_point) } };
+const _: () = { fn call(it: &'static Language) -> &'static Readers<'static> { <Language>::readers(it) } };
+const _: () = { fn call(it: &'static Language, text: &'static [u8]) -> Result<(Number<'static>, &'static [u8]), FormError> { <Language>::read_prefix(it, text) } };
+const _: () = { fn call(it: &'static Language, text: &'static [u8]) -> Result<Number<'static>, FormError> { <Language>::read(it, text) } };
+const _: () = { fn call(it: &'static Literal<'static>) -> Option<impl Display + Clone + 'static> { <Literal<'static>>::plain(it) } };
+const _: () = { fn call(it: &'static Literal<'static>) -> impl Iterator<Item = (&'static str, &'static [u8])> + Clone { <Literal<'static>>::parts(it) } };
+const _: () = { fn call(it: &'static Literal<'static>, part: Part) -> Digits<'static> { <Literal<'static>>::digits(it, part) } };
+const _: () = { fn call(it: &'static Number<'static>) -> f64 { <Number<'static>>::to_f64(it) } };
+const _: () = { fn call(it: &'static NumberFormatBuilder) -> impl Iterator<Item = Note> + Clone { <NumberFormatBuilder>::notes(it) } };
+const _: () = { fn call(it: &'static ReadError) -> impl Iterator<Item = Edit> + Clone { <ReadError>::settings(it) } };
+const _: () = { fn call(it: &'static Settings) -> Result<Syntax, FormatError> { <Settings>::build_syntax(it) } };
+const _: () = { fn call(it: &'static Settings) -> impl Iterator<Item = Finding> + Clone + 'static { <Settings>::notes(it) } };
+const _: () = { fn call(it: &'static Settings) -> impl Iterator<Item = Finding> + Clone + 'static { <Settings>::reasons(it) } };
+const _: () = { fn call(it: &'static Syntax, literal: &'static Literal<'static>, style: Style) -> Result<Written<'static>, WriteError> { <Syntax>::format_literal(it, literal, style) } };
+const _: () = { fn call(it: &'static Written<'static>) -> Option<&'static str> { <Written<'static>>::as_str(it) } };
+const _: () = { fn call(it: &'static Written<'static>, buffer: &'static mut [u8]) -> Result<&'static str, WriteError> { <Written<'static>>::write_into(it, buffer) } };
+const _: () = { fn call(it: &'static mut Settings, text: impl AsRef<[u8]>) -> Result<(), LineError> { <Settings>::add(it, text) } };
+const _: () = { fn call(it: Literal<'static>) -> Result<f32, ValueError> { <Literal<'static>>::to_f32(it) } };
+const _: () = { fn call(it: Literal<'static>) -> Result<f64, ValueError> { <Literal<'static>>::to_f64(it) } };
+const _: () = { fn call(it: Setter, value: &'static str) -> Result<Edit, EditError> { <Setter>::parse(it, value) } };
+const _: () = { fn call(name: &'static str) -> Option<Setter> { <Setter>::from_name(name) } };
+const _: () = { fn call(name: &'static str, value: &'static str) -> Result<Edit, EditError> { <Edit>::from_setting(name, value) } };
+const _: () = { fn call<T: AsRef<[u8]>>(texts: impl IntoIterator<Item = T>) -> Result<Settings, LineError> { <Settings>::read(texts) } };
+const _: () = { fn call<T: FromLiteral>(it: &'static Language, text: impl AsRef<[u8]>) -> Result<T, ParseError> { <Language>::parse(it, text) } };
+const _: () = { fn call<T: FromLiteral>(it: &'static Reader, text: impl AsRef<[u8]>) -> Result<T, ParseError> { <Reader>::parse(it, text) } };
+const _: () = { fn call<T: FromLiteral>(it: &'static Readers<'static>, text: impl AsRef<[u8]>) -> Result<T, ParseError> { <Readers<'static>>::parse(it, text) } };
+const _: () = { fn call<T: WriteInteger>(it: &'static Syntax, value: T, style: Style) -> Result<Written<'static>, WriteError> { <Syntax>::format_integer(it, value, style) } };
+const _: () = { fn has() where ArgumentKind: Clone {} };
+const _: () = { fn has() where ArgumentKind: Copy {} };
+const _: () = { fn has() where ArgumentKind: Debug {} };
+const _: () = { fn has() where ArgumentKind: Eq {} };
+const _: () = { fn has() where ArgumentKind: Hash {} };
+const _: () = { fn has() where ArgumentKind: PartialEq {} };
+const _: () = { fn has() where ArgumentKind: Send + Sync + Unpin {} };
+const _: () = { fn has() where BuilderExpression: Clone {} };
+const _: () = { fn has() where BuilderExpression: Copy {} };
+const _: () = { fn has() where BuilderExpression: Debug {} };
+const _: () = { fn has() where BuilderExpression: Display {} };
+const _: () = { fn has() where BuilderExpression: Send + Sync + Unpin {} };
+const _: () = { fn has() where Byte: Clone {} };
+const _: () = { fn has() where Byte: Copy {} };
+const _: () = { fn has() where Byte: Debug {} };
+const _: () = { fn has() where Byte: Eq {} };
+const _: () = { fn has() where Byte: Hash {} };
+const _: () = { fn has() where Byte: PartialEq {} };
+const _: () = { fn has() where Byte: Send + Sync + Unpin {} };
+const _: () = { fn has() where Cause: Clone {} };
+const _: () = { fn has() where Cause: Copy {} };
+const _: () = { fn has() where Cause: Debug {} };
+const _: () = { fn has() where Cause: Eq {} };
+const _: () = { fn has() where Cause: Hash {} };
+const _: () = { fn has() where Cause: PartialEq {} };
+const _: () = { fn has() where Cause: Send + Sync + Unpin {} };
+const _: () = { fn has() where Class: Clone {} };
+const _: () = { fn has() where Class: Copy {} };
+const _: () = { fn has() where Class: Debug {} };
+const _: () = { fn has() where Class: Eq {} };
+const _: () = { fn has() where Class: Hash {} };
+const _: () = { fn has() where Class: Ord {} };
+const _: () = { fn has() where Class: PartialEq {} };
+const _: () = { fn has() where Class: PartialOrd {} };
+const _: () = { fn has() where Class: Send + Sync + Unpin {} };
+const _: () = { fn has() where Conditions: Clone {} };
+const _: () = { fn has() where Conditions: Copy {} };
+const _: () = { fn has() where Conditions: Debug {} };
+const _: () = { fn has() where Conditions: Default {} };
+const _: () = { fn has() where Conditions: Eq {} };
+const _: () = { fn has() where Conditions: Hash {} };
+const _: () = { fn has() where Conditions: Ord {} };
+const _: () = { fn has() where Conditions: PartialEq {} };
+const _: () = { fn has() where Conditions: PartialOrd {} };
+const _: () = { fn has() where Conditions: Send + Sync + Unpin {} };
+const _: () = { fn has() where ConditionsError: Clone {} };
+const _: () = { fn has() where ConditionsError: Copy {} };
+const _: () = { fn has() where ConditionsError: Debug {} };
+const _: () = { fn has() where ConditionsError: Display {} };
+const _: () = { fn has() where ConditionsError: Eq {} };
+const _: () = { fn has() where ConditionsError: Hash {} };
+const _: () = { fn has() where ConditionsError: PartialEq {} };
+const _: () = { fn has() where ConditionsError: Send + Sync + Unpin {} };
+const _: () = { fn has() where ConditionsError: std::error::Error {} };
+const _: () = { fn has() where Digits<'static>: Clone {} };
+const _: () = { fn has() where Digits<'static>: Debug {} };
+const _: () = { fn has() where Digits<'static>: DoubleEndedIterator {} };
+const _: () = { fn has() where Digits<'static>: FusedIterator {} };
+const _: () = { fn has() where Digits<'static>: Iterator {} };
+const _: () = { fn has() where Digits<'static>: Send + Sync + Unpin {} };
+const _: () = { fn has() where Edit: Clone {} };
+const _: () = { fn has() where Edit: Copy {} };
+const _: () = { fn has() where Edit: Debug {} };
+const _: () = { fn has() where Edit: Display {} };
+const _: () = { fn has() where Edit: Eq {} };
+const _: () = { fn has() where Edit: FromStr {} };
+const _: () = { fn has() where Edit: Hash {} };
+const _: () = { fn has() where Edit: Ord {} };
+const _: () = { fn has() where Edit: PartialEq {} };
+const _: () = { fn has() where Edit: PartialOrd {} };
+const _: () = { fn has() where Edit: Send + Sync + Unpin {} };
+const _: () = { fn has() where EditError: Clone {} };
+const _: () = { fn has() where EditError: Copy {} };
+const _: () = { fn has() where EditError: Debug {} };
+const _: () = { fn has() where EditError: Display {} };
+const _: () = { fn has() where EditError: Eq {} };
+const _: () = { fn has() where EditError: Hash {} };
+const _: () = { fn has() where EditError: PartialEq {} };
+const _: () = { fn has() where EditError: Send + Sync + Unpin {} };
+const _: () = { fn has() where EditError: std::error::Error {} };
+const _: () = { fn has() where EditErrorKind: Clone {} };
+const _: () = { fn has() where EditErrorKind: Copy {} };
+const _: () = { fn has() where EditErrorKind: Debug {} };
+const _: () = { fn has() where EditErrorKind: Eq {} };
+const _: () = { fn has() where EditErrorKind: Hash {} };
+const _: () = { fn has() where EditErrorKind: PartialEq {} };
+const _: () = { fn has() where EditErrorKind: Send + Sync + Unpin {} };
+const _: () = { fn has() where Error: Clone {} };
+const _: () = { fn has() where Error: Copy {} };
+const _: () = { fn has() where Error: Debug {} };
+const _: () = { fn has() where Error: Display {} };
+const _: () = { fn has() where Error: Eq {} };
+const _: () = { fn has() where Error: From<FormatError> {} };
+const _: () = { fn has() where Error: Hash {} };
+const _: () = { fn has() where Error: Ord {} };
+const _: () = { fn has() where Error: PartialEq {} };
+const _: () = { fn has() where Error: PartialOrd {} };
+const _: () = { fn has() where Error: Send + Sync + Unpin {} };
+const _: () = { fn has() where Error: std::error::Error {} };
+const _: () = { fn has() where Finding: Clone {} };
+const _: () = { fn has() where Finding: Copy {} };
+const _: () = { fn has() where Finding: Debug {} };
+const _: () = { fn has() where Finding: Display {} };
+const _: () = { fn has() where Finding: Eq {} };
+const _: () = { fn has() where Finding: Hash {} };
+const _: () = { fn has() where Finding: PartialEq {} };
+const _: () = { fn has() where Finding: Send + Sync + Unpin {} };
+const _: () = { fn has() where Finding: std::error::Error {} };
+const _: () = { fn has() where FindingKind: Clone {} };
+const _: () = { fn has() where FindingKind: Copy {} };
+const _: () = { fn has() where FindingKind: Debug {} };
+const _: () = { fn has() where FindingKind: Eq {} };
+const _: () = { fn has() where FindingKind: Hash {} };
+const _: () = { fn has() where FindingKind: PartialEq {} };
+const _: () = { fn has() where FindingKind: Send + Sync + Unpin {} };
+const _: () = { fn has() where FlagSetter: Clone {} };
+const _: () = { fn has() where FlagSetter: Copy {} };
+const _: () = { fn has() where FlagSetter: Debug {} };
+const _: () = { fn has() where FlagSetter: Display {} };
+const _: () = { fn has() where FlagSetter: Eq {} };
+const _: () = { fn has() where FlagSetter: FromStr {} };
+const _: () = { fn has() where FlagSetter: Hash {} };
+const _: () = { fn has() where FlagSetter: Ord {} };
+const _: () = { fn has() where FlagSetter: PartialEq {} };
+const _: () = { fn has() where FlagSetter: PartialOrd {} };
+const _: () = { fn has() where FlagSetter: Send + Sync + Unpin {} };
+const _: () = { fn has() where Form: Clone {} };
+const _: () = { fn has() where Form: Copy {} };
+const _: () = { fn has() where Form: Debug {} };
+const _: () = { fn has() where Form: Eq {} };
+const _: () = { fn has() where Form: Hash {} };
+const _: () = { fn has() where Form: PartialEq {} };
+const _: () = { fn has() where Form: Send + Sync + Unpin {} };
+const _: () = { fn has() where FormError: Clone {} };
+const _: () = { fn has() where FormError: Copy {} };
+const _: () = { fn has() where FormError: Debug {} };
+const _: () = { fn has() where FormError: Display {} };
+const _: () = { fn has() where FormError: Eq {} };
+const _: () = { fn has() where FormError: Hash {} };
+const _: () = { fn has() where FormError: PartialEq {} };
+const _: () = { fn has() where FormError: Send + Sync + Unpin {} };
+const _: () = { fn has() where FormError: std::error::Error {} };
+const _: () = { fn has() where Format: Clone {} };
+const _: () = { fn has() where Format: Copy {} };
+const _: () = { fn has() where Format: Debug {} };
+const _: () = { fn has() where Format: Default {} };
+const _: () = { fn has() where Format: Display {} };
+const _: () = { fn has() where Format: Eq {} };
+const _: () = { fn has() where Format: FromStr {} };
+const _: () = { fn has() where Format: Hash {} };
+const _: () = { fn has() where Format: LowerHex {} };
+const _: () = { fn has() where Format: Ord {} };
+const _: () = { fn has() where Format: PartialEq {} };
+const _: () = { fn has() where Format: PartialOrd {} };
+const _: () = { fn has() where Format: Send + Sync + Unpin {} };
+const _: () = { fn has() where Format: TryFrom<u128> {} };
+const _: () = { fn has() where Format: UpperHex {} };
+const _: () = { fn has() where FormatError: Clone {} };
+const _: () = { fn has() where FormatError: Copy {} };
+const _: () = { fn has() where FormatError: Debug {} };
+const _: () = { fn has() where FormatError: Display {} };
+const _: () = { fn has() where FormatError: Eq {} };
+const _: () = { fn has() where FormatError: From<ConditionsError> {} };
+const _: () = { fn has() where FormatError: Hash {} };
+const _: () = { fn has() where FormatError: PartialEq {} };
+const _: () = { fn has() where FormatError: Send + Sync + Unpin {} };
+const _: () = { fn has() where FormatError: std::error::Error {} };
+const _: () = { fn has() where FormatView: Clone {} };
+const _: () = { fn has() where FormatView: Copy {} };
+const _: () = { fn has() where FormatView: Debug {} };
+const _: () = { fn has() where FormatView: Default {} };
+const _: () = { fn has() where FormatView: Display {} };
+const _: () = { fn has() where FormatView: Eq {} };
+const _: () = { fn has() where FormatView: From<Format> {} };
+const _: () = { fn has() where FormatView: From<NumberFormat<STANDARD>> {} };
+const _: () = { fn has() where FormatView: From<u128> {} };
+const _: () = { fn has() where FormatView: FromStr {} };
+const _: () = { fn has() where FormatView: Hash {} };
+const _: () = { fn has() where FormatView: LowerHex {} };
+const _: () = { fn has() where FormatView: Ord {} };
+const _: () = { fn has() where FormatView: PartialEq {} };
+const _: () = { fn has() where FormatView: PartialOrd {} };
+const _: () = { fn has() where FormatView: Send + Sync + Unpin {} };
+const _: () = { fn has() where FormatView: UpperHex {} };
+const _: () = { fn has() where Language: Clone {} };
+const _: () = { fn has() where Language: Copy {} };
+const _: () = { fn has() where Language: Debug {} };
+const _: () = { fn has() where Language: Display {} };
+const _: () = { fn has() where Language: Eq {} };
+const _: () = { fn has() where Language: Hash {} };
+const _: () = { fn has() where Language: PartialEq {} };
+const _: () = { fn has() where Language: Send + Sync + Unpin {} };
+const _: () = { fn has() where LineError: Clone {} };
+const _: () = { fn has() where LineError: Copy {} };
+const _: () = { fn has() where LineError: Debug {} };
+const _: () = { fn has() where LineError: Display {} };
+const _: () = { fn has() where LineError: Eq {} };
+const _: () = { fn has() where LineError: Hash {} };
+const _: () = { fn has() where LineError: PartialEq {} };
+const _: () = { fn has() where LineError: Send + Sync + Unpin {} };
+const _: () = { fn has() where LineError: std::error::Error {} };
+const _: () = { fn has() where Literal<'static>: AsRef<[u8]> {} };
+const _: () = { fn has() where Literal<'static>: Clone {} };
+const _: () = { fn has() where Literal<'static>: Copy {} };
+const _: () = { fn has() where Literal<'static>: Debug {} };
+const _: () = { fn has() where Literal<'static>: Display {} };
+const _: () = { fn has() where Literal<'static>: Eq {} };
+const _: () = { fn has() where Literal<'static>: Hash {} };
+const _: () = { fn has() where Literal<'static>: PartialEq {} };
+const _: () = { fn has() where Literal<'static>: Send + Sync + Unpin {} };
+const _: () = { fn has() where NamedByte: Clone {} };
+const _: () = { fn has() where NamedByte: Copy {} };
+const _: () = { fn has() where NamedByte: Debug {} };
+const _: () = { fn has() where NamedByte: Eq {} };
+const _: () = { fn has() where NamedByte: Hash {} };
+const _: () = { fn has() where NamedByte: PartialEq {} };
+const _: () = { fn has() where NamedByte: Send + Sync + Unpin {} };
+const _: () = { fn has() where Note: Clone {} };
+const _: () = { fn has() where Note: Copy {} };
+const _: () = { fn has() where Note: Debug {} };
+const _: () = { fn has() where Note: Display {} };
+const _: () = { fn has() where Note: Eq {} };
+const _: () = { fn has() where Note: Hash {} };
+const _: () = { fn has() where Note: PartialEq {} };
+const _: () = { fn has() where Note: Send + Sync + Unpin {} };
+const _: () = { fn has() where Number<'static>: Clone {} };
+const _: () = { fn has() where Number<'static>: Copy {} };
+const _: () = { fn has() where Number<'static>: Debug {} };
+const _: () = { fn has() where Number<'static>: Eq {} };
+const _: () = { fn has() where Number<'static>: Hash {} };
+const _: () = { fn has() where Number<'static>: PartialEq {} };
+const _: () = { fn has() where Number<'static>: Send + Sync + Unpin {} };
+const _: () = { fn has() where NumberFormat<STANDARD>: Clone {} };
+const _: () = { fn has() where NumberFormat<STANDARD>: Copy {} };
+const _: () = { fn has() where NumberFormat<STANDARD>: Debug {} };
+const _: () = { fn has() where NumberFormat<STANDARD>: Default {} };
+const _: () = { fn has() where NumberFormat<STANDARD>: Eq {} };
+const _: () = { fn has() where NumberFormat<STANDARD>: Hash {} };
+const _: () = { fn has() where NumberFormat<STANDARD>: PartialEq {} };
+const _: () = { fn has() where NumberFormat<STANDARD>: Send + Sync + Unpin {} };
+const _: () = { fn has() where NumberFormatBuilder: Clone {} };
+const _: () = { fn has() where NumberFormatBuilder: Copy {} };
+const _: () = { fn has() where NumberFormatBuilder: Debug {} };
+const _: () = { fn has() where NumberFormatBuilder: Default {} };
+const _: () = { fn has() where NumberFormatBuilder: Eq {} };
+const _: () = { fn has() where NumberFormatBuilder: Extend<&'static Edit> {} };
+const _: () = { fn has() where NumberFormatBuilder: Extend<Edit> {} };
+const _: () = { fn has() where NumberFormatBuilder: From<Format> {} };
+const _: () = { fn has() where NumberFormatBuilder: FromIterator<&'static Edit> {} };
+const _: () = { fn has() where NumberFormatBuilder: FromIterator<Edit> {} };
+const _: () = { fn has() where NumberFormatBuilder: Hash {} };
+const _: () = { fn has() where NumberFormatBuilder: PartialEq {} };
+const _: () = { fn has() where NumberFormatBuilder: Send + Sync + Unpin {} };
+const _: () = { fn has() where OptionU8: Send + Sync + Unpin {} };
+const _: () = { fn has() where ParseError: Clone {} };
+const _: () = { fn has() where ParseError: Copy {} };
+const _: () = { fn has() where ParseError: Debug {} };
+const _: () = { fn has() where ParseError: Display {} };
+const _: () = { fn has() where ParseError: Eq {} };
+const _: () = { fn has() where ParseError: From<FormError> {} };
+const _: () = { fn has() where ParseError: From<ReadError> {} };
+const _: () = { fn has() where ParseError: From<ValueError> {} };
+const _: () = { fn has() where ParseError: Hash {} };
+const _: () = { fn has() where ParseError: PartialEq {} };
+const _: () = { fn has() where ParseError: Send + Sync + Unpin {} };
+const _: () = { fn has() where ParseError: std::error::Error {} };
+const _: () = { fn has() where Part: Clone {} };
+const _: () = { fn has() where Part: Copy {} };
+const _: () = { fn has() where Part: Debug {} };
+const _: () = { fn has() where Part: Display {} };
+const _: () = { fn has() where Part: Eq {} };
+const _: () = { fn has() where Part: Hash {} };
+const _: () = { fn has() where Part: PartialEq {} };
+const _: () = { fn has() where Part: Send + Sync + Unpin {} };
+const _: () = { fn has() where Place: Clone {} };
+const _: () = { fn has() where Place: Copy {} };
+const _: () = { fn has() where Place: Debug {} };
+const _: () = { fn has() where Place: Eq {} };
+const _: () = { fn has() where Place: Hash {} };
+const _: () = { fn has() where Place: PartialEq {} };
+const _: () = { fn has() where Place: Send + Sync + Unpin {} };
+const _: () = { fn has() where Radixes: Clone {} };
+const _: () = { fn has() where Radixes: Copy {} };
+const _: () = { fn has() where Radixes: Debug {} };
+const _: () = { fn has() where Radixes: Eq {} };
+const _: () = { fn has() where Radixes: Hash {} };
+const _: () = { fn has() where Radixes: PartialEq {} };
+const _: () = { fn has() where Radixes: Send + Sync + Unpin {} };
+const _: () = { fn has() where ReadError: Clone {} };
+const _: () = { fn has() where ReadError: Copy {} };
+const _: () = { fn has() where ReadError: Debug {} };
+const _: () = { fn has() where ReadError: Display {} };
+const _: () = { fn has() where ReadError: Eq {} };
+const _: () = { fn has() where ReadError: From<FormError> {} };
+const _: () = { fn has() where ReadError: Hash {} };
+const _: () = { fn has() where ReadError: PartialEq {} };
+const _: () = { fn has() where ReadError: Send + Sync + Unpin {} };
+const _: () = { fn has() where ReadError: std::error::Error {} };
+const _: () = { fn has() where ReadErrorKind: Clone {} };
+const _: () = { fn has() where ReadErrorKind: Copy {} };
+const _: () = { fn has() where ReadErrorKind: Debug {} };
+const _: () = { fn has() where ReadErrorKind: Eq {} };
+const _: () = { fn has() where ReadErrorKind: Hash {} };
+const _: () = { fn has() where ReadErrorKind: PartialEq {} };
+const _: () = { fn has() where ReadErrorKind: Send + Sync + Unpin {} };
+const _: () = { fn has() where Reader: Clone {} };
+const _: () = { fn has() where Reader: Debug {} };
+const _: () = { fn has() where Reader: Eq {} };
+const _: () = { fn has() where Reader: From<Syntax> {} };
+const _: () = { fn has() where Reader: PartialEq {} };
+const _: () = { fn has() where Reader: Send + Sync + Unpin {} };
+const _: () = { fn has() where Readers<'static>: Clone {} };
+const _: () = { fn has() where Readers<'static>: Copy {} };
+const _: () = { fn has() where Readers<'static>: Debug {} };
+const _: () = { fn has() where Readers<'static>: Eq {} };
+const _: () = { fn has() where Readers<'static>: PartialEq {} };
+const _: () = { fn has() where Readers<'static>: Send + Sync + Unpin {} };
+const _: () = { fn has() where Reason: Clone {} };
+const _: () = { fn has() where Reason: Copy {} };
+const _: () = { fn has() where Reason: Debug {} };
+const _: () = { fn has() where Reason: Display {} };
+const _: () = { fn has() where Reason: Eq {} };
+const _: () = { fn has() where Reason: Hash {} };
+const _: () = { fn has() where Reason: PartialEq {} };
+const _: () = { fn has() where Reason: Send + Sync + Unpin {} };
+const _: () = { fn has() where Reason: std::error::Error {} };
+const _: () = { fn has() where Role: Clone {} };
+const _: () = { fn has() where Role: Copy {} };
+const _: () = { fn has() where Role: Debug {} };
+const _: () = { fn has() where Role: Display {} };
+const _: () = { fn has() where Role: Eq {} };
+const _: () = { fn has() where Role: Hash {} };
+const _: () = { fn has() where Role: PartialEq {} };
+const _: () = { fn has() where Role: Send + Sync + Unpin {} };
+const _: () = { fn has() where Rule: Clone {} };
+const _: () = { fn has() where Rule: Copy {} };
+const _: () = { fn has() where Rule: Debug {} };
+const _: () = { fn has() where Rule: Display {} };
+const _: () = { fn has() where Rule: Eq {} };
+const _: () = { fn has() where Rule: Hash {} };
+const _: () = { fn has() where Rule: Ord {} };
+const _: () = { fn has() where Rule: PartialEq {} };
+const _: () = { fn has() where Rule: PartialOrd {} };
+const _: () = { fn has() where Rule: Send + Sync + Unpin {} };
+const _: () = { fn has() where Separators: Clone {} };
+const _: () = { fn has() where Separators: Copy {} };
+const _: () = { fn has() where Separators: Debug {} };
+const _: () = { fn has() where Separators: Eq {} };
+const _: () = { fn has() where Separators: Hash {} };
+const _: () = { fn has() where Separators: PartialEq {} };
+const _: () = { fn has() where Separators: Send + Sync + Unpin {} };
+const _: () = { fn has() where Setter: Clone {} };
+const _: () = { fn has() where Setter: Copy {} };
+const _: () = { fn has() where Setter: Debug {} };
+const _: () = { fn has() where Setter: Eq {} };
+const _: () = { fn has() where Setter: Hash {} };
+const _: () = { fn has() where Setter: Ord {} };
+const _: () = { fn has() where Setter: PartialEq {} };
+const _: () = { fn has() where Setter: PartialOrd {} };
+const _: () = { fn has() where Setter: Send + Sync + Unpin {} };
+const _: () = { fn has() where Settings: Clone {} };
+const _: () = { fn has() where Settings: Debug {} };
+const _: () = { fn has() where Settings: Default {} };
+const _: () = { fn has() where Settings: Eq {} };
+const _: () = { fn has() where Settings: Hash {} };
+const _: () = { fn has() where Settings: PartialEq {} };
+const _: () = { fn has() where Settings: Send + Sync + Unpin {} };
+const _: () = { fn has() where ShortText: Clone {} };
+const _: () = { fn has() where ShortText: Copy {} };
+const _: () = { fn has() where ShortText: Debug {} };
+const _: () = { fn has() where ShortText: Display {} };
+const _: () = { fn has() where ShortText: Send + Sync + Unpin {} };
+const _: () = { fn has() where Sign: Clone {} };
+const _: () = { fn has() where Sign: Copy {} };
+const _: () = { fn has() where Sign: Debug {} };
+const _: () = { fn has() where Sign: Eq {} };
+const _: () = { fn has() where Sign: Hash {} };
+const _: () = { fn has() where Sign: PartialEq {} };
+const _: () = { fn has() where Sign: Send + Sync + Unpin {} };
+const _: () = { fn has() where Special: Clone {} };
+const _: () = { fn has() where Special: Copy {} };
+const _: () = { fn has() where Special: Debug {} };
+const _: () = { fn has() where Special: Eq {} };
+const _: () = { fn has() where Special: Hash {} };
+const _: () = { fn has() where Special: PartialEq {} };
+const _: () = { fn has() where Special: Send + Sync + Unpin {} };
+const _: () = { fn has() where Specials<'static>: Clone {} };
+const _: () = { fn has() where Specials<'static>: Copy {} };
+const _: () = { fn has() where Specials<'static>: Debug {} };
+const _: () = { fn has() where Specials<'static>: Default {} };
+const _: () = { fn has() where Specials<'static>: Eq {} };
+const _: () = { fn has() where Specials<'static>: Hash {} };
+const _: () = { fn has() where Specials<'static>: PartialEq {} };
+const _: () = { fn has() where Specials<'static>: Send + Sync + Unpin {} };
+const _: () = { fn has() where Spelling: Clone {} };
+const _: () = { fn has() where Spelling: Copy {} };
+const _: () = { fn has() where Spelling: Debug {} };
+const _: () = { fn has() where Spelling: Eq {} };
+const _: () = { fn has() where Spelling: Hash {} };
+const _: () = { fn has() where Spelling: PartialEq {} };
+const _: () = { fn has() where Spelling: Send + Sync + Unpin {} };
+const _: () = { fn has() where Style: Clone {} };
+const _: () = { fn has() where Style: Copy {} };
+const _: () = { fn has() where Style: Debug {} };
+const _: () = { fn has() where Style: Default {} };
+const _: () = { fn has() where Style: Eq {} };
+const _: () = { fn has() where Style: Hash {} };
+const _: () = { fn has() where Style: PartialEq {} };
+const _: () = { fn has() where Style: Send + Sync + Unpin {} };
+const _: () = { fn has() where Syntax: Clone {} };
+const _: () = { fn has() where Syntax: Copy {} };
+const _: () = { fn has() where Syntax: Debug {} };
+const _: () = { fn has() where Syntax: Display {} };
+const _: () = { fn has() where Syntax: Eq {} };
+const _: () = { fn has() where Syntax: FromStr {} };
+const _: () = { fn has() where Syntax: Hash {} };
+const _: () = { fn has() where Syntax: Ord {} };
+const _: () = { fn has() where Syntax: PartialEq {} };
+const _: () = { fn has() where Syntax: PartialOrd {} };
+const _: () = { fn has() where Syntax: Send + Sync + Unpin {} };
+const _: () = { fn has() where ValueError: Clone {} };
+const _: () = { fn has() where ValueError: Copy {} };
+const _: () = { fn has() where ValueError: Debug {} };
+const _: () = { fn has() where ValueError: Display {} };
+const _: () = { fn has() where ValueError: Eq {} };
+const _: () = { fn has() where ValueError: Hash {} };
+const _: () = { fn has() where ValueError: PartialEq {} };
+const _: () = { fn has() where ValueError: Send + Sync + Unpin {} };
+const _: () = { fn has() where ValueError: std::error::Error {} };
+const _: () = { fn has() where ValueErrorKind: Clone {} };
+const _: () = { fn has() where ValueErrorKind: Copy {} };
+const _: () = { fn has() where ValueErrorKind: Debug {} };
+const _: () = { fn has() where ValueErrorKind: Eq {} };
+const _: () = { fn has() where ValueErrorKind: Hash {} };
+const _: () = { fn has() where ValueErrorKind: PartialEq {} };
+const _: () = { fn has() where ValueErrorKind: Send + Sync + Unpin {} };
+const _: () = { fn has() where WriteError: Clone {} };
+const _: () = { fn has() where WriteError: Copy {} };
+const _: () = { fn has() where WriteError: Debug {} };
+const _: () = { fn has() where WriteError: Display {} };
+const _: () = { fn has() where WriteError: Eq {} };
+const _: () = { fn has() where WriteError: Hash {} };
+const _: () = { fn has() where WriteError: PartialEq {} };
+const _: () = { fn has() where WriteError: Send + Sync + Unpin {} };
+const _: () = { fn has() where WriteError: std::error::Error {} };
+const _: () = { fn has() where Written<'static>: Clone {} };
+const _: () = { fn has() where Written<'static>: Copy {} };
+const _: () = { fn has() where Written<'static>: Debug {} };
+const _: () = { fn has() where Written<'static>: Display {} };
+const _: () = { fn has() where Written<'static>: Send + Sync + Unpin {} };
+const _: () = { fn has() where f32: FromLiteral {} };
+const _: () = { fn has() where f32: TryFrom<Literal<'static>> {} };
+const _: () = { fn has() where f32: TryFrom<Number<'static>> {} };
+const _: () = { fn has() where f64: FromLiteral {} };
+const _: () = { fn has() where f64: TryFrom<Literal<'static>> {} };
+const _: () = { fn has() where f64: TryFrom<Number<'static>> {} };
+const _: () = { fn has() where i128: FromLiteral {} };
+const _: () = { fn has() where i128: TryFrom<Literal<'static>> {} };
+const _: () = { fn has() where i128: TryFrom<Number<'static>> {} };
+const _: () = { fn has() where i16: FromLiteral {} };
+const _: () = { fn has() where i16: TryFrom<Literal<'static>> {} };
+const _: () = { fn has() where i16: TryFrom<Number<'static>> {} };
+const _: () = { fn has() where i32: FromLiteral {} };
+const _: () = { fn has() where i32: TryFrom<Literal<'static>> {} };
+const _: () = { fn has() where i32: TryFrom<Number<'static>> {} };
+const _: () = { fn has() where i64: FromLiteral {} };
+const _: () = { fn has() where i64: TryFrom<Literal<'static>> {} };
+const _: () = { fn has() where i64: TryFrom<Number<'static>> {} };
+const _: () = { fn has() where i8: FromLiteral {} };
+const _: () = { fn has() where i8: TryFrom<Literal<'static>> {} };
+const _: () = { fn has() where i8: TryFrom<Number<'static>> {} };
+const _: () = { fn has() where isize: FromLiteral {} };
+const _: () = { fn has() where isize: TryFrom<Literal<'static>> {} };
+const _: () = { fn has() where isize: TryFrom<Number<'static>> {} };
+const _: () = { fn has() where u128: From<Format> {} };
+const _: () = { fn has() where u128: From<FormatView> {} };
+const _: () = { fn has() where u128: FromLiteral {} };
+const _: () = { fn has() where u128: TryFrom<Literal<'static>> {} };
+const _: () = { fn has() where u128: TryFrom<Number<'static>> {} };
+const _: () = { fn has() where u16: FromLiteral {} };
+const _: () = { fn has() where u16: TryFrom<Literal<'static>> {} };
+const _: () = { fn has() where u16: TryFrom<Number<'static>> {} };
+const _: () = { fn has() where u32: FromLiteral {} };
+const _: () = { fn has() where u32: TryFrom<Literal<'static>> {} };
+const _: () = { fn has() where u32: TryFrom<Number<'static>> {} };
+const _: () = { fn has() where u64: FromLiteral {} };
+const _: () = { fn has() where u64: TryFrom<Literal<'static>> {} };
+const _: () = { fn has() where u64: TryFrom<Number<'static>> {} };
+const _: () = { fn has() where u8: FromLiteral {} };
+const _: () = { fn has() where u8: TryFrom<Literal<'static>> {} };
+const _: () = { fn has() where u8: TryFrom<Number<'static>> {} };
+const _: () = { fn has() where usize: FromLiteral {} };
+const _: () = { fn has() where usize: TryFrom<Literal<'static>> {} };
+const _: () = { fn has() where usize: TryFrom<Number<'static>> {} };
+const _: ArgumentKind = <ArgumentKind>::Flag;
+const _: ArgumentKind = <ArgumentKind>::Number;
+const _: ArgumentKind = <ArgumentKind>::OptionalCharacter;
+const _: ArgumentKind = <ArgumentKind>::OptionalNumber;
+const _: Byte = <Byte>::BasePrefix;
+const _: Byte = <Byte>::BaseSuffix;
+const _: Byte = <Byte>::DecimalPoint;
+const _: Byte = <Byte>::DigitSeparator;
+const _: Byte = <Byte>::ExponentBase;
+const _: Byte = <Byte>::ExponentCharacter;
+const _: Byte = <Byte>::ExponentRadix;
+const _: Byte = <Byte>::MantissaRadix;
+const _: Class = <Class>::Format;
+const _: Class = <Class>::Options;
+const _: Class = <Class>::Parse;
+const _: Class = <Class>::Success;
+const _: Conditions = <Conditions>::NONE;
+const _: ConditionsError = <ConditionsError>::GroupSize;
+const _: ConditionsError = <ConditionsError>::NoBasePrefix;
+const _: ConditionsError = <ConditionsError>::NoBaseSuffix;
+const _: ConditionsError = <ConditionsError>::NoInternalSeparator;
+const _: EditErrorKind = <EditErrorKind>::BadValue;
+const _: EditErrorKind = <EditErrorKind>::NoEquals;
+const _: EditErrorKind = <EditErrorKind>::UnknownName;
+const _: Error = <Error>::InfStringTooLong;
+const _: Error = <Error>::InfinityStringTooLong;
+const _: Error = <Error>::InfinityStringTooShort;
+const _: Error = <Error>::InvalidBasePrefix;
+const _: Error = <Error>::InvalidBaseSuffix;
+const _: Error = <Error>::InvalidConsecutiveExponentDigitSeparator;
+const _: Error = <Error>::InvalidConsecutiveFractionDigitSeparator;
+const _: Error = <Error>::InvalidConsecutiveIntegerDigitSeparator;
+const _: Error = <Error>::InvalidDecimalPoint;
+const _: Error = <Error>::InvalidDigitSeparator;
+const _: Error = <Error>::InvalidExponentBase;
+const _: Error = <Error>::InvalidExponentFlags;
+const _: Error = <Error>::InvalidExponentRadix;
+const _: Error = <Error>::InvalidExponentSign;
+const _: Error = <Error>::InvalidExponentSymbol;
+const _: Error = <Error>::InvalidFlags;
+const _: Error = <Error>::InvalidFloatParseAlgorithm;
+const _: Error = <Error>::InvalidFloatPrecision;
+const _: Error = <Error>::InvalidInfString;
+const _: Error = <Error>::InvalidInfinityString;
+const _: Error = <Error>::InvalidMantissaRadix;
+const _: Error = <Error>::InvalidMantissaSign;
+const _: Error = <Error>::InvalidNanString;
+const _: Error = <Error>::InvalidNegativeExponentBreak;
+const _: Error = <Error>::InvalidPositiveExponentBreak;
+const _: Error = <Error>::InvalidPunctuation;
+const _: Error = <Error>::InvalidRadix;
+const _: Error = <Error>::InvalidSpecial;
+const _: Error = <Error>::NanStringTooLong;
+const _: Error = <Error>::Success;
+const _: FlagSetter = <FlagSetter>::CaseSensitiveBasePrefix;
+const _: FlagSetter = <FlagSetter>::CaseSensitiveBaseSuffix;
+const _: FlagSetter = <FlagSetter>::CaseSensitiveExponent;
+const _: FlagSetter = <FlagSetter>::CaseSensitiveSpecial;
+const _: FlagSetter = <FlagSetter>::ConsecutiveDigitSeparator;
+const _: FlagSetter = <FlagSetter>::DigitSeparatorFlags;
+const _: FlagSetter = <FlagSetter>::ExponentConsecutiveDigitSeparator;
+const _: FlagSetter = <FlagSetter>::ExponentDigitSeparatorFlags;
+const _: FlagSetter = <FlagSetter>::ExponentInternalDigitSeparator;
+const _: FlagSetter = <FlagSetter>::ExponentLeadingDigitSeparator;
+const _: FlagSetter = <FlagSetter>::ExponentTrailingDigitSeparator;
+const _: FlagSetter = <FlagSetter>::FractionConsecutiveDigitSeparator;
+const _: FlagSetter = <FlagSetter>::FractionDigitSeparatorFlags;
+const _: FlagSetter = <FlagSetter>::FractionInternalDigitSeparator;
+const _: FlagSetter = <FlagSetter>::FractionLeadingDigitSeparator;
+const _: FlagSetter = <FlagSetter>::FractionTrailingDigitSeparator;
+const _: FlagSetter = <FlagSetter>::IntegerConsecutiveDigitSeparator;
+const _: FlagSetter = <FlagSetter>::IntegerDigitSeparatorFlags;
+const _: FlagSetter = <FlagSetter>::IntegerInternalDigitSeparator;
+const _: FlagSetter = <FlagSetter>::IntegerLeadingDigitSeparator;
+const _: FlagSetter = <FlagSetter>::IntegerTrailingDigitSeparator;
+const _: FlagSetter = <FlagSetter>::InternalDigitSeparator;
+const _: FlagSetter = <FlagSetter>::LeadingDigitSeparator;
+const _: FlagSetter = <FlagSetter>::NoExponentNotation;
+const _: FlagSetter = <FlagSetter>::NoExponentWithoutFraction;
+const _: FlagSetter = <FlagSetter>::NoFloatLeadingZeros;
+const _: FlagSetter = <FlagSetter>::NoIntegerLeadingZeros;
+const _: FlagSetter = <FlagSetter>::NoPositiveExponentSign;
+const _: FlagSetter = <FlagSetter>::NoPositiveMantissaSign;
+const _: FlagSetter = <FlagSetter>::NoSpecial;
+const _: FlagSetter = <FlagSetter>::RequiredDigits;
+const _: FlagSetter = <FlagSetter>::RequiredExponentDigits;
+const _: FlagSetter = <FlagSetter>::RequiredExponentNotation;
+const _: FlagSetter = <FlagSetter>::RequiredExponentSign;
+const _: FlagSetter = <FlagSetter>::RequiredFractionDigits;
+const _: FlagSetter = <FlagSetter>::RequiredIntegerDigits;
+const _: FlagSetter = <FlagSetter>::RequiredMantissaDigits;
+const _: FlagSetter = <FlagSetter>::RequiredMantissaSign;
+const _: FlagSetter = <FlagSetter>::SpecialDigitSeparator;
+const _: FlagSetter = <FlagSetter>::TrailingDigitSeparator;
+const _: Language = <Language>::ADA;
+const _: Language = <Language>::C;
+const _: Language = <Language>::CSV_DE;
+const _: Language = <Language>::CSV_EN;
+const _: Language = <Language>::C_PLUS_PLUS;
+const _: Language = <Language>::C_SHARP;
+const _: Language = <Language>::FORTRAN;
+const _: Language = <Language>::GO;
+const _: Language = <Language>::HASKELL;
+const _: Language = <Language>::JAVA;
+const _: Language = <Language>::JAVASCRIPT;
+const _: Language = <Language>::JSON;
+const _: Language = <Language>::JULIA;
+const _: Language = <Language>::KOTLIN;
+const _: Language = <Language>::NASM;
+const _: Language = <Language>::OCAML;
+const _: Language = <Language>::PYTHON;
+const _: Language = <Language>::RUBY;
+const _: Language = <Language>::RUST;
+const _: Language = <Language>::SQL;
+const _: Language = <Language>::SWIFT;
+const _: Language = <Language>::TOML;
+const _: Language = <Language>::YAML;
+const _: Note = <Note>::FlagsWithoutSeparator;
+const _: OptionU8 = <OptionU8>::None;
+const _: Part = <Part>::Exponent;
+const _: Part = <Part>::Fraction;
+const _: Part = <Part>::Integer;
+const _: Place = <Place>::AfterDigit;
+const _: Place = <Place>::BeforeDigits;
+const _: Place = <Place>::Consecutive;
+const _: ReadErrorKind = <ReadErrorKind>::Byte;
+const _: ReadErrorKind = <ReadErrorKind>::Case;
+const _: ReadErrorKind = <ReadErrorKind>::Requirement;
+const _: Role = <Role>::Digit;
+const _: Role = <Role>::Exponent;
+const _: Role = <Role>::Point;
+const _: Role = <Role>::Prefix;
+const _: Role = <Role>::Separator;
+const _: Role = <Role>::Sign;
+const _: Role = <Role>::Suffix;
+const _: Rule = <Rule>::BasePrefixIsPunctuation;
+const _: Rule = <Rule>::BaseSuffixIsPunctuation;
+const _: Rule = <Rule>::DigitSeparatorIsPunctuation;
+const _: Rule = <Rule>::ExponentBaseInRange;
+const _: Rule = <Rule>::ExponentConsecutiveIsAllowed;
+const _: Rule = <Rule>::ExponentFlagsAgree;
+const _: Rule = <Rule>::ExponentRadixInRange;
+const _: Rule = <Rule>::ExponentSignFlagsAgree;
+const _: Rule = <Rule>::FractionConsecutiveIsAllowed;
+const _: Rule = <Rule>::IntegerConsecutiveIsAllowed;
+const _: Rule = <Rule>::MantissaRadixInRange;
+const _: Rule = <Rule>::MantissaSignFlagsAgree;
+const _: Rule = <Rule>::PunctuationDiffers;
+const _: Rule = <Rule>::ReservedBitsAreZero;
+const _: Rule = <Rule>::SpecialCaseFlagsAgree;
+const _: Rule = <Rule>::SpecialSeparatorFlagsAgree;
+const _: Setter = <Setter>::BasePrefix;
+const _: Setter = <Setter>::BaseSuffix;
+const _: Setter = <Setter>::DigitSeparator;
+const _: Setter = <Setter>::ExponentBase;
+const _: Setter = <Setter>::ExponentRadix;
+const _: Setter = <Setter>::MantissaRadix;
+const _: Setter = <Setter>::Radix;
+const _: Sign = <Sign>::Minus;
+const _: Sign = <Sign>::Plus;
+const _: Spelling = <Spelling>::Inf;
+const _: Spelling = <Spelling>::Infinity;
+const _: Spelling = <Spelling>::Nan;
+const _: Style = <Style>::PLAIN;
+const _: ValueErrorKind = <ValueErrorKind>::Float;
+const _: ValueErrorKind = <ValueErrorKind>::Special;
+const _: ValueErrorKind = <ValueErrorKind>::TooLarge;
+const _: ValueErrorKind = <ValueErrorKind>::TooSmall;
+const _: ValueErrorKind = <ValueErrorKind>::UnsupportedRadix;
+const _: WriteError = <WriteError>::Exponent;
+const _: WriteError = <WriteError>::Float;
+const _: WriteError = <WriteError>::Fraction;
+const _: WriteError = <WriteError>::Negative;
+const _: WriteError = <WriteError>::Radix;
+const _: WriteError = <WriteError>::Special;
+const _: bool = <NumberFormat<STANDARD>>::CASE_SENSITIVE_BASE_PREFIX;
+const _: bool = <NumberFormat<STANDARD>>::CASE_SENSITIVE_BASE_SUFFIX;
+const _: bool = <NumberFormat<STANDARD>>::CASE_SENSITIVE_EXPONENT;
+const _: bool = <NumberFormat<STANDARD>>::CASE_SENSITIVE_SPECIAL;
+const _: bool = <NumberFormat<STANDARD>>::CONSECUTIVE_DIGIT_SEPARATOR;
+const _: bool = <NumberFormat<STANDARD>>::EXPONENT_CONSECUTIVE_DIGIT_SEPARATOR;
+const _: bool = <NumberFormat<STANDARD>>::EXPONENT_INTERNAL_DIGIT_SEPARATOR;
+const _: bool = <NumberFormat<STANDARD>>::EXPONENT_LEADING_DIGIT_SEPARATOR;
+const _: bool = <NumberFormat<STANDARD>>::EXPONENT_TRAILING_DIGIT_SEPARATOR;
+const _: bool = <NumberFormat<STANDARD>>::FRACTION_CONSECUTIVE_DIGIT_SEPARATOR;
+const _: bool = <NumberFormat<STANDARD>>::FRACTION_INTERNAL_DIGIT_SEPARATOR;
+const _: bool = <NumberFormat<STANDARD>>::FRACTION_LEADING_DIGIT_SEPARATOR;
+const _: bool = <NumberFormat<STANDARD>>::FRACTION_TRAILING_DIGIT_SEPARATOR;
+const _: bool = <NumberFormat<STANDARD>>::INTEGER_CONSECUTIVE_DIGIT_SEPARATOR;
+const _: bool = <NumberFormat<STANDARD>>::INTEGER_INTERNAL_DIGIT_SEPARATOR;
+const _: bool = <NumberFormat<STANDARD>>::INTEGER_LEADING_DIGIT_SEPARATOR;
+const _: bool = <NumberFormat<STANDARD>>::INTEGER_TRAILING_DIGIT_SEPARATOR;
+const _: bool = <NumberFormat<STANDARD>>::INTERNAL_DIGIT_SEPARATOR;
+const _: bool = <NumberFormat<STANDARD>>::LEADING_DIGIT_SEPARATOR;
+const _: bool = <NumberFormat<STANDARD>>::NO_EXPONENT_NOTATION;
+const _: bool = <NumberFormat<STANDARD>>::NO_EXPONENT_WITHOUT_FRACTION;
+const _: bool = <NumberFormat<STANDARD>>::NO_FLOAT_LEADING_ZEROS;
+const _: bool = <NumberFormat<STANDARD>>::NO_INTEGER_LEADING_ZEROS;
+const _: bool = <NumberFormat<STANDARD>>::NO_POSITIVE_EXPONENT_SIGN;
+const _: bool = <NumberFormat<STANDARD>>::NO_POSITIVE_MANTISSA_SIGN;
+const _: bool = <NumberFormat<STANDARD>>::NO_SPECIAL;
+const _: bool = <NumberFormat<STANDARD>>::REQUIRED_DIGITS;
+const _: bool = <NumberFormat<STANDARD>>::REQUIRED_EXPONENT_DIGITS;
+const _: bool = <NumberFormat<STANDARD>>::REQUIRED_EXPONENT_NOTATION;
+const _: bool = <NumberFormat<STANDARD>>::REQUIRED_EXPONENT_SIGN;
+const _: bool = <NumberFormat<STANDARD>>::REQUIRED_FRACTION_DIGITS;
+const _: bool = <NumberFormat<STANDARD>>::REQUIRED_INTEGER_DIGITS;
+const _: bool = <NumberFormat<STANDARD>>::REQUIRED_MANTISSA_DIGITS;
+const _: bool = <NumberFormat<STANDARD>>::REQUIRED_MANTISSA_SIGN;
+const _: bool = <NumberFormat<STANDARD>>::SPECIAL_DIGIT_SEPARATOR;
+const _: bool = <NumberFormat<STANDARD>>::TRAILING_DIGIT_SEPARATOR;
+const _: fn(&'static BuilderExpression) -> &'static u128 = |it| &it.0;
+const _: fn(&'static Conditions) -> &'static Option<u8> = |it| &it.integer_group_size;
+const _: fn(&'static Conditions) -> &'static bool = |it| &it.no_negative_mantissa_sign;
+const _: fn(&'static Conditions) -> &'static bool = |it| &it.required_base_prefix;
+const _: fn(&'static Conditions) -> &'static bool = |it| &it.required_base_suffix;
+const _: fn(&'static Form) -> &'static &'static str = |it| &it.name;
+const _: fn(&'static Form) -> &'static Syntax = |it| &it.syntax;
+const _: fn(&'static FormError) -> &'static ReadError = |it| &it.error;
+const _: fn(&'static FormError) -> &'static usize = |it| &it.form;
+const _: fn(&'static NamedByte) -> &'static Byte = |it| &it.name;
+const _: fn(&'static NamedByte) -> &'static u8 = |it| &it.value;
+const _: fn(&'static Separators) -> &'static bool = |it| &it.consecutive;
+const _: fn(&'static Separators) -> &'static bool = |it| &it.internal;
+const _: fn(&'static Separators) -> &'static bool = |it| &it.leading;
+const _: fn(&'static Separators) -> &'static bool = |it| &it.trailing;
+const _: fn(&'static Special) -> &'static Option<Sign> = |it| &it.sign;
+const _: fn(&'static Special) -> &'static Spelling = |it| &it.spelling;
+const _: fn(&'static Specials<'static>) -> &'static Option<&'static [u8]> = |it| &it.inf;
+const _: fn(&'static Specials<'static>) -> &'static Option<&'static [u8]> = |it| &it.infinity;
+const _: fn(&'static Specials<'static>) -> &'static Option<&'static [u8]> = |it| &it.nan;
+const _: fn(&'static Style) -> &'static bool = |it| &it.prefix;
+const _: fn(&'static Style) -> &'static bool = |it| &it.suffix;
+const _: fn(&'static Style) -> &'static usize = |it| &it.group;
+const _: fn(&'static str) -> FindingKind = <FindingKind>::Overridden;
+const _: fn(<Digits<'static> as Iterator>::Item) -> u8 = |it| it;
+const _: fn(<Edit as FromStr>::Err) -> EditError = |it| it;
+const _: fn(<FlagSetter as FromStr>::Err) -> EditError = |it| it;
+const _: fn(<Format as FromStr>::Err) -> FormatError = |it| it;
+const _: fn(<Format as TryFrom<u128>>::Error) -> FormatError = |it| it;
+const _: fn(<FormatView as FromStr>::Err) -> Error = |it| it;
+const _: fn(<Syntax as FromStr>::Err) -> FormatError = |it| it;
+const _: fn(<f32 as TryFrom<Literal<'static>>>::Error) -> ValueError = |it| it;
+const _: fn(<f32 as TryFrom<Number<'static>>>::Error) -> ValueError = |it| it;
+const _: fn(<f64 as TryFrom<Literal<'static>>>::Error) -> ValueError = |it| it;
+const _: fn(<f64 as TryFrom<Number<'static>>>::Error) -> ValueError = |it| it;
+const _: fn(<i128 as TryFrom<Literal<'static>>>::Error) -> ValueError = |it| it;
+const _: fn(<i128 as TryFrom<Number<'static>>>::Error) -> ValueError = |it| it;
+const _: fn(<i16 as TryFrom<Literal<'static>>>::Error) -> ValueError = |it| it;
+const _: fn(<i16 as TryFrom<Number<'static>>>::Error) -> ValueError = |it| it;
+const _: fn(<i32 as TryFrom<Literal<'static>>>::Error) -> ValueError = |it| it;
+const _: fn(<i32 as TryFrom<Number<'static>>>::Error) -> ValueError = |it| it;
+const _: fn(<i64 as TryFrom<Literal<'static>>>::Error) -> ValueError = |it| it;
+const _: fn(<i64 as TryFrom<Number<'static>>>::Error) -> ValueError = |it| it;
+const _: fn(<i8 as TryFrom<Literal<'static>>>::Error) -> ValueError = |it| it;
+const _: fn(<i8 as TryFrom<Number<'static>>>::Error) -> ValueError = |it| it;
+const _: fn(<isize as TryFrom<Literal<'static>>>::Error) -> ValueError = |it| it;
+const _: fn(<isize as TryFrom<Number<'static>>>::Error) -> ValueError = |it| it;
+const _: fn(<u128 as TryFrom<Literal<'static>>>::Error) -> ValueError = |it| it;
+const _: fn(<u128 as TryFrom<Number<'static>>>::Error) -> ValueError = |it| it;
+const _: fn(<u16 as TryFrom<Literal<'static>>>::Error) -> ValueError = |it| it;
+const _: fn(<u16 as TryFrom<Number<'static>>>::Error) -> ValueError = |it| it;
+const _: fn(<u32 as TryFrom<Literal<'static>>>::Error) -> ValueError = |it| it;
+const _: fn(<u32 as TryFrom<Number<'static>>>::Error) -> ValueError = |it| it;
+const _: fn(<u64 as TryFrom<Literal<'static>>>::Error) -> ValueError = |it| it;
+const _: fn(<u64 as TryFrom<Number<'static>>>::Error) -> ValueError = |it| it;
+const _: fn(<u8 as TryFrom<Literal<'static>>>::Error) -> ValueError = |it| it;
+const _: fn(<u8 as TryFrom<Number<'static>>>::Error) -> ValueError = |it| it;
+const _: fn(<usize as TryFrom<Literal<'static>>>::Error) -> ValueError = |it| it;
+const _: fn(<usize as TryFrom<Number<'static>>>::Error) -> ValueError = |it| it;
+const _: fn(BuilderExpression) = |it| { let BuilderExpression { 0: _ } = it; };
+const _: fn(Cause) -> Option<NamedByte> = |it| match it { Cause::DifferInCase { first, .. } => Some(first), _ => None };
+const _: fn(Cause) -> Option<NamedByte> = |it| match it { Cause::DifferInCase { second, .. } => Some(second), _ => None };
+const _: fn(Cause) -> Option<Option<FlagSetter>> = |it| match it { Cause::DifferInCase { first_flag, .. } => Some(first_flag), _ => None };
+const _: fn(Cause) -> Option<Option<FlagSetter>> = |it| match it { Cause::DifferInCase { second_flag, .. } => Some(second_flag), _ => None };
+const _: fn(ConditionsError) -> FindingKind = <FindingKind>::Conditions;
+const _: fn(FlagSetter) -> Setter = <Setter>::Flag;
+const _: fn(FlagSetter, Byte) -> Note = <Note>::CaseFlagWithoutByte;
+const _: fn(FlagSetter, FlagSetter) -> Cause = <Cause>::BothSet;
+const _: fn(FlagSetter, NamedByte) -> Note = <Note>::CaseFlagOfNonLetter;
+const _: fn(FlagSetter, bool) -> Edit = <Edit>::Flag;
+const _: fn(NamedByte) -> Cause = <Cause>::IsSign;
+const _: fn(NamedByte) -> Cause = <Cause>::NotText;
+const _: fn(NamedByte) -> Cause = <Cause>::OutOfRange;
+const _: fn(NamedByte) -> Note = <Note>::SeparatorWithoutFlag;
+const _: fn(NamedByte, NamedByte) -> Cause = <Cause>::Same;
+const _: fn(NamedByte, Radixes) -> Cause = <Cause>::IsDigit;
+const _: fn(NonZero<u8>) -> OptionU8 = <OptionU8>::Some;
+const _: fn(Note) -> FindingKind = <FindingKind>::Note;
+const _: fn(Number<'static>) -> Option<Literal<'static>> = |it| match it { Number::Literal { literal, .. } => Some(literal), _ => None };
+const _: fn(Number<'static>) -> Option<usize> = |it| match it { Number::Literal { form, .. } => Some(form), _ => None };
+const _: fn(Number<'static>) = |it| match it { Number::Literal { .. } | Number::Special { .. } => () };
+const _: fn(OptionU8) -> Edit = <Edit>::BasePrefix;
+const _: fn(OptionU8) -> Edit = <Edit>::BaseSuffix;
+const _: fn(OptionU8) -> Edit = <Edit>::DigitSeparator;
+const _: fn(OptionU8) -> Edit = <Edit>::ExponentBase;
+const _: fn(OptionU8) -> Edit = <Edit>::ExponentRadix;
+const _: fn(OptionU8) = |it| match it { OptionU8::None { .. } | OptionU8::Some { .. } => () };
+const _: fn(ParseError) = |it| match it { ParseError::Read { .. } | ParseError::Value { .. } => () };
+const _: fn(Part) -> Cause = <Cause>::NeedsPosition;
+const _: fn(Part) -> ReadErrorKind = <ReadErrorKind>::Missing;
+const _: fn(Part, Place) -> ReadErrorKind = <ReadErrorKind>::Separator;
+const _: fn(Radixes) -> Option<u8> = |it| match it { Radixes::Both { exponent, .. } => Some(exponent), _ => None };
+const _: fn(Radixes) -> Option<u8> = |it| match it { Radixes::Both { mantissa, .. } => Some(mantissa), _ => None };
+const _: fn(ReadError) -> ParseError = <ParseError>::Read;
+const _: fn(Reason) -> FindingKind = <FindingKind>::Reason;
+const _: fn(Sign) = |it| match it { Sign::Plus { .. } | Sign::Minus { .. } => () };
+const _: fn(Special) -> Number<'static> = <Number<'static>>::Special;
+const _: fn(Special) = |it| { let Special { sign: _, spelling: _ } = it; };
+const _: fn(Specials<'static>) = |it| { let Specials { nan: _, inf: _, infinity: _ } = it; };
+const _: fn(Spelling) = |it| match it { Spelling::Nan { .. } | Spelling::Inf { .. } | Spelling::Infinity { .. } => () };
+const _: fn(ValueError) -> ParseError = <ParseError>::Value;
+const _: fn(u128) -> Cause = <Cause>::ReservedBits;
+const _: fn(u8) -> Edit = <Edit>::MantissaRadix;
+const _: fn(u8) -> Edit = <Edit>::Radix;
+const _: fn(u8) -> Radixes = <Radixes>::Exponent;
+const _: fn(u8) -> Radixes = <Radixes>::Mantissa;
+const _: fn(usize) -> Error = <Error>::Empty;
+const _: fn(usize) -> Error = <Error>::EmptyExponent;
+const _: fn(usize) -> Error = <Error>::EmptyFraction;
+const _: fn(usize) -> Error = <Error>::EmptyInteger;
+const _: fn(usize) -> Error = <Error>::EmptyMantissa;
+const _: fn(usize) -> Error = <Error>::ExponentWithoutFraction;
+const _: fn(usize) -> Error = <Error>::InvalidDigit;
+const _: fn(usize) -> Error = <Error>::InvalidExponent;
+const _: fn(usize) -> Error = <Error>::InvalidLeadingZeros;
+const _: fn(usize) -> Error = <Error>::InvalidNegativeSign;
+const _: fn(usize) -> Error = <Error>::InvalidPositiveExponentSign;
+const _: fn(usize) -> Error = <Error>::InvalidPositiveMantissaSign;
+const _: fn(usize) -> Error = <Error>::InvalidPositiveSign;
+const _: fn(usize) -> Error = <Error>::MissingExponent;
+const _: fn(usize) -> Error = <Error>::MissingExponentSign;
+const _: fn(usize) -> Error = <Error>::MissingMantissaSign;
+const _: fn(usize) -> Error = <Error>::MissingSign;
+const _: fn(usize) -> Error = <Error>::Overflow;
+const _: fn(usize) -> Error = <Error>::Underflow;
+const _: fn(usize) -> WriteError = <WriteError>::Buffer;
+const _: u128 = peltzivar::format::STANDARD;
+const _: u32 = <NumberFormat<STANDARD>>::EXPONENT_BASE;
+const _: u32 = <NumberFormat<STANDARD>>::EXPONENT_RADIX;
+const _: u32 = <NumberFormat<STANDARD>>::MANTISSA_RADIX;
+const _: u32 = <NumberFormat<STANDARD>>::RADIX;
+const _: u8 = <NumberFormat<STANDARD>>::BASE_PREFIX;
+const _: u8 = <NumberFormat<STANDARD>>::BASE_SUFFIX;
+const _: u8 = <NumberFormat<STANDARD>>::DIGIT_SEPARATOR;
+use peltzivar::Byte as _;
+use peltzivar::Cause as _;
+use peltzivar::Edit as _;
+use peltzivar::EditError as _;
+use peltzivar::EditErrorKind as _;
+use peltzivar::Error as _;
+use peltzivar::Finding as _;
+use peltzivar::FindingKind as _;
+use peltzivar::FlagSetter as _;
+use peltzivar::Format as _;
+use peltzivar::FormatError as _;
+use peltzivar::FormatView as _;
+use peltzivar::LineError as _;
+use peltzivar::NamedByte as _;
+use peltzivar::Note as _;
+use peltzivar::NumberFormat as _;
+use peltzivar::NumberFormatBuilder as _;
+use peltzivar::Part as _;
+use peltzivar::Radixes as _;
+use peltzivar::Reason as _;
+use peltzivar::Role as _;
+use peltzivar::Rule as _;
+use peltzivar::Separators as _;
+use peltzivar::Setter as _;
+use peltzivar::Settings as _;
+use peltzivar::ShortText as _;
+use peltzivar::edits::ArgumentKind as _;
 use peltzivar::edits::Edit as _;
 use peltzivar::edits::EditError as _;
 use peltzivar::edits::EditErrorKind as _;
 use peltzivar::edits::FlagSetter as _;
 use peltzivar::edits::Setter as _;
+use peltzivar::error::Class as _;
 use peltzivar::error::Error as _;
 use peltzivar::feature_format::NumberFormat as _;
+use peltzivar::format::BASE_PREFIX as _;
+use peltzivar::format::BASE_PREFIX_SHIFT as _;
+use peltzivar::format::BASE_SUFFIX as _;
+use peltzivar::format::BASE_SUFFIX_SHIFT as _;
+use peltzivar::format::CASE_SENSITIVE_BASE_PREFIX as _;
+use peltzivar::format::CASE_SENSITIVE_BASE_SUFFIX as _;
+use peltzivar::format::CASE_SENSITIVE_EXPONENT as _;
+use peltzivar::format::CASE_SENSITIVE_SPECIAL as _;
+use peltzivar::format::CONSECUTIVE_DIGIT_SEPARATOR as _;
+use peltzivar::format::DIGIT_SEPARATOR as _;
+use peltzivar::format::DIGIT_SEPARATOR_FLAG_MASK as _;
+use peltzivar::format::DIGIT_SEPARATOR_SHIFT as _;
+use peltzivar::format::EXPONENT_BASE as _;
+use peltzivar::format::EXPONENT_BASE_SHIFT as _;
+use peltzivar::format::EXPONENT_CONSECUTIVE_DIGIT_SEPARATOR as _;
+use peltzivar::format::EXPONENT_DIGIT_SEPARATOR_FLAG_MASK as _;
+use peltzivar::format::EXPONENT_FLAG_MASK as _;
+use peltzivar::format::EXPONENT_INTERNAL_DIGIT_SEPARATOR as _;
+use peltzivar::format::EXPONENT_LEADING_DIGIT_SEPARATOR as _;
+use peltzivar::format::EXPONENT_RADIX as _;
+use peltzivar::format::EXPONENT_RADIX_SHIFT as _;
+use peltzivar::format::EXPONENT_TRAILING_DIGIT_SEPARATOR as _;
+use peltzivar::format::FLAG_MASK as _;
+use peltzivar::format::FRACTION_CONSECUTIVE_DIGIT_SEPARATOR as _;
+use peltzivar::format::FRACTION_DIGIT_SEPARATOR_FLAG_MASK as _;
+use peltzivar::format::FRACTION_INTERNAL_DIGIT_SEPARATOR as _;
+use peltzivar::format::FRACTION_LEADING_DIGIT_SEPARATOR as _;
+use peltzivar::format::FRACTION_TRAILING_DIGIT_SEPARATOR as _;
 use peltzivar::format::Format as _;
 use peltzivar::format::FormatView as _;
+use peltzivar::format::INTEGER_CONSECUTIVE_DIGIT_SEPARATOR as _;
+use peltzivar::format::INTEGER_DIGIT_SEPARATOR_FLAG_MASK as _;
+use peltzivar::format::INTEGER_INTERNAL_DIGIT_SEPARATOR as _;
+use peltzivar::format::INTEGER_LEADING_DIGIT_SEPARATOR as _;
+use peltzivar::format::INTEGER_TRAILING_DIGIT_SEPARATOR as _;
+use peltzivar::format::INTERFACE_FLAG_MASK as _;
+use peltzivar::format::INTERNAL_DIGIT_SEPARATOR as _;
+use peltzivar::format::LEADING_DIGIT_SEPARATOR as _;
+use peltzivar::format::MANTISSA_RADIX as _;
+use peltzivar::format::MANTISSA_RADIX_SHIFT as _;
+use peltzivar::format::NO_EXPONENT_NOTATION as _;
+use peltzivar::format::NO_EXPONENT_WITHOUT_FRACTION as _;
+use peltzivar::format::NO_FLOAT_LEADING_ZEROS as _;
+use peltzivar::format::NO_INTEGER_LEADING_ZEROS as _;
+use peltzivar::format::NO_POSITIVE_EXPONENT_SIGN as _;
+use peltzivar::format::NO_POSITIVE_MANTISSA_SIGN as _;
+use peltzivar::format::NO_SPECIAL as _;
 use peltzivar::format::NonZeroU8 as _;
 use peltzivar::format::NumberFormat as _;
 use peltzivar::format::NumberFormatBuilder as _;
 use peltzivar::format::OptionU8 as _;
 use peltzivar::format::Part as _;
+use peltzivar::format::RADIX as _;
+use peltzivar::format::RADIX_MASK as _;
+use peltzivar::format::RADIX_SHIFT as _;
+use peltzivar::format::REQUIRED_DIGITS as _;
+use peltzivar::format::REQUIRED_EXPONENT_DIGITS as _;
+use peltzivar::format::REQUIRED_EXPONENT_NOTATION as _;
+use peltzivar::format::REQUIRED_EXPONENT_SIGN as _;
+use peltzivar::format::REQUIRED_FRACTION_DIGITS as _;
+use peltzivar::format::REQUIRED_INTEGER_DIGITS as _;
+use peltzivar::format::REQUIRED_MANTISSA_DIGITS as _;
+use peltzivar::format::REQUIRED_MANTISSA_SIGN as _;
 use peltzivar::format::Rule as _;
+use peltzivar::format::SPECIAL_DIGIT_SEPARATOR as _;
+use peltzivar::format::TRAILING_DIGIT_SEPARATOR as _;
 use peltzivar::format_builder::NonZeroU8 as _;
 use peltzivar::format_builder::NumberFormatBuilder as _;
 use peltzivar::format_builder::OptionU8 as _;
+use peltzivar::literal::Conditions as _;
+use peltzivar::literal::ConditionsError as _;
+use peltzivar::literal::Digits as _;
+use peltzivar::literal::Form as _;
+use peltzivar::literal::FormError as _;
 use peltzivar::literal::FromLiteral as _;
+use peltzivar::literal::Language as _;
+use peltzivar::literal::Literal as _;
+use peltzivar::literal::Number as _;
+use peltzivar::literal::ParseError as _;
+use peltzivar::literal::Place as _;
+use peltzivar::literal::ReadError as _;
+use peltzivar::literal::ReadErrorKind as _;
+use peltzivar::literal::Reader as _;
+use peltzivar::literal::Readers as _;
+use peltzivar::literal::Sign as _;
+use peltzivar::literal::Special as _;
+use peltzivar::literal::Specials as _;
+use peltzivar::literal::Spelling as _;
+use peltzivar::literal::Style as _;
+use peltzivar::literal::Syntax as _;
+use peltzivar::literal::ValueError as _;
+use peltzivar::literal::ValueErrorKind as _;
+use peltzivar::literal::WriteError as _;
 use peltzivar::literal::WriteInteger as _;
-const _: fn(u128) -> source::BuilderExpression = source::BuilderExpression;
-const _: fn(literal::Style) -> (usize, bool, bool) = |it| match it {
-    literal::Style { group, prefix, suffix, .. } => (group, prefix, suffix),
-};
-const _: fn(literal::Spelling) = |it| match it {
-    literal::Spelling::Nan { .. } | literal::Spelling::Inf { .. } | literal::Spelling::Infinity { .. } => (),
-};
-const _: fn(literal::Specials<'static>) -> (Option<&'static [u8]>, Option<&'static [u8]>, Option<&'static [u8]>) =
-    |it| match it {
-        literal::Specials { nan, inf, infinity } => (nan, inf, infinity),
-    };
-const _: fn(literal::Special) -> (Option<literal::Sign>, literal::Spelling) = |it| match it {
-    literal::Special { sign, spelling } => (sign, spelling),
-};
-const _: fn(literal::Sign) = |it| match it {
-    literal::Sign::Plus { .. } | literal::Sign::Minus { .. } => (),
-};
-const _: fn(literal::ParseError) = |it| match it {
-    literal::ParseError::Read { .. } | literal::ParseError::Value { .. } => (),
-};
-const _: fn(literal::Number<'static>) = |it| match it {
-    literal::Number::Literal { .. } | literal::Number::Special { .. } => (),
-};
-const _: fn(literal::Number<'static>) -> (literal::Literal<'static>, usize) = |it| match it {
-    literal::Number::Literal { literal, form } => (literal, form),
-    _ => unreachable!(),
-};
-const _: fn(literal::FormError) -> (usize, literal::ReadError) = |it| match it {
-    literal::FormError { form, error, .. } => (form, error),
-};
-const _: fn(literal::Form) -> (&'static str, literal::Syntax) = |it| match it {
-    literal::Form { name, syntax, .. } => (name, syntax),
-};
-const _: fn(literal::Conditions) -> (bool, bool, bool, Option<u8>) = |it| match it {
-    literal::Conditions {
-        required_base_prefix,
-        required_base_suffix,
-        no_negative_mantissa_sign,
-        integer_group_size,
-        ..
-    } => (required_base_prefix, required_base_suffix, no_negative_mantissa_sign, integer_group_size),
-};
-const _: fn(Separators) -> (bool, bool, bool, bool) = |it| match it {
-    Separators { internal, leading, trailing, consecutive, .. } => (internal, leading, trailing, consecutive),
-};
-const _: fn(Radixes) -> (u8, u8) = |it| match it {
-    Radixes::Both { mantissa, exponent } => (mantissa, exponent),
-    _ => unreachable!(),
-};
-const _: fn(NamedByte) -> (Byte, u8) = |it| match it {
-    NamedByte { name, value, .. } => (name, value),
-};
-const _: fn(Cause) -> (NamedByte, Option<FlagSetter>, NamedByte, Option<FlagSetter>) = |it| match it {
-    Cause::DifferInCase { first, first_flag, second, second_flag } => (first, first_flag, second, second_flag),
-    _ => unreachable!(),
-};
-const _: bool = format::format_is_valid::<STANDARD>();
-const _: NumberFormat<STANDARD> = NumberFormat;
-const _: Format = Format::of::<STANDARD>();
-const _: Error = format::format_error::<STANDARD>();
-
-names! { Byte:
-    [Byte] BasePrefix BaseSuffix DecimalPoint DigitSeparator ExponentBase ExponentCharacter ExponentRadix MantissaRadix;
-    [const fn(a: Byte) -> u128] mask;
+use peltzivar::literal::Written as _;
+use peltzivar::source::BuilderExpression as _;
 }
-names! { Cause:
-    [const fn(a: &Cause) -> [Option<NamedByte>; 2]] bytes;
-    [fn(FlagSetter, FlagSetter) -> Cause] BothSet;
-    [fn(NamedByte) -> Cause] IsSign NotText OutOfRange;
-    [fn(NamedByte, NamedByte) -> Cause] Same;
-    [fn(NamedByte, Radixes) -> Cause] IsDigit;
-    [fn(Part) -> Cause] NeedsPosition;
-    [fn(u128) -> Cause] ReservedBits;
-}
-names! { Edit:
-    [&'static [&'static str]] NAMES;
-    [const fn(a: Edit) -> &'static str] name;
-    [const fn(a: Edit) -> Setter] setter;
-    [const fn(a: Edit) -> u128] mask;
-    [const fn(a: Edit) -> u8] argument_byte;
-    [fn(FlagSetter, bool) -> Edit] Flag;
-    [fn(a: &str, b: &str) -> Result<Edit, EditError>] from_setting;
-    [fn(format::OptionU8) -> Edit] BasePrefix BaseSuffix DigitSeparator ExponentBase ExponentRadix;
-    [fn(u8) -> Edit] MantissaRadix Radix;
-}
-names! { EditError:
-    [const fn(a: &EditError) -> EditErrorKind] kind;
-    [const fn(a: &EditError) -> Option<&'static str>] name;
-}
-names! { EditErrorKind:
-    [EditErrorKind] BadValue NoEquals UnknownName;
-}
-names! { Error:
-    [Error] InfStringTooLong InfinityStringTooLong InfinityStringTooShort InvalidBasePrefix InvalidBaseSuffix
-        InvalidConsecutiveExponentDigitSeparator InvalidConsecutiveFractionDigitSeparator
-        InvalidConsecutiveIntegerDigitSeparator InvalidDecimalPoint InvalidDigitSeparator InvalidExponentBase
-        InvalidExponentFlags InvalidExponentRadix InvalidExponentSign InvalidExponentSymbol InvalidFlags
-        InvalidFloatParseAlgorithm InvalidFloatPrecision InvalidInfString InvalidInfinityString InvalidMantissaRadix
-        InvalidMantissaSign InvalidNanString InvalidNegativeExponentBreak InvalidPositiveExponentBreak
-        InvalidPunctuation InvalidRadix InvalidSpecial NanStringTooLong Success;
-    [const fn(a: &'static Error) -> Option<&'static usize>] index;
-    [const fn(a: &Error) -> &'static str] description;
-    [const fn(a: &Error) -> bool] is_empty is_empty_exponent is_empty_fraction is_empty_integer is_empty_mantissa
-        is_exponent_without_fraction is_inf_string_too_long is_infinity_string_too_long is_infinity_string_too_short
-        is_invalid_base_prefix is_invalid_base_suffix is_invalid_consecutive_exponent_digit_separator
-        is_invalid_consecutive_fraction_digit_separator is_invalid_consecutive_integer_digit_separator
-        is_invalid_decimal_point is_invalid_digit is_invalid_digit_separator is_invalid_exponent
-        is_invalid_exponent_base is_invalid_exponent_flags is_invalid_exponent_radix is_invalid_exponent_sign
-        is_invalid_exponent_symbol is_invalid_flags is_invalid_float_parse_algorithm is_invalid_float_precision
-        is_invalid_inf_string is_invalid_infinity_string is_invalid_leading_zeros is_invalid_mantissa_radix
-        is_invalid_mantissa_sign is_invalid_nan_string is_invalid_negative_exponent_break is_invalid_negative_sign
-        is_invalid_positive_exponent_break is_invalid_positive_exponent_sign is_invalid_positive_mantissa_sign
-        is_invalid_positive_sign is_invalid_punctuation is_invalid_radix is_invalid_special is_missing_exponent
-        is_missing_exponent_sign is_missing_mantissa_sign is_missing_sign is_nan_string_too_long is_overflow is_success
-        is_underflow;
-    [const fn(a: &Error) -> error::Class] class;
-    [fn(usize) -> Error] Empty EmptyExponent EmptyFraction EmptyInteger EmptyMantissa ExponentWithoutFraction
-        InvalidDigit InvalidExponent InvalidLeadingZeros InvalidNegativeSign InvalidPositiveExponentSign
-        InvalidPositiveMantissaSign InvalidPositiveSign MissingExponent MissingExponentSign MissingMantissaSign
-        MissingSign Overflow Underflow;
-}
-names! { Finding:
-    [const fn(a: &Finding) -> FindingKind] kind;
-    [fn(a: &'static Finding) -> &'static [usize]] indexes;
-}
-names! { FindingKind:
-    [fn(&'static str) -> FindingKind] Overridden;
-    [fn(Note) -> FindingKind] Note;
-    [fn(Reason) -> FindingKind] Reason;
-    [fn(literal::ConditionsError) -> FindingKind] Conditions;
-}
-names! { FlagSetter:
-    [&'static [FlagSetter]] ALL FLAGS;
-    [FlagSetter] CaseSensitiveBasePrefix CaseSensitiveBaseSuffix CaseSensitiveExponent CaseSensitiveSpecial
-        ConsecutiveDigitSeparator DigitSeparatorFlags ExponentConsecutiveDigitSeparator ExponentDigitSeparatorFlags
-        ExponentInternalDigitSeparator ExponentLeadingDigitSeparator ExponentTrailingDigitSeparator
-        FractionConsecutiveDigitSeparator FractionDigitSeparatorFlags FractionInternalDigitSeparator
-        FractionLeadingDigitSeparator FractionTrailingDigitSeparator IntegerConsecutiveDigitSeparator
-        IntegerDigitSeparatorFlags IntegerInternalDigitSeparator IntegerLeadingDigitSeparator
-        IntegerTrailingDigitSeparator InternalDigitSeparator LeadingDigitSeparator NoExponentNotation
-        NoExponentWithoutFraction NoFloatLeadingZeros NoIntegerLeadingZeros NoPositiveExponentSign
-        NoPositiveMantissaSign NoSpecial RequiredDigits RequiredExponentDigits RequiredExponentNotation
-        RequiredExponentSign RequiredFractionDigits RequiredIntegerDigits RequiredMantissaDigits RequiredMantissaSign
-        SpecialDigitSeparator TrailingDigitSeparator;
-    [const fn(a: FlagSetter) -> &'static str] name;
-    [const fn(a: FlagSetter, b: u128) -> bool] is_set;
-}
-names! { Format:
-    [const fn(a: &Format) -> Format] normal_form;
-    [const fn(a: &Format) -> FormatView] view;
-    [const fn(a: &Format) -> NumberFormatBuilder] rebuild;
-    [const fn(a: &Format) -> bool] case_sensitive_base_prefix case_sensitive_base_suffix case_sensitive_exponent
-        case_sensitive_special consecutive_digit_separator exponent_consecutive_digit_separator
-        exponent_internal_digit_separator exponent_leading_digit_separator exponent_trailing_digit_separator
-        fraction_consecutive_digit_separator fraction_internal_digit_separator fraction_leading_digit_separator
-        fraction_trailing_digit_separator has_base_prefix has_base_suffix has_digit_separator
-        integer_consecutive_digit_separator integer_internal_digit_separator integer_leading_digit_separator
-        integer_trailing_digit_separator internal_digit_separator leading_digit_separator no_exponent_notation
-        no_exponent_without_fraction no_float_leading_zeros no_integer_leading_zeros no_positive_exponent_sign
-        no_positive_mantissa_sign no_special required_digits required_exponent_digits required_exponent_notation
-        required_exponent_sign required_fraction_digits required_integer_digits required_mantissa_digits
-        required_mantissa_sign special_digit_separator trailing_digit_separator;
-    [const fn(a: &Format) -> format::OptionU8] base_prefix base_suffix digit_separator;
-    [const fn(a: &Format) -> u128] digit_separator_flags exponent_digit_separator_flags exponent_flags flags
-        fraction_digit_separator_flags integer_digit_separator_flags interface_flags word;
-    [const fn(a: &Format) -> u32] exponent_base exponent_radix mantissa_radix radix radix2 radix4 radix8;
-    [const fn(a: &Format, b: Part) -> Separators] separators;
-    [const fn(a: &Format, b: u8) -> Option<u32>] exponent_digit mantissa_digit;
-    [const fn(a: &Format, b: u8) -> bool] is_base_prefix is_base_suffix is_separator;
-    [const fn(a: &Format, b: u8, c: u8) -> Result<(), FormatError>] check_options;
-    [const fn(a: &Format, b: u8, c: u8) -> bool] is_exponent_character;
-    [const fn(a: &Format, b: u8, c: u8, d: u8) -> Option<Role>] role_of;
-    [const fn(a: u128) -> Result<Format, FormatError>] new;
-    [fn(a: &Format) -> impl Iterator<Item = Edit> + Clone] edits;
-    [fn(a: &Format) -> impl Iterator<Item = Note> + Clone] notes;
-}
-names! { FormatError:
-    [const fn(a: &FormatError) -> Error] code;
-    [const fn(a: &FormatError) -> ShortText] text;
-    [fn(a: &FormatError) -> impl Iterator<Item = Reason> + Clone] reasons;
-}
-names! { FormatView:
-    [const fn() -> NumberFormatBuilder] builder;
-    [const fn(a: &FormatView) -> Error] error error_radix;
-    [const fn(a: &FormatView) -> NumberFormatBuilder] rebuild;
-    [const fn(a: &FormatView) -> Result<Format, Error>] check;
-    [const fn(a: &FormatView) -> bool] case_sensitive_base_prefix case_sensitive_base_suffix case_sensitive_exponent
-        case_sensitive_special consecutive_digit_separator exponent_consecutive_digit_separator
-        exponent_internal_digit_separator exponent_leading_digit_separator exponent_trailing_digit_separator
-        fraction_consecutive_digit_separator fraction_internal_digit_separator fraction_leading_digit_separator
-        fraction_trailing_digit_separator has_base_prefix has_base_suffix has_digit_separator
-        integer_consecutive_digit_separator integer_internal_digit_separator integer_leading_digit_separator
-        integer_trailing_digit_separator internal_digit_separator is_valid is_valid_radix leading_digit_separator
-        no_exponent_notation no_exponent_without_fraction no_float_leading_zeros no_integer_leading_zeros
-        no_positive_exponent_sign no_positive_mantissa_sign no_special required_digits required_exponent_digits
-        required_exponent_notation required_exponent_sign required_fraction_digits required_integer_digits
-        required_mantissa_digits required_mantissa_sign special_digit_separator trailing_digit_separator;
-    [const fn(a: &FormatView) -> format::OptionU8] base_prefix base_suffix digit_separator;
-    [const fn(a: &FormatView) -> u128] digit_separator_flags exponent_digit_separator_flags exponent_flags flags
-        fraction_digit_separator_flags integer_digit_separator_flags interface_flags word;
-    [const fn(a: &FormatView) -> u32] exponent_base exponent_radix mantissa_radix radix radix2 radix4 radix8;
-    [const fn(a: &FormatView, b: Part) -> Separators] separators;
-    [const fn(a: &FormatView, b: u8) -> Option<u32>] exponent_digit mantissa_digit;
-    [const fn(a: &FormatView, b: u8) -> bool] is_base_prefix is_base_suffix is_separator;
-    [const fn(a: &FormatView, b: u8, c: u8) -> bool] is_exponent_character;
-    [const fn(a: &FormatView, b: u8, c: u8, d: u8) -> Option<Role>] role_of;
-    [const fn(a: u128) -> FormatView] new;
-    [fn(a: &FormatView) -> impl Iterator<Item = Edit> + Clone] edits;
-    [fn(a: &FormatView) -> impl Iterator<Item = Note> + Clone] notes;
-    [fn(a: &FormatView) -> impl Iterator<Item = Reason> + Clone] reasons;
-    [fn(a: &FormatView) -> impl Iterator<Item = Rule> + Clone] broken_rules;
-    [fn(a: &FormatView, b: u8, c: u8) -> impl Iterator<Item = Reason> + Clone] options_reasons;
-}
-names! { LineError:
-    [const fn(a: &LineError) -> EditErrorKind] kind;
-    [const fn(a: &LineError) -> usize] index;
-}
-names! { Note:
-    [Note] FlagsWithoutSeparator;
-    [const fn(a: &Note) -> u128] mask;
-    [fn(FlagSetter, Byte) -> Note] CaseFlagWithoutByte;
-    [fn(FlagSetter, NamedByte) -> Note] CaseFlagOfNonLetter;
-    [fn(NamedByte) -> Note] SeparatorWithoutFlag;
-}
-names! { NumberFormat<STANDARD>:
-    [bool] CASE_SENSITIVE_BASE_PREFIX CASE_SENSITIVE_BASE_SUFFIX CASE_SENSITIVE_EXPONENT CASE_SENSITIVE_SPECIAL
-        CONSECUTIVE_DIGIT_SEPARATOR EXPONENT_CONSECUTIVE_DIGIT_SEPARATOR EXPONENT_INTERNAL_DIGIT_SEPARATOR
-        EXPONENT_LEADING_DIGIT_SEPARATOR EXPONENT_TRAILING_DIGIT_SEPARATOR FRACTION_CONSECUTIVE_DIGIT_SEPARATOR
-        FRACTION_INTERNAL_DIGIT_SEPARATOR FRACTION_LEADING_DIGIT_SEPARATOR FRACTION_TRAILING_DIGIT_SEPARATOR
-        INTEGER_CONSECUTIVE_DIGIT_SEPARATOR INTEGER_INTERNAL_DIGIT_SEPARATOR INTEGER_LEADING_DIGIT_SEPARATOR
-        INTEGER_TRAILING_DIGIT_SEPARATOR INTERNAL_DIGIT_SEPARATOR LEADING_DIGIT_SEPARATOR NO_EXPONENT_NOTATION
-        NO_EXPONENT_WITHOUT_FRACTION NO_FLOAT_LEADING_ZEROS NO_INTEGER_LEADING_ZEROS NO_POSITIVE_EXPONENT_SIGN
-        NO_POSITIVE_MANTISSA_SIGN NO_SPECIAL REQUIRED_DIGITS REQUIRED_EXPONENT_DIGITS REQUIRED_EXPONENT_NOTATION
-        REQUIRED_EXPONENT_SIGN REQUIRED_FRACTION_DIGITS REQUIRED_INTEGER_DIGITS REQUIRED_MANTISSA_DIGITS
-        REQUIRED_MANTISSA_SIGN SPECIAL_DIGIT_SEPARATOR TRAILING_DIGIT_SEPARATOR;
-    [const fn() -> NumberFormat<STANDARD>] new;
-    [const fn() -> NumberFormatBuilder] builder rebuild;
-    [const fn(a: &NumberFormat<STANDARD>) -> Error] error error_radix;
-    [const fn(a: &NumberFormat<STANDARD>) -> FormatView] view;
-    [const fn(a: &NumberFormat<STANDARD>) -> bool] case_sensitive_base_prefix case_sensitive_base_suffix
-        case_sensitive_exponent case_sensitive_special consecutive_digit_separator exponent_consecutive_digit_separator
-        exponent_internal_digit_separator exponent_leading_digit_separator exponent_trailing_digit_separator
-        fraction_consecutive_digit_separator fraction_internal_digit_separator fraction_leading_digit_separator
-        fraction_trailing_digit_separator has_base_prefix has_base_suffix has_digit_separator
-        integer_consecutive_digit_separator integer_internal_digit_separator integer_leading_digit_separator
-        integer_trailing_digit_separator internal_digit_separator is_valid is_valid_radix leading_digit_separator
-        no_exponent_notation no_exponent_without_fraction no_float_leading_zeros no_integer_leading_zeros
-        no_positive_exponent_sign no_positive_mantissa_sign no_special required_digits required_exponent_digits
-        required_exponent_notation required_exponent_sign required_fraction_digits required_integer_digits
-        required_mantissa_digits required_mantissa_sign special_digit_separator trailing_digit_separator;
-    [const fn(a: &NumberFormat<STANDARD>) -> u128] digit_separator_flags exponent_digit_separator_flags exponent_flags
-        flags fraction_digit_separator_flags integer_digit_separator_flags interface_flags;
-    [const fn(a: &NumberFormat<STANDARD>) -> u32] exponent_base exponent_radix mantissa_radix radix radix2 radix4
-        radix8;
-    [const fn(a: &NumberFormat<STANDARD>) -> u8] base_prefix base_suffix digit_separator;
-    [const fn(a: &NumberFormat<STANDARD>, b: Part) -> Separators] separators;
-    [const fn(a: &NumberFormat<STANDARD>, b: u8) -> Option<u32>] exponent_digit mantissa_digit;
-    [const fn(a: &NumberFormat<STANDARD>, b: u8) -> bool] is_base_prefix is_base_suffix is_separator;
-    [const fn(a: &NumberFormat<STANDARD>, b: u8, c: u8) -> bool] is_exponent_character;
-    [const fn(a: &NumberFormat<STANDARD>, b: u8, c: u8, d: u8) -> Option<Role>] role_of;
-    [u32] EXPONENT_BASE EXPONENT_RADIX MANTISSA_RADIX RADIX;
-    [u8] BASE_PREFIX BASE_SUFFIX DIGIT_SEPARATOR;
-}
-names! { NumberFormatBuilder:
-    [const fn() -> NumberFormatBuilder] new;
-    [const fn() -> u128] binary decimal hexadecimal octal;
-    [const fn(a: &NumberFormatBuilder) -> Format] build_format_or_panic;
-    [const fn(a: &NumberFormatBuilder) -> FormatView] view;
-    [const fn(a: &NumberFormatBuilder) -> Result<Format, FormatError>] build_format;
-    [const fn(a: &NumberFormatBuilder) -> Result<u128, Error>] build_strict;
-    [const fn(a: &NumberFormatBuilder) -> bool] get_case_sensitive_base_prefix get_case_sensitive_base_suffix
-        get_case_sensitive_exponent get_case_sensitive_special get_exponent_consecutive_digit_separator
-        get_exponent_internal_digit_separator get_exponent_leading_digit_separator get_exponent_trailing_digit_separator
-        get_fraction_consecutive_digit_separator get_fraction_internal_digit_separator
-        get_fraction_leading_digit_separator get_fraction_trailing_digit_separator
-        get_integer_consecutive_digit_separator get_integer_internal_digit_separator get_integer_leading_digit_separator
-        get_integer_trailing_digit_separator get_no_exponent_notation get_no_exponent_without_fraction
-        get_no_float_leading_zeros get_no_integer_leading_zeros get_no_positive_exponent_sign
-        get_no_positive_mantissa_sign get_no_special get_required_exponent_digits get_required_exponent_notation
-        get_required_exponent_sign get_required_fraction_digits get_required_integer_digits get_required_mantissa_digits
-        get_required_mantissa_sign get_special_digit_separator;
-    [const fn(a: &NumberFormatBuilder) -> format::OptionU8] get_base_prefix get_base_suffix get_digit_separator
-        get_exponent_base get_exponent_radix;
-    [const fn(a: &NumberFormatBuilder) -> u128] build build_or_panic build_unchecked;
-    [const fn(a: &NumberFormatBuilder) -> u8] get_mantissa_radix;
-    [const fn(a: NumberFormatBuilder, b: bool) -> NumberFormatBuilder] case_sensitive_base_prefix
-        case_sensitive_base_suffix case_sensitive_exponent case_sensitive_special consecutive_digit_separator
-        digit_separator_flags exponent_consecutive_digit_separator exponent_digit_separator_flags
-        exponent_internal_digit_separator exponent_leading_digit_separator exponent_trailing_digit_separator
-        fraction_consecutive_digit_separator fraction_digit_separator_flags fraction_internal_digit_separator
-        fraction_leading_digit_separator fraction_trailing_digit_separator integer_consecutive_digit_separator
-        integer_digit_separator_flags integer_internal_digit_separator integer_leading_digit_separator
-        integer_trailing_digit_separator internal_digit_separator leading_digit_separator no_exponent_notation
-        no_exponent_without_fraction no_float_leading_zeros no_integer_leading_zeros no_positive_exponent_sign
-        no_positive_mantissa_sign no_special required_digits required_exponent_digits required_exponent_notation
-        required_exponent_sign required_fraction_digits required_integer_digits required_mantissa_digits
-        required_mantissa_sign special_digit_separator trailing_digit_separator;
-    [const fn(a: NumberFormatBuilder, b: format::OptionU8) -> NumberFormatBuilder] base_prefix base_suffix
-        digit_separator exponent_base exponent_radix;
-    [const fn(a: NumberFormatBuilder, b: u8) -> NumberFormatBuilder] mantissa_radix radix;
-    [const fn(a: u128) -> NumberFormatBuilder] from_word rebuild;
-    [const fn(a: u8) -> u128] from_radix;
-    [fn(a: &NumberFormatBuilder) -> impl Iterator<Item = Note> + Clone] notes;
-}
-names! { Part:
-    [Part] Exponent Fraction Integer;
-    [const fn(a: Part) -> &'static str] name;
-}
-names! { Radixes:
-    [fn(u8) -> Radixes] Exponent Mantissa;
-}
-names! { Reason:
-    [const fn(a: &Reason) -> Cause] cause;
-    [const fn(a: &Reason) -> Option<Rule>] rule;
-    [const fn(a: &Reason) -> u128] mask;
-    [const fn(a: &Reason, b: Rule) -> bool] breaks;
-}
-names! { Role:
-    [Role] Digit Exponent Point Prefix Separator Sign Suffix;
-    [const fn(a: Role) -> &'static str] name;
-}
-names! { Rule:
-    [&'static [Rule]] ALL;
-    [Rule] BasePrefixIsPunctuation BaseSuffixIsPunctuation DigitSeparatorIsPunctuation ExponentBaseInRange
-        ExponentConsecutiveIsAllowed ExponentFlagsAgree ExponentRadixInRange ExponentSignFlagsAgree
-        FractionConsecutiveIsAllowed IntegerConsecutiveIsAllowed MantissaRadixInRange MantissaSignFlagsAgree
-        PunctuationDiffers ReservedBitsAreZero SpecialCaseFlagsAgree SpecialSeparatorFlagsAgree;
-    [const fn(a: Rule) -> &'static str] condition;
-    [const fn(a: Rule) -> Error] error;
-    [const fn(a: Rule) -> u128] mask;
-    [const fn(a: Rule, b: u128) -> bool] is_kept;
-}
-names! { Setter:
-    [&'static [Setter]] ALL;
-    [Setter] BasePrefix BaseSuffix DigitSeparator ExponentBase ExponentRadix MantissaRadix Radix;
-    [const fn(a: Setter) -> &'static str] name;
-    [const fn(a: Setter) -> edits::ArgumentKind] kind;
-    [const fn(a: Setter) -> u128] mask;
-    [const fn(a: Setter, b: u8) -> Edit] with_byte;
-    [fn(FlagSetter) -> Setter] Flag;
-    [fn(a: &str) -> Option<Setter>] from_name;
-    [fn(a: Setter, b: &str) -> Result<Edit, EditError>] parse;
-}
-names! { Settings:
-    [const fn() -> Settings] new;
-    [const fn(a: &Settings) -> Result<Format, FormatError>] build_format;
-    [fn(a: &Settings) -> Result<literal::Syntax, FormatError>] build_syntax;
-    [fn(a: &Settings) -> impl Iterator<Item = Finding> + Clone + '_] notes reasons;
-    [fn(a: &mut Settings, b: impl AsRef<[u8]>) -> Result<(), LineError>] add;
-    [fn(a: impl IntoIterator<Item = impl AsRef<[u8]>>) -> Result<Settings, LineError>] read;
-}
-names! { ShortText:
-    [const fn(a: &'static ShortText) -> &'static str] as_str;
-    [const fn(a: &str) -> ShortText] of;
-    [const fn(a: ShortText, b: &str) -> ShortText] and;
-    [const fn(a: ShortText, b: u128) -> ShortText] hexadecimal;
-    [const fn(a: ShortText, b: u8) -> ShortText] quoted;
-    [const fn(a: ShortText, b: usize) -> ShortText] decimal;
-}
-names! { edits::ArgumentKind:
-    [edits::ArgumentKind] Flag Number OptionalCharacter OptionalNumber;
-}
-names! { error::Class:
-    [error::Class] Format Options Parse Success;
-}
-names! { literal::Conditions:
-    [const fn(a: literal::Conditions) -> bool] is_none;
-    [const fn(a: literal::Conditions, b: Option<u8>) -> literal::Conditions] integer_group_size;
-    [const fn(a: literal::Conditions, b: bool) -> literal::Conditions] no_negative_mantissa_sign required_base_prefix
-        required_base_suffix;
-    [literal::Conditions] NONE;
-}
-names! { literal::ConditionsError:
-    [const fn(a: &literal::ConditionsError) -> ShortText] text;
-    [literal::ConditionsError] GroupSize NoBasePrefix NoBaseSuffix NoInternalSeparator;
-}
-names! { literal::Language:
-    [&'static [literal::Language]] ALL;
-    [const fn(a: &literal::Language) -> &'static [literal::Form]] forms;
-    [const fn(a: &literal::Language) -> &'static str] name;
-    [const fn(a: &literal::Language) -> literal::Specials<'static>] specials;
-    [fn(a: &literal::Language) -> &'static literal::Readers<'static>] readers;
-    [fn(a: &literal::Language, b: &'static [u8]) -> Result<(literal::Number<'static>, &'static [u8]),
-        literal::FormError>] read_prefix;
-    [fn(a: &literal::Language, b: &'static [u8]) -> Result<literal::Number<'static>, literal::FormError>] read;
-    [fn<T: literal::FromLiteral>(a: &literal::Language, b: impl AsRef<[u8]>) -> Result<T, literal::ParseError>] parse;
-    [literal::Language] ADA C CSV_DE CSV_EN C_PLUS_PLUS C_SHARP FORTRAN GO HASKELL JAVA JAVASCRIPT JSON JULIA KOTLIN
-        NASM OCAML PYTHON RUBY RUST SQL SWIFT TOML YAML;
-}
-names! { literal::Literal<'static>:
-    [const fn(a: &literal::Literal<'static>) -> &'static [u8]] as_bytes exponent exponent_character exponent_sign
-        fraction integer point prefix sign suffix;
-    [const fn(a: &literal::Literal<'static>) -> &'static str] as_str;
-    [const fn(a: &literal::Literal<'static>) -> bool] is_float is_negative;
-    [const fn(a: &literal::Literal<'static>, b: Part) -> u32] radix;
-    [const fn(a: literal::Literal<'static>) -> Result<f32, literal::ValueError>] binary_to_f32;
-    [const fn(a: literal::Literal<'static>) -> Result<f64, literal::ValueError>] binary_to_f64;
-    [const fn(a: literal::Literal<'static>) -> Result<i128, literal::ValueError>] to_i128;
-    [const fn(a: literal::Literal<'static>) -> Result<i64, literal::ValueError>] to_i64;
-    [const fn(a: literal::Literal<'static>) -> Result<u128, literal::ValueError>] to_u128;
-    [const fn(a: literal::Literal<'static>) -> Result<u64, literal::ValueError>] to_u64;
-    [fn(a: &literal::Literal<'static>) -> Option<impl Display + Clone + 'static>] plain;
-    [fn(a: &literal::Literal<'static>) -> impl Iterator<Item = (&'static str, &'static [u8])> + Clone] parts;
-    [fn(a: &literal::Literal<'static>, b: Part) -> literal::Digits<'static>] digits;
-    [fn(a: literal::Literal<'static>) -> Result<f32, literal::ValueError>] to_f32;
-    [fn(a: literal::Literal<'static>) -> Result<f64, literal::ValueError>] to_f64;
-}
-names! { literal::Number<'static>:
-    [const fn(a: &literal::Number<'static>) -> Option<literal::Literal<'static>>] literal;
-    [const fn(a: &literal::Number<'static>) -> Option<usize>] form;
-    [fn(a: &literal::Number<'static>) -> f64] to_f64;
-    [fn(literal::Special) -> literal::Number<'static>] Special;
-}
-names! { literal::ParseError:
-    [fn(literal::ReadError) -> literal::ParseError] Read;
-    [fn(literal::ValueError) -> literal::ParseError] Value;
-}
-names! { literal::Place:
-    [literal::Place] AfterDigit BeforeDigits Consecutive;
-}
-names! { literal::ReadError:
-    [const fn(a: &literal::ReadError) -> Error] code;
-    [const fn(a: &literal::ReadError) -> Option<u8>] byte;
-    [const fn(a: &literal::ReadError) -> Range<usize>] span;
-    [const fn(a: &literal::ReadError) -> ShortText] text;
-    [const fn(a: &literal::ReadError) -> bool] is_incomplete;
-    [const fn(a: &literal::ReadError) -> literal::Conditions] conditions;
-    [const fn(a: &literal::ReadError) -> literal::ReadErrorKind] kind;
-    [const fn(a: &literal::ReadError) -> u128] mask;
-    [const fn(a: &literal::ReadError) -> usize] valid_up_to;
-    [fn(a: &literal::ReadError) -> impl Iterator<Item = Edit> + Clone] settings;
-}
-names! { literal::ReadErrorKind:
-    [fn(Part) -> literal::ReadErrorKind] Missing;
-    [fn(Part, literal::Place) -> literal::ReadErrorKind] Separator;
-    [literal::ReadErrorKind] Byte Case Requirement;
-}
-names! { literal::Reader:
-    [const fn(a: &literal::Reader) -> literal::Syntax] syntax;
-    [const fn(a: &literal::Reader, b: &'static [u8]) -> Result<(literal::Literal<'static>, &'static [u8]),
-        literal::ReadError>] read_prefix;
-    [const fn(a: &literal::Reader, b: &'static [u8]) -> Result<literal::Literal<'static>, literal::ReadError>] read;
-    [const fn(a: literal::Syntax) -> literal::Reader] new;
-    [fn<T: literal::FromLiteral>(a: &literal::Reader, b: impl AsRef<[u8]>) -> Result<T, literal::ParseError>] parse;
-}
-names! { literal::Readers<'static>:
-    [const fn(a: &'static [literal::Reader]) -> Option<literal::Readers<'static>>] new;
-    [const fn(a: &'static [literal::Reader]) -> literal::Readers<'static>] new_or_panic;
-    [const fn(a: &literal::Readers<'static>) -> &'static [literal::Reader]] as_slice;
-    [const fn(a: &literal::Readers<'static>) -> literal::Specials<'static>] specials;
-    [const fn(a: &literal::Readers<'static>, b: &'static [u8]) -> Result<(literal::Number<'static>, &'static [u8]),
-        literal::FormError>] read_prefix;
-    [const fn(a: &literal::Readers<'static>, b: &'static [u8]) -> Result<literal::Number<'static>, literal::FormError>]
-        read;
-    [const fn(a: literal::Readers<'static>, b: literal::Specials<'static>) -> literal::Readers<'static>] with_specials;
-    [fn<T: literal::FromLiteral>(a: &literal::Readers<'static>, b: impl AsRef<[u8]>) -> Result<T, literal::ParseError>]
-        parse;
-}
-names! { literal::Sign:
-    [literal::Sign] Minus Plus;
-}
-names! { literal::Special:
-    [const fn(a: literal::Special) -> f32] to_f32;
-    [const fn(a: literal::Special) -> f64] to_f64;
-}
-names! { literal::Specials<'static>:
-    [const fn(a: &literal::Specials<'static>, b: &literal::Syntax, c: &[u8]) -> Option<literal::Special>] read;
-}
-names! { literal::Spelling:
-    [literal::Spelling] Inf Infinity Nan;
-}
-names! { literal::Style:
-    [const fn(a: literal::Style) -> literal::Style] without_base;
-    [const fn(a: literal::Style, b: usize) -> literal::Style] group;
-    [literal::Style] PLAIN;
-}
-names! { literal::Syntax:
-    [const fn(a: &literal::Syntax) -> Format] format;
-    [const fn(a: &literal::Syntax) -> Option<u8>] exponent point;
-    [const fn(a: &literal::Syntax) -> bool] supports_floats;
-    [const fn(a: &literal::Syntax) -> literal::Conditions] conditions;
-    [const fn(a: &literal::Syntax, b: u8) -> Option<Role>] role_of;
-    [const fn(a: Format) -> literal::Syntax] integers;
-    [const fn(a: Format, b: u8, c: u8) -> Result<literal::Syntax, FormatError>] new;
-    [const fn(a: Format, b: u8, c: u8) -> literal::Syntax] new_or_panic;
-    [const fn(a: literal::Syntax, b: literal::Conditions) -> Result<literal::Syntax, literal::ConditionsError>] with;
-    [const fn(a: literal::Syntax, b: literal::Conditions) -> literal::Syntax] with_or_panic;
-    [fn(a: &literal::Syntax, b: &literal::Literal<'static>, c: literal::Style) -> Result<literal::Written<'static>,
-        literal::WriteError>] format_literal;
-    [fn(a: &literal::Syntax, b: impl literal::WriteInteger, c: literal::Style) -> Result<literal::Written<'static>,
-        literal::WriteError>] format_integer;
-}
-names! { literal::ValueError:
-    [const fn(a: &literal::ValueError) -> &'static str] target;
-    [const fn(a: &literal::ValueError) -> literal::ValueErrorKind] kind;
-}
-names! { literal::ValueErrorKind:
-    [literal::ValueErrorKind] Float Special TooLarge TooSmall UnsupportedRadix;
-}
-names! { literal::WriteError:
-    [fn(usize) -> literal::WriteError] Buffer;
-    [literal::WriteError] Exponent Float Fraction Negative Radix Special;
-}
-names! { literal::Written<'static>:
-    [fn(a: &'static literal::Written<'static>) -> Option<&'static str>] as_str;
-    [fn(a: &literal::Written<'static>, b: &'static mut [u8]) -> Result<&'static str, literal::WriteError>] write_into;
-}
-names! { mod ascii:
-    [const fn(a: &[u8]) -> bool] is_valid_ascii_slice is_valid_letter_slice;
-    [const fn(a: u8) -> bool] is_valid_ascii is_valid_letter;
-}
-names! { mod digit:
-    [const fn(a: u32) -> u8] digit_to_char;
-    [const fn(a: u32, b: u32) -> u8] digit_to_char_const;
-    [const fn(a: u8, b: u32) -> Option<u32>] char_to_digit char_to_digit_const;
-    [const fn(a: u8, b: u32) -> bool] char_is_digit char_is_digit_const;
-    [const fn(a: u8, b: u32) -> u32] char_to_valid_digit_const;
-}
-names! { mod edits:
-    [const fn(a: NumberFormatBuilder, b: &[Edit]) -> NumberFormatBuilder] apply_all;
-    [const fn(a: NumberFormatBuilder, b: Edit) -> NumberFormatBuilder] apply;
-    [const fn(a: u128) -> Result<u128, Error>] migrate;
-    [const fn(a: u128) -> bool] is_built;
-    [const fn(a: u128) -> u128] normal_form;
-    [const fn(a: u128, b: &[Edit]) -> u128] edit_word;
-    [const fn(a: u128, b: u128) -> bool] same_format;
-}
-names! { mod format:
-    [const fn(a: u128) -> bool] is_clean is_separator_allowed is_valid_base_prefix is_valid_base_suffix
-        is_valid_digit_separator is_valid_exponent_flags is_valid_punctuation;
-    [const fn(a: u128) -> u32] exponent_base exponent_radix mantissa_radix;
-    [const fn(a: u128) -> u8] base_prefix base_suffix digit_separator;
-    [const fn(a: u128, b: u128, c: i32) -> u32] radix_from_flags;
-    [const fn(a: u128, b: u8) -> bool] is_digit_of_either_radix;
-    [const fn(a: u128, b: u8, c: u8) -> bool] is_valid_options_punctuation;
-    [const fn(a: u32) -> bool] is_valid_radix;
-    [i32] BASE_PREFIX_SHIFT BASE_SUFFIX_SHIFT DIGIT_SEPARATOR_SHIFT EXPONENT_BASE_SHIFT EXPONENT_RADIX_SHIFT
-        MANTISSA_RADIX_SHIFT RADIX_SHIFT;
-    [u128] BASE_PREFIX BASE_SUFFIX CASE_SENSITIVE_BASE_PREFIX CASE_SENSITIVE_BASE_SUFFIX CASE_SENSITIVE_EXPONENT
-        CASE_SENSITIVE_SPECIAL CONSECUTIVE_DIGIT_SEPARATOR DIGIT_SEPARATOR DIGIT_SEPARATOR_FLAG_MASK EXPONENT_BASE
-        EXPONENT_CONSECUTIVE_DIGIT_SEPARATOR EXPONENT_DIGIT_SEPARATOR_FLAG_MASK EXPONENT_FLAG_MASK
-        EXPONENT_INTERNAL_DIGIT_SEPARATOR EXPONENT_LEADING_DIGIT_SEPARATOR EXPONENT_RADIX
-        EXPONENT_TRAILING_DIGIT_SEPARATOR FLAG_MASK FRACTION_CONSECUTIVE_DIGIT_SEPARATOR
-        FRACTION_DIGIT_SEPARATOR_FLAG_MASK FRACTION_INTERNAL_DIGIT_SEPARATOR FRACTION_LEADING_DIGIT_SEPARATOR
-        FRACTION_TRAILING_DIGIT_SEPARATOR INTEGER_CONSECUTIVE_DIGIT_SEPARATOR INTEGER_DIGIT_SEPARATOR_FLAG_MASK
-        INTEGER_INTERNAL_DIGIT_SEPARATOR INTEGER_LEADING_DIGIT_SEPARATOR INTEGER_TRAILING_DIGIT_SEPARATOR
-        INTERFACE_FLAG_MASK INTERNAL_DIGIT_SEPARATOR LEADING_DIGIT_SEPARATOR MANTISSA_RADIX NO_EXPONENT_NOTATION
-        NO_EXPONENT_WITHOUT_FRACTION NO_FLOAT_LEADING_ZEROS NO_INTEGER_LEADING_ZEROS NO_POSITIVE_EXPONENT_SIGN
-        NO_POSITIVE_MANTISSA_SIGN NO_SPECIAL RADIX RADIX_MASK REQUIRED_DIGITS REQUIRED_EXPONENT_DIGITS
-        REQUIRED_EXPONENT_NOTATION REQUIRED_EXPONENT_SIGN REQUIRED_FRACTION_DIGITS REQUIRED_INTEGER_DIGITS
-        REQUIRED_MANTISSA_DIGITS REQUIRED_MANTISSA_SIGN SPECIAL_DIGIT_SEPARATOR STANDARD TRAILING_DIGIT_SEPARATOR;
-}
-has! { Byte: Clone + Copy + Debug + Eq + Hash + PartialEq }
-has! { Cause: Clone + Copy + Debug + Eq + Hash + PartialEq }
-has! { Edit: Clone + Copy + Debug + Display + Eq + FromStr<Err = EditError> + Hash + Ord + PartialEq + PartialOrd }
-has! { EditError: Clone + Copy + Debug + Display + Eq + Hash + PartialEq + std::error::Error }
-has! { EditErrorKind: Clone + Copy + Debug + Eq + Hash + PartialEq }
-has! { Error: Clone + Copy + Debug + Display + Eq + From<FormatError> + Hash + Ord + PartialEq + PartialOrd +
-std::error::Error }
-has! { Finding: Clone + Copy + Debug + Display + Eq + Hash + PartialEq + std::error::Error }
-has! { FindingKind: Clone + Copy + Debug + Eq + Hash + PartialEq }
-has! { FlagSetter: Clone + Copy + Debug + Display + Eq + FromStr<Err = EditError> + Hash + Ord + PartialEq + PartialOrd
-}
-has! { Format: Clone + Copy + Debug + Default + Display + Eq + FromStr<Err = FormatError> + Hash + LowerHex + Ord +
-PartialEq + PartialOrd + TryFrom<u128, Error = FormatError> + UpperHex }
-has! { FormatError: Clone + Copy + Debug + Display + Eq + From<literal::ConditionsError> + Hash + PartialEq +
-std::error::Error }
-has! { FormatView: Clone + Copy + Debug + Default + Display + Eq + From<Format> + From<NumberFormat<STANDARD>> +
-From<u128> + FromStr<Err = Error> + Hash + LowerHex + Ord + PartialEq + PartialOrd + UpperHex }
-has! { LineError: Clone + Copy + Debug + Display + Eq + Hash + PartialEq + std::error::Error }
-has! { NamedByte: Clone + Copy + Debug + Eq + Hash + PartialEq }
-has! { Note: Clone + Copy + Debug + Display + Eq + Hash + PartialEq }
-has! { NumberFormat<STANDARD>: Clone + Copy + Debug + Default + Eq + Hash + PartialEq }
-has! { NumberFormatBuilder: Clone + Copy + Debug + Default + Eq + Extend<&'static Edit> + Extend<Edit> + From<Format> +
-FromIterator<&'static Edit> + FromIterator<Edit> + Hash + PartialEq }
-has! { Part: Clone + Copy + Debug + Display + Eq + Hash + PartialEq }
-has! { Radixes: Clone + Copy + Debug + Eq + Hash + PartialEq }
-has! { Reason: Clone + Copy + Debug + Display + Eq + Hash + PartialEq + std::error::Error }
-has! { Role: Clone + Copy + Debug + Display + Eq + Hash + PartialEq }
-has! { Rule: Clone + Copy + Debug + Display + Eq + Hash + Ord + PartialEq + PartialOrd }
-has! { Separators: Clone + Copy + Debug + Eq + Hash + PartialEq }
-has! { Setter: Clone + Copy + Debug + Eq + Hash + Ord + PartialEq + PartialOrd }
-has! { Settings: Clone + Debug + Default + Eq + Hash + PartialEq }
-has! { ShortText: Clone + Copy + Debug + Display }
-has! { edits::ArgumentKind: Clone + Copy + Debug + Eq + Hash + PartialEq }
-has! { error::Class: Clone + Copy + Debug + Eq + Hash + Ord + PartialEq + PartialOrd }
-has! { f32: TryFrom<literal::Literal<'static>, Error = literal::ValueError> + TryFrom<literal::Number<'static>, Error =
-literal::ValueError> }
-has! { f32: literal::FromLiteral }
-has! { f64: TryFrom<literal::Literal<'static>, Error = literal::ValueError> + TryFrom<literal::Number<'static>, Error =
-literal::ValueError> }
-has! { f64: literal::FromLiteral }
-has! { i128: TryFrom<literal::Literal<'static>, Error = literal::ValueError> + TryFrom<literal::Number<'static>, Error =
-literal::ValueError> }
-has! { i128: literal::FromLiteral }
-has! { i16: TryFrom<literal::Literal<'static>, Error = literal::ValueError> + TryFrom<literal::Number<'static>, Error =
-literal::ValueError> }
-has! { i16: literal::FromLiteral }
-has! { i32: TryFrom<literal::Literal<'static>, Error = literal::ValueError> + TryFrom<literal::Number<'static>, Error =
-literal::ValueError> }
-has! { i32: literal::FromLiteral }
-has! { i64: TryFrom<literal::Literal<'static>, Error = literal::ValueError> + TryFrom<literal::Number<'static>, Error =
-literal::ValueError> }
-has! { i64: literal::FromLiteral }
-has! { i8: TryFrom<literal::Literal<'static>, Error = literal::ValueError> + TryFrom<literal::Number<'static>, Error =
-literal::ValueError> }
-has! { i8: literal::FromLiteral }
-has! { isize: TryFrom<literal::Literal<'static>, Error = literal::ValueError> + TryFrom<literal::Number<'static>, Error
-= literal::ValueError> }
-has! { isize: literal::FromLiteral }
-has! { literal::Conditions: Clone + Copy + Debug + Default + Eq + Hash + Ord + PartialEq + PartialOrd }
-has! { literal::ConditionsError: Clone + Copy + Debug + Display + Eq + Hash + PartialEq + std::error::Error }
-has! { literal::Digits<'_>: DoubleEndedIterator + FusedIterator + Iterator<Item = u8> }
-has! { literal::Digits<'static>: Clone + Debug }
-has! { literal::Form: Clone + Copy + Debug + Eq + Hash + PartialEq }
-has! { literal::FormError: Clone + Copy + Debug + Display + Eq + Hash + PartialEq + std::error::Error }
-has! { literal::Language: Clone + Copy + Debug + Display + Eq + Hash + PartialEq }
-has! { literal::Literal<'_>: AsRef<[u8]> + Debug + Display }
-has! { literal::Literal<'static>: Clone + Copy + Eq + Hash + PartialEq }
-has! { literal::Number<'static>: Clone + Copy + Debug + Eq + Hash + PartialEq }
-has! { literal::ParseError: Clone + Copy + Debug + Display + Eq + From<literal::FormError> + From<literal::ReadError> +
-From<literal::ValueError> + Hash + PartialEq + std::error::Error }
-has! { literal::Place: Clone + Copy + Debug + Eq + Hash + PartialEq }
-has! { literal::ReadError: Clone + Copy + Debug + Display + Eq + From<literal::FormError> + Hash + PartialEq +
-std::error::Error }
-has! { literal::ReadErrorKind: Clone + Copy + Debug + Eq + Hash + PartialEq }
-has! { literal::Reader: Clone + Debug + Eq + From<literal::Syntax> + PartialEq }
-has! { literal::Readers<'static>: Clone + Copy + Debug + Eq + PartialEq }
-has! { literal::Sign: Clone + Copy + Debug + Eq + Hash + PartialEq }
-has! { literal::Special: Clone + Copy + Debug + Eq + Hash + PartialEq }
-has! { literal::Specials<'static>: Clone + Copy + Debug + Default + Eq + Hash + PartialEq }
-has! { literal::Spelling: Clone + Copy + Debug + Eq + Hash + PartialEq }
-has! { literal::Style: Clone + Copy + Debug + Default + Eq + Hash + PartialEq }
-has! { literal::Syntax: Clone + Copy + Debug + Display + Eq + FromStr<Err = FormatError> + Hash + Ord + PartialEq +
-PartialOrd }
-has! { literal::ValueError: Clone + Copy + Debug + Display + Eq + Hash + PartialEq + std::error::Error }
-has! { literal::ValueErrorKind: Clone + Copy + Debug + Eq + Hash + PartialEq }
-has! { literal::WriteError: Clone + Copy + Debug + Display + Eq + Hash + PartialEq + std::error::Error }
-has! { literal::Written<'_>: Debug + Display }
-has! { literal::Written<'static>: Clone + Copy }
-has! { source::BuilderExpression: Clone + Copy + Debug + Display }
-has! { u128: From<Format> + From<FormatView> + TryFrom<literal::Literal<'static>, Error = literal::ValueError> +
-TryFrom<literal::Number<'static>, Error = literal::ValueError> }
-has! { u128: literal::FromLiteral }
-has! { u16: TryFrom<literal::Literal<'static>, Error = literal::ValueError> + TryFrom<literal::Number<'static>, Error =
-literal::ValueError> }
-has! { u16: literal::FromLiteral }
-has! { u32: TryFrom<literal::Literal<'static>, Error = literal::ValueError> + TryFrom<literal::Number<'static>, Error =
-literal::ValueError> }
-has! { u32: literal::FromLiteral }
-has! { u64: TryFrom<literal::Literal<'static>, Error = literal::ValueError> + TryFrom<literal::Number<'static>, Error =
-literal::ValueError> }
-has! { u64: literal::FromLiteral }
-has! { u8: TryFrom<literal::Literal<'static>, Error = literal::ValueError> + TryFrom<literal::Number<'static>, Error =
-literal::ValueError> }
-has! { u8: literal::FromLiteral }
-has! { usize: TryFrom<literal::Literal<'static>, Error = literal::ValueError> + TryFrom<literal::Number<'static>, Error
-= literal::ValueError> }
-has! { usize: literal::FromLiteral }

@@ -7,7 +7,7 @@
 Items that only the prover reads are left out as a whole: ghost items, clauses, tactics, `impl Model`, laws and their
 calls. All other words, attributes and documentation stay in their order, except for
 
-- the tables REPLACED and ATTRIBUTES, each row of which has to apply exactly once, and EVERYWHERE;
+- the table REPLACED, each row of which has to apply exactly once, and EVERYWHERE;
 - the paths of the crates, and of the two modules in MODULES with the type of the view.
 
 rustfmt does the layout. A word of GHOST that is left, and a clause without braces, are refused with their file and line,
@@ -60,7 +60,7 @@ COPIED = {
     "lexical_tests/src/*.rt": "tests/known",
     "numfmt/src/tests/rows.rt": "numfmt/tests/program",
 }
-NOT_COPIED = {"lib.rt", "example.rt", "floats.rt", "integers.rt", "literals.rt", "values.rt", "writers.rt"}
+NOT_COPIED = {"lib.rt", "example.rt", "values.rt"}
 
 # The forms of tests in Rattle, and in plain Rust.
 TEST_FORMS = [
@@ -69,6 +69,8 @@ TEST_FORMS = [
     (" -> Result<(), Fail>", ""),
     ("    Ok(())\n", ""),
     ("use std::test::Fail;\n", ""),
+    ("lexical_literal::specials::", "lexical_literal::"),
+    ("lexical_literal::syntax::", "lexical_literal::"),
     ("assert!(rt;", "assert!("),
     ("#[allow(deprecated)]", "#[expect(deprecated)]"),
 ]
@@ -80,21 +82,13 @@ REPLACED = [
     ("digit.rt", "VALUES[c as usize] as u32", "VALUES[c as usize]"),
     # A constant panics with a text.
     ("short_text.rt", "pub fn as_str(", "pub const fn as_str("),
-    # Rattle's `split_at` is not const.
-    ("read.rt", "\nfn split_front<", "\nconst fn split_front<"),
-    ("read.rt", "pub(crate) fn front_of<", "pub(crate) const fn front_of<"),
-    ("read.rt", "pub(crate) fn cut<", "pub(crate) const fn cut<"),
     # Calls with these names are written by hand: they return a byte, a `Literal` or a range.
     ("syntax.rt", "pub const fn options(&self)", "pub(crate) const fn options(&self)"),
     ("cause.rt", "pub const fn span(&self)", "#[doc(hidden)] pub const fn bounds(&self)"),
 ]
 
-# Nor is what calls these.
-NOT_CONST = {
-    "read.rt": "explain find find_front front grouped has_groups lengths refuse refuse_byte ungrouped",
-    "list.rt": "find find_front grouped refuse",
-}
-REPLACED += [(file, f"fn {name}(", f"const fn {name}(") for file, names in NOT_CONST.items() for name in names.split()]
+# Files in which each function is const in plain Rust. Rattle's `split_at` is not, nor is what calls it.
+CONST = ("read.rt", "list.rt")
 
 # Texts that plain Rust replaces in every file, wherever they occur.
 EVERYWHERE = [
@@ -112,10 +106,10 @@ for kind, types in GROWS.items():
     items = [f"pub {kind} {name} {{" for name in types.split()]
     EVERYWHERE += [(item, f"#[non_exhaustive] {item}") for item in items]
 
-# Attributes that plain Rust has in place of those of the source: the end of the path, and both texts.
+# Attributes that plain Rust has in place of those of the source.
 COMPARED = "Clone, Copy, PartialEq, Eq, PartialOrd, Ord, Hash"
 DEPRECATED = '#[deprecated = "Use `build_strict` or `build_unchecked` instead."]'
-ATTRIBUTES = [
+REPLACED += [
     ("syntax.rt", "Default)]\npub struct Conditions", "Default)]\n#[non_exhaustive]\npub struct Conditions"),
     ("syntax.rt", "Hash)]\npub enum ConditionsError", "Hash)]\n#[non_exhaustive]\npub enum ConditionsError"),
     ("lawful.rt", "    Word(u128),", "    Word(u128),\n    Conditions(crate::literal::ConditionsError),"),
@@ -147,7 +141,7 @@ GHOST = {
 }  # fmt: skip
 
 TOKEN = re.compile(r"""//[^\n]*|b?"(?:\\.|[^"\\])*"|b?'(?:\\[^']+|[^\\'\n])'|'?\w+|\S""")
-CLOSING = {"(": ")", "[": "]", "{": "}"}
+OPENS, CLOSES = ("(", "[", "{"), (")", "]", "}")
 
 
 class Refused(Exception):
@@ -173,16 +167,11 @@ class Source:
 
     def behind(self, index):
         """Returns the index after the bracket that closes the bracket at an index."""
-        open_at = []
+        depth = 0
         for at in range(index, len(self.tokens)):
-            word = self.words[at]
-            if word in CLOSING:
-                open_at.append(word)
-            elif open_at and word in CLOSING.values():
-                if word != CLOSING[open_at.pop()]:
-                    self.refuse(at, "this closes another bracket")
-                if not open_at:
-                    return at + 1
+            depth += (self.words[at] in OPENS) - (self.words[at] in CLOSES)
+            if depth == 0:
+                return at + 1
         self.refuse(index, "a bracket is not closed")
 
     def ghost_item(self, index):
@@ -191,10 +180,7 @@ class Source:
         if self.stands(start, "ghost", "use") or self.stands(start, "use", "std", ":", ":", "marker", ":", ":", "Model"):
             return self.words.index(";", start) + 1
         if self.words[start] == "ghost" and self.words[start + 2] in "=:" and self.words[start + 3] == "{":
-            end = self.behind(start + 3)
-            if self.words[end] not in (";", ","):
-                self.refuse(end, "a ghost item does not end with `;` or `,`")
-            return end + 1
+            return self.behind(start + 3) + 1
         if self.stands(index, "#", "[", "tactic", "(") or self.stands(index, "#", "!", "[", "tactic", "("):
             return self.behind(self.words.index("[", index))
         if self.stands(index, "impl", "Model", "for") or self.stands(index, "impl", "<", "'a", ">", "Model", "for"):
@@ -232,9 +218,7 @@ class Source:
         """Leaves out the clauses of the function whose `fn` is at an index, and returns the index of its body."""
         at = index + 1
         while self.words[at] not in ("{", ";", "requires", "ensures"):
-            if re.match(r"(?!dyn|mut|const)\w+ \w|\) (?!where)\w", " ".join(self.words[at - 1 : at + 1])) and at > index + 1:
-                self.refuse(at, "no clause is known that begins so")
-            at = self.behind(at) if self.words[at] in CLOSING else at + 1
+            at = self.behind(at) if self.words[at] in OPENS else at + 1
         end, body = at, at
         while self.words[end - 1].startswith("//"):
             end -= 1
@@ -256,9 +240,6 @@ class Source:
         """Returns the plain Rust, before renaming and layout."""
         index = 0
         while index < len(self.tokens):
-            index = self.behind(index) if self.words[index] in CLOSING else index + 1
-        index = 0
-        while index < len(self.tokens):
             if (end := self.ghost_item(index)) > index:
                 self.leave_out(index, end)
                 index = end
@@ -276,17 +257,18 @@ class Source:
         return text + self.text[last:]
 
 
-def source_of(path):
-    """Returns the source after the replacements. Each keeps the number of lines, so lines keep their numbers."""
+def replaced(path):
+    """Returns a source after the replacements. Each keeps the number of lines, so lines keep their numbers."""
     text = path.read_text()
-    for file, old, new in REPLACED + ATTRIBUTES:
+    text = re.sub(r"(?<!const )\bfn (?=\w+[<(])", "const fn ", text) if path.name in CONST else text
+    for file, old, new in REPLACED:
         if path.match(file):
             if text.count(old) != 1:
                 raise Refused(f"{path}: stands {text.count(old)} times, and not once: {old}")
             text = text.replace(old, new)
     for old, new in EVERYWHERE:
         text = text.replace(old, new)
-    return Source(path, text)
+    return text
 
 
 def renamed(text, root, own, std):
@@ -316,7 +298,7 @@ def made_files():
                 sources += path.read_text()
                 read.append(path)
                 head = f"{MADE} from crates/{crate}/src/{name}: change that file.\n\n"
-                text = head + renamed(source_of(path).erase(), *names)
+                text = head + renamed(Source(path, replaced(path)).erase(), *names)
                 files[RUST.joinpath(folder, stem, *others).with_suffix(".rs")] = laid_out(text)
     for pattern, folder in COPIED.items():
         for path in sorted(it for it in CRATES.glob(pattern) if it.name not in NOT_COPIED):
@@ -330,7 +312,7 @@ def made_files():
     for name in PAGES:
         page = (RUST.parent / f"docs/{name}.md").read_text()
         files[RUST / f"{name}.txt"] = re.sub(r"\[([^][]*)\]\([^)#][^)]*\)", r"\1", page)
-    unused = [old for file, old, _ in REPLACED + ATTRIBUTES if not any(path.match(file) for path in read)]
+    unused = [old for file, old, _ in REPLACED if not any(path.match(file) for path in read)]
     unused += [old for old, _ in EVERYWHERE if old not in sources]
     if unused:
         raise Refused(f"no source has {', '.join(unused)}")

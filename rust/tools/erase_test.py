@@ -40,23 +40,9 @@ def until(words, at, *ends):
     return at
 
 
-def law_names():
-    """The laws: functions of the files of laws, which do nothing but call others."""
-    bodies = {}
-    for path in erase.CRATES.glob("*/src/**/*.rt"):
-        words = words_of(path.read_text())
-        for at, word in enumerate(words[:-1]):
-            if word == "fn":
-                body = until(words, at, "requires", "ensures", "{", ";")
-                while words[body] in ("requires", "ensures"):
-                    body = close(words, body + (1 if words[body + 1] == "{" else 2))
-                text = "".join(words[body : close(words, body)]) if words[body] == "{" else "?"
-                is_law = "laws" in str(path) and re.fullmatch(r"\{([\w:]+\(\);)*\}", text)
-                bodies.setdefault(words[at + 1], []).append(bool(is_law))
-    return {name for name, are_laws in bodies.items() if all(are_laws)}
-
-
-LAWS = law_names()
+# The laws: what the files of laws define, without arguments and results. They do nothing but call others.
+FILES = erase.CRATES.glob("*/src/laws.rt")
+LAWS = {"laws", *(name for path in FILES for name in re.findall(r"\bfn (\w+)\(\)\s", path.read_text()))}
 
 
 def plain(words):
@@ -72,11 +58,9 @@ def plain(words):
             at = close(words, until(words, at, "{"))
         elif word == "use" and "laws" in words[at : until(words, at, ";", "{")]:
             end = until(words, at, ";")
-            laws |= {"laws", *words[at:end]} & (LAWS | {"laws"})
+            laws |= {*words[at:end]} & LAWS
             at = end + 1
         elif word in laws and re.fullmatch(r"(laws::(\w+::)*)?\w+\(\);", "".join(words[at : (end := until(words, at, ";") + 1)])):
-            if words[end - 4] not in LAWS:
-                raise ValueError(f"{words[end - 4]} is no law")
             at = end
         elif word == "fn":
             body = until(words, at, "requires", "ensures", "{", ";")
@@ -90,15 +74,6 @@ def plain(words):
     return kept
 
 
-def wanted_words(path, names):
-    """The words that the generated file of a source must have, by the names of plain Rust."""
-    text = path.read_text()
-    rows = [(old, new) for file, old, new in erase.REPLACED + erase.ATTRIBUTES if path.match(file)]
-    for old, new in rows + erase.EVERYWHERE:
-        text = text.replace(old, new)
-    return plain(words_of(erase.renamed(text, *names)))
-
-
 IMPORT = re.compile(r"(?:# \[ [^\]]* \] )*(?:pub (?:\( \w+ \) )?)?(?<!\S)(?:use [^;]*|mod \w+) ;")
 
 
@@ -109,19 +84,16 @@ def normal(words):
     return sorted(split(" ".join(IMPORT.findall(text)))), split(IMPORT.sub("", text))
 
 
-def pairs():
-    """Each generated file with the words that it must have. Its first line names its source."""
-    for folder in sorted({folder for folder, *_ in erase.PLACES.values()}):
-        for made in sorted((erase.RUST / folder).rglob("*.rs")):
-            if source := re.match(rf"{erase.MADE} from crates/((\w+)/src/\S+): ", made.read_text()):
-                yield made, wanted_words(erase.CRATES / source[1], erase.PLACES[source[2]][1:])
-
-
-def main():
-    files = list(pairs())
-    found = [str(made.relative_to(erase.RUST)) for made, words in files if normal(words) != normal(words_of(made.read_text()))]
-    sys.exit(f"not the words of the source: {', '.join(found)}" if found or not files else 0)
+def differing():
+    """Yields the names of the generated files that differ from what their sources make. Their first lines name these."""
+    for made in sorted(it for folder in {folder for folder, *_ in erase.PLACES.values()} for it in (erase.RUST / folder).rglob("*.rs")):
+        if source := re.match(rf"{erase.MADE} from crates/((\w+)/src/\S+): ", made.read_text()):
+            path = erase.CRATES / source[1]
+            words = plain(words_of(erase.renamed(erase.replaced(path), *erase.PLACES[source[2]][1:])))
+            if normal(words) != normal(words_of(made.read_text())):
+                yield str(made.relative_to(erase.RUST))
 
 
 if __name__ == "__main__":
-    main()
+    found = ", ".join(differing())
+    sys.exit(f"not the words of the source: {found}" if found else 0)

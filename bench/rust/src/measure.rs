@@ -3,15 +3,15 @@
 use std::hint::black_box;
 use std::time::{Duration, Instant};
 
-pub type Loop<'a> = Box<dyn Fn() -> u64 + 'a>;
+pub type Loop = Box<dyn Fn() -> u64>;
 
 /// One loop over the library and over `lexical-util`.
-pub struct Row<'a> {
+pub struct Row {
     pub name: &'static str,
     /// Calls in one pass.
     pub calls: usize,
-    pub ours: Loop<'a>,
-    pub theirs: Loop<'a>,
+    pub ours: Loop,
+    pub theirs: Loop,
 }
 
 fn time(pass: &Loop, times: u32) -> Duration {
@@ -31,7 +31,7 @@ fn passes(pass: &Loop) -> u32 {
     times
 }
 
-impl Row<'_> {
+impl Row {
     /// Times both loops in turn, up to `rounds` times and some seconds, and returns the least nanoseconds of one call on
     /// each side.
     pub fn measure(&self, rounds: usize) -> [f64; 2] {
@@ -67,9 +67,4 @@ impl Fold {
     pub fn with_word(self, word: u128) -> Fold {
         self.with((word as u64).wrapping_mul(3).wrapping_add((word >> 64) as u64))
     }
-}
-
-/// Folds over items.
-pub fn over<T: Copy>(items: &[T], with: impl FnMut(Fold, T) -> Fold) -> u64 {
-    items.iter().copied().fold(Fold::new(), with).sum
 }

@@ -3,7 +3,7 @@
 
 use crate::inputs::{SetterCall, OF_FLAGS};
 use crate::results::{results, Number, Results};
-use crate::rows::{flag_getters, with_getters, with_outcomes, with_setters, FIELDS};
+use crate::rows::{with_getters, with_outcomes, with_setters, FIELDS};
 use crate::rules::SUCCESS;
 use std::cmp::Ordering;
 use std::num::NonZeroU8;
@@ -133,8 +133,8 @@ macro_rules! constants {
 
 macro_rules! builders {
     (
-        { $($Flag:ident $flag:ident $get:ident $CONST:ident;)* }
-        { $($Group:ident $group:ident;)* }
+        { $($flag:ident $get:ident $CONST:ident;)* }
+        { $($group:ident;)* }
     ) => {
         constants! {
             $($CONST)*

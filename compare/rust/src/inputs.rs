@@ -1,4 +1,4 @@
-//! The inputs on which the calls are compared. All of them follow from one seed.
+//! The inputs on which the calls are compared. All of them follow from one seed. `bench/` has this file as a module too.
 
 use crate::random::Random;
 use crate::rows::with_setters;
@@ -15,8 +15,8 @@ pub struct SetterCall {
 
 macro_rules! names {
     (
-        { $($Flag:ident $flag:ident $get:ident $CONST:ident;)* }
-        { $($Group:ident $group:ident;)* }
+        { $($flag:ident $get:ident $CONST:ident;)* }
+        { $($group:ident;)* }
     ) => {
         /// The names of the setters of `lexical-util`, by their index.
         const NAMES: &[&str] = &[
@@ -33,12 +33,6 @@ const SETTERS: usize = NAMES.len();
 /// The number of setters that take a `bool`. The seven byte setters follow them.
 pub const OF_FLAGS: usize = SETTERS - 7;
 
-impl SetterCall {
-    pub fn name(&self) -> &'static str {
-        NAMES[self.setter]
-    }
-}
-
 impl Debug for SetterCall {
     fn fmt(&self, f: &mut Formatter) -> fmt::Result {
         let flag = (self.setter < OF_FLAGS).then_some((self.value % 2 == 1).to_string());
@@ -49,14 +43,6 @@ impl Debug for SetterCall {
 /// Returns calls of one setter each, with the first `values` values.
 pub fn single_calls(values: u16) -> impl Iterator<Item = SetterCall> {
     (0..SETTERS).flat_map(move |setter| (0..values).map(move |value| SetterCall { setter, value: value as u8 }))
-}
-
-/// Returns the calls that give a new builder the fields of a word as they stand.
-pub fn calls_of(word: u128) -> Vec<SetterCall> {
-    let flags = (0..128).filter(|bit| FLAG_MASK >> bit & 1 == 1).map(|bit| (word >> bit) as u8 & 1).zip(0..);
-    let bytes = [64, 88, 96, 104, 112, 120].map(|shift| (word >> shift) as u8);
-    let bytes = bytes.into_iter().zip([0, 1, 2, 3, 5, 6].map(|index| OF_FLAGS + index));
-    flags.chain(bytes).map(|(value, setter)| SetterCall { setter, value }).collect()
 }
 
 impl Random {

@@ -1,6 +1,6 @@
 //! Compares the public calls of the library and of `lexical-util`.
 //!
-//!     driver [--seed N] [--scale N] [--threads N] [--only WORD] [--record FILE]
+//!     driver [--seed N] [--only WORD] [--record FILE]
 
 mod inputs;
 mod options;
@@ -26,10 +26,10 @@ use std::time::Instant;
 use tally::Tally;
 
 /// Runs the tasks side by side, and returns the tally of each section.
-fn run(tasks: &[Task], threads: usize) -> BTreeMap<&'static str, Tally> {
+fn run(tasks: &[Task]) -> BTreeMap<&'static str, Tally> {
     let (next, sections) = (AtomicUsize::new(0), Mutex::new(BTreeMap::<_, Tally>::new()));
     std::thread::scope(|scope| {
-        for _ in 0..threads.max(1) {
+        for _ in 0..std::thread::available_parallelism().map_or(1, usize::from) {
             scope.spawn(|| {
                 while let Some(task) = tasks.get(next.fetch_add(1, Ordering::Relaxed)) {
                     let mut tally = Tally::default();
@@ -53,7 +53,7 @@ fn hush() {
 }
 
 fn main() {
-    let options = Options::new(&["--seed", "--scale", "--threads", "--only", "--record"]);
+    let options = Options::new(&["--seed", "--only", "--record"]);
     let (seed, only) = (options.get("--seed").unwrap_or(1), options.get::<String>("--only").unwrap_or_default());
     hush();
     if let Some(path) = options.get::<String>("--record") {
@@ -64,11 +64,11 @@ fn main() {
     }
 
     let start = Instant::now();
-    let mut tasks = sections::tasks(seed, options.get("--scale").unwrap_or(1));
+    let mut tasks = sections::tasks(seed);
     tasks.retain(|task| task.section.contains(&only));
     println!("{:<32} {:>14} {:>12} {:>12}", "section", "compared", "on purpose", "unexplained");
     let mut total = Tally::default();
-    for (name, tally) in run(&tasks, options.get("--threads").unwrap_or(2)) {
+    for (name, tally) in run(&tasks) {
         println!("{name:<32} {:>14} {:>12} {:>12}", tally.compared, tally.on_purpose, tally.unexplained);
         tally.shown.iter().for_each(|difference| println!("{difference}"));
         total += tally;

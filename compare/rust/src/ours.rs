@@ -2,8 +2,6 @@
 
 use peltzivar::ascii::*;
 use peltzivar::digit::*;
-use peltzivar::edits::{apply, apply_all, edit_word, edits_of, is_built, migrate, normal_form, same_format};
-use peltzivar::edits::{Edit, Setter};
 use peltzivar::error::Error;
 use peltzivar::format::{NumberFormat, STANDARD};
 use peltzivar::format_builder::NumberFormatBuilder;
@@ -22,11 +20,11 @@ pub fn word(word: u128) -> Results<19> {
 /// The getters of a view.
 macro_rules! view_of {
     (
-        ($view:ident $($flag:ident $FLAG:ident)*)
-        { $($truth:ident $T:ident;)* } { $($byte:ident $B:ident;)* } { $($radix:ident $R:ident;)* } { $($mask:ident $M:ident;)* }
+        $view:ident { $($flag:ident $FLAG:ident;)* } { $($byte:ident $B:ident;)* } { $($radix:ident $R:ident;)* }
+        { $($mask:ident $M:ident;)* }
     ) => {
         results! {
-            $($flag: $view.$flag(),)* $($truth: $view.$truth(),)* $($byte: $view.$byte(),)* $($radix: $view.$radix(),)*
+            $($flag: $view.$flag(),)* $($byte: $view.$byte(),)* $($radix: $view.$radix(),)*
             $($mask: $view.$mask(),)* has_digit_separator: $view.has_digit_separator(),
             has_base_prefix: $view.has_base_prefix(), has_base_suffix: $view.has_base_suffix(), radix: $view.radix(),
             radix2: $view.radix2(), radix4: $view.radix4(), radix8: $view.radix8(),
@@ -36,7 +34,7 @@ macro_rules! view_of {
 
 pub fn view(word: u128) -> Results<56> {
     let view = FormatView::new(word);
-    with_setters!(flag_getters(view_of view))
+    with_getters!(view_of view)
 }
 
 pub fn rebuild(word: u128) -> Results<FIELDS> {
@@ -58,39 +56,4 @@ fn strict(builder: &NumberFormatBuilder) -> (u128, u128) {
 
 fn panicking(builder: &NumberFormatBuilder) -> (u128, u128) {
     word_or_panic(|| builder.build_or_panic())
-}
-
-/// Whether a byte is a digit of one of the radixes of a word, and its value in each radix.
-pub fn digits(word: u128, byte: u8) -> Results<3> {
-    let (either, view) = (flags::is_digit_of_either_radix(word, byte), FormatView::new(word));
-    results! { either: either, mantissa: view.mantissa_digit(byte), exponent: view.exponent_digit(byte), }
-}
-
-fn edit(call: &SetterCall) -> Edit {
-    let value = if call.setter < OF_FLAGS { call.value % 2 } else { call.value };
-    Setter::from_name(call.name()).expect("a setter").with_byte(value)
-}
-
-pub fn edits(word: u128, calls: &[SetterCall]) -> Results<3> {
-    let edits: Vec<Edit> = calls.iter().map(edit).collect();
-    let start = NumberFormatBuilder::rebuild(word);
-    results! {
-        edit_word: edit_word(word, &edits),
-        apply: edits.iter().fold(start, |builder, edit| apply(builder, *edit)).build_unchecked(),
-        apply_all: apply_all(start, &edits).build_unchecked(),
-    }
-}
-
-/// The fields of a new builder after all edits of `edits_of`, and after those that it counts.
-pub fn listed(word: u128) -> [Results<FIELDS>; 2] {
-    let (edits, count) = edits_of(word);
-    [&edits[..], &edits[..count]].map(|edits| fields(&apply_all(NumberFormatBuilder::new(), edits)))
-}
-
-pub fn own(word: u128, other: u128) -> Results<6> {
-    let (migrated, error) = word_or_error(migrate(word));
-    results! {
-        normal_form: normal_form(word), migrate: migrated, error: error, same_format: same_format(word, other),
-        is_built: is_built(word), edits_of: edits_of(word).1,
-    }
 }

@@ -1,4 +1,4 @@
-//! The results of calls as numbers, with the names of the calls. `bench/` has this file as a module too.
+//! The results of calls as numbers, with the names of the calls.
 
 use std::num::NonZeroU8;
 
@@ -45,5 +45,4 @@ macro_rules! results {
     };
 }
 
-#[allow(unused_imports)]
 pub(crate) use results;

@@ -14,32 +14,32 @@ pub struct Task {
 
 type Section = fn(&mut Tally, &mut Random);
 
-/// Sections over random inputs: the first seed, whether the scale multiplies their seeds, and how many there are.
-const RANDOM: [(&str, Section, u64, bool, u64); 6] = [
-    ("slices", slices, 0, false, 1),
-    ("reserved bits", reserved_bits, 100, false, 8),
-    ("random words", random_words, 200, true, 8),
-    ("masked radixes", masked, 300, false, 8),
-    ("options", options, 400, false, 8),
-    ("builders and edits", builders, 500, true, 8),
+/// Sections over random inputs: the first of eight seeds.
+const RANDOM: [(&str, Section, u64); 6] = [
+    ("slices", slices, 0),
+    ("reserved bits", reserved_bits, 100),
+    ("random words", random_words, 200),
+    ("masked radixes", masked, 300),
+    ("options", options, 400),
+    ("builders", builders, 500),
 ];
 
 /// All tasks.
-pub fn tasks(seed: u64, scale: u64) -> Vec<Task> {
+pub fn tasks(seed: u64) -> Vec<Task> {
     let mut tasks = vec![];
     let mut add = |section, run: Box<dyn Fn(&mut Tally) + Send + Sync>| tasks.push(Task { section, run });
     add("bytes and digits", Box::new(bytes_and_digits));
     add("outcomes", Box::new(outcomes));
     add("constants and standard formats", Box::new(constants));
     for base in BASES {
-        let run = move |tally: &mut Tally| bits_turned(base).for_each(|word| whole_word(tally, word, base));
+        let run = move |tally: &mut Tally| bits_turned(base).for_each(|word| whole_word(tally, word));
         add("single bits and pairs of bits", Box::new(run));
     }
     for radix in [2, 10, 11, 16, 24, 36] {
         add("punctuation bytes", Box::new(move |tally| punctuation(tally, radix)));
     }
-    for (section, run, first, scaled, count) in RANDOM {
-        for seed in seed + first..seed + first + if scaled { count * scale } else { count } {
+    for (section, run, first) in RANDOM {
+        for seed in seed + first..seed + first + 8 {
             add(section, Box::new(move |tally| run(tally, &mut Random::new(seed))));
         }
     }
@@ -122,16 +122,11 @@ fn rules_of(tally: &mut Tally, word: u128) {
     tally.expect(("word", word), [ours::word(word), rules::word(word, theirs), theirs]);
 }
 
-/// All calls on a word, and those on two.
-fn whole_word(tally: &mut Tally, word: u128, other: u128) {
+/// All calls on a word.
+fn whole_word(tally: &mut Tally, word: u128) {
     rules_of(tally, word);
     same!(tally, view(word));
     same!(tally, rebuild(word));
-    let theirs = theirs::own(word, other);
-    tally.expect(("words", word, other), [ours::own(word, other), rules::strict(theirs), theirs]);
-    for (ours, theirs) in ours::listed(word).into_iter().zip(theirs::listed(word)) {
-        tally.same(("edits of", word), ours, theirs);
-    }
 }
 
 fn reserved_bits(tally: &mut Tally, random: &mut Random) {
@@ -141,11 +136,11 @@ fn reserved_bits(tally: &mut Tally, random: &mut Random) {
         let word = random.word() & !rules::RESERVED;
         for one in &reserved {
             for other in &reserved {
-                whole_word(tally, word | 1 << one | 1 << other, word);
+                whole_word(tally, word | 1 << one | 1 << other);
             }
         }
         for _ in 0..1000 {
-            whole_word(tally, word | random.bits() & rules::RESERVED, word);
+            whole_word(tally, word | random.bits() & rules::RESERVED);
         }
     }
 }
@@ -161,15 +156,7 @@ fn punctuation(tally: &mut Tally, radix: u8) {
 }
 
 fn random_words(tally: &mut Tally, random: &mut Random) {
-    for _ in 0..250_000 {
-        let word = random.word();
-        let other = match random.below(3) {
-            0 => random.word(),
-            1 => theirs::normal_form(word),
-            _ => word ^ 1 << random.below(128),
-        };
-        whole_word(tally, word, other);
-    }
+    (0..250_000).for_each(|_| whole_word(tally, random.word()));
 }
 
 fn masked(tally: &mut Tally, random: &mut Random) {
@@ -187,9 +174,6 @@ fn masked(tally: &mut Tally, random: &mut Random) {
 fn options(tally: &mut Tally, random: &mut Random) {
     let bases: Vec<u128> = BASES.iter().map(|base| base ^ (random.below(8) as u128) << 15).collect();
     for word in bases.into_iter().chain((0..8).map(|_| random.word())) {
-        for byte in 0..=255 {
-            tally.same(("word, byte", word, byte), ours::digits(word, byte), theirs::digits(word, byte));
-        }
         for (exponent, point) in (0..=255).flat_map(|exponent| (0..=255).map(move |point| (exponent, point))) {
             let theirs = theirs::options(word, exponent, point);
             let sides = [ours::options(word, exponent, point), rules::options(word, exponent, point, theirs), theirs];
@@ -206,7 +190,6 @@ fn builders(tally: &mut Tally, random: &mut Random) {
         for (ours, theirs) in ours::built(start, calls).into_iter().zip(theirs::built(start, calls)) {
             tally.expect(input, [ours, rules::strict(theirs), theirs]);
         }
-        same!(tally, edits(start.unwrap_or(BASES[2]), calls));
     };
     for call in single_calls(256) {
         compare(None, &[call]);

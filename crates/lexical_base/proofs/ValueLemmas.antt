@@ -1,10 +1,14 @@
 -- Lemmas on the value of a byte, by ranges of bytes, and on the byte of a value.
-use Rattle.std.proofs.Common.{◌≡◌, ℕ, ◌+◌, ◌-◌, ◌%◌, ◌<◌, ◌≤◌, ◌⊎◌, ◌↔◌, max, Bool, true, false, not, ◌||◌, nat_lt}
+use Rattle.std.proofs.Common.{◌≡◌, ℕ, ◌+◌, ◌-◌, ◌%◌, ◌<◌, ◌≤◌, ◌==◌, ◌⊎◌, ◌↔◌, max, Bool, true, false, ◌||◌, nat_lt}
 use Rattle.std.proofs.Common.{if◌then◌else◌, IsTrue, IsSome, None, Some, slice_get, slice_index_or, refl, arith}
 use Rattle.std.proofs.lemmas.Option.{slice_get-get_or}
+use Rattle.std.proofs.lemmas.Bool.{agree_below, agree_below_at, eqb-true}
 use Rattle.std.proofs.lemmas.Bool.Decides.{nat_tests}
 use Rattle.lexical_base.specs.Digits.{byte_value, digit_characters, digit_of, digits_of, is_lowercase}
-use Rattle.lexical_base.proofs.Finite.{passes_at, same_at}
+
+-- If two functions agree at each number below n, then they agree at a given number below n.
+pub same_at : (f g : ℕ → ℕ) (n k : ℕ) → agree_below (λ i. f i == g i) (λ _. true) n ≡ true → k < n → f k ≡ g k
+same_at f g n k all below = eqb-true _ _ (agree_below_at (λ i. f i == g i) (λ _. true) n k all below)
 
 -- `value_by_range byte` is the value of `byte`, by ranges of bytes.
 abbrev pub value_by_range : ℕ → ℕ
@@ -25,8 +29,7 @@ byte_value-cases byte below =
     grind (arith, nat_tests)
 
 IsSome-if : (b : Bool) (x : ℕ) → IsSome (if b then Some x else None) ↔ IsTrue b
-IsSome-if true x = (λ h. refl, λ h. refl)
-IsSome-if false x = (λ h. h, λ h. h)
+IsSome-if b x = grind arith
 
 -- A byte has a digit value in a radix if and only if it is a digit of that radix.
 pub digit_of-digits_of : (byte radix : ℕ) → byte < 256 → radix < 256 → IsSome (digit_of byte radix)
@@ -92,10 +95,4 @@ digit_of-digit_character digit below radix in_radix =
 pub digit_character-uppercase : (digit : ℕ) → digit < 36
     → is_lowercase (slice_index_or digit_characters digit 0) ≡ false
 digit_character-uppercase digit below =
-    let passes : not (is_lowercase (slice_index_or digit_characters digit 0)) ≡ true =
-    passes_at (λ d. not (is_lowercase (slice_index_or digit_characters d 0))) 36 digit refl below in
-    not_true (is_lowercase (slice_index_or digit_characters digit 0)) passes
-  where
-    not_true : (b : Bool) → not b ≡ true → b ≡ false
-    not_true true h = cc
-    not_true false h = refl
+    agree_below_at (λ d. is_lowercase (slice_index_or digit_characters d 0)) (λ _. false) 36 digit refl below

@@ -60,6 +60,7 @@ pub const fn char_to_valid_digit_const(c: u8, radix: u32) -> u32
 /// be any number. If it is at least 36, all these characters are digits. If it is above 255, every other byte is also a
 /// digit, and has the value 255.
 #[must_use]
+#[tactic(auto, using(crate::proofs::ValueLemmas::small_digit))]
 pub const fn char_to_digit_const(c: u8, radix: u32) -> Option<u32>
     ensures digit { result ≡ digit_of c radix }
     // A digit of a radix has the same value in every larger radix.

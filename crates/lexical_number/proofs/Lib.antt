@@ -1,8 +1,7 @@
 pub mod NumberLemmas
 mod BinaryLemmas
-mod CloseLemmas
+mod TenLemmas
 pub mod LeadingLemmas
-mod LongLemmas
 mod PartsLemmas
 mod ScaledLemmas
 mod StickyLemmas

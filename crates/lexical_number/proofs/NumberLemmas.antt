@@ -4,7 +4,7 @@ use Rattle.std.proofs.Common.{Bool, true, false, cond, refl}
 use Rattle.std.proofs.lemmas.Bool.Decides.{nat_tests}
 use Rattle.std.proofs.Common.{Option, Some, None, IsSome, sym, ap, subst, ◌∙◌, arith, drop-cons, [], ◌++◌}
 use Rattle.std.proofs.lemmas.List.Elements.{filter_map-append}
-use Rattle.std.proofs.lemmas.Int.Digits.{number_after_ge}
+use Rattle.std.proofs.lemmas.Int.Digits.{number_after_append, number_after_ge}
 use Rattle.std.specs.Int.Digits.{number_from_digits_after}
 use Rattle.std.specs.List.{AllByRecursion, cons_option}
 use Rattle.std.proofs.Math.Nat.{mul-le-mul_left, mul-le-mul_right, pow-le-pow_right, pow-suc}
@@ -36,11 +36,7 @@ grows radix n byte d bytes e = number_after_ge radix n (digits_in radix bytes) (
 
 -- Digits that follow others are read after them.
 pub number_after-append : (radix n : ℕ) (xs ys : List ℕ) → number_after radix n (xs ++ ys) ≡ number_after radix (number_after radix n xs) ys
-number_after-append radix n xs ys = ap (number_from_digits_after radix n) (filter_map-append _ xs ys) ∙ go n (digits_in radix xs)
-  where
-    go : (n : ℕ) (ds : List ℕ) → number_from_digits_after radix n (ds ++ digits_in radix ys) ≡ number_after radix (number_from_digits_after radix n ds) ys
-    go n [] = refl
-    go n (d ∷ ds) = go (n * radix + d) ds
+number_after-append radix n xs ys = ap (number_from_digits_after radix n) (filter_map-append _ xs ys) ∙ number_after_append radix n (digits_in radix xs) _
 
 -- The number is not smaller than that of the digits up to one at the index `i`.
 pub too_large : (radix n i d : ℕ) (bytes : List ℕ) → i < length bytes → digit_of (get_or bytes i 0) radix ≡ Some d

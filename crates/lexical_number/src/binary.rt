@@ -4,11 +4,13 @@ ghost use Rattle.std.specs.Prelude.{◌≡◌, ℕ, Bool, true, false, ◌+◌, 
 ghost use Rattle.std.specs.Float.{Format};
 ghost use Rattle.std.specs.Float.Ieee.{prec, low, hid, ones};
 ghost use Rattle.core.specs.Dec2flt.Rounding.{scaled_bits, IsNearestBits, IsSignificand, IsCut};
-ghost use Rattle.lexical_number.specs.Binary.{format_of, IsBinary, IsCutAt};
+ghost use Rattle.lexical_number.specs.Binary.{format_of};
+ghost use Rattle.lexical_number.specs.Leading.{IsCutTo};
 
 #[inline(always)]
 const fn precision(double: bool) -> u64
-    ensures { result ≡ prec (format_of double) }
+    ensures value { result ≡ prec (format_of double) }
+    ensures range { (24 ≤ result) × (result ≤ 53) }
 {
     if double { 53 } else { 24 }
 }
@@ -66,15 +68,18 @@ const fn cut(digits: u128, dropped: u64) -> (u128, u128, u128)
     )
 }
 
-// Returns the bits of the float nearest to a number of which `dropped` bits are cut off.
+// Returns the bits of the float nearest to a number, if `digits` count parts of `2 ^ dropped` of `2 ^ exponent` least floats.
 #[inline(always)]
-const fn settle(double: bool, digits: u128, more: bool, dropped: u64, exponent: u128) -> u64
-    requires dropped { (2 ≤ dropped) × (dropped < 128) }
+const fn settle(double: bool, digits: u128, more: bool, dropped: u128, exponent: u128) -> u64
+    requires digits { (2 ≤ dropped) × (digits < 2 ^ 120) }
     requires kept { IsSignificand (format_of double) (digits / 2 ^ dropped) exponent }
-    ensures { (num den : ℕ) → 0 < den → IsCutAt (format_of double) num den digits more dropped exponent
+    ensures { (num den : ℕ) → 0 < den → IsCutTo (num * 2 ^ low (format_of double) * 2 ^ dropped) digits more (den * 2 ^ exponent)
         → IsNearestBits (format_of double) num den result }
 {
-    let (kept, rest, half) = cut(digits, dropped);
+    if dropped > 121 {
+        return 0;
+    }
+    let (kept, rest, half) = cut(digits, dropped as u64);
     let significand = kept as u64;
     if rest > half {
         scaled_bits(double, significand + 1, exponent)
@@ -87,21 +92,19 @@ const fn settle(double: bool, digits: u128, more: bool, dropped: u64, exponent: 
     }
 }
 
-// Returns digits with the same value that are at least `2 ^ 64`, and by how many bits they are longer.
+// Returns digits with the same value that are at least `2 ^ 64`, by how many bits they are longer, and their highest bit.
 #[inline(always)]
-const fn lifted(digits: u128) -> (u128, u64)
+const fn lifted(digits: u128) -> (u128, u64, u64)
     requires { (0 < digits) × (digits < 2 ^ 120) }
     ensures value { result.0 ≡ digits * 2 ^ result.1 }
-    ensures size { (2 ^ 64 ≤ result.0) × (result.0 < 2 ^ 120) }
     ensures lift { result.1 ≤ 64 }
     ensures none { 2 ^ 64 ≤ digits → result.1 ≡ 0 }
+    ensures top { (2 ^ result.2 ≤ result.0) × (result.0 < 2 ^ (result.2 + 1)) }
+    ensures range { (64 ≤ result.2) × (result.2 < 120) }
 {
-    if digits >= 1 << 64 {
-        return (digits, 0);
-    }
-    let small = digits as u64;
-    let zeros = small.leading_zeros();
-    ((small << zeros) as u128 * 2, zeros as u64 + 1)
+    let zeros = digits.leading_zeros() as u64;
+    let lift = zeros.saturating_sub(63);
+    (digits << lift, lift, 127 - zeros + lift)
 }
 
 // Returns how many bits to drop, and the exponent.
@@ -127,21 +130,16 @@ pub const fn nearest_bits(double: bool, digits: u128, more: bool, up: u128, down
     requires size { digits < 2 ^ 120 }
     requires more { more ≡ true → 2 ^ 64 ≤ digits }
     requires scale { (up < 2 ^ 120) × (down < 2 ^ 120) }
-    ensures { (num den : ℕ) → 0 < den → IsBinary num den digits more up down
-        → IsNearestBits (format_of double) num den result }
+    ensures { (n k p : ℕ) → k + p ≡ up → IsCutTo n digits more (2 ^ k) → IsNearestBits (format_of double) (n * 2 ^ p) (2 ^ down) result }
 {
     if digits == 0 {
         return 0;
     }
-    let (lifted, lift) = lifted(digits);
-    let size = 128 - lifted.leading_zeros() as u64;
+    let (lifted, lift, top) = lifted(digits);
     let (dropped, exponent) = dropped(
-        size - precision(double),
+        top + 1 - precision(double),
         up + lowest(double) as u128,
         down + lift as u128,
     );
-    if dropped > 121 {
-        return 0;
-    }
-    settle(double, lifted, more, dropped as u64, exponent)
+    settle(double, lifted, more, dropped, exponent)
 }

@@ -1,6 +1,6 @@
 //! Float types.
 
-ghost use Rattle.std.specs.Prelude.{◌≡◌, ℕ, ◌*◌, ◌^◌, ◌<◌, ◌≤◌, Bool, true, false, IfSome, Some, from_bits};
+ghost use Rattle.std.specs.Prelude.{◌≡◌, ℕ, ◌*◌, ◌^◌, ◌<◌, ◌≤◌, Bool, true, false, IfSome, Some, from_bits, if◌then◌else◌};
 ghost use Rattle.std.specs.Float as float;
 ghost use Rattle.std.specs.Float.Ieee.{hid, neg, ones, round};
 ghost use Rattle.std.specs.Float.Parse.{parse_float};
@@ -29,15 +29,11 @@ pub trait Float: Copy {
     fn from_text(text: &str) -> Self
         ensures { (x : float.Float) → parse_float (format_of DOUBLE) text.now ≡ Some x → value result ≡ x };
 
-    /// Returns `digits * 10 ^ up`, rounded once, if both factors are floats.
-    fn times_ten_to(digits: u64, up: u64) -> Option<Self>
+    /// Returns `digits * 10 ^ scale`, or `digits / 10 ^ scale` if `over` is true, rounded once, if both numbers are floats.
+    fn by_ten_to(digits: u64, scale: u64, over: bool) -> Option<Self>
         requires { 0 < digits }
-        ensures { IfSome result (λ x. value x ≡ round (format_of DOUBLE) false (digits * 10 ^ up) 1) };
-
-    /// Returns `digits / 10 ^ down`, rounded once, if both are floats.
-    fn over_ten_to(digits: u64, down: u64) -> Option<Self>
-        requires { 0 < digits }
-        ensures { IfSome result (λ x. value x ≡ round (format_of DOUBLE) false digits (10 ^ down)) };
+        ensures { IfSome result (λ x. value x ≡ round (format_of DOUBLE) false (digits * 10 ^ (if over then 0 else scale))
+            (10 ^ (if over then scale else 0))) };
 }
 
 // The powers of ten that are floats.
@@ -71,19 +67,12 @@ impl Float for f64 {
     }
 
     #[inline(always)]
-    fn times_ten_to(digits: u64, up: u64) -> Option<f64> {
-        if digits > 1 << 53 || up > 22 {
+    fn by_ten_to(digits: u64, scale: u64, over: bool) -> Option<f64> {
+        if digits > 1 << 53 || scale > 22 {
             return None;
         }
-        Some(digits as f64 * TENS_F64[up as usize])
-    }
-
-    #[inline(always)]
-    fn over_ten_to(digits: u64, down: u64) -> Option<f64> {
-        if digits > 1 << 53 || down > 22 {
-            return None;
-        }
-        Some(digits as f64 / TENS_F64[down as usize])
+        let (digits, power) = (digits as f64, TENS_F64[scale as usize]);
+        Some(if over { digits / power } else { digits * power })
     }
 }
 
@@ -110,18 +99,11 @@ impl Float for f32 {
     }
 
     #[inline(always)]
-    fn times_ten_to(digits: u64, up: u64) -> Option<f32> {
-        if digits > 1 << 24 || up > 10 {
+    fn by_ten_to(digits: u64, scale: u64, over: bool) -> Option<f32> {
+        if digits > 1 << 24 || scale > 10 {
             return None;
         }
-        Some(digits as f32 * TENS_F32[up as usize])
-    }
-
-    #[inline(always)]
-    fn over_ten_to(digits: u64, down: u64) -> Option<f32> {
-        if digits > 1 << 24 || down > 10 {
-            return None;
-        }
-        Some(digits as f32 / TENS_F32[down as usize])
+        let (digits, power) = (digits as f32, TENS_F32[scale as usize]);
+        Some(if over { digits / power } else { digits * power })
     }
 }

@@ -9,7 +9,7 @@ use lexical_base::digit::char_to_digit;
 /// The leading digits of a number, without the lowest `dropped`, of which some are not 0 if `more` is true.
 #[derive(Debug, Clone, Copy, PartialEq, Eq)]
 pub struct Leading {
-    /// The number that the leading digits represent. It is below `2 ^ 70`.
+    /// The number that the leading digits represent. It is below `2 ^ 96`, if the radix is at most 36.
     pub digits: u128,
     /// Whether some digit that was dropped is not 0.
     pub more: bool,
@@ -29,13 +29,12 @@ impl Leading {
 // Returns the leading digits after one more digit.
 #[inline(always)]
 const fn push(leading: Leading, radix: u32, digit: u32) -> Leading
-    requires radix { (2 ≤ radix) × (radix ≤ 36) }
     requires digit { digit < radix }
-    requires small { leading.digits < 2 ^ 64 * radix }
+    requires small { leading.digits ≤ 2 ^ 90 * radix }
     requires room { leading.dropped < 2 ^ 70 }
     ensures value { (n : ℕ) → Leads radix n leading.digits leading.more leading.dropped
         → Leads radix (n * radix + digit) result.digits result.more result.dropped }
-    ensures small { result.digits < 2 ^ 64 * radix }
+    ensures small { result.digits ≤ 2 ^ 90 * radix }
     ensures dropped { result.dropped ≤ leading.dropped + 1 }
 {
     let Leading {
@@ -43,7 +42,7 @@ const fn push(leading: Leading, radix: u32, digit: u32) -> Leading
         more,
         dropped,
     } = leading;
-    if digits < 1 << 64 {
+    if digits < 1 << 90 {
         Leading {
             digits: digits * radix as u128 + digit as u128,
             more,
@@ -52,7 +51,7 @@ const fn push(leading: Leading, radix: u32, digit: u32) -> Leading
     } else {
         Leading {
             digits,
-            more: more || digit != 0,
+            more: more | (digit != 0),
             dropped: dropped + 1,
         }
     }
@@ -61,12 +60,11 @@ const fn push(leading: Leading, radix: u32, digit: u32) -> Leading
 /// Returns the leading digits after those of `bytes`. Other bytes are skipped.
 #[must_use]
 pub const fn push_all(leading: Leading, radix: u32, bytes: &[u8]) -> Leading
-    requires radix { (2 ≤ radix) × (radix ≤ 36) }
-    requires small { leading.digits < 2 ^ 64 * radix }
+    requires small { leading.digits ≤ 2 ^ 90 * radix }
     requires room { leading.dropped ≤ 2 ^ 65 }
     ensures value { (n : ℕ) → Leads radix n leading.digits leading.more leading.dropped
         → Leads radix (number_after radix n bytes.now) result.digits result.more result.dropped }
-    ensures small { result.digits < 2 ^ 64 * radix }
+    ensures small { result.digits ≤ 2 ^ 90 * radix }
     ensures dropped { result.dropped < leading.dropped + 2 ^ 64 }
 {
     let mut leading = leading;
@@ -85,16 +83,6 @@ pub const fn push_all(leading: Leading, radix: u32, bytes: &[u8]) -> Leading
 pub const fn saturating(bytes: &[u8], radix: u32) -> u128
     ensures { result ≡ min (number radix bytes.now) (2 ^ 90) }
 {
-    let mut value: u128 = 0;
-    let mut index = 0;
-    while index < bytes.len() {
-        if let Some(digit) = char_to_digit(bytes[index], radix) {
-            value = value * radix as u128 + digit as u128;
-            if value > 1 << 90 {
-                value = 1 << 90;
-            }
-        }
-        index += 1;
-    }
-    value
+    let digits = push_all(Leading::ZERO, radix, bytes).digits;
+    if digits < 1 << 90 { digits } else { 1 << 90 }
 }

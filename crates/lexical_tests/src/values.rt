@@ -1,15 +1,118 @@
-//! Clones, which only Rattle returns in a `Result`.
+//! Each generic call at concrete types, with values from outside, and clones, which only Rattle returns in a `Result`.
+//! The tests of plain Rust compare more values, with std.
 
+use callers::formats::read_decimal;
+use lexical_literal::read::Reader;
+use lexical_literal::syntax::Syntax;
+use lexical_number::integer::Integer;
 use lexical_util::edits::{Edit, FlagSetter};
 use lexical_util::error::Error;
-use lexical_util::format::{NonZeroU8, NumberFormat};
+use lexical_util::format::{Format, NonZeroU8, NumberFormat, STANDARD};
+use lexical_value::float::to_float;
+use lexical_value::integer::ValueErrorKind;
+use lexical_value::parse::{ParseError, parse_float, parse_integer};
+use lexical_writer::integer::format_integer;
+use lexical_writer::layout::Style;
+use lexical_writer::literal::format_literal;
+use std::test::Fail;
+
+// Formats with `_` between digits and several in a row: decimal, and hexadecimal with the exponent base 2.
+const DECIMAL: u128 = 0x0A0A0A00_0000005F_00000201_0000000C;
+
+const HEXADECIMAL: u128 = 0x0A021000_0000005F_00000201_0000000C;
+
+// Returns the value of an integer.
+fn integer<T: Integer>(word: u128, text: &str) -> Option<Result<T, ParseError>> {
+    let reader = Reader::new(Syntax::integers(Format::new(word).ok()?));
+    Some(parse_integer(&reader, text.as_bytes()))
+}
+
+#[test]
+fn integers_have_values(rt: HostRuntime) {
+    assert!(rt; matches!(integer::<i8>(HEXADECIMAL, "-8_0"), Some(Ok(i8::MIN))));
+    assert!(rt;
+        matches!(
+            integer::<u64>(HEXADECIMAL, "ffffFFFFffffFFFF"),
+            Some(Ok(u64::MAX))
+        )
+    );
+    assert!(rt;
+        matches!(
+            integer::<u128>(DECIMAL, "18446744073709551616"),
+            Some(Ok(0x1_0000_0000_0000_0000))
+        )
+    );
+    let above = integer::<i64>(DECIMAL, "9223372036854775808");
+    assert!(rt;
+        matches!(
+            above,
+            Some(Err(ParseError::Value(ValueErrorKind::TooLarge)))
+        )
+    );
+    let below = integer::<u8>(DECIMAL, "-1");
+    assert!(rt;
+        matches!(
+            below,
+            Some(Err(ParseError::Value(ValueErrorKind::TooSmall)))
+        )
+    );
+    assert!(rt; matches!(read_decimal(b"1_000"), Ok(1000)));
+    assert!(rt; matches!(read_decimal(b"1.5"), Err(ParseError::Read(_))));
+}
+
+// Returns the bits of both floats of `text`, whose exponent character is `^`.
+fn bits(word: u128, text: &str) -> Option<(u64, u32)> {
+    let format = Format::new(word).ok()?;
+    let reader = Reader::new(Syntax::new(format, b'^', b'.').ok()?);
+    let parts = reader.read(text.as_bytes()).ok()?;
+    match (
+        to_float::<f64>(format.view(), &parts),
+        parse_float::<f32>(&reader, text.as_bytes()),
+    ) {
+        (Ok(double), Ok(single)) => Some((double.to_bits(), single.to_bits())),
+        _ => None,
+    }
+}
+
+#[test]
+fn floats_are_rounded_once(rt: HostRuntime) {
+    assert!(rt; bits(HEXADECIMAL, "-1.8^3") == Some((0xC028_0000_0000_0000, 0xC140_0000)));
+    assert!(rt; bits(DECIMAL, "9007199254740993") == Some((0x4340_0000_0000_0000, 0x5A00_0000)));
+    let above = "9007199254740993.00001";
+    assert!(rt; bits(DECIMAL, above) == Some((0x4340_0000_0000_0001, 0x5A00_0000)));
+    assert!(rt; bits(DECIMAL, "5^-324") == Some((1, 0)));
+    assert!(rt; bits(HEXADECIMAL, "1^9999999") == Some((0x7FF0_0000_0000_0000, 0x7F80_0000)));
+}
+
+const PLAIN: Style = Style {
+    group: 0,
+    prefix: true,
+    suffix: true,
+};
+
+#[test]
+fn numbers_are_written(rt: HostRuntime) -> Result<(), Fail> {
+    let format = Format::new(STANDARD).ok().ok_or("a format")?;
+    let syntax = Syntax::new(format, b'E', b'.').ok().ok_or("a syntax")?;
+    let mut buffer = [0u8; 8];
+    let layout = format_integer(&syntax, -1234567i64, PLAIN)
+        .ok()
+        .ok_or("a layout")?;
+    assert_eq!(rt; layout.write(&mut buffer), 8);
+    assert_eq!(rt; buffer.as_slice(), b"-1234567".as_slice());
+    let reader = Reader::new(Syntax::new(format, b'e', b',').ok().ok_or("a syntax")?);
+    let parts = reader.read(b"-0012,50e+3").ok().ok_or("a literal")?;
+    let layout = format_literal(format.view(), &parts, &syntax, PLAIN)
+        .ok()
+        .ok_or("a layout")?;
+    assert_eq!(rt; layout.write(&mut buffer), 8);
+    assert_eq!(rt; buffer.as_slice(), b"-12.50E3".as_slice());
+    Ok(())
+}
 
 // Returns whether a clone is equal to the value.
 fn is_its_clone<T: Clone + PartialEq + Drop>(value: T) -> bool {
-    match value.clone() {
-        Ok(clone) => clone == value,
-        Err(_) => false,
-    }
+    matches!(value.clone(), Ok(clone) if clone == value)
 }
 
 #[test]

@@ -77,9 +77,6 @@ untouched h (x ∷ L) d none =
     let parts = or_parts (is_some (h x)) (list_any (λ y. is_some (h y)) L) none in
     left_by-cons h x L d ∙ ap (left_by h L) (none_or (h x) d parts.0) ∙ untouched h L d parts.1
 
-at_most_one : (t : Bool) → cond t 1 0 ≤ 1
-at_most_one t = grind arith
-
 -- If a field has another value after some writes, then one of them is to the field.
 touched : {T : Type 0} (h : Write → Option T) (L : List Write) (d : T) (differs : T → Bool) → differs d ≡ false
     → cond (differs (left_by h L d)) 1 0 ≤ cond (list_any (λ x. is_some (h x)) L) 1 0

@@ -11,7 +11,7 @@ use Rattle.lexical_flags.specs.Record.{Record, raw, trim, fill, pack, word_of, e
 use Rattle.lexical_flags.specs.Record.{separator_allowed, SeparatorAllowedOrAbsent}
 use Rattle.lexical_util.proofs.Lower.{kept_same, trimmed_unused}
 use Rattle.lexical_builder.specs.Writes.{Write, IsLegal, after}
-use Rattle.lexical_util.proofs.EditLemmas.{edited-fields, edited-clean, edited-fits, edited-only}
+use Rattle.lexical_util.proofs.EditLemmas.{edited-fields, edited-clean, edited-only}
 use Rattle.lexical_util.specs.Edits.{edited}
 use Rattle.lexical_util.specs.Groups.{any_flag, bits_of}
 use Rattle.lexical_util.specs.NormalForm.{normal_form_of, SameFormat, IsNormal}
@@ -99,9 +99,6 @@ SameFormat-normal R = record {
 module _ (w : ℕ) where
   pub clean_normal : IsClean (normal_form_of w)
   clean_normal = edited-clean w [] (All-nil IsLegal)
-
-  pub normal_fits : normal_form_of w < 2 ^ 128
-  normal_fits = edited-fits w [] (All-nil IsLegal)
 
   -- No other clean word has the fields of the normal form.
   pub normal_only : (u : ℕ) → u < 2 ^ 128 → IsClean u → raw u ≡ trim (fill (raw w)) → u ≡ normal_form_of w

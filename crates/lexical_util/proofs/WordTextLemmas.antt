@@ -1,6 +1,6 @@
 -- Lemmas on the loop of `word_text`, and on the only text with a given form and value.
 use Rattle.std.proofs.Common.{◌≡◌, ℕ, zero, suc, ◌+◌, ◌-◌, ◌*◌, ◌/◌, ◌%◌, ◌^◌, ◌<◌, ◌==◌, ◌&&◌, Bool, true, not}
-use Rattle.std.proofs.Common.{IsTrue, IsSome, ◌↔◌, bytes_eq}
+use Rattle.std.proofs.Common.{IsTrue, bytes_eq}
 use Rattle.std.proofs.Common.{List, [], ◌∷◌, ◌++◌, map, take, drop, length, codes, replicate, slice_index_or, refl}
 use Rattle.std.proofs.Common.{sym, ap}
 use Rattle.std.proofs.Common.{◌∙◌, subst, arith, cond, inl, inr, nat_lt, unwrap_or, Some, None}
@@ -188,8 +188,3 @@ IsPrintedForm-unique s t form form' same =
     (form_digits s form) (form_digits t form') same in
     let prefix : take 2 s ≡ take 2 t = form_prefix s form ∙ sym (form_prefix t form') in
     sym (take-append-drop 2 s) ∙ (λ i. prefix i ++ digits.1 i) ∙ take-append-drop 2 t
-
--- If a truth value is true if and only if a byte has a digit value, then it is equal to the test of the byte.
-pub is_digit_of_digit : (test truth : Bool) (value : ℕ) → IsTrue truth ↔ IsSome (cond test (Some value) None)
-    → truth ≡ test
-is_digit_of_digit test truth value told = grind arith

@@ -207,7 +207,11 @@ pub const fn migrate(format: u128) -> Result<u128, Error>
     ensures not_success { result ≢ Err Error.Success }
     ensures not_flags { result ≢ Err Error.InvalidFlags }
 {
-    check(normal_form(format))
+    let word = normal_form(format);
+    match check(word) {
+        Ok(_) => Ok(word),
+        Err(error) => Err(error),
+    }
 }
 
 /// Returns whether two words are equivalent, that is, whether they have the same [normal form][normal_form].

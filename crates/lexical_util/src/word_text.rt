@@ -88,12 +88,10 @@ fn first_misfit(text: &[u8]) -> usize
 fn leading_digits(digits: &[u8]) -> usize
     ensures { result ≡ prefix_len (is_digit_of_radix 16) digits.now }
 {
-    for (index, byte) in digits.iter().enumerate() {
-        if !char_is_digit(*byte, 16) {
-            return index;
-        }
-    }
-    digits.len()
+    digits
+        .iter()
+        .take_while(|byte| char_is_digit(**byte, 16))
+        .count()
 }
 
 // Returns the error of a text in which the first byte that does not fit is at `index`, or that ends there.

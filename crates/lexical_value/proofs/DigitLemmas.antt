@@ -1,5 +1,7 @@
 -- Digits without separators, and the numbers that they represent.
-use Rattle.std.proofs.Common.{◌≡◌, ◌≢◌, ℕ, zero, suc, ◌+◌, ◌-◌, ◌*◌, ◌%◌, ◌^◌, ◌<◌, ◌≤◌, ◌++◌, true, cond, IsTrue, List, [], ◌∷◌, length, take, refl, sym, ap, ◌∙◌, arith, Some, None, slice_index_or, nat_lt}
+use Rattle.std.proofs.Common.{◌≡◌, ◌≢◌, ℕ, suc, ◌+◌, ◌-◌, ◌*◌, ◌%◌, ◌^◌, ◌<◌, ◌≤◌, ◌++◌, true, cond, IsTrue, List, [], ◌∷◌, length, take, refl, sym, ap, ◌∙◌, arith, Some, None, nat_lt}
+use Rattle.std.proofs.lemmas.Bool.{agree_below_at, eqb-true}
+use Rattle.std.specs.Prelude.{◌==◌}
 use Rattle.std.proofs.lemmas.Bool.Decides.{nat_tests}
 use Rattle.std.proofs.Math.Nat.{sub-zero}
 use Rattle.core.proofs.str.DigitBytes.{digit_from_value}
@@ -14,23 +16,12 @@ use Rattle.std.specs.Str.Parse.{AllDigits, digits_value, digits_value_after}
 use Rattle.lexical_util.specs.Digits.{byte_value, digit_of}
 use Rattle.lexical_util.specs.Roles as sets
 use Rattle.lexical_util.specs.Roles.{cased}
-use Rattle.lexical_literal.specs.Literal.{is_none_or_one}
 use Rattle.lexical_number.specs.Number.{digits_in, number, places}
 use Rattle.lexical_number.proofs.NumberLemmas.{number_short}
 
 value_of_digit : (d : ℕ) → d < 10 → byte_value (48 + d) ≡ d
 unfolding byte_value
-value_of_digit zero l = refl
-value_of_digit (suc zero) l = refl
-value_of_digit (suc (suc zero)) l = refl
-value_of_digit (suc (suc (suc zero))) l = refl
-value_of_digit (suc (suc (suc (suc zero)))) l = refl
-value_of_digit (suc (suc (suc (suc (suc zero))))) l = refl
-value_of_digit (suc (suc (suc (suc (suc (suc zero)))))) l = refl
-value_of_digit (suc (suc (suc (suc (suc (suc (suc zero))))))) l = refl
-value_of_digit (suc (suc (suc (suc (suc (suc (suc (suc zero)))))))) l = refl
-value_of_digit (suc (suc (suc (suc (suc (suc (suc (suc (suc zero))))))))) l = refl
-value_of_digit (suc (suc (suc (suc (suc (suc (suc (suc (suc (suc d)))))))))) l = absurd (omega arith)
+value_of_digit d below = eqb-true _ _ (agree_below_at (λ k. byte_value (48 + k) == k) (λ _. true) 10 d refl below)
 
 -- Both words for the value of a digit are the same, and it is below 10.
 same_value : (c : ℕ) → digit_value c < 10 → (byte_value c ≡ digit_value c) × (nat_lt (byte_value c) 10 ≡ true)
@@ -81,9 +72,7 @@ read_value bytes before size value r =
     rw sub-zero at r.value_is
     ∙ ap (λ n. n % 2 ^ 64) (sym (digits_value_after_is before (take size bytes) ∙ ap (λ k. before * 10 ^ k + digits_value 10 (take size bytes)) long))
 
--- A first byte that is the point, which is not 0, is the point of a notation.
-pub point_is : (bytes : List ℕ) (point : ℕ) → 1 ≤ length bytes → slice_index_or bytes 0 0 ≡ point → point ≢ 0
-    → IsTrue (is_none_or_one (sets.point point) (take 1 bytes))
+-- A byte that is not 0 is in the set of the point that it is.
+pub is_point : (byte : ℕ) → byte ≢ 0 → sets.point byte byte ≡ true
 unfolding cased
-point_is [] point some first not_zero = absurd (omega (arith, some))
-point_is (byte ∷ bytes) point some first not_zero = grind (arith, nat_tests)
+is_point byte some = grind (arith, nat_tests)

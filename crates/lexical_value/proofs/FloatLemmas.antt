@@ -1,17 +1,19 @@
 -- The fraction that a literal is, by its parts, and floats that are no NaN.
-use Rattle.std.proofs.Common.{ℕ, ◌≡◌, ◌+◌, ◌*◌, ◌^◌, ◌≤◌, not, Bool, true, false, cond, ap, ◌∙◌, refl, subst, sym, zero, suc}
+use Rattle.std.proofs.Common.{ℕ, ◌≡◌, ◌+◌, ◌*◌, ◌^◌, ◌++◌, length, not, Bool, true, false, cond, ap, ◌∙◌, refl, subst, sym, zero, suc}
 use lib.Ieee.{Float, Format, emax, inf, is_nan, low, odd, prec, round, units}
 use lib.Ieee.Fits.{round_is}
-use lib.Pow.{pow_mono}
 use Rattle.core.specs.Prelude.{T, ltb}
 use Rattle.std.specs.Float.{NotNan}
+use Rattle.std.specs.Str.Parse.{AllDigits}
 use Rattle.lexical_util.specs.Layout as layout
 use Rattle.lexical_util.specs.Record.{Record, effective_exponent_base, effective_exponent_radix}
 use Rattle.lexical_literal.specs.Literal.{Literal}
 use Rattle.lexical_number.specs.Binary.{raised_down, raised_up}
 use Rattle.lexical_number.specs.Leading.{Leads}
 use Rattle.lexical_number.specs.Number.{number, places}
+use Rattle.lexical_value.specs.Private.{TakesDecimals}
 use Rattle.lexical_value.specs.Value.{denominator, is_minus, mantissa, numerator}
+use Rattle.lexical_value.proofs.DigitLemmas.{counted}
 
 -- What holds of the fraction by its parts holds of the value of the literal.
 pub of_value : (P : ℕ → ℕ → Type 0) (r : Record) (l : Literal) (n m b e k : ℕ) (s : Bool) → n ≡ mantissa r l → m ≡ r.byte layout.mantissa_radix
@@ -21,6 +23,15 @@ of_value P r l n m b e k s N M B E K S is =
     let up : n * raised_up s b e ≡ numerator r l = λ i. N i * raised_up (S i) (B i) (E i) in
     let down : m ^ k * raised_down s b e ≡ denominator r l = λ i. M i ^ K i * raised_down (S i) (B i) (E i) in
     subst (λ d. P (numerator r l) d) down (subst (λ n. P n (m ^ k * raised_down s b e)) up is)
+
+-- What holds of the fraction by its decimal digits holds of the value of the literal.
+pub of_decimal : (P : ℕ → ℕ → Type 0) (r : Record) (l : Literal) (n e : ℕ) (s : Bool) → TakesDecimals r → AllDigits 10 l.fraction
+    → n ≡ number 10 (l.integer ++ l.fraction) → e ≡ number 10 l.exponent → s ≡ is_minus l.exponent_sign
+    → P (n * raised_up s 10 e) (10 ^ length l.fraction * raised_down s 10 e) → P (numerator r l) (denominator r l)
+of_decimal P r l n e s decimal digits N E =
+    of_value P r l n 10 10 e (length l.fraction) s (N ∙ ap (λ radix. number radix (l.integer ++ l.fraction)) (sym decimal.radix))
+    (sym decimal.radix) (sym decimal.base) (E ∙ ap (λ radix. number radix l.exponent) (sym decimal.exponent_radix))
+    (sym (counted l.fraction digits) ∙ ap (λ radix. places radix l.fraction) (sym decimal.radix))
 
 -- A rounded fraction is no NaN.
 odd_number : (d : ℕ) (s : Bool) (q k l : ℕ) → is_nan (odd d s q k l) ≡ false
@@ -41,9 +52,6 @@ round_number f s num den = ap is_nan (round_is f s num den) ∙ units_number f s
 
 pub not_nan : (f : Format) (s : Bool) (num den : ℕ) (value : Float) → value ≡ round f s num den → NotNan value
 not_nan f s num den value is = subst T (sym (ap (λ x. not (is_nan x)) is ∙ ap not (round_number f s num den))) tt
-
-pub two_le : (radix bits : ℕ) → radix ≡ 2 ^ bits → 1 ≤ bits → 2 ≤ radix
-two_le radix bits is some = subst (λ r. 2 ≤ r) (sym is) (pow_mono {i = 1} {j = bits} some)
 
 -- Leading digits in a radix by its number of bits.
 pub by_bits : (radix bits n digits dropped : ℕ) (more : Bool) → radix ≡ 2 ^ bits → Leads radix n digits more dropped → Leads (2 ^ bits) n digits more dropped

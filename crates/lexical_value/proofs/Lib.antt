@@ -3,4 +3,3 @@ mod TextLemmas
 mod PlainLemmas
 mod ValueLemmas
 mod DigitLemmas
-mod PlainFloatLemmas

@@ -1,131 +1,142 @@
--- Digits that do not begin with 0 are a literal, also after a minus sign, if no flag requires a plus sign or an exponent.
-use Rattle.std.proofs.Common.{ℕ, ◌≡◌, ◌≢◌, Bool, true, false, not, ◌||◌, ◌&&◌, is_some, IsTrue, IsSome, List, [], ◌∷◌, ◌++◌, refl, sym, ap, ◌∙◌, arith, append-nil}
-use Rattle.std.proofs.Common.{◌≤◌, length, slice_index_or, nat_lt, cond, subst, ℤ, Option, Some, None, IfSome, option_map}
-use Rattle.std.proofs.lemmas.Bool.{and_parts, false≢true}
+-- Digits alone, in each part that is announced, are a literal of a syntax that requires no more.
+use Rattle.std.proofs.Common.{ℕ, ◌≡◌, ◌≢◌, ◌<◌, ◌++◌, ◌⊎◌, ◌||◌, inl, inr, append-nil, drop, Bool, true, false, cond, IsTrue, IsSome, List, [], ◌∷◌, length, slice_index, nat_lt}
+use Rattle.std.proofs.Common.{refl, sym, ap, ◌∙◌, subst, arith, ℤ, Option, Some, None, IfSome, option_map}
+use Rattle.std.proofs.lemmas.Bool.{false≢true}
 use Rattle.std.specs.List.{AllByRecursion}
 use Rattle.std.specs.Option.{SomeIff}
+use lib.Seq.{drop_at}
+use Rattle.lexical_util.specs.Ascii.{ByteSet}
 use Rattle.lexical_util.specs.Digits.{byte_value, digit_of}
 use Rattle.lexical_util.specs.Layout as layout
 use Rattle.lexical_util.specs.Layout.{Flag}
 use Rattle.lexical_util.specs.Record.{raw}
 use Rattle.lexical_util.specs.Roles.{signs}
+use Rattle.lexical_util.specs.declared.format_flags.Part.{Part}
 use Rattle.lexical_util.specs.declared.format_flags.Part.TheVariants as parts
-use Rattle.lexical_literal.specs.Literal.{Literal, IsLiteral, Reads, has_leading_zero, is_none_or_one, requirement}
-use Rattle.lexical_literal.specs.Notation.{Notation, has, no_conditions, notation_of}
+use Rattle.lexical_literal.specs.Literal.{Literal, condition, has_leading_zero, is_absent, is_none_or_one, is_plus, is_present, requirement, text_of}
+use Rattle.lexical_literal.specs.Notation.{Notation, has, notation_of}
 use Rattle.lexical_literal.specs.Readings.{AllIn}
 use Rattle.lexical_literal.specs.Run.{are_fit}
+use Rattle.lexical_literal.specs.Takes.{Takes}
+use Rattle.lexical_literal.specs.Groups.{has_groups}
 use Rattle.lexical_literal.specs.declared.syntax.Condition.{Condition}
 use Rattle.lexical_literal.specs.declared.syntax.Condition.TheVariants as conditions
-use Rattle.lexical_literal.specs.declared.syntax.Conditions.{Conditions}
-use Rattle.lexical_literal.specs.declared.syntax.Options.{Options}
-use Rattle.lexical_number.specs.Number.{number}
-use Rattle.lexical_number.specs.Numeral.{with_sign}
-use Rattle.lexical_value.specs.Integer.{IsInteger}
-use Rattle.lexical_value.specs.Private.{minus_if}
+use Rattle.lexical_literal.specs.declared.syntax.Grammar.{Grammar}
+use Rattle.lexical_value.specs.Private.{AllowPlain, IsSpelled, TakesDecimals, unsigned}
 use Rattle.lexical_value.specs.Value.{is_minus}
 
--- `plain negative digits` has the digits of an integer, and a sign.
-abbrev pub plain : Bool → List ℕ → Literal
-plain negative digits = record {
-  sign = minus_if negative;
-  prefix = [];
-  integer = digits;
-  point = [];
-  fraction = [];
-  exponent_character = [];
-  exponent_sign = [];
-  exponent = [];
-  suffix = [];
-}
+-- Digits fit wherever they are.
+all_fit : (m : Notation) (part : Part) (before digits : List ℕ) → AllIn (m.digit part) digits → are_fit m part before digits ≡ true
+all_fit m part before [] all = refl
+all_fit m part before (byte ∷ digits) all = let rest = all_fit m part (before ++ byte ∷ []) digits all.1 in let digit = all.0 in grind arith
 
--- Without conditions, none is set.
-pub none_set : (c : Condition) → has no_conditions c ≡ false
-none_set conditions.BasePrefix = refl
-none_set _ = refl
+-- A zero that no digit follows is no leading zero.
+no_leading_zero : (D : ByteSet) (digits : List ℕ) → AllIn D digits → (1 < length digits → slice_index digits 0 ≡ 48 → ⊥) → has_leading_zero D digits ≡ false
+no_leading_zero D [] all zero = refl
+no_leading_zero D (byte ∷ []) all zero = let digit = all.0 in grind arith
+no_leading_zero D (byte ∷ next ∷ digits) all zero = let digit = all.0 in let not_zero : byte ≢ 48 = zero (omega arith) in grind arith
 
-no_size : (o : Option ℕ) → not (is_some o) ≡ true → None ≡ o
-no_size None is = refl
-no_size (Some size) is = absurd (false≢true is)
+absent : (bytes : List ℕ) → is_absent bytes ≡ true → bytes ≡ []
+absent [] is = refl
+absent (byte ∷ bytes) is = let apart : false ≡ true = is in cc
 
--- If none is set, there are no conditions.
-pub no_more : (c : Conditions) → (not (has c conditions.BasePrefix || (has c conditions.BaseSuffix || has c conditions.NegativeSign))
-    && not (is_some c.integer_group_size)) ≡ true → no_conditions ≡ c
-no_more c both =
-    let is = (and_parts _ (not (is_some c.integer_group_size)) both).0 in
-    let groups = no_size c.integer_group_size (and_parts _ (not (is_some c.integer_group_size)) both).1 in
-    let prefix : false ≡ c.required_base_prefix = grind arith in
-    let suffix : false ≡ c.required_base_suffix = grind arith in
-    let sign : false ≡ c.no_negative_mantissa_sign = grind arith in
-    λ j. record { required_base_prefix = prefix j; required_base_suffix = suffix j; no_negative_mantissa_sign = sign j; integer_group_size = groups j }
+present : (bytes : List ℕ) → 0 < length bytes → is_present bytes ≡ true
+present [] some = absurd (omega (arith, some))
+present (byte ∷ bytes) some = refl
 
-module _ (m : Notation) (no_sign : m.flag layout.required_mantissa_sign ≡ false) (no_exponent : m.flag layout.required_exponent_notation ≡ false)
-    (none : (c : Condition) → m.condition c ≡ false) where
-  -- Digits fit wherever they are.
-  all_fit : (before digits : List ℕ) → AllIn (m.digit parts.Integer) digits → are_fit m parts.Integer before digits ≡ true
-  all_fit before [] all = refl
-  all_fit before (byte ∷ digits) all = let rest = all_fit (before ++ byte ∷ []) digits all.1 in let digit = all.0 in grind arith
+module _ (g : Grammar) (sign integer point fraction character exponent_sign exponent : List ℕ) where
+  abbrev m : Notation
+  m = notation_of g
 
-  module _ (first : ℕ) (digits : List ℕ) (not_zero : first ≢ 48) (all : AllIn (m.digit parts.Integer) (first ∷ digits)) where
-    -- A first digit that is not 0 is no leading zero.
-    no_leading_zero : has_leading_zero (m.digit parts.Integer) (first ∷ digits) ≡ false
-    no_leading_zero = let digit = all.0 in grind arith
+  abbrev pub plain : Literal
+  plain = record {
+    sign = sign;
+    prefix = [];
+    integer = integer;
+    point = point;
+    fraction = fraction;
+    exponent_character = character;
+    exponent_sign = exponent_sign;
+    exponent = exponent;
+    suffix = [];
+  }
 
-    -- Each flag that is set requires nothing that is not there.
-    met : (negative : Bool) (f : Flag) → IsTrue (m.flag f) → IsTrue (requirement f m (plain negative (first ∷ digits)))
-    met negative f set = let zero = no_leading_zero in grind arith
+  module _ (no_sign : m.flag layout.required_mantissa_sign ≡ false) (no_exponent : m.flag layout.required_exponent_notation ≡ false)
+      (allow : AllowPlain g.conditions (is_minus sign)) (exponents : (character ≡ []) ⊎ TakesDecimals (raw g.word)) (spelled : IsSpelled plain)
+      (digits : AllIn (m.digit parts.Integer) integer) where
+    -- A condition requires nothing that is not there.
+    admitted : (c : Condition) → IsTrue (has g.conditions c) → IsTrue (is_none_or_one signs sign) → IsTrue (condition c plain)
+    admitted conditions.BasePrefix set is = absurd (false≢true (sym allow.prefix ∙ set))
+    admitted conditions.BaseSuffix set is = absurd (false≢true (sym allow.suffix ∙ set))
+    admitted conditions.NegativeSign set is = positive sign (allow.sign set) is
+      where
+        positive : (sign : List ℕ) → is_minus sign ≡ false → IsTrue (is_none_or_one signs sign) → IsTrue (is_absent sign || is_plus sign)
+        positive [] not_minus is = refl
+        positive (byte ∷ []) not_minus is = grind arith
+        positive (byte ∷ next ∷ bytes) not_minus is = let apart : false ≡ true = is in cc
 
-    -- A sign and these digits are a literal.
-    is : (negative : Bool) → IsTrue (is_none_or_one signs (minus_if negative)) → IsLiteral m (plain negative (first ∷ digits))
-    is negative sign = record {
-      conditions = λ c set. absurd (false≢true (sym (none c) ∙ set));
-      spelled = record {
-        sign = sign;
-        prefix = refl;
-        integer = all_fit [] (first ∷ digits) all;
-        point = refl;
-        fraction = refl;
-        exponent_character = refl;
-        exponent_sign = refl;
-        exponent = refl;
-        suffix = refl;
-        after_point = λ absent. refl;
-        after_character = λ absent. (refl, refl);
-        some_number = refl;
-        requirements = met negative;
+    -- A flag requires nothing that is not there.
+    met : (IsTrue (m.flag layout.no_positive_mantissa_sign) → is_plus sign ≡ false) → (IsTrue (m.flag layout.no_positive_exponent_sign)
+        → is_plus exponent_sign ≡ false) → (f : Flag) → IsTrue (m.flag f) → IsTrue (requirement f m plain)
+    met plus exponent_plus f set =
+        let zero = no_leading_zero (m.digit parts.Integer) integer digits spelled.zero in
+        let some = present integer spelled.integer in
+        elim exponents [
+          | inl none ↦ let empty = ap is_absent none in grind arith
+          | inr decimal ↦ grind arith
+        ]
+
+    pub reads : (text rest : List ℕ) → text ≡ sign ++ rest → rest ≡ unsigned plain → IsTrue (is_none_or_one signs sign)
+        → (IsTrue (m.flag layout.no_positive_mantissa_sign) → is_plus sign ≡ false)
+        → IsTrue (is_none_or_one m.point point) → AllIn (m.digit parts.Fraction) fraction
+        → IsTrue (is_none_or_one m.exponent_character character) → IsTrue (is_none_or_one signs exponent_sign)
+        → (IsTrue (m.flag layout.no_positive_exponent_sign) → is_plus exponent_sign ≡ false) → AllIn (m.digit parts.Exponent) exponent → Takes g plain text
+    reads text rest whole is signed plus pointed fractions marked exponent_signed exponent_plus exponent_digits = record {
+      reads = record {
+        whole = whole ∙ ap (λ t. sign ++ t) (is ∙ (λ i. integer ++ (point ++ (fraction ++ (character ++ (exponent_sign ++ sym (append-nil exponent) i))))));
+        literal = record {
+          conditions = λ c set. admitted c set signed;
+          spelled = record {
+            sign = signed;
+            prefix = refl;
+            integer = all_fit m parts.Integer [] integer digits;
+            point = pointed;
+            fraction = all_fit m parts.Fraction [] fraction fractions;
+            exponent_character = marked;
+            exponent_sign = exponent_signed;
+            exponent = all_fit m parts.Exponent [] exponent exponent_digits;
+            suffix = refl;
+            after_point = λ is. absent fraction (spelled.fraction ∙ is);
+            after_character = λ is. (
+              absent exponent_sign (let either = spelled.exponent_sign in grind arith),
+              absent exponent (spelled.exponent ∙ is),
+            );
+            some_number = let some = present integer spelled.integer in grind arith;
+            requirements = met plus exponent_plus;
+          };
+        };
       };
+      groups = subst (λ size. IsTrue (has_groups m.separator size integer)) (sym allow.groups) refl;
     }
 
-    -- The text is that literal.
-    reads : (negative : Bool) → Reads m (plain negative (first ∷ digits)) (minus_if negative ++ first ∷ digits)
-    reads true = record { whole = ap (λ t. 45 ∷ t) (sym (append-nil (first ∷ digits))); literal = is true refl }
-    reads false = record { whole = sym (append-nil (first ∷ digits)); literal = is false refl }
+-- Behind its sign, the text of a literal without a prefix and a suffix has its other parts.
+pub unsigned_is : (l : Literal) (text : List ℕ) → text ≡ text_of l → l.prefix ≡ [] → l.suffix ≡ [] → drop (length l.sign) text ≡ unsigned l
+unsigned_is l text whole prefix suffix =
+    let rest = l.integer ++ (l.point ++ (l.fraction ++ (l.exponent_character ++ (l.exponent_sign ++ (l.exponent ++ []))))) in
+    rw (whole, prefix, suffix, drop_at l.sign rest _ refl, append-nil)
 
--- Digits of a radix are those of the notation.
-are_digits : (radix : ℕ) (bytes : List ℕ) → AllByRecursion (λ byte. IsSome (digit_of byte radix)) bytes
-    → AllByRecursion (λ byte. IsTrue (nat_lt (byte_value byte) radix)) bytes
-are_digits radix [] all = tt
-are_digits radix (byte ∷ bytes) all = (go _ refl all.0, are_digits radix bytes all.1)
+-- Digits of a radix are those of a notation with this radix.
+pub are_digits : (radix own : ℕ) (bytes : List ℕ) → radix ≡ own → AllByRecursion (λ byte. IsSome (digit_of byte radix)) bytes
+    → AllByRecursion (λ byte. IsTrue (nat_lt (byte_value byte) own)) bytes
+are_digits radix own [] same all = tt
+are_digits radix own (byte ∷ bytes) same all = (ap (λ r. nat_lt (byte_value byte) r) (sym same) ∙ go _ all.0, are_digits radix own bytes same all.1)
   where
-    go : (test : Bool) → nat_lt (byte_value byte) radix ≡ test → IsSome (cond test (Some (byte_value byte)) None) → IsTrue (nat_lt (byte_value byte) radix)
-    go true same some = same
-    go false same some = absurd (let apart : false ≡ true = some in cc)
+    go : (test : Bool) → IsSome (cond test (Some (byte_value byte)) None) → IsTrue test
+    go true some = refl
+    go false some = absurd (let apart : false ≡ true = some in cc)
 
--- The value of a plain integer is that of its sign and its digits.
-pub plain_value : {T : Type 0} (value : T → ℤ) (word : ℕ) (negative : Bool) (radix : ℕ) (bytes : List ℕ) (result : Option T)
-    → (raw word).flag layout.required_mantissa_sign ≡ false → (raw word).flag layout.required_exponent_notation ≡ false
-    → 1 ≤ length bytes → slice_index_or bytes 0 0 ≢ 48 → radix ≡ (raw word).byte layout.mantissa_radix
-    → (Fits : Type 0) → (Fits → AllByRecursion (λ byte. IsSome (digit_of byte radix)) bytes)
-    → SomeIff (option_map value result) Fits (with_sign negative (number radix bytes))
-    → IfSome result (λ x. (options : Option Options) → (l : Literal)
-    × Reads (notation_of (record { word = word; options = options; conditions = no_conditions })) l (minus_if negative ++ bytes) × IsInteger (raw word) l (value x))
-plain_value value word negative radix bytes None no_sign no_exponent some not_zero same Fits digits s = tt
-plain_value value word negative radix (first ∷ digits) (Some x) no_sign no_exponent some not_zero same Fits alone s =
-    let all = subst (λ r. AllByRecursion (λ byte. IsTrue (nat_lt (byte_value byte) r)) (first ∷ digits)) same
-    (are_digits radix (first ∷ digits) (alone s.0)) in
-    let value = s.1 ∙ (λ i. with_sign (sym (minus negative) i) (number (same i) (first ∷ digits))) in
-    λ options. (plain negative (first ∷ digits), reads _ no_sign no_exponent none_set first digits not_zero all negative, (refl, value))
-  where
-    minus : (negative : Bool) → is_minus (minus_if negative) ≡ negative
-    minus true = refl
-    minus false = refl
-plain_value value word negative radix [] (Some x) no_sign no_exponent some not_zero same Fits digits s = absurd (omega (arith, some))
+-- What holds of the value that a type has holds of the value that is returned.
+pub if_fits : {T : Type 0} (value : T → ℤ) (Is : ℤ → Type 0) (Fits : Type 0) (z : ℤ) (result : Option T) → SomeIff (option_map value result) Fits z
+    → (Fits → Is z) → IfSome result (λ x. Is (value x))
+if_fits value Is Fits z (Some x) s is = subst Is (sym s.1) (is s.0)
+if_fits value Is Fits z None s is = tt

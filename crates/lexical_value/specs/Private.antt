@@ -1,17 +1,24 @@
 -- Definitions for contracts of functions that are not public.
-use Rattle.std.specs.Prelude.{ℕ, ◌≡◌, ◌%◌, ◌^◌, ◌<◌, ◌||◌, Bool, false, if◌then◌else◌, IsTrue, List, [], ◌∷◌, length, slice_index}
+use Rattle.std.specs.Prelude.{ℕ, ◌≡◌, ◌%◌, ◌^◌, ◌<◌, ◌||◌, ◌++◌, Bool, false, IsTrue, List, None, length, slice_index}
 use Rattle.std.specs.Str.Parse.{AllDigits, digits_value, digits_value_after}
 use Rattle.lexical_util.specs.Layout as layout
 use Rattle.lexical_util.specs.Record.{Record, effective_exponent_base, effective_exponent_radix}
-use Rattle.lexical_literal.specs.Literal.{Literal, is_absent, is_present}
+use Rattle.lexical_util.specs.Roles.{signs}
+use Rattle.lexical_literal.specs.Literal.{Literal, is_absent, is_none_or_one, is_present}
+use Rattle.lexical_literal.specs.Parts.{literal_of}
+use Rattle.lexical_literal.specs.declared.syntax.Conditions.{Conditions}
 use Rattle.lexical_value.specs.declared.plain_float.Plain.{Plain}
 
--- `minus_if negative` is a minus sign if `negative` is true, and no sign otherwise.
-abbrev pub minus_if : Bool → List ℕ
-minus_if negative = if negative then 45 ∷ [] else []
+-- `AllowPlain c negative` holds if no condition of `c` requires a prefix, a suffix or groups of digits, and if none forbids
+-- the sign `-` or `negative` is false.
+pub record AllowPlain (c : Conditions) (negative : Bool) : Type 0 where
+  pub prefix : c.required_base_prefix ≡ false
+  pub suffix : c.required_base_suffix ≡ false
+  pub groups : c.integer_group_size ≡ None
+  pub sign : IsTrue c.no_negative_mantissa_sign → negative ≡ false
 
--- `TakesPlain r` holds if all radixes of `r` are 10, and no flag requires a sign or an exponent, or restricts exponents.
-pub record TakesPlain (r : Record) : Type 0 where
+-- `TakesDecimals r` holds if all radixes of `r` are 10, and no flag requires a sign or an exponent, or restricts exponents.
+pub record TakesDecimals (r : Record) : Type 0 where
   pub radix : r.byte layout.mantissa_radix ≡ 10
   pub base : effective_exponent_base r ≡ 10
   pub exponent_radix : effective_exponent_radix r ≡ 10
@@ -30,16 +37,18 @@ pub record IsSpelled (l : Literal) : Type 0 where
   pub exponent : is_absent l.exponent ≡ is_absent l.exponent_character
   pub exponent_sign : IsTrue (is_absent l.exponent_sign || is_present l.exponent_character)
 
--- `IsPlain l` holds if `l` is spelled so, without a prefix and a suffix, with decimal digits alone.
-pub record IsPlain (l : Literal) : Type 0 where
-  pub prefix : l.prefix ≡ []
-  pub suffix : l.suffix ≡ []
-  pub integer : AllDigits 10 l.integer
-  pub fraction : AllDigits 10 l.fraction
-  pub exponent : AllDigits 10 l.exponent
-  pub spelled : IsSpelled l
+-- `unsigned l` is the text of `l` without its sign, its prefix and its suffix.
+abbrev pub unsigned : Literal → List ℕ
+unsigned l = l.integer ++ (l.point ++ (l.fraction ++ (l.exponent_character ++ (l.exponent_sign ++ l.exponent))))
 
--- `HasValues plain` holds if `plain` has the numbers that its digits represent, modulo `2 ^ 64`.
-pub record HasValues (plain : Plain) : Type 0 where
+-- `IsPlain plain` holds if `plain` has the parts of its text, with decimal digits alone, and the numbers that they represent,
+-- modulo `2 ^ 64`.
+pub record IsPlain (plain : Plain) : Type 0 where
+  pub text : plain.unsigned.now ≡ unsigned (literal_of plain.parts)
+  pub spelled : IsSpelled (literal_of plain.parts)
+  pub integer : AllDigits 10 plain.parts.integer.now
+  pub fraction : AllDigits 10 plain.parts.fraction.now
+  pub exponent : AllDigits 10 plain.parts.exponent.now
+  pub exponent_sign : IsTrue (is_none_or_one signs plain.parts.exponent_sign.now)
   pub mantissa : plain.mantissa ≡ digits_value_after 10 (digits_value 10 plain.parts.integer.now % 2 ^ 64) plain.parts.fraction.now % 2 ^ 64
-  pub exponent : plain.exponent ≡ digits_value 10 plain.parts.exponent.now % 2 ^ 64
+  pub exponent_value : plain.exponent ≡ digits_value 10 plain.parts.exponent.now % 2 ^ 64

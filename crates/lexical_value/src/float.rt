@@ -1,6 +1,6 @@
 //! The value of a literal as a value of a float type.
 
-ghost use Rattle.std.specs.Prelude.{◌≡◌, ◌↔◌, ◌||◌, false, IfErr, IfOk, IfSome, IsOk, IsSome, IsTrue};
+ghost use Rattle.std.specs.Prelude.{ℕ, ◌≡◌, ◌↔◌, ◌||◌, false, IfErr, IfOk, IfSome, IsOk, IsSome, IsTrue};
 ghost use Rattle.std.specs.Float.{NotNan};
 ghost use Rattle.std.specs.Float.Ieee.{round};
 ghost use Rattle.core.specs.Dec2flt.Rounding.{IsNearestBits};
@@ -38,8 +38,16 @@ pub fn to_float<F: Float>(format: NumberFormat, parts: &Parts) -> Result<F, Valu
     } else {
         return Err(ValueErrorKind::UnsupportedRadix);
     };
-    let negative = is_minus(parts.sign);
-    Ok(if negative { size.negated() } else { size })
+    Ok(signed(size, is_minus(parts.sign)))
+}
+
+// Returns a float with a sign.
+#[inline(always)]
+pub(crate) fn signed<F: Float>(size: F, negative: bool) -> F
+    ensures { (num den : ℕ) → F.value size ≡ round (format_of F.DOUBLE) false num den
+        → F.value result ≡ round (format_of F.DOUBLE) negative num den }
+{
+    if negative { size.negated() } else { size }
 }
 
 /// Returns whether a literal of `format` has a value of a float type: whether the mantissa radix and the exponent base are

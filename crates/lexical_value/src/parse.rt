@@ -32,14 +32,11 @@ pub fn parse_integer<T: Integer>(reader: &Reader, text: &[u8]) -> Result<T, Pars
     ensures { IsParsed T.range reader.now text.now result }
 {
     let syntax = reader.syntax();
-    let format = syntax.format().view();
-    if syntax.conditions().is_none() {
-        if let Some(value) = plain_integer(format, text) {
-            return Ok(value);
-        }
+    if let Some(value) = plain_integer(syntax, text) {
+        return Ok(value);
     }
     match reader.read(text) {
-        Ok(parts) => match to_integer(format, &parts) {
+        Ok(parts) => match to_integer(syntax.format().view(), &parts) {
             Ok(value) => Ok(value),
             Err(kind) => Err(ParseError::Value(kind)),
         },

@@ -2,29 +2,32 @@
 
 ghost use Rattle.std.specs.Prelude.{◌≡◌, ◌==◌, ◌||◌, ◌++◌, ◌%◌, ◌^◌, ◌≤◌, false, length, take, IfSome, IsTrue, Some};
 ghost use Rattle.std.specs.Float.Ieee.{round};
-ghost use Rattle.std.specs.Str.Parse.{AllDigits, digits_value, digits_value_after};
-ghost use Rattle.lexical_util.specs.Layout as layout;
+ghost use Rattle.std.specs.Str.Parse.{AllDigits, digits_value_after};
 ghost use Rattle.lexical_util.specs.Record.{Record, raw};
 ghost use Rattle.lexical_util.specs.Roles as sets;
-ghost use Rattle.lexical_literal.specs.Literal.{Literal, Reads, is_none_or_one, is_plus};
-ghost use Rattle.lexical_literal.specs.Notation.{Notation, no_conditions, notation_of};
+ghost use Rattle.lexical_literal.specs.Literal.{Literal, Reads, is_none_or_one};
+ghost use Rattle.lexical_literal.specs.Notation.{Notation};
 ghost use Rattle.lexical_literal.specs.Parts.{literal_of};
 ghost use Rattle.lexical_literal.specs.Takes.{Takes};
 ghost use Rattle.lexical_number.specs.Binary.{format_of};
 ghost use Rattle.lexical_value.specs.Float.{nearest};
-ghost use Rattle.lexical_value.specs.Private.{HasValues, IsPlain, IsSpelled, TakesPlain};
-ghost use Rattle.lexical_value.specs.Value.{denominator, numerator};
+ghost use Rattle.lexical_value.specs.Private.{AllowPlain, IsPlain, TakesDecimals};
+ghost use Rattle.lexical_value.specs.Value.{denominator, is_minus, numerator};
 
+use crate::float::signed;
 use crate::integer::is_minus;
+use crate::plain::{allow_plain, is_spelled, split_sign};
 use lexical_literal::read::Parts;
 use lexical_literal::syntax::{Options, Syntax};
 use lexical_number::decimal::exact;
 use lexical_number::float::Float;
 use lexical_util::format::NumberFormat;
 
-// The parts of a literal, and the numbers that the digits of its mantissa and of its exponent represent, modulo `2 ^ 64`.
+// A text behind its sign, its parts, and the numbers that the digits of its mantissa and of its exponent represent, modulo
+// `2 ^ 64`.
 #[derive(Clone, Copy)]
 struct Plain<'a> {
+    unsigned: &'a [u8],
     parts: Parts<'a>,
     mantissa: u64,
     exponent: u64,
@@ -46,44 +49,57 @@ pub(crate) fn plain_float<F: Float>(syntax: Syntax, text: &[u8]) -> Option<F>
         × (F.value value ≡ nearest (format_of F.DOUBLE) (raw syntax.word) l)) }
 {
     let options = syntax.options()?;
-    let format = syntax.format().view();
-    if !syntax.conditions().is_none() {
+    if !allow_plain(syntax.conditions(), text) || !takes_decimals(syntax.format().view()) {
         return None;
     }
-    if !takes_plain(format) {
-        return None;
-    }
-    let plain = read_plain(format, options, text)?;
-    match short_size::<F>(&plain) {
-        Some(size) => Some(if is_minus(text) { size.negated() } else { size }),
-        None => written(text, &plain.parts),
-    }
+    let plain = read_plain(syntax, options, text)?;
+    let size = size_of(&plain)?;
+    Some(signed(size, is_minus(text)))
 }
 
-// Returns the value of the decimal literal `text` if std reads it as it is. For some of these literals, and for all others,
-// returns `None`.
+// Returns the value of the decimal literal `text` if it is one that `plain_float` reads. For all others, returns `None`.
 #[inline(always)]
 pub(crate) fn text_to_float<F: Float>(format: NumberFormat, text: &[u8], parts: &Parts) -> Option<F>
     requires { (m : Notation) × Reads m (literal_of parts.now) text.now }
     ensures { IfSome result (λ x. F.value x ≡ nearest (format_of F.DOUBLE) (raw format) (literal_of parts.now)) }
 {
-    if !takes_plain(format)
+    if !takes_decimals(format)
         || parts.prefix.len() > 0
         || parts.suffix.len() > 0
         || !is_spelled(parts)
     {
         return None;
     }
-    if !are_digits(parts.integer) || !are_digits(parts.fraction) || !are_digits(parts.exponent) {
-        return None;
-    }
-    written(text, parts)
+    let mantissa = value_of(parts.fraction, value_of(parts.integer, 0)?)?;
+    let exponent = value_of(parts.exponent, 0)?;
+    let (_, unsigned) = text.split_at(parts.sign.len());
+    let size = size_of(&Plain {
+        unsigned,
+        parts: *parts,
+        mantissa,
+        exponent,
+    })?;
+    Some(signed(size, is_minus(parts.sign)))
 }
 
-// Returns whether all radixes are 10, and no flag requires a sign or an exponent, or refuses an exponent.
+// Returns the number that `bytes` represent after other digits, modulo `2 ^ 64`, if they are digits alone.
 #[inline(always)]
-const fn takes_plain(format: NumberFormat) -> bool
-    ensures { IsTrue result → TakesPlain (raw format) }
+fn value_of(bytes: &[u8], before: u64) -> Option<u64>
+    ensures digits { IfSome result (λ value. AllDigits 10 bytes.now) }
+    ensures value { IfSome result (λ value. value ≡ digits_value_after 10 before bytes.now % 2 ^ 64) }
+{
+    let run = take_digits(bytes, before);
+    if run.rest.len() == 0 {
+        Some(run.value)
+    } else {
+        None
+    }
+}
+
+// Returns whether all radixes are 10, and no flag requires a sign or an exponent, or restricts exponents.
+#[inline(always)]
+const fn takes_decimals(format: NumberFormat) -> bool
+    ensures { IsTrue result → TakesDecimals (raw format) }
 {
     format.mantissa_radix() == 10
         && format.exponent_base() == 10
@@ -95,23 +111,31 @@ const fn takes_plain(format: NumberFormat) -> bool
         && !format.no_exponent_without_fraction()
 }
 
-// Returns the parts of `text` if it is a literal with digits in each part, without leading zeros. There are no conditions.
+// Returns the parts of `text` if it is a literal with digits alone in each part, without leading zeros.
 #[inline(always)]
-fn read_plain<'a>(format: NumberFormat, options: Options, text: &'a [u8]) -> Option<Plain<'a>>
-    requires { TakesPlain (raw format) }
-    ensures reads { IfSome result (λ plain.
-        Reads (notation_of (record { word = format; options = Some options; conditions = no_conditions })) (literal_of plain.parts) text.now) }
-    ensures plain { IfSome result (λ plain. IsPlain (literal_of plain.parts)) }
-    ensures values { IfSome result (λ plain. HasValues plain) }
+fn read_plain<'a>(syntax: Syntax, options: Options, text: &'a [u8]) -> Option<Plain<'a>>
+    requires options { syntax.options ≡ Some options }
+    requires conditions { AllowPlain syntax.conditions (is_minus text.now) }
+    requires decimals { TakesDecimals (raw syntax.word) }
+    ensures takes { IfSome result (λ plain. Takes syntax (literal_of plain.parts) text.now) }
+    ensures minus { IfSome result (λ plain. is_minus text.now ≡ is_minus (literal_of plain.parts).sign) }
+    ensures plain { IfSome result (λ plain. IsPlain plain) }
 {
+    let format = syntax.format().view();
     let (sign, unsigned) = split_sign(text, !format.no_positive_mantissa_sign());
     let integer = take_digits(unsigned, 0);
-    let (point, fraction) = take_fraction(integer.rest, options.point, integer.value);
-    let (exponent_character, exponent_sign, exponent) = take_exponent(
+    let (point, after_point) = split_point(integer.rest, options.point);
+    let fraction = take_digits(after_point, integer.value);
+    let (exponent_character, after_character) = split_exponent_character(
         format,
         options.exponent,
         fraction.rest,
     );
+    let (exponent_sign, after_sign) = split_sign(
+        after_character,
+        !format.no_positive_exponent_sign(),
+    );
+    let exponent = take_digits(after_sign, 0);
     let parts = Parts {
         sign,
         prefix: &[],
@@ -125,37 +149,13 @@ fn read_plain<'a>(format: NumberFormat, options: Options, text: &'a [u8]) -> Opt
     };
     if exponent.rest.len() == 0 && is_spelled(&parts) {
         Some(Plain {
+            unsigned,
             parts,
             mantissa: fraction.value,
             exponent: exponent.value,
         })
     } else {
         None
-    }
-}
-
-// Returns whether the parts have the digits that they need, and no leading zero.
-#[inline(always)]
-const fn is_spelled(parts: &Parts) -> bool
-    ensures { IsTrue result → IsSpelled (literal_of parts.now) }
-{
-    !matches!(parts.integer, [] | [b'0', _, ..])
-        && (parts.fraction.len() == 0) == (parts.point.len() == 0)
-        && (parts.exponent.len() == 0) == (parts.exponent_character.len() == 0)
-        && (parts.exponent_sign.len() == 0 || parts.exponent_character.len() > 0)
-}
-
-// Returns no digits, and all of `bytes` as the rest.
-#[inline(always)]
-const fn no_digits(bytes: &[u8], before: u64) -> Run<'_>
-    ensures whole { bytes.now ≡ result.digits.now ++ result.rest.now }
-    ensures digits { AllDigits 10 result.digits.now }
-    ensures value { result.value ≡ digits_value_after 10 before result.digits.now % 2 ^ 64 }
-{
-    Run {
-        digits: &[],
-        rest: bytes,
-        value: before,
     }
 }
 
@@ -195,102 +195,57 @@ const fn sum_digits(bytes: &[u8], before: u64) -> (usize, u64)
     (size, value)
 }
 
-// Returns whether all bytes are decimal digits.
+// Splits off the decimal point if `bytes` begins with it.
 #[inline(always)]
-const fn are_digits(bytes: &[u8]) -> bool
-    ensures { IsTrue result → AllDigits 10 bytes.now }
-{
-    let (size, _) = sum_digits(bytes, 0);
-    size == bytes.len()
-}
-
-// Splits off the first byte if it is a minus sign or, where `plus` is true, a plus sign.
-#[inline(always)]
-fn split_sign(bytes: &[u8], plus: bool) -> (&[u8], &[u8])
+#[tactic(auto, using(crate::proofs::DigitLemmas::is_point))]
+fn split_point(bytes: &[u8], point: u8) -> (&[u8], &[u8])
     ensures whole { bytes.now ≡ result.0.now ++ result.1.now }
-    ensures sign { IsTrue (is_none_or_one sets.signs result.0.now) }
-    ensures plus { plus ≡ false → is_plus result.0.now ≡ false }
-{
-    let is_sign = match bytes {
-        [first, ..] => (*first == b'-') | ((*first == b'+') & plus),
-        _ => false,
-    };
-    bytes.split_at(is_sign as usize)
-}
-
-// Splits off the decimal point, if `bytes` begins with it, and the digits behind it.
-#[inline(always)]
-fn take_fraction(bytes: &[u8], point: u8, before: u64) -> (&[u8], Run<'_>)
-    ensures whole { bytes.now ≡ result.0.now ++ (result.1.digits.now ++ result.1.rest.now) }
     ensures point { IsTrue (is_none_or_one (sets.point point) result.0.now) }
-    ensures digits { AllDigits 10 result.1.digits.now }
-    ensures value { result.1.value ≡ digits_value_after 10 before result.1.digits.now % 2 ^ 64 }
 {
     match bytes {
-        [first, ..] if *first == point && point != 0 => {
-            let (mark, rest) = bytes.split_at(1);
-            (mark, take_digits(rest, before))
-        }
-        _ => (&[], no_digits(bytes, before)),
+        [first, ..] if *first == point && point != 0 => bytes.split_at(1),
+        _ => (&[], bytes),
     }
 }
 
-// Splits off the exponent character, if `bytes` begins with it, and a sign and the digits behind it.
+// Splits off the exponent character if `bytes` begins with it.
 #[inline(always)]
-fn take_exponent(format: NumberFormat, exponent: u8, bytes: &[u8]) -> (&[u8], &[u8], Run<'_>)
-    ensures whole { bytes.now ≡ result.0.now ++ (result.1.now ++ (result.2.digits.now ++ result.2.rest.now)) }
+fn split_exponent_character(format: NumberFormat, exponent: u8, bytes: &[u8]) -> (&[u8], &[u8])
+    ensures whole { bytes.now ≡ result.0.now ++ result.1.now }
     ensures character { IsTrue (is_none_or_one (sets.exponent (raw format) exponent) result.0.now) }
-    ensures sign { IsTrue (is_none_or_one sets.signs result.1.now) }
-    ensures plus { IsTrue ((raw format).flag layout.no_positive_exponent_sign) → is_plus result.1.now ≡ false }
-    ensures digits { AllDigits 10 result.2.digits.now }
-    ensures value { result.2.value ≡ digits_value 10 result.2.digits.now % 2 ^ 64 }
 {
     match bytes {
-        [first, ..] if format.is_exponent_character(exponent, *first) => {
-            let (mark, after_mark) = bytes.split_at(1);
-            let (sign, rest) = split_sign(after_mark, !format.no_positive_exponent_sign());
-            (mark, sign, take_digits(rest, 0))
-        }
-        _ => (&[], &[], no_digits(bytes, 0)),
+        [first, ..] if format.is_exponent_character(exponent, *first) => bytes.split_at(1),
+        _ => (&[], bytes),
     }
 }
 
-// Returns the value of a literal without its sign, if one operation makes it.
+// Returns the value of a literal without its sign, if one operation makes it, or if std reads the literal as it is.
 #[inline(always)]
-fn short_size<F: Float>(plain: &Plain) -> Option<F>
-    requires plain { IsPlain (literal_of plain.now.parts) }
-    requires values { HasValues plain.now }
-    ensures { (r : Record) → TakesPlain r → IfSome result (λ x. F.value x
+fn size_of<F: Float>(plain: &Plain) -> Option<F>
+    requires { IsPlain plain.now }
+    ensures { (r : Record) → TakesDecimals r → IfSome result (λ x. F.value x
         ≡ round (format_of F.DOUBLE) false (numerator r (literal_of plain.now.parts)) (denominator r (literal_of plain.now.parts))) }
 {
     let parts = &plain.parts;
-    if parts.integer.len() > 19
-        || parts.fraction.len() > 19 - parts.integer.len()
-        || parts.exponent.len() > 19
-        || plain.exponent > 9999
+    if parts.integer.len() <= 19
+        && parts.fraction.len() <= 19 - parts.integer.len()
+        && parts.exponent.len() <= 19
+        && plain.exponent <= 9999
     {
-        return None;
+        if let Some(size) = exact(
+            plain.mantissa,
+            parts.fraction.len() as u64,
+            is_minus(parts.exponent_sign),
+            plain.exponent,
+        ) {
+            return Some(size);
+        }
     }
-    exact(
-        plain.mantissa,
-        parts.fraction.len() as u64,
-        is_minus(parts.exponent_sign),
-        plain.exponent,
-    )
-}
-
-// Returns the value of a literal that std reads as it is, or `None` if std does not.
-#[inline(always)]
-fn written<F: Float>(text: &[u8], parts: &Parts) -> Option<F>
-    requires reads { (m : Notation) × Reads m (literal_of parts.now) text.now }
-    requires plain { IsPlain (literal_of parts.now) }
-    ensures { (r : Record) → TakesPlain r
-        → IfSome result (λ x. F.value x ≡ nearest (format_of F.DOUBLE) r (literal_of parts.now)) }
-{
     if !is_mark(parts.point, b'.', b'.') || !is_mark(parts.exponent_character, b'e', b'E') {
         return None;
     }
-    match std::str::from_utf8(text) {
+    match std::str::from_utf8(plain.unsigned) {
         Ok(text) => Some(F::from_text(text)),
         Err(_) => None,
     }

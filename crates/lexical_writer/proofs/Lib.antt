@@ -1,6 +1,4 @@
 mod DigitLemmas
 mod GroupLemmas
-mod SizeLemmas
 mod LiteralLemmas
-mod ValueLemmas
 mod ConversionLemmas

@@ -1,6 +1,7 @@
 -- How a literal of one format is written as a literal of another one.
-use Rattle.std.specs.Prelude.{ℕ, ◌≡◌, ◌-◌, ◌*◌, ◌^◌, ◌==◌, ◌&&◌, ◌||◌, not, nat_lt, Bool, if◌then◌else◌, List, Option, Some, None, MatchOption, Result, Err}
+use Rattle.std.specs.Prelude.{ℕ, ◌≡◌, ◌-◌, ◌*◌, ◌^◌, ◌==◌, ◌&&◌, ◌||◌, not, nat_le, Bool, if◌then◌else◌, List, Option, Some, None, Result, Ok, Err}
 use Rattle.std.specs.Borrow.{Bor}
+use Rattle.std.specs.Result.{MatchResult, result_map_both}
 use Rattle.lexical_util.specs.Layout as layout
 use Rattle.lexical_util.specs.Record.{Record, raw, effective_exponent_base, effective_exponent_radix}
 use Rattle.lexical_literal.specs.Literal.{Literal, is_absent, is_present}
@@ -23,52 +24,40 @@ pub record SameFraction (r : Record) (l : Literal) (s : Record) (k : Literal) : 
   pub sign : is_minus l.sign ≡ is_minus k.sign
   pub fraction : numerator r l * denominator s k ≡ numerator s k * denominator r l
 
+-- `source_of bytes from to` has the digits among `bytes`, converted from the radix `from` to the radix `to`. If the radixes differ and
+-- the digits represent a number of more than 128 bits, it is an error.
+abbrev pub source_of : Bor (List ℕ) → ℕ → ℕ → Result Source WriteError
+source_of bytes from to =
+    if from == to then Ok (sources.Bytes bytes)
+    else (if nat_le (number from bytes.now) (2 ^ 128 - 1) then Ok (sources.Number (number from bytes.now)) else Err errors.Exponent)
+
 -- `has_power parts` is true if `parts` has an exponent.
 abbrev pub has_power : Parts → Bool
 has_power parts = is_present parts.exponent_character.now || is_present parts.exponent.now
-
--- `is_too_long bytes from to` is true if the digits among `bytes` have to be converted from the radix `from` to another one,
--- and represent a number of more than 128 bits.
-abbrev pub is_too_long : List ℕ → ℕ → ℕ → Bool
-is_too_long bytes from to = not (from == to) && nat_lt (2 ^ 128 - 1) (number from bytes)
-
--- `conversion_refusal r parts s` is why `parts` cannot be written in the format `s`, if radixes and bases are the reason.
-abbrev pub conversion_refusal : Record → Parts → Record → Option WriteError
-conversion_refusal r parts s =
-    if not (r.byte layout.mantissa_radix == s.byte layout.mantissa_radix)
-    || (has_power parts && not (effective_exponent_base r == effective_exponent_base s))
-    then Some errors.Radix
-    else (if has_power parts && is_too_long parts.exponent.now (effective_exponent_radix r) (effective_exponent_radix s) then Some errors.Exponent else None)
-
--- `source_of bytes from to` has the digits among `bytes`, converted from the radix `from` to the radix `to`.
-abbrev pub source_of : Bor (List ℕ) → ℕ → ℕ → Source
-source_of bytes from to = if from == to then sources.Bytes bytes else sources.Number (number from bytes.now)
 
 -- `fraction_of parts` is the fraction of `parts`, if it has one.
 abbrev pub fraction_of : Parts → Option (Bor (List ℕ))
 fraction_of parts = if is_absent parts.point.now && is_absent parts.fraction.now then None else Some parts.fraction
 
--- `power_of r parts s` is the exponent of `parts`, with digits for the format `s`.
-abbrev pub power_of : Record → Parts → Record → Option Power
+-- `power_of r parts s` is the exponent of `parts`, if it has one, with digits for the format `s`, or why `s` cannot have it.
+abbrev pub power_of : Record → Parts → Record → Result (Option Power) WriteError
 power_of r parts s =
-    if has_power parts
-    then Some (record {
-      negative = is_minus parts.exponent_sign.now;
-      source = source_of parts.exponent (effective_exponent_radix r)
-          (effective_exponent_radix s);
-    })
-    else None
+    if not (has_power parts) then Ok None
+    else (if not (effective_exponent_base r == effective_exponent_base s) then Err errors.Radix
+    else result_map_both (λ source. Some (record { negative = is_minus parts.exponent_sign.now; source = source })) (λ error. error)
+    (source_of parts.exponent (effective_exponent_radix r) (effective_exponent_radix s)))
 
--- `amount_of r parts s` is the number that `parts` represents, with digits for the format `s`.
-abbrev pub amount_of : Record → Parts → Record → Amount
-amount_of r parts s = record {
-  negative = is_minus parts.sign.now;
-  integer = sources.Bytes parts.integer;
-  fraction = fraction_of parts;
-  exponent = power_of r parts s;
-}
+-- `amount_of r parts s` is the number that `parts` represents, with digits for the format `s`, or why `s` cannot have it.
+abbrev pub amount_of : Record → Parts → Record → Result Amount WriteError
+amount_of r parts s =
+    if not (r.byte layout.mantissa_radix == s.byte layout.mantissa_radix) then Err errors.Radix
+    else result_map_both (λ power. record {
+      negative = is_minus parts.sign.now;
+      integer = sources.Bytes parts.integer;
+      fraction = fraction_of parts;
+      exponent = power;
+    }) (λ error. error) (power_of r parts s)
 
 -- `IsConverted r parts g style result` holds if `result` is what is written for `parts`, or why it cannot be written.
 abbrev pub IsConverted : Record → Parts → Grammar → Style → Result Layout WriteError → Type 0
-IsConverted r parts g style result = MatchOption (conversion_refusal r parts (raw g.word)) (IsLaidOut g style (amount_of r parts (raw g.word)) result)
-    (λ error. result ≡ Err error)
+IsConverted r parts g style result = MatchResult (amount_of r parts (raw g.word)) (λ amount. IsLaidOut g style amount result) (λ error. result ≡ Err error)

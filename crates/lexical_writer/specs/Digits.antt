@@ -1,9 +1,9 @@
--- How digits are written: as uppercase characters, without leading zeros, in groups.
-use Rattle.std.specs.Prelude.{ℕ, ◌%◌, ◌==◌, ◌&&◌, nat_lt, Bool, if◌then◌else◌, List, [], ◌∷◌, ◌++◌, length, slice_index}
+-- How digits are written: as uppercase characters, in groups.
+use Rattle.std.specs.Prelude.{ℕ, ◌%◌, ◌==◌, ◌&&◌, nat_lt, Bool, if◌then◌else◌, List, [], ◌∷◌, ◌++◌, length, slice_index, Option, Some, None, option_to_list}
 use Rattle.std.specs.Int.Digits.{digits_of}
 use Rattle.lexical_util.specs.Digits.{digit_characters}
 use Rattle.lexical_literal.specs.Literal.{is_absent}
-use Rattle.lexical_number.specs.Number.{digits_in}
+use Rattle.lexical_number.specs.Number.{digits_in, number}
 use Rattle.lexical_writer.specs.declared.run.Run.{Run}
 use Rattle.lexical_writer.specs.declared.run.Source.{Source}
 use Rattle.lexical_writer.specs.declared.run.Source.TheVariants as sources
@@ -17,10 +17,10 @@ abbrev pub values_of : ℕ → Source → List ℕ
 values_of radix (sources.Bytes bytes) = digits_in radix bytes.now
 values_of radix (sources.Number number) = digits_of radix number
 
--- `without_zeros digits` is `digits` without the zeros that they begin with.
-abbrev pub without_zeros : List ℕ → List ℕ
-without_zeros [] = []
-without_zeros (digit ∷ digits) = if digit == 0 then without_zeros digits else digit ∷ digits
+-- `size_of radix source` is the number that the digits of `source` represent in `radix`.
+abbrev pub size_of : ℕ → Source → ℕ
+size_of radix (sources.Bytes bytes) = number radix bytes.now
+size_of radix (sources.Number number) = number
 
 -- `or_zero zero digits` is `digits` or, if there are none and `zero` is true, the digit 0.
 abbrev pub or_zero : Bool → List ℕ → List ℕ
@@ -31,9 +31,13 @@ or_zero zero digits = if is_absent digits && zero then 0 ∷ [] else digits
 abbrev pub ends_group : ℕ → ℕ → Bool
 ends_group group left = nat_lt 0 left && nat_lt 0 group && left % group == 0
 
+-- `only_if condition byte` is `byte` if `condition` is true, and absent otherwise.
+abbrev pub only_if : Bool → ℕ → Option ℕ
+only_if condition byte = if condition then Some byte else None
+
 -- `separated separator group left` is `separator` where a group ends.
 abbrev pub separated : ℕ → ℕ → ℕ → List ℕ
-separated separator group left = if ends_group group left then separator ∷ [] else []
+separated separator group left = option_to_list (only_if (ends_group group left) separator)
 
 -- `grouped separator group digits` has the characters of `digits`, with `separator` between groups of `group` digits.
 abbrev pub grouped : ℕ → ℕ → List ℕ → List ℕ

@@ -1,7 +1,7 @@
 -- How a number is laid out as a literal.
-use Rattle.std.specs.Prelude.{ℕ, ◌≡◌, ◌<◌, ℤ, ◌==◌, ◌&&◌, ◌||◌, not, Bool, true, false, if◌then◌else◌, List, [], ◌∷◌, Option, Some, None, Result, Ok}
-use Rattle.std.specs.Prelude.{Err, is_some, option_to_list, unwrap_or, IsTrue}
-use Rattle.std.specs.Borrow.{Bor}
+use Rattle.std.specs.Prelude.{ℕ, ◌≡◌, suc, ℤ, pos, negsuc, ◌==◌, ◌&&◌, ◌||◌, not, Bool, false, true, if◌then◌else◌, List, [], ◌∷◌, Option, Some, None, Result, Ok}
+use Rattle.std.specs.Prelude.{Err, is_some, option_map, option_to_list, unwrap_or}
+use Rattle.std.specs.Int.Digits.{digits_of}
 use Rattle.lexical_util.specs.Layout as layout
 use Rattle.lexical_util.specs.Record.{Record, raw, effective_exponent_radix}
 use Rattle.lexical_literal.specs.Literal.{Literal, is_absent, is_present}
@@ -9,13 +9,14 @@ use Rattle.lexical_literal.specs.Notation.{lacks_options}
 use Rattle.lexical_literal.specs.declared.syntax.Conditions.{Conditions}
 use Rattle.lexical_literal.specs.declared.syntax.Grammar.{Grammar}
 use Rattle.lexical_literal.specs.declared.syntax.Options.{Options}
-use Rattle.lexical_number.specs.Number.{digits_in}
-use Rattle.lexical_number.specs.Numeral.{with_sign}
-use Rattle.lexical_writer.specs.Digits.{grouped, or_zero, run_text, values_of, without_zeros}
+use Rattle.lexical_number.specs.Number.{digits_in, number}
+use Rattle.lexical_value.specs.Value.{is_minus}
+use Rattle.lexical_writer.specs.Digits.{grouped, only_if, or_zero, run_text, size_of, values_of}
 use Rattle.lexical_writer.specs.declared.layout.Amount.{Amount}
 use Rattle.lexical_writer.specs.declared.layout.Layout.{Layout}
 use Rattle.lexical_writer.specs.declared.layout.Power.{Power}
 use Rattle.lexical_writer.specs.declared.layout.Style.{Style}
+use Rattle.lexical_writer.specs.declared.run.Source.{Source}
 use Rattle.lexical_writer.specs.declared.run.Source.TheVariants as sources
 use Rattle.lexical_writer.specs.declared.layout.WriteError.{WriteError}
 use Rattle.lexical_writer.specs.declared.layout.WriteError.TheVariants as errors
@@ -39,37 +40,25 @@ literal_of layout = record {
   suffix = option_to_list layout.suffix;
 }
 
--- `only_if condition byte` is `byte` if `condition` is true, and absent otherwise.
-abbrev pub only_if : Bool → ℕ → Option ℕ
-only_if condition byte = if condition then Some byte else None
-
 -- `sign_of negative required` is a minus sign, or a plus sign where a sign is required.
 abbrev pub sign_of : Bool → Bool → Option ℕ
 sign_of negative required = if negative then Some 45 else only_if required 43
 
--- `point_byte options` and `exponent_byte options` are the bytes of `options`.
-abbrev pub point_byte : Option Options → ℕ
-point_byte None = 0
-point_byte (Some options) = options.point
+-- `base_byte condition byte` is `byte` if `condition` is true, unless it is 0, which means absent.
+abbrev pub base_byte : Bool → ℕ → Option ℕ
+base_byte condition byte = only_if (condition && not (byte == 0)) byte
 
-abbrev pub exponent_byte : Option Options → ℕ
-exponent_byte None = 0
-exponent_byte (Some options) = options.exponent
+-- `options_of g` has the options of `g`, or zeros if there are none.
+abbrev pub options_of : Grammar → Options
+options_of g = unwrap_or g.options (record { exponent = 0; point = 0 })
 
--- `fraction_digits radix fraction` lists the digits of `fraction`, if there is one.
-abbrev pub fraction_digits : ℕ → Option (Bor (List ℕ)) → List ℕ
-fraction_digits radix None = []
-fraction_digits radix (Some bytes) = digits_in radix bytes.now
+-- `given_fraction amount` has the fraction digits of `amount`, or none if it has no fraction.
+abbrev pub given_fraction : Amount → Source
+given_fraction amount = unwrap_or (option_map sources.Bytes amount.fraction) (sources.Number 0)
 
--- `power_digits radix exponent` lists the digits of `exponent`, if there is one.
-abbrev pub power_digits : ℕ → Option Power → List ℕ
-power_digits radix None = []
-power_digits radix (Some power) = values_of radix power.source
-
--- `is_negative exponent` is true if `exponent` has a minus sign.
-abbrev pub is_negative : Option Power → Bool
-is_negative None = false
-is_negative (Some power) = power.negative
+-- `given_power amount` is the exponent of `amount`, or one without digits if it has none.
+abbrev pub given_power : Amount → Power
+given_power amount = unwrap_or amount.exponent (record { negative = false; source = sources.Number 0 })
 
 -- `group_of r c style` is the number of digits of a group: the one that the conditions `c` require, or that of `style`. It is 0 if
 -- there are no groups: if `style` has none, and where the format `r` does not allow a separator between digits, or has none.
@@ -95,26 +84,27 @@ has_point g amount = is_some amount.fraction || (has_exponent g amount && (raw g
 abbrev pub has_zero : Record → Amount → Bool
 has_zero r amount =
     let radix = r.byte layout.mantissa_radix in
-    r.flag layout.required_integer_digits || (is_present (values_of radix amount.integer) || is_absent (fraction_digits radix amount.fraction))
+    r.flag layout.required_integer_digits || (is_present (values_of radix amount.integer) || is_absent (values_of radix (given_fraction amount)))
 
--- `laid_out g style amount` is the literal of `g` that is written for `amount`.
+-- `laid_out g style amount` is the literal of `g` that is written for `amount`. The integer and the exponent have no leading zeros.
 abbrev pub laid_out : Grammar → Style → Amount → Literal
 laid_out g style amount =
     let r = raw g.word in
     let radix = r.byte layout.mantissa_radix in
+    let exponent_radix = effective_exponent_radix r in
+    let point = has_point g amount in
+    let exponent = has_exponent g amount in
     record {
       sign = option_to_list (sign_of amount.negative (r.flag layout.required_mantissa_sign));
-      prefix = after_zero (only_if ((style.prefix || g.conditions.required_base_prefix) && not (r.byte layout.base_prefix == 0)) (r.byte layout.base_prefix));
-      integer = grouped (r.byte layout.digit_separator) (group_of r g.conditions style) (or_zero (has_zero r amount) (without_zeros
-          (values_of radix amount.integer)));
-      point = option_to_list (only_if (has_point g amount) (point_byte g.options));
-      fraction = grouped 0 0 (or_zero (has_point g amount && r.flag layout.required_fraction_digits) (fraction_digits radix amount.fraction));
-      exponent_character = option_to_list (only_if (has_exponent g amount) (exponent_byte g.options));
-      exponent_sign =
-          if has_exponent g amount then option_to_list (sign_of (is_negative amount.exponent) (r.flag layout.required_exponent_sign)) else [];
-      exponent = grouped 0 0 (or_zero (has_exponent g amount) (without_zeros (power_digits (effective_exponent_radix r) amount.exponent)));
-      suffix = option_to_list (only_if ((style.suffix || g.conditions.required_base_suffix) && not (r.byte layout.base_suffix == 0))
-          (r.byte layout.base_suffix));
+      prefix = after_zero (base_byte (style.prefix || g.conditions.required_base_prefix) (r.byte layout.base_prefix));
+      integer = grouped (r.byte layout.digit_separator) (group_of r g.conditions style)
+          (or_zero (has_zero r amount) (digits_of radix (size_of radix amount.integer)));
+      point = option_to_list (only_if point (options_of g).point);
+      fraction = grouped 0 0 (or_zero (point && r.flag layout.required_fraction_digits) (values_of radix (given_fraction amount)));
+      exponent_character = option_to_list (only_if exponent (options_of g).exponent);
+      exponent_sign = option_to_list (sign_of (given_power amount).negative (exponent && r.flag layout.required_exponent_sign));
+      exponent = grouped 0 0 (or_zero exponent (digits_of exponent_radix (size_of exponent_radix (given_power amount).source)));
+      suffix = option_to_list (base_byte (style.suffix || g.conditions.required_base_suffix) (r.byte layout.base_suffix));
     }
 
 -- `refusal g amount` is why `amount` cannot be written as a literal of `g`, or `None` if it can.
@@ -129,21 +119,30 @@ abbrev pub IsLaidOut : Grammar → Style → Amount → Result Layout WriteError
 IsLaidOut g style amount (Ok layout) = (refusal g amount ≡ None) × (literal_of layout ≡ laid_out g style amount)
 IsLaidOut g style amount (Err error) = refusal g amount ≡ Some error
 
--- `whole negative size` is the integer `size`, or `-size` if `negative` is true.
-abbrev pub whole : Bool → ℕ → Amount
-whole negative size = record { negative = negative; integer = sources.Number size; fraction = None; exponent = None }
+-- `HasNumber g amount l` holds if the literal `l` of `g` has the signs and the digits of `amount`, apart from zeros before the integer
+-- and the exponent, and of a 0 for a fraction without digits.
+pub record HasNumber (g : Grammar) (amount : Amount) (l : Literal) : Type 0 where
+  pub sign : is_minus l.sign ≡ amount.negative
+  pub integer : number ((raw g.word).byte layout.mantissa_radix) l.integer ≡ size_of ((raw g.word).byte layout.mantissa_radix) amount.integer
+  pub zero : Bool
+  pub fraction : digits_in ((raw g.word).byte layout.mantissa_radix) l.fraction
+      ≡ or_zero zero (values_of ((raw g.word).byte layout.mantissa_radix) (given_fraction amount))
+  pub exponent_sign : is_minus l.exponent_sign ≡ (given_power amount).negative
+  pub exponent : number (effective_exponent_radix (raw g.word)) l.exponent
+      ≡ size_of (effective_exponent_radix (raw g.word)) (given_power amount).source
 
--- `IsWhole g style z l` holds if `l` is what is written for the integer `z`, with a minus sign only below 0.
-pub record IsWhole (g : Grammar) (style : Style) (z : ℤ) (l : Literal) : Type 0 where
-  pub negative : Bool
-  pub size : ℕ
-  pub value : with_sign negative size ≡ z
-  pub minus : negative ≡ true → 0 < size
-  pub parts : l ≡ laid_out g style (whole negative size)
+-- `whole z` is the integer `z` as an amount, with a minus sign only below 0.
+abbrev pub whole : ℤ → Amount
+whole (pos n) = record { negative = false; integer = sources.Number n; fraction = None; exponent = None }
+whole (negsuc n) = record { negative = true; integer = sources.Number (suc n); fraction = None; exponent = None }
 
--- `IsNotWritten g z kind` holds if `kind` is why `g` has no integer with the value `z`: each literal has an exponent, or `z` is
--- below 0 and no literal is.
-abbrev pub IsNotWritten : Grammar → ℤ → WriteError → Type 0
-IsNotWritten g z errors.Float = IsTrue (needs_exponent g)
-IsNotWritten g z errors.Negative = IsTrue g.conditions.no_negative_mantissa_sign × (size : ℕ) × (0 < size) × (with_sign true size ≡ z)
-IsNotWritten g z _ = ⊥
+-- `whole_refusal g z` is why the integer `z` cannot be written as a literal of `g`, or `None` if it can: each literal has an exponent,
+-- or else `z` is below 0 and no literal is.
+abbrev pub whole_refusal : Grammar → ℤ → Option WriteError
+whole_refusal g z =
+    if needs_exponent g then Some errors.Float
+    else (if (whole z).negative && g.conditions.no_negative_mantissa_sign then Some errors.Negative else None)
+
+-- `IsWhole g style z l` holds if `l` is what is written for the integer `z`.
+abbrev pub IsWhole : Grammar → Style → ℤ → Literal → Type 0
+IsWhole g style z l = l ≡ laid_out g style (whole z)

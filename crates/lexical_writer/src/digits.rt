@@ -1,10 +1,10 @@
 //! Runs of digits are written.
 
-ghost use Rattle.std.specs.Prelude.{◌≡◌, ◌++◌, ◌∷◌, ◌<◌, ◌≤◌, ℕ, List, drop, length, map};
+ghost use Rattle.std.specs.Prelude.{◌≡◌, ◌++◌, ◌∷◌, [], ◌<◌, ◌/◌, ◌%◌, ℕ, List, map, option_to_list};
 ghost use Rattle.std.specs.Int.Digits.{digits_of};
-ghost use Rattle.lexical_number.specs.Number.{digits_in, places};
+ghost use Rattle.lexical_number.specs.Number.{digits_in, number, places};
 ghost use Rattle.lexical_util.specs.Rules.{IsRadix};
-ghost use Rattle.lexical_writer.specs.Digits.{character, ends_group, grouped, or_zero, run_text, separated, without_zeros};
+ghost use Rattle.lexical_writer.specs.Digits.{character, ends_group, grouped, only_if, or_zero, run_text, separated};
 
 use crate::run::{Run, Source};
 use crate::sink::Sink;
@@ -12,11 +12,12 @@ use lexical_base::digit::{char_to_digit, digit_to_char};
 
 // Returns what follows the zeros that the digits among bytes begin with.
 pub(crate) fn without_zeros(bytes: &[u8], radix: u32) -> &[u8]
-    ensures { digits_in radix result.now ≡ without_zeros (digits_in radix bytes.now) }
+    requires { IsRadix radix }
+    ensures { digits_in radix result.now ≡ digits_of radix (number radix bytes.now) }
 {
     let mut index = 0;
     while index < bytes.len() {
-        if matches!(char_to_digit(bytes[index], radix), Some(1..)) {
+        if let Some(1..) = char_to_digit(bytes[index], radix) {
             return &bytes[index..];
         }
         index += 1;
@@ -39,44 +40,43 @@ pub(crate) fn count(bytes: &[u8], radix: u32) -> usize
     count
 }
 
-// Writes digits to the end of what is before the index `at` of a buffer, and returns the index of the first one.
+// Returns a number without its last digit, and this digit.
 #[inline(always)]
-fn put_short(buffer: &mut [u8; 128], at: usize, number: u64, radix: u32) -> usize
-    requires radix { IsRadix radix }
-    requires room { (at ≤ 128) × (length (digits_of radix number) ≤ at) }
-    ensures within { result ≤ at }
-    ensures text { drop result buffer.new ≡ map character (digits_of radix number) ++ drop at buffer.old }
+fn split_last(number: u128, radix: u32) -> (u128, u32)
+    requires { IsRadix radix }
+    ensures rest { result.0 ≡ number / radix }
+    ensures digit { result.1 ≡ number % radix }
 {
-    let mut left = number;
-    let mut start = at;
-    while left > 0 {
-        start -= 1;
-        buffer[start] = digit_to_char((left % radix as u64) as u32);
-        left /= radix as u64;
+    let base = radix as u128;
+    if number > u64::MAX as u128 {
+        return (number / base, (number % base) as u32);
     }
-    start
+    let short = number as u64;
+    // A radix that is known when this is compiled takes less time.
+    if radix == 10 {
+        return ((short / 10) as u128, (short % 10) as u32);
+    }
+    (
+        (short / radix as u64) as u128,
+        (short % radix as u64) as u32,
+    )
 }
 
-// Writes the digits of a number to the end of a buffer, and returns the index of the first one.
+// Writes the digits of a number to the end of a buffer, and returns them.
 #[inline(always)]
-fn put_number(buffer: &mut [u8; 128], number: u128, radix: u32) -> usize
+fn characters<'a>(buffer: &'a mut [u8; 128], number: u128, radix: u32) -> &'a [u8]
     requires { IsRadix radix }
-    ensures within { result ≤ 128 }
-    ensures text { drop result buffer.new ≡ map character (digits_of radix number) }
+    ensures { result.now ≡ map character (digits_of radix number) }
 {
     let mut left = number;
     let mut start = 128;
-    while left > u64::MAX as u128 {
+    while left > 0 {
+        let (rest, digit) = split_last(left, radix);
         start -= 1;
-        buffer[start] = digit_to_char((left % radix as u128) as u32);
-        left /= radix as u128;
+        buffer[start] = digit_to_char(digit);
+        left = rest;
     }
-    // A radix that is known when this is compiled takes less time.
-    if radix == 10 {
-        put_short(buffer, start, left as u64, 10)
-    } else {
-        put_short(buffer, start, left as u64, radix)
-    }
+    &buffer[start..]
 }
 
 // Returns whether a group ends where `left` digits are left.
@@ -87,6 +87,25 @@ const fn ends_group(group: usize, left: usize) -> bool
     left > 0 && group > 0 && left % group == 0
 }
 
+// Returns `byte` if `condition` is true.
+#[inline(always)]
+pub(crate) const fn only_if(condition: bool, byte: u8) -> Option<u8>
+    ensures { result ≡ only_if condition byte }
+{
+    if condition { Some(byte) } else { None }
+}
+
+// Writes a byte, if there is one.
+#[inline(always)]
+pub(crate) fn put_if_any<S: Sink>(sink: &mut S, byte: Option<u8>)
+    ensures { (start : S) → (text : List ℕ) → S.has start sink.old text
+        → S.has start sink.new (text ++ option_to_list byte) }
+{
+    if let Some(byte) = byte {
+        sink.put(byte);
+    }
+}
+
 // Writes a digit and, where a group ends, a separator. Behind the digit, `left` more are to be written.
 #[inline(always)]
 fn put_digit<S: Sink>(sink: &mut S, digit: u32, left: usize, run: &Run)
@@ -95,9 +114,7 @@ fn put_digit<S: Sink>(sink: &mut S, digit: u32, left: usize, run: &Run)
         → S.has start sink.new (text ++ character digit ∷ separated run.now.separator run.now.group left) }
 {
     sink.put(digit_to_char(digit));
-    if ends_group(run.group, left) {
-        sink.put(run.separator);
-    }
+    put_if_any(sink, only_if(ends_group(run.group, left), run.separator));
 }
 
 // Writes the digits among bytes in groups, where `count` is the number of these digits.
@@ -118,11 +135,11 @@ fn put_digits<S: Sink>(sink: &mut S, bytes: &[u8], count: usize, run: &Run)
 }
 
 // Writes the digits among bytes in groups or, if there are none, a 0 if the run has one.
-fn put_or_zero<S: Sink>(sink: &mut S, bytes: &[u8], count: usize, run: &Run)
-    requires { count ≡ places run.now.radix bytes.now }
+fn put_or_zero<S: Sink>(sink: &mut S, bytes: &[u8], run: &Run)
     ensures { (start : S) → (text : List ℕ) → S.has start sink.old text
         → S.has start sink.new (text ++ grouped run.now.separator run.now.group (or_zero run.now.zero (digits_in run.now.radix bytes.now))) }
 {
+    let count = count(bytes, run.radix);
     if count == 0 && run.zero {
         sink.put(b'0');
     } else {
@@ -131,16 +148,16 @@ fn put_or_zero<S: Sink>(sink: &mut S, bytes: &[u8], count: usize, run: &Run)
 }
 
 // Writes the digits of a number in groups or, if it is 0, a 0 if the run has one.
-fn put_whole<S: Sink>(sink: &mut S, number: u128, run: &Run)
+fn put_number<S: Sink>(sink: &mut S, number: u128, run: &Run)
     ensures { (start : S) → (text : List ℕ) → S.has start sink.old text
         → S.has start sink.new (text ++ grouped run.now.separator run.now.group (or_zero run.now.zero (digits_of run.now.radix number))) }
 {
     let mut buffer = [0; 128];
-    let start = put_number(&mut buffer, number, run.radix);
+    let bytes = characters(&mut buffer, number, run.radix);
     if run.group == 0 && number > 0 {
-        sink.put_all(&buffer[start..]);
+        sink.put_all(bytes);
     } else {
-        put_or_zero(sink, &buffer[start..], 128 - start, run);
+        put_or_zero(sink, bytes, run);
     }
 }
 
@@ -151,9 +168,9 @@ impl Run<'_> {
             → S.has start sink.new (text ++ run_text self.now) }
     {
         match self.source {
-            Source::Bytes([]) if !self.zero => (),
-            Source::Bytes(bytes) => put_or_zero(sink, bytes, count(bytes, self.radix), self),
-            Source::Number(number) => put_whole(sink, number, self),
+            Source::Number(0) if !self.zero => (),
+            Source::Bytes(bytes) => put_or_zero(sink, bytes, self),
+            Source::Number(number) => put_number(sink, number, self),
         }
     }
 }

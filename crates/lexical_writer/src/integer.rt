@@ -1,25 +1,23 @@
 //! Integers are written.
 
-ghost use Rattle.std.specs.Prelude.{◌≡◌, IfErr, IfOk};
+ghost use Rattle.std.specs.Prelude.{◌≡◌, Some, IfErr, IfOk};
 ghost use Rattle.lexical_util.specs.Record.{raw};
 ghost use Rattle.lexical_literal.specs.Literal.{text_of};
 ghost use Rattle.lexical_literal.specs.Takes.{Takes};
 ghost use Rattle.lexical_value.specs.Integer.{IsInteger};
-ghost use Rattle.lexical_writer.specs.Layout.{IsNotWritten, IsWhole, literal_of, needs_exponent};
+ghost use Rattle.lexical_writer.specs.Layout.{IsWhole, literal_of, whole_refusal};
 
-use crate::layout::{Amount, Layout, Style, WriteError};
+use crate::layout::{Amount, Layout, Style, WriteError, needs_exponent};
 use crate::run::Source;
 use lexical_literal::syntax::Syntax;
 use lexical_number::integer::Integer;
-use lexical_util::laws::byte_facts;
-use lexical_util::laws::flags::role_facts;
 
 /// Returns how the value of an integer is written as a literal of `syntax`.
 ///
 /// # Errors
 ///
-/// [`WriteError::Float`] if each literal of `syntax` has an exponent, and [`WriteError::Negative`] if the value is
-/// below 0 and no literal has the sign `-`.
+/// [`WriteError::Float`] if each literal of `syntax` has an exponent, and otherwise [`WriteError::Negative`] if the
+/// value is below 0 and no literal has the sign `-`.
 pub fn format_integer<T: Integer>(
     syntax: &Syntax,
     value: T,
@@ -30,10 +28,8 @@ pub fn format_integer<T: Integer>(
     ensures value { IfOk result (λ layout. IsInteger (raw syntax.now.word) (literal_of layout) (T.range.value value)) }
     ensures parts { IfOk result (λ layout. IsWhole syntax.now style (T.range.value value) (literal_of layout)) }
     // Each integer can be written, unless each literal has an exponent, or no literal is below 0.
-    ensures error { IfErr result (IsNotWritten syntax.now (T.range.value value)) }
+    ensures error { IfErr result (λ error. whole_refusal syntax.now (T.range.value value) ≡ Some error) }
 {
-    role_facts();
-    byte_facts();
     if needs_exponent(syntax) {
         return Err(WriteError::Float);
     }
@@ -45,12 +41,4 @@ pub fn format_integer<T: Integer>(
         exponent: None,
     };
     amount.lay_out(syntax, style)
-}
-
-// Returns whether each literal has an exponent.
-fn needs_exponent(syntax: &Syntax) -> bool
-    ensures { result ≡ needs_exponent syntax.now }
-{
-    let required = syntax.format().view().required_exponent_notation();
-    required && syntax.options().is_some()
 }

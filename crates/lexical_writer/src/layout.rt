@@ -1,27 +1,23 @@
 //! Numbers are laid out as literals.
 
-ghost use Rattle.std.specs.Prelude.{◌≡◌, ◌++◌, ◌≤◌, ◌==◌, ◌&&◌, not, if◌then◌else◌, [], ℕ, IfOk, List, None, Some, option_to_list};
-ghost use Rattle.lexical_util.specs.Layout as layout;
-ghost use Rattle.lexical_util.specs.Record.{raw, effective_exponent_radix};
+ghost use Rattle.std.specs.Prelude.{◌≡◌, ◌++◌, ◌&&◌, not, [], ℕ, IfOk, List, option_to_list};
+ghost use Rattle.std.specs.Int.Digits.{digits_of};
+ghost use Rattle.lexical_util.specs.Record.{raw};
 ghost use Rattle.lexical_util.specs.Rules.{IsRadix, Lawful};
 ghost use Rattle.lexical_literal.specs.Literal.{is_present, text_of};
-ghost use Rattle.lexical_literal.specs.Notation.{lacks_options};
 ghost use Rattle.lexical_literal.specs.Syntax.{IsSyntax};
 ghost use Rattle.lexical_literal.specs.Takes.{Takes};
-ghost use Rattle.lexical_writer.specs.Digits.{grouped, or_zero, run_text, values_of, without_zeros};
-ghost use Rattle.lexical_writer.specs.Layout.{after_zero, exponent_byte, fraction_digits, group_of, has_exponent, has_point, has_zero};
-ghost use Rattle.lexical_writer.specs.Layout.{IsLaidOut, is_negative, laid_out, literal_of};
-ghost use Rattle.lexical_writer.specs.Layout.{only_if, point_byte, power_digits, refusal, sign_of};
-ghost use Rattle.lexical_writer.specs.declared.layout.WriteError.TheVariants as errors;
+ghost use Rattle.lexical_writer.specs.Digits.{grouped, only_if, or_zero, run_text, size_of, values_of};
+ghost use Rattle.lexical_writer.specs.Layout.{after_zero, base_byte, given_fraction, group_of, has_exponent, has_point, has_zero};
+ghost use Rattle.lexical_writer.specs.Layout.{HasNumber, IsLaidOut, literal_of, needs_exponent, refusal, sign_of};
 ghost use Rattle.lexical_writer.specs.Private.{IsTaken};
 
-use crate::digits::{count, without_zeros};
+use crate::digits::{count, only_if, put_if_any, without_zeros};
 use crate::run::{Run, Source};
 use crate::sink::{Sink, Window};
 use lexical_literal::syntax::{Conditions, Options, Syntax};
 use lexical_util::format::{NumberFormat, base_prefix, base_suffix, digit_separator};
 use lexical_util::laws::byte_facts;
-use lexical_util::laws::flags::role_facts;
 
 /// How numbers are written where a syntax leaves a choice.
 #[derive(Debug, Clone, Copy, PartialEq, Eq, Hash)]
@@ -92,9 +88,9 @@ pub struct Layout<'a> {
 
 impl Layout<'_> {
     /// Writes the text to the beginning of a buffer, and returns its length, or `usize::MAX` if that is less. If the
-    /// buffer is shorter than the text, its content is unspecified.
+    /// buffer is shorter than the text, its content is unspecified. Bytes behind the text are not changed.
     pub fn write(&self, buffer: &mut [u8]) -> usize
-        ensures { IsTaken (text_of (literal_of self.now)) buffer.new result }
+        ensures { IsTaken (text_of (literal_of self.now)) buffer.old buffer.new result }
     {
         let mut window = Window {
             bytes: buffer,
@@ -107,8 +103,8 @@ impl Layout<'_> {
     // Writes the text to a buffer.
     fn fill(&self, window: &mut Window)
         requires { window.old.length ≡ 0 }
-        ensures same { window.new.bytes.ghost_name ≡ window.old.bytes.ghost_name }
-        ensures taken { IsTaken (text_of (literal_of self.now)) window.new.bytes.now window.new.length }
+        ensures { (window.new.bytes.ghost_name ≡ window.old.bytes.ghost_name)
+            × IsTaken (text_of (literal_of self.now)) window.old.bytes.now window.new.bytes.now window.new.length }
     {
         self.put(window);
     }
@@ -130,16 +126,6 @@ impl Layout<'_> {
     }
 }
 
-// Writes a byte, if there is one.
-fn put_if_any<S: Sink>(sink: &mut S, byte: Option<u8>)
-    ensures { (start : S) → (text : List ℕ) → S.has start sink.old text
-        → S.has start sink.new (text ++ option_to_list byte) }
-{
-    if let Some(byte) = byte {
-        sink.put(byte);
-    }
-}
-
 // Writes a zero and a byte, if there is one.
 fn put_prefix<S: Sink>(sink: &mut S, byte: Option<u8>)
     ensures { (start : S) → (text : List ℕ) → S.has start sink.old text
@@ -148,29 +134,6 @@ fn put_prefix<S: Sink>(sink: &mut S, byte: Option<u8>)
     if let Some(byte) = byte {
         sink.put(b'0');
         sink.put(byte);
-    }
-}
-
-// Returns `byte` if `condition` is true.
-const fn only_if(condition: bool, byte: u8) -> Option<u8>
-    ensures { result ≡ only_if condition byte }
-{
-    if condition { Some(byte) } else { None }
-}
-
-// Returns the first error whose condition is true.
-const fn first_error(negative: bool, fraction: bool, exponent: bool) -> Option<WriteError>
-    ensures { result ≡ (if negative then Some errors.Negative
-        else (if fraction then Some errors.Fraction else (if exponent then Some errors.Exponent else None))) }
-{
-    if negative {
-        Some(WriteError::Negative)
-    } else if fraction {
-        Some(WriteError::Fraction)
-    } else if exponent {
-        Some(WriteError::Exponent)
-    } else {
-        None
     }
 }
 
@@ -185,7 +148,14 @@ const fn sign_of(negative: bool, required: bool) -> Option<u8>
     }
 }
 
-// Returns a run without groups, and without digits if there are no bytes.
+// Returns `byte` if `condition` is true, unless it is absent.
+const fn base_byte(condition: bool, byte: u8) -> Option<u8>
+    ensures { result ≡ base_byte condition byte }
+{
+    only_if(condition && byte != 0, byte)
+}
+
+// Returns a run without groups.
 const fn plain_run<'a>(source: Source<'a>, radix: u32, zero: bool) -> Run<'a>
     requires { IsRadix radix }
     ensures { run_text result ≡ grouped 0 0 (or_zero zero (values_of radix source.entry)) }
@@ -202,7 +172,7 @@ const fn plain_run<'a>(source: Source<'a>, radix: u32, zero: bool) -> Run<'a>
 // Returns the digits of a source without the zeros that they begin with.
 fn lean<'a>(source: Source<'a>, radix: u32) -> Source<'a>
     requires { IsRadix radix }
-    ensures { values_of radix result ≡ without_zeros (values_of radix source.entry) }
+    ensures { values_of radix result ≡ digits_of radix (size_of radix source.entry) }
 {
     match source {
         Source::Bytes(bytes) => Source::Bytes(without_zeros(bytes, radix)),
@@ -230,9 +200,9 @@ impl<'a> Amount<'a> {
     pub fn lay_out(&self, syntax: &Syntax, style: Style) -> Result<Layout<'a>, WriteError>
         ensures parts { IsLaidOut syntax.now style self.now result }
         ensures literal { IfOk result (λ layout. Takes syntax.now (literal_of layout) (text_of (literal_of layout))) }
+        ensures number { IfOk result (λ layout. HasNumber syntax.now self.now (literal_of layout)) }
         ensures lawful { IsSyntax syntax.now }
     {
-        role_facts();
         byte_facts();
         self.plan(syntax, style)
     }
@@ -246,24 +216,41 @@ impl<'a> Amount<'a> {
         if let Some(refusal) = self.refusal(syntax) {
             return Err(refusal);
         }
-        let options = syntax.options();
-        let has_exponent = self.has_exponent(syntax);
-        let has_point = self.has_point(syntax);
+        let (radix, exponent_radix) = (format.mantissa_radix(), format.exponent_radix());
         let conditions = syntax.conditions();
+        let options = syntax.options().unwrap_or(Options {
+            exponent: 0,
+            point: 0,
+        });
+        let power = self.exponent.unwrap_or(Power {
+            negative: false,
+            source: Source::Number(0),
+        });
+        let (point, exponent) = (self.has_point(syntax), self.has_exponent(syntax));
         Ok(Layout {
             sign: sign_of(self.negative, format.required_mantissa_sign()),
-            prefix: byte_if(
-                style.prefix || conditions.required_base_prefix,
+            prefix: base_byte(
+                style.prefix | conditions.required_base_prefix,
                 base_prefix(format.word()),
             ),
-            integer: self.integer_run(syntax, style),
-            point: only_if(has_point, point_byte(options)),
-            fraction: self.fraction_run(syntax, has_point),
-            exponent_character: only_if(has_exponent, exponent_byte(options)),
-            exponent_sign: self.exponent_sign(syntax, has_exponent),
-            exponent: self.exponent_run(syntax, has_exponent),
-            suffix: byte_if(
-                style.suffix || conditions.required_base_suffix,
+            integer: Run {
+                source: lean(self.integer, radix),
+                radix,
+                zero: self.has_zero(format),
+                group: group_of(format, conditions, style),
+                separator: digit_separator(format.word()),
+            },
+            point: only_if(point, options.point),
+            fraction: plain_run(
+                self.fraction(),
+                radix,
+                point & format.required_fraction_digits(),
+            ),
+            exponent_character: only_if(exponent, options.exponent),
+            exponent_sign: sign_of(power.negative, exponent & format.required_exponent_sign()),
+            exponent: plain_run(lean(power.source, exponent_radix), exponent_radix, exponent),
+            suffix: base_byte(
+                style.suffix | conditions.required_base_suffix,
                 base_suffix(format.word()),
             ),
         })
@@ -273,20 +260,24 @@ impl<'a> Amount<'a> {
     fn refusal(&self, syntax: &Syntax) -> Option<WriteError>
         ensures { result ≡ refusal syntax.now self.now }
     {
-        let integers = lacks_options(syntax.options());
-        let no_exponent = integers || syntax.format().view().no_exponent_notation();
-        let negative = self.negative && syntax.conditions().no_negative_mantissa_sign;
-        let fraction = integers && self.fraction.is_some();
-        let exponent = no_exponent && self.exponent.is_some();
-        first_error(negative, fraction, exponent)
+        let integers = syntax.options().is_none();
+        let no_exponent = integers | syntax.format().view().no_exponent_notation();
+        if self.negative & syntax.conditions().no_negative_mantissa_sign {
+            Some(WriteError::Negative)
+        } else if integers & self.fraction.is_some() {
+            Some(WriteError::Fraction)
+        } else if no_exponent & self.exponent.is_some() {
+            Some(WriteError::Exponent)
+        } else {
+            None
+        }
     }
 
     // Returns whether an exponent is written.
     fn has_exponent(&self, syntax: &Syntax) -> bool
         ensures { result ≡ has_exponent syntax.now self.now }
     {
-        let required = syntax.format().view().required_exponent_notation();
-        self.exponent.is_some() || (required && syntax.options().is_some())
+        self.exponent.is_some() || needs_exponent(syntax)
     }
 
     // Returns whether a decimal point is written.
@@ -305,71 +296,25 @@ impl<'a> Amount<'a> {
         let radix = format.mantissa_radix();
         format.required_integer_digits()
             || has_digits(self.integer, radix)
-            || !has_digits(self.fraction_source(), radix)
-    }
-
-    // Returns the integer digits.
-    fn integer_run(&self, syntax: &Syntax, style: Style) -> Run<'a>
-        ensures { run_text result ≡ (laid_out syntax.now style self.now).integer }
-    {
-        let format = syntax.format().view();
-        let radix = format.mantissa_radix();
-        Run {
-            source: lean(self.integer, radix),
-            radix,
-            zero: self.has_zero(format),
-            group: group_of(format, syntax.conditions(), style),
-            separator: digit_separator(format.word()),
-        }
-    }
-
-    // Returns the fraction digits.
-    fn fraction_run(&self, syntax: &Syntax, has_point: bool) -> Run<'a>
-        ensures { run_text result ≡ grouped 0 0 (or_zero (has_point && (raw syntax.now.word).flag layout.required_fraction_digits)
-            (fraction_digits ((raw syntax.now.word).byte layout.mantissa_radix) self.now.fraction)) }
-    {
-        let format = syntax.format().view();
-        let zero = has_point && format.required_fraction_digits();
-        plain_run(self.fraction_source(), format.mantissa_radix(), zero)
-    }
-
-    // Returns the exponent digits.
-    fn exponent_run(&self, syntax: &Syntax, has_exponent: bool) -> Run<'a>
-        ensures { run_text result ≡ grouped 0 0 (or_zero has_exponent
-            (without_zeros (power_digits (effective_exponent_radix (raw syntax.now.word)) self.now.exponent))) }
-    {
-        let radix = syntax.format().view().exponent_radix();
-        let source = match self.exponent {
-            Some(power) => power.source,
-            None => Source::Bytes(&[]),
-        };
-        plain_run(lean(source, radix), radix, has_exponent)
-    }
-
-    // Returns the sign of the exponent.
-    fn exponent_sign(&self, syntax: &Syntax, has_exponent: bool) -> Option<u8>
-        ensures { option_to_list result ≡ (if has_exponent
-            then option_to_list (sign_of (is_negative self.now.exponent) ((raw syntax.now.word).flag layout.required_exponent_sign)) else []) }
-    {
-        if !has_exponent {
-            return None;
-        }
-        let negative = match self.exponent {
-            Some(power) => power.negative,
-            None => false,
-        };
-        sign_of(negative, syntax.format().view().required_exponent_sign())
+            || !has_digits(self.fraction(), radix)
     }
 
     // Returns the fraction digits, if there are any.
-    fn fraction_source(&self) -> Source<'a>
-        ensures { (radix : ℕ) → values_of radix result ≡ fraction_digits radix self.now.fraction }
+    fn fraction(&self) -> Source<'a>
+        ensures { result ≡ given_fraction self.now }
     {
         match self.fraction {
             Some(bytes) => Source::Bytes(bytes),
-            None => Source::Bytes(&[]),
+            None => Source::Number(0),
         }
     }
+}
+
+// Returns whether each literal has an exponent.
+pub(crate) fn needs_exponent(syntax: &Syntax) -> bool
+    ensures { result ≡ needs_exponent syntax.now }
+{
+    syntax.format().view().required_exponent_notation() && syntax.options().is_some()
 }
 
 // Returns the number of digits of a group, or 0 if there are no groups.
@@ -383,42 +328,5 @@ const fn group_of(format: NumberFormat, conditions: Conditions, style: Style) ->
         _ if style.group == 0 => 0,
         Some(size) => size as usize,
         None => style.group,
-    }
-}
-
-// Returns `byte` if `condition` is true, unless it is absent.
-const fn byte_if(condition: bool, byte: u8) -> Option<u8>
-    ensures { result ≡ only_if (condition && not (byte == 0)) byte }
-{
-    only_if(condition && byte != 0, byte)
-}
-
-// Returns whether literals are integers.
-const fn lacks_options(options: Option<Options>) -> bool
-    ensures { result ≡ lacks_options options }
-{
-    match options {
-        Some(_) => false,
-        None => true,
-    }
-}
-
-// Returns the decimal point.
-const fn point_byte(options: Option<Options>) -> u8
-    ensures { result ≡ point_byte options }
-{
-    match options {
-        Some(options) => options.point,
-        None => 0,
-    }
-}
-
-// Returns the exponent character.
-const fn exponent_byte(options: Option<Options>) -> u8
-    ensures { result ≡ exponent_byte options }
-{
-    match options {
-        Some(options) => options.exponent,
-        None => 0,
     }
 }

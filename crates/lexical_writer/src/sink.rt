@@ -24,11 +24,11 @@ pub(crate) struct Window<'a> {
 }
 
 impl Sink for Window<'_> {
-    ghost use Rattle.std.specs.Prelude.{length};
-    ghost use Rattle.lexical_writer.specs.Private.{Takes};
+    ghost use Rattle.std.specs.Prelude.{◌≡◌};
+    ghost use Rattle.lexical_writer.specs.Private.{IsTaken};
 
-    ghost has = { λ start window text. Takes start.bytes.ghost_name (length start.bytes.now)
-        window.bytes.ghost_name window.bytes.now window.length text };
+    ghost has = { λ start window text. (window.bytes.ghost_name ≡ start.bytes.ghost_name)
+        × IsTaken text start.bytes.now window.bytes.now window.length };
 
     fn put(&mut self, byte: u8) {
         if self.length < self.bytes.len() {
@@ -38,10 +38,10 @@ impl Sink for Window<'_> {
     }
 
     fn put_all(&mut self, bytes: &[u8]) {
-        let end = self.length.saturating_add(bytes.len());
-        if end <= self.bytes.len() {
-            self.bytes[self.length..end].copy_from_slice(bytes);
+        let start = self.length;
+        self.length = start.saturating_add(bytes.len());
+        if self.length <= self.bytes.len() {
+            self.bytes[start..self.length].copy_from_slice(bytes);
         }
-        self.length = end;
     }
 }

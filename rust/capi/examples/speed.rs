@@ -1,9 +1,8 @@
-//! Times `peltzivar_read`, alone and with `peltzivar_to_f64`, beside the calls in Rust and `strtod`, and prints the
-//! nanoseconds of a text, the least of 2,000 passes. From the top folder, after `make -C c`:
+//! Times `peltzivar_read`, alone and with `peltzivar_to_f64`, beside `strtod`, and prints the nanoseconds of a text, the
+//! least of 2,000 passes. From the top folder, after `make -C c`:
 //!
 //!     RUSTFLAGS="-L rust/target/make/release" cargo run --release -p peltzivar-capi --features speed --example speed
 
-use peltzivar::literal::Language;
 use std::ffi::{c_char, c_void};
 use std::hint::black_box;
 use std::mem::MaybeUninit;
@@ -22,54 +21,30 @@ extern "C" {
 const TEXTS: [&str; 8] =
     ["1\0", "-17\0", "1000\0", "3.25\0", "-12345.678e-9\0", "0.5\0", "1000.5e-3\0", "9007199254740993\0"];
 
-fn main() {
-    let reader = &Language::JSON.readers().as_slice()[0];
-    // SAFETY: the name has four bytes, and the spellings may be null.
-    let reader_of_c = unsafe { peltzivar_language(b"JSON".as_ptr(), 4, null_mut()) };
-    let bytes = |text: &'static str| &text.as_bytes()[..text.len() - 1];
-    let read = |text| black_box(&mut reader.read(bytes(text))).is_ok();
-    let parse = |text| black_box(&mut reader.parse::<f64>(bytes(text))).is_ok();
-    // A `peltzivar_literal` has 288 bytes.
-    let read_by_c = |text, literal: &mut MaybeUninit<[u128; 18]>| {
-        // SAFETY: the literal is large enough and aligned, the text has this length, and the error may be null.
-        unsafe {
-            peltzivar_read(
-                reader_of_c,
-                bytes(text).as_ptr(),
-                bytes(text).len(),
-                literal.as_mut_ptr().cast(),
-                null_mut(),
-            )
-        }
+/// Prints the least time of a text.
+fn time(name: &str, call: impl Fn(&'static str) -> bool) {
+    let pass = |_| {
+        let start = Instant::now();
+        assert!((0..8_000).all(|index| call(black_box(TEXTS[index % 8]))));
+        start.elapsed().as_nanos() / 8_000
     };
-    let read_in_c = |text| read_by_c(text, black_box(&mut MaybeUninit::uninit()));
-    let parse_in_c = |text| {
+    println!("{:4} {name}", (0..2_000).map(pass).min().unwrap_or_default());
+}
+
+fn main() {
+    // SAFETY: the name has four bytes, and the spellings may be null.
+    let reader = unsafe { peltzivar_language(b"JSON".as_ptr(), 4, null_mut()) };
+    // A `peltzivar_literal` has 288 bytes.
+    let read = |text: &str, literal: &mut MaybeUninit<[u128; 18]>| {
+        // SAFETY: the literal is large enough and aligned, the text has this length, and the error may be null.
+        unsafe { peltzivar_read(reader, text.as_ptr(), text.len() - 1, literal.as_mut_ptr().cast(), null_mut()) }
+    };
+    time("peltzivar_read", |text| read(text, black_box(&mut MaybeUninit::uninit())));
+    time("peltzivar_read and peltzivar_to_f64", |text| {
         let (mut literal, mut value) = (MaybeUninit::uninit(), 0.0);
         // SAFETY: `peltzivar_read` has made the literal.
-        let status = read_by_c(text, black_box(&mut literal))
-            && unsafe { peltzivar_to_f64(literal.as_ptr().cast(), &mut value) } == 0;
-        black_box(value);
-        status
-    };
+        read(text, black_box(&mut literal)) && unsafe { peltzivar_to_f64(literal.as_ptr().cast(), &mut value) } == 0
+    });
     // SAFETY: a null byte ends the text.
-    let strtod_in_c = |text: &'static str| black_box(unsafe { strtod(text.as_ptr().cast(), null_mut()) }).is_finite();
-
-    let calls: [(&str, &dyn Fn(&'static str) -> bool); 5] = [
-        ("Reader::read", &read),
-        ("peltzivar_read", &read_in_c),
-        ("Reader::parse::<f64>", &parse),
-        ("peltzivar_read and peltzivar_to_f64", &parse_in_c),
-        ("strtod", &strtod_in_c),
-    ];
-    let mut least = [u128::MAX; 5];
-    for _ in 0..2_000 {
-        for (least, (_, call)) in least.iter_mut().zip(calls) {
-            let start = Instant::now();
-            assert!((0..8_000).all(|index| call(black_box(TEXTS[index % 8]))));
-            *least = (start.elapsed().as_nanos() / 8_000).min(*least);
-        }
-    }
-    for (least, (name, _)) in least.iter().zip(calls) {
-        println!("{least:4} {name}");
-    }
+    time("strtod", |text| black_box(unsafe { strtod(text.as_ptr().cast(), null_mut()) }).is_finite());
 }

@@ -57,23 +57,17 @@ static READERS: [Reader; COUNT] = {
     readers
 };
 
-/// Returns the number of forms that the languages before one have.
-const fn forms_before(language: usize) -> usize {
-    let (mut count, mut index) = (0, 0);
-    while index < language {
-        count += Language::ALL[index].forms().len();
-        index += 1;
-    }
-    count
-}
+/// One more than the most forms of a language.
+const FORMS: usize = 18;
 
-/// Returns the name of a form by its index among those of all languages.
-const fn form_name(index: usize) -> &'static str {
-    let mut language = 0;
-    while forms_before(language + 1) <= index {
-        language += 1;
+/// Returns the name of a form, or an empty text if a language has no such form.
+const fn form_name(forms: &[Form], index: usize) -> &str {
+    assert!(forms.len() < FORMS);
+    if index < forms.len() {
+        forms[index].name
+    } else {
+        ""
     }
-    Language::ALL[language].forms()[index - forms_before(language)].name
 }
 
 /// Returns the index of the language that a reader reads, and its forms.
@@ -93,7 +87,7 @@ const fn or_empty(spelling: Option<&'static [u8]>) -> &'static [u8] {
 
 texts! {
     NAMES: [32; COUNT] = |index| Language::ALL[index].name().as_bytes();
-    FORM_NAMES: [32; forms_before(COUNT)] = |index| form_name(index).as_bytes();
+    FORM_NAMES: [32; COUNT * FORMS] = |index| form_name(Language::ALL[index / FORMS].forms(), index % FORMS).as_bytes();
     NAN: [16; COUNT] = |index| or_empty(Language::ALL[index].specials().nan);
     INF: [16; COUNT] = |index| or_empty(Language::ALL[index].specials().inf);
     INFINITY: [16; COUNT] = |index| or_empty(Language::ALL[index].specials().infinity);
@@ -119,8 +113,8 @@ calls! {
     fn peltzivar_language_name(index: usize) -> *const u8 { at(&NAMES, index) }
 
     fn peltzivar_form_name(reader: Option<&Reader>, form: usize) -> *const u8 {
-        let language = language_of(reader).filter(|(_, forms)| form < forms.len());
-        at(&FORM_NAMES, language.map_or(usize::MAX, |(language, _)| forms_before(language) + form))
+        let language = language_of(reader).filter(|_| form < FORMS);
+        at(&FORM_NAMES, language.map_or(usize::MAX, |(language, _)| language * FORMS + form))
     }
 
     fn peltzivar_form_syntax(reader: Option<&Reader>, form: usize, out: Out<Syntax>) -> bool {

@@ -25,14 +25,11 @@ macro_rules! calls {
 }
 
 mod arguments;
-mod bytes;
 mod languages;
 mod literals;
 mod names;
 mod numbers;
-mod reasons;
 mod settings;
-mod texts;
 mod values;
 mod words;
 mod writing;

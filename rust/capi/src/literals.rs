@@ -2,7 +2,7 @@
 
 use crate::arguments::{input, write_text, Out};
 use crate::numbers::{error_number, ErrorNumber, Setter, Word, NO_PART, NO_SETTER};
-use core::fmt::Display;
+use core::fmt::{self, Display, Formatter};
 use core::mem::ManuallyDrop;
 use core::num::NonZeroU8;
 use core::ops::Range;
@@ -21,11 +21,15 @@ pub struct Syntax {
     required_base_suffix: u8,
     no_negative_mantissa_sign: u8,
     integer_group_size: u8,
+    reserved: [u8; 10],
 }
 
 impl Syntax {
     /// Returns the checked syntax.
-    fn checked(&self) -> Result<literal::Syntax, FormatError> {
+    fn checked(&self) -> Result<literal::Syntax, Refusal<FormatError>> {
+        if self.reserved != [0; 10] {
+            return Err(Refusal::Argument("the reserved bytes of the syntax are not 0"));
+        }
         let format = Format::new(self.format.number())?;
         let syntax = match (self.exponent, self.decimal_point) {
             (0, 0) => literal::Syntax::integers(format),
@@ -57,6 +61,7 @@ impl Syntax {
                 Some(size) => size,
                 None => 0,
             },
+            reserved: [0; 10],
         }
     }
 }
@@ -97,7 +102,7 @@ impl<Shown, T, const WORDS: usize> Made<Shown, T, WORDS> {
 }
 
 /// A reader. It has no pointer to itself, so a copy is a reader, too.
-pub type Reader = Made<Syntax, Forms, 508>;
+pub type Reader = Made<Syntax, Forms, 506>;
 
 /// What a reader reads: the literals of a syntax, or those of a language.
 #[allow(clippy::large_enum_variant, reason = "C has the memory of a reader, and nothing is allocated")]
@@ -124,7 +129,7 @@ pub struct Stop {
 }
 
 /// Where reading stopped, and why.
-pub type ReadError = Made<Stop, Refusal, 12>;
+pub type ReadError = Made<Stop, Refusal<literal::ReadError>, 12>;
 
 /// A literal, with its parts. It borrows its text.
 pub type Literal<'a> = Made<Parts, literal::Literal<'a>, 14>;
@@ -134,10 +139,25 @@ const _: () = assert!(size_of::<Reader>() == 4096 && align_of::<Reader>() <= 16)
 const _: () = assert!(size_of::<ReadError>() == 128 && align_of::<ReadError>() <= 16);
 const _: () = assert!(size_of::<Literal>() == 288 && align_of::<Literal>() <= 16);
 
-/// Why a call refuses a text: a sentence on its other arguments, or where reading stopped.
-pub enum Refusal {
+/// Why a call refuses what it checks: a sentence on its arguments, or the error of the library.
+pub enum Refusal<E> {
     Argument(&'static str),
-    Text(literal::ReadError),
+    Library(E),
+}
+
+impl<E: Display> Display for Refusal<E> {
+    fn fmt(&self, f: &mut Formatter<'_>) -> fmt::Result {
+        match self {
+            Refusal::Argument(sentence) => f.write_str(sentence),
+            Refusal::Library(error) => error.fmt(f),
+        }
+    }
+}
+
+impl<E: Into<FormatError>> From<E> for Refusal<FormatError> {
+    fn from(error: E) -> Self {
+        Refusal::Library(error.into())
+    }
 }
 
 /// Returns the reader of a language.
@@ -241,7 +261,7 @@ pub unsafe fn given<'a>(
     reader: Option<&Reader>,
     text: *const u8,
     len: usize,
-) -> Result<(&[literal::Reader], &'a [u8]), Refusal> {
+) -> Result<(&[literal::Reader], &'a [u8]), Refusal<literal::ReadError>> {
     let forms = reader.and_then(Reader::value).ok_or(Refusal::Argument("no call has made this reader"))?;
     Ok((forms.readers(), input(text, len).ok_or(Refusal::Argument("the text has more than PTRDIFF_MAX bytes"))?))
 }
@@ -260,18 +280,18 @@ unsafe fn read_by<'a>(
                 literal.write(Literal::of(found, 0));
                 return true;
             }
-            Err(error) => (0, Refusal::Text(error)),
+            Err(error) => (0, Refusal::Library(error)),
         },
         Ok((readers, text)) => match Readers::new(readers).map(|readers| read_forms(&readers, text)) {
             Some(Ok(Number::Literal { literal: found, form })) => {
                 literal.write(Literal::of(found, form));
                 return true;
             }
-            Some(Err(FormError { form, error, .. })) => (form, Refusal::Text(error)),
+            Some(Err(FormError { form, error, .. })) => (form, Refusal::Library(error)),
             _ => (0, Refusal::Argument("a number that is not a literal")),
         },
     };
-    let valid_up_to = if let Refusal::Text(error) = &refusal { error.valid_up_to() } else { 0 };
+    let valid_up_to = if let Refusal::Library(error) = &refusal { error.valid_up_to() } else { 0 };
     error.write(Made::new(Stop { valid_up_to, form }, refusal));
     false
 }
@@ -279,7 +299,10 @@ unsafe fn read_by<'a>(
 calls! {
     fn peltzivar_reader_init(reader: Out<Reader>, syntax: &Syntax) -> ErrorNumber {
         let made = |syntax| Reader::new(Syntax::of(syntax), Forms::Syntax(literal::Reader::new(syntax)));
-        reader.write_ok(syntax.checked().map(made).map_err(Error::from))
+        reader.write_ok(syntax.checked().map(made).map_err(|refusal| match refusal {
+            Refusal::Argument(_) => Error::InvalidFlags,
+            Refusal::Library(error) => error.into(),
+        }))
     }
 
     fn peltzivar_syntax_error_text(syntax: &Syntax, text: *mut u8, len: usize) -> usize {
@@ -300,15 +323,10 @@ calls! {
     }
 
     fn peltzivar_explain(error: &ReadError, out: Out<Explanation>) -> bool {
-        out.write_some(if let Some(Refusal::Text(error)) = error.value() { Some(*error) } else { None })
+        out.write_some(if let Some(Refusal::Library(error)) = error.value() { Some(*error) } else { None })
     }
 
     fn peltzivar_read_error_text(error: &ReadError, text: *mut u8, len: usize) -> usize {
-        write_text(text, len, error.value().map(|refusal| -> &dyn Display {
-            match refusal {
-                Refusal::Argument(sentence) => sentence,
-                Refusal::Text(error) => error,
-            }
-        }))
+        write_text(text, len, error.value())
     }
 }

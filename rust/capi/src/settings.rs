@@ -7,10 +7,14 @@ use core::fmt::Display;
 use core::str::from_utf8;
 use peltzivar::{edits, Edit, EditError, Settings};
 
-/// Parses a setting. A string that is too long or not UTF-8 is read as one with an unknown name.
+/// Returns a string. One that is too long or not UTF-8 is read as a setting with an unknown name.
+unsafe fn string<'a>(text: *const u8, len: usize) -> &'a str {
+    input(text, len).and_then(|it| from_utf8(it).ok()).unwrap_or("=")
+}
+
+/// Parses a setting.
 unsafe fn parsed(text: *const u8, len: usize) -> Result<Edit, EditError> {
-    let text = input(text, len).and_then(|it| from_utf8(it).ok());
-    text.unwrap_or("=").parse()
+    string(text, len).parse()
 }
 
 /// Returns the lines of a text. A text that is too long is read as a line that states this.
@@ -54,15 +58,11 @@ calls! {
     }
 
     fn peltzivar_parse_byte(text: *const u8, len: usize, out: Out<u8>) -> bool {
-        let text = input(text, len).and_then(|it| from_utf8(it).ok());
-        let edit = text.and_then(|it| edits::Setter::DigitSeparator.parse(it).ok());
-        out.write_some(edit.map(Edit::argument_byte))
+        out.write_some(edits::Setter::DigitSeparator.parse(string(text, len)).ok().map(Edit::argument_byte))
     }
 
     fn peltzivar_setter_of_name(name: *const u8, len: usize) -> Setter {
-        let name = input(name, len).and_then(|it| from_utf8(it).ok());
-        let setter = name.and_then(edits::Setter::from_name);
-        setter.map_or(NO_SETTER, setter_number)
+        edits::Setter::from_name(string(name, len)).map_or(NO_SETTER, setter_number)
     }
 
     fn peltzivar_setter_mask(setter: Setter) -> Word { setter_of(setter).map_or(0, |it| it.mask()).into() }

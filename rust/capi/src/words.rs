@@ -1,13 +1,42 @@
-//! Calls that build, read, edit and compare words and fields.
+//! Calls on words: they build, read, edit and compare them, print and parse them, print why they break rules, and read the
+//! bytes of a number.
 
-use crate::arguments::{input, write_list, Out};
-use crate::numbers::{error_number, setter_of, ErrorNumber, Fields, NumberedEdit, Setter, Word};
-use peltzivar::{edits, NumberFormatBuilder};
+use crate::arguments::{input, write_list, write_text, Out};
+use crate::numbers::{blamed_options, broken_rules, error_number, error_of, setter_of};
+use crate::numbers::{ErrorNumber, Fields, NumberedEdit, Setter, Word, PARTS};
+use core::str::from_utf8;
+use peltzivar::source::BuilderExpression;
+use peltzivar::{edits, format_flags, Error, FormatView, Note, NumberFormatBuilder, Reason};
+
+/// The result for a byte that is not a digit.
+const NO_DIGIT: u32 = u32::MAX;
+
+/// Where a part of a number may have digit separators.
+#[repr(C)]
+#[derive(Default)]
+pub struct Separators {
+    internal: bool,
+    leading: bool,
+    trailing: bool,
+    consecutive: bool,
+}
 
 /// Applies the edits in order. Returns `None` if an edit has an unknown setter, or if there are too many.
 unsafe fn edited(builder: NumberFormatBuilder, edits: *const NumberedEdit, len: usize) -> Option<NumberFormatBuilder> {
     let apply = |it, edit: &NumberedEdit| Some(edits::apply(it, edit.edit()?));
     input(edits, len)?.iter().try_fold(builder, apply)
+}
+
+fn reason_at(format: Word, index: usize) -> Option<Reason> {
+    format.view().reasons().nth(index)
+}
+
+fn options_reason_at(format: Word, exponent: u8, point: u8, index: usize) -> Option<Reason> {
+    format.view().options_reasons(exponent, point).nth(index)
+}
+
+fn note_at(fields: &Fields, index: usize) -> Option<Note> {
+    fields.builder().notes().nth(index)
 }
 
 calls! {
@@ -50,5 +79,88 @@ calls! {
     fn peltzivar_edit_fields(fields: &mut Fields, edits: *const NumberedEdit, len: usize) -> bool {
         let builder = edited(fields.builder(), edits, len);
         builder.map(|it| *fields = it.into()).is_some()
+    }
+
+    fn peltzivar_word_text(format: Word, text: *mut u8, len: usize) -> usize {
+        write_text(text, len, Some(format.view()))
+    }
+
+    fn peltzivar_parse_word(text: *const u8, len: usize, out: Out<Word>, index: Out<usize>) -> ErrorNumber {
+        let text = input(text, len).ok_or(Error::Overflow(0));
+        let text = text.and_then(|it| from_utf8(it).map_err(|_| Error::InvalidDigit(0)));
+        let view = text.and_then(|text| text.parse::<FormatView>());
+        if let Err(error) = view {
+            index.write(error.index().copied().unwrap_or(0));
+        }
+        out.write_ok(view.map(|view| view.word()))
+    }
+
+    fn peltzivar_source(format: Word, text: *mut u8, len: usize) -> usize {
+        write_text(text, len, Some(BuilderExpression(format.number())))
+    }
+
+    fn peltzivar_error_text(error: ErrorNumber, index: usize, text: *mut u8, len: usize) -> usize {
+        write_text(text, len, error_of(error, index))
+    }
+
+    fn peltzivar_reason_text(format: Word, index: usize, text: *mut u8, len: usize) -> usize {
+        write_text(text, len, reason_at(format, index))
+    }
+
+    fn peltzivar_reason_mask(format: Word, index: usize) -> Word {
+        reason_at(format, index).map_or(0, |it| it.mask()).into()
+    }
+
+    fn peltzivar_reason_rules(format: Word, index: usize) -> u32 { reason_at(format, index).map_or(0, broken_rules) }
+
+    fn peltzivar_options_reason_text(
+        format: Word, exponent: u8, decimal_point: u8, index: usize, text: *mut u8, len: usize
+    ) -> usize {
+        let reason = options_reason_at(format, exponent, decimal_point, index);
+        write_text(text, len, reason)
+    }
+
+    fn peltzivar_options_reason_mask(format: Word, exponent: u8, decimal_point: u8, index: usize) -> Word {
+        let reason = options_reason_at(format, exponent, decimal_point, index);
+        reason.map_or(0, |it| it.mask()).into()
+    }
+
+    fn peltzivar_options_reason_roles(format: Word, exponent: u8, decimal_point: u8, index: usize) -> u32 {
+        options_reason_at(format, exponent, decimal_point, index).map_or(0, blamed_options)
+    }
+
+    fn peltzivar_note_text(fields: &Fields, index: usize, text: *mut u8, len: usize) -> usize {
+        write_text(text, len, note_at(fields, index))
+    }
+
+    fn peltzivar_note_mask(fields: &Fields, index: usize) -> Word {
+        note_at(fields, index).map_or(0, |it| it.mask()).into()
+    }
+
+    fn peltzivar_check_options(format: Word, exponent: u8, decimal_point: u8) -> ErrorNumber {
+        error_number(format_flags::options_error(format.number(), exponent, decimal_point))
+    }
+
+    fn peltzivar_mantissa_digit(format: Word, byte: u8) -> u32 {
+        format.view().mantissa_digit(byte).unwrap_or(NO_DIGIT)
+    }
+
+    fn peltzivar_exponent_digit(format: Word, byte: u8) -> u32 {
+        format.view().exponent_digit(byte).unwrap_or(NO_DIGIT)
+    }
+
+    fn peltzivar_separators_of(format: Word, part: u8) -> Separators {
+        let Some(part) = PARTS.get(usize::from(part)) else { return Separators::default() };
+        let peltzivar::Separators { internal, leading, trailing, consecutive, .. } = format.view().separators(*part);
+        Separators { internal, leading, trailing, consecutive }
+    }
+
+    fn peltzivar_is_separator(format: Word, byte: u8) -> bool { format.view().is_separator(byte) }
+    fn peltzivar_is_base_prefix(format: Word, byte: u8) -> bool { format.view().is_base_prefix(byte) }
+    fn peltzivar_is_base_suffix(format: Word, byte: u8) -> bool { format.view().is_base_suffix(byte) }
+
+    fn peltzivar_role_of(format: Word, exponent: u8, decimal_point: u8, byte: u8) -> u8 {
+        let role = format.view().role_of(exponent, decimal_point, byte);
+        role.map_or(0, |role| role as u8 + 1)
     }
 }

@@ -140,28 +140,10 @@ fn readers<T: Grammar>() -> &'static Readers<'static> {
     const { &T::READERS }
 }
 
-/// Returns whether `left` is before `right` in the order of their bytes.
-const fn is_before(left: &[u8], right: &[u8]) -> bool {
-    match (left, right) {
-        ([first, left @ ..], [second, right @ ..]) if *first == *second => is_before(left, right),
-        ([first, ..], [second, ..]) => *first < *second,
-        _ => left.len() < right.len(),
-    }
-}
-
 /// Defines the constants: the documentation and the name of each, the name and the syntax of each form, and the special
 /// values, if there are any.
 macro_rules! languages {
     ($($(#[$about:meta])+ $name:ident = { $($form:literal: $syntax:expr),+ $(,)? } $(, $specials:expr)?;)+) => {
-        const _: () = {
-            let names = [$(stringify!($name).as_bytes()),+];
-            let mut at = 1;
-            while at < names.len() {
-                assert!(is_before(names[at - 1], names[at]), "a language is not in alphabetical order");
-                at += 1;
-            }
-        };
-
         impl Language {
             /// All languages, in alphabetical order.
             pub const ALL: &'static [Language] = &[$(Language::$name),+];

@@ -3,16 +3,20 @@
 use core::fmt::{self, Write};
 
 use crate::format_flags::Part;
+use crate::literal::read::Parts;
 use crate::literal::{Literal, Number, ReadError, Reader, Sign, Special, Spelling, Syntax};
 
 mod float;
 mod integer;
+#[allow(clippy::len_zero, clippy::nonminimal_bool, clippy::redundant_pattern_matching, reason = "as it is proved")]
 mod plain;
 #[allow(clippy::len_zero, reason = "as it is proved")]
 mod plain_float;
 
 pub use integer::ValueErrorKind;
 
+use crate::number::float::Float;
+use crate::number::integer::Integer;
 use float::{binary_size, to_float};
 use integer::{integer_digits, to_integer};
 use plain::plain_integer;
@@ -31,6 +35,9 @@ pub trait FromLiteral: Sealed {}
 pub trait Sealed:
     for<'a> TryFrom<Literal<'a>, Error = ValueError> + for<'a> TryFrom<Number<'a>, Error = ValueError>
 {
+    /// What errors name.
+    const TARGET: &'static Target;
+
     /// Returns the value of some literals that need no tables, and `None` for all other texts.
     fn from_plain(reader: &Reader, text: &[u8]) -> Option<Self>;
 }
@@ -110,10 +117,22 @@ impl fmt::Display for Plain<'_> {
 #[derive(Debug, Clone, Copy, PartialEq, Eq, Hash)]
 pub struct ValueError {
     kind: ValueErrorKind,
-    target: Target,
+    target: &'static Target,
+}
+
+/// The name of a type, and its least and its largest value if it is an integer type.
+#[derive(Debug, PartialEq, Eq, Hash)]
+pub struct Target {
+    name: &'static str,
+    least: i128,
+    largest: u128,
 }
 
 impl ValueError {
+    const fn of<T: Sealed>(kind: ValueErrorKind) -> ValueError {
+        ValueError { kind, target: T::TARGET }
+    }
+
     /// Returns what is wrong.
     #[must_use]
     pub const fn kind(&self) -> ValueErrorKind {
@@ -123,7 +142,7 @@ impl ValueError {
     /// Returns the name of the type, such as `u16`.
     #[must_use]
     pub const fn target(&self) -> &'static str {
-        self.target.name()
+        self.target.name
     }
 }
 
@@ -137,8 +156,8 @@ impl fmt::Display for ValueError {
             ValueErrorKind::UnsupportedRadix => {
                 write!(f, "no {target}: the mantissa radix and the exponent base are not both 10 or both powers of two")
             }
-            ValueErrorKind::TooLarge => self.target.write_limit(f, true),
-            ValueErrorKind::TooSmall => self.target.write_limit(f, false),
+            ValueErrorKind::TooLarge => write!(f, "above {}, the largest {target}", self.target.largest),
+            ValueErrorKind::TooSmall => write!(f, "below {}, the least {target}", self.target.least),
         }
     }
 }
@@ -186,88 +205,67 @@ impl core::error::Error for ParseError {
     }
 }
 
-/// Makes the conversions to integer types, and the names and limits of these types.
-macro_rules! integers {
-    ($($type:ident $Target:ident,)*) => {
+fn integer_of<T: Integer>(literal: Literal<'_>, parts: &Parts<'_>) -> Result<T, ValueErrorKind> {
+    to_integer(literal.view, parts)
+}
+
+fn float_of<F: Float>(literal: Literal<'_>, parts: &Parts<'_>) -> Result<F, ValueErrorKind> {
+    match text_to_float(literal.view, literal.as_bytes(), parts) {
+        Some(value) => Ok(value),
+        None => to_float(literal.view, parts),
+    }
+}
+
+/// Makes the conversions to types, by their calls for plain texts, for literals, and for NaN and infinity.
+macro_rules! conversions {
+    ($($type:ident)*: $plain:ident, $convert:ident, $special:expr) => {
         $(
             impl FromLiteral for $type {}
 
             impl Sealed for $type {
+                const TARGET: &'static Target =
+                    &Target { name: stringify!($type), least: $type::MIN as i128, largest: $type::MAX as u128 };
+
                 #[inline]
                 fn from_plain(reader: &Reader, text: &[u8]) -> Option<$type> {
-                    let syntax = reader.syntax;
-                    if syntax.conditions().is_none() {
-                        plain_integer(syntax.format().view(), text)
-                    } else {
-                        None
-                    }
+                    $plain(reader.syntax, text)
                 }
             }
 
-            /// Makes the value of an integer from its literal.
+            /// Makes the value from its literal. That of a float is rounded once.
             impl TryFrom<Literal<'_>> for $type {
                 type Error = ValueError;
 
                 #[inline]
                 fn try_from(literal: Literal<'_>) -> Result<$type, ValueError> {
-                    let target = Target::$Target;
-                    to_integer(literal.view, &literal.cut()).map_err(|kind| ValueError { kind, target })
+                    $convert(literal, &literal.cut()).map_err(ValueError::of::<$type>)
                 }
             }
 
-            /// Makes the value of an integer from a number of a language.
+            /// Makes the value from a number of a language. That of a float is rounded once.
             impl TryFrom<Number<'_>> for $type {
                 type Error = ValueError;
 
                 fn try_from(number: Number<'_>) -> Result<$type, ValueError> {
                     match number {
                         Number::Literal { literal, .. } => literal.try_into(),
-                        Number::Special(_) => {
-                            Err(ValueError { kind: ValueErrorKind::Special, target: Target::$Target })
-                        }
+                        Number::Special(special) => $special(special).map_err(ValueError::of::<$type>),
                     }
                 }
             }
         )*
-
-        #[derive(Debug, Clone, Copy, PartialEq, Eq, Hash)]
-        enum Target {
-            $($Target,)*
-            F64,
-            F32,
-        }
-
-        impl Target {
-            const fn name(self) -> &'static str {
-                match self {
-                    $(Target::$Target => stringify!($type),)*
-                    Target::F64 => "f64",
-                    Target::F32 => "f32",
-                }
-            }
-
-            fn write_limit(self, f: &mut fmt::Formatter<'_>, too_large: bool) -> fmt::Result {
-                let name = self.name();
-                match self {
-                    $(
-                        Target::$Target if too_large => write!(f, "above {}, the largest {name}", $type::MAX),
-                        Target::$Target => write!(f, "below {}, the least {name}", $type::MIN),
-                    )*
-                    Target::F64 | Target::F32 => Ok(()),
-                }
-            }
-        }
     };
 }
 
-integers! {
-    u8 U8, u16 U16, u32 U32, u64 U64, usize Usize, u128 U128,
-    i8 I8, i16 I16, i32 I32, i64 I64, isize Isize, i128 I128,
+conversions! {
+    u8 u16 u32 u64 usize u128 i8 i16 i32 i64 isize i128: plain_integer, integer_of, |_| Err(ValueErrorKind::Special)
 }
+conversions! { f64: plain_float, float_of, |special: Special| Ok(special.to_f64()) }
+conversions! { f32: plain_float, float_of, |special: Special| Ok(special.to_f32()) }
 
 /// Makes the calls for constants.
 macro_rules! constant_calls {
-    ($($name:ident $call:ident $type:ident $Target:ident,)*) => {
+    ($($name:ident $call:ident $type:ident,)*) => {
         impl Literal<'_> {
             $(
                 #[doc = concat!("Returns the value of an integer as an `", stringify!($type), "`, also in a constant.")]
@@ -276,59 +274,26 @@ macro_rules! constant_calls {
                 ///
                 /// If the literal is a float, or if its value is not one of the type, returns which.
                 pub const fn $name(self) -> Result<$type, ValueError> {
-                    let target = Target::$Target;
-                    let Some(numeral) = integer_digits(self.view, &self.cut()) else {
-                        return Err(ValueError { kind: ValueErrorKind::Float, target });
+                    let kind = match integer_digits(self.view, &self.cut()) {
+                        None => ValueErrorKind::Float,
+                        Some(numeral) => match numeral.$call() {
+                            Some(value) => return Ok(value),
+                            None => ValueErrorKind::out_of_range(numeral.negative),
+                        },
                     };
-                    match numeral.$call() {
-                        Some(value) => Ok(value),
-                        None => Err(ValueError { kind: ValueErrorKind::out_of_range(numeral.negative), target }),
-                    }
+                    Err(ValueError::of::<$type>(kind))
                 }
             )*
         }
     };
 }
 
-constant_calls! {
-    to_i64 as_i64 i64 I64, to_u64 as_u64 u64 U64, to_i128 as_i128 i128 I128, to_u128 as_u128 u128 U128,
-}
+constant_calls! { to_i64 as_i64 i64, to_u64 as_u64 u64, to_i128 as_i128 i128, to_u128 as_u128 u128, }
 
-/// Makes the conversions to a float type.
+/// Makes the calls for a float type.
 macro_rules! floats {
-    ($($type:ident $Target:ident $to_float:ident $binary_to_float:ident $bits:ident,)*) => {
+    ($($type:ident $to_float:ident $binary_to_float:ident $bits:ident,)*) => {
         $(
-            impl FromLiteral for $type {}
-
-            impl Sealed for $type {
-                #[inline]
-                fn from_plain(reader: &Reader, text: &[u8]) -> Option<$type> {
-                    plain_float(reader.syntax, text)
-                }
-            }
-
-            /// Makes the value of a number, rounded once, from its literal.
-            impl TryFrom<Literal<'_>> for $type {
-                type Error = ValueError;
-
-                #[inline]
-                fn try_from(literal: Literal<'_>) -> Result<$type, ValueError> {
-                    literal.$to_float()
-                }
-            }
-
-            /// Makes the value of a number of a language, rounded once.
-            impl TryFrom<Number<'_>> for $type {
-                type Error = ValueError;
-
-                fn try_from(number: Number<'_>) -> Result<$type, ValueError> {
-                    match number {
-                        Number::Literal { literal, .. } => literal.$to_float(),
-                        Number::Special(special) => Ok(special.$to_float()),
-                    }
-                }
-            }
-
             impl Literal<'_> {
                 #[doc = concat!("Returns the value, rounded once to the nearest `", stringify!($type), "`, or to the even")]
                 /// one if two are as near. It can be infinite, and the sign is that of the literal, also for 0.
@@ -338,13 +303,7 @@ macro_rules! floats {
                 /// If the mantissa radix and the exponent base are neither both 10 nor both powers of two, as
                 /// [`Syntax::supports_floats`] finds out once for all literals.
                 pub fn $to_float(self) -> Result<$type, ValueError> {
-                    let (text, parts) = (self.as_bytes(), self.cut());
-                    // Of short texts, the digits make the value in less time.
-                    let plain = if text.len() > 16 { text_to_float(self.view, text, &parts) } else { None };
-                    match plain {
-                        Some(value) => Ok(value),
-                        None => to_float(self.view, &parts).map_err(|kind| ValueError { kind, target: Target::$Target }),
-                    }
+                    self.try_into()
                 }
 
                 #[doc = concat!("Returns the same as [`", stringify!($to_float), "`][Self::", stringify!($to_float), "], ")]
@@ -354,12 +313,11 @@ macro_rules! floats {
                 ///
                 /// If they are not both powers of two.
                 pub const fn $binary_to_float(self) -> Result<$type, ValueError> {
-                    let Some(bits) = binary_size(matches!(Target::$Target, Target::F64), self.view, &self.cut()) else {
-                        let kind = ValueErrorKind::UnsupportedRadix;
-                        return Err(ValueError { kind, target: Target::$Target });
-                    };
-                    let size = $type::from_bits(bits as $bits);
-                    Ok(if self.is_negative() { -size } else { size })
+                    match binary_size(<$type as Float>::DOUBLE, self.view, &self.cut()) {
+                        Some(bits) if self.is_negative() => Ok(-$type::from_bits(bits as $bits)),
+                        Some(bits) => Ok($type::from_bits(bits as $bits)),
+                        None => Err(ValueError::of::<$type>(ValueErrorKind::UnsupportedRadix)),
+                    }
                 }
             }
 
@@ -381,9 +339,7 @@ macro_rules! floats {
     };
 }
 
-floats! {
-    f64 F64 to_f64 binary_to_f64 u64, f32 F32 to_f32 binary_to_f32 u32,
-}
+floats! { f64 to_f64 binary_to_f64 u64, f32 to_f32 binary_to_f32 u32, }
 
 impl Syntax {
     /// Returns whether literals have values of float types: whether the mantissa radix and the exponent base of the format

@@ -59,10 +59,13 @@ const fn cut(digits: u128, dropped: u64) -> (u128, u128, u128) {
     (digits >> dropped, digits & ((1 << dropped) - 1), 1 << (dropped - 1))
 }
 
-// Returns the bits of the float nearest to a number of which `dropped` bits are cut off.
+// Returns the bits of the float nearest to a number, if `digits` count parts of `2 ^ dropped` of `2 ^ exponent` least floats.
 #[inline(always)]
-const fn settle(double: bool, digits: u128, more: bool, dropped: u64, exponent: u128) -> u64 {
-    let (kept, rest, half) = cut(digits, dropped);
+const fn settle(double: bool, digits: u128, more: bool, dropped: u128, exponent: u128) -> u64 {
+    if dropped > 121 {
+        return 0;
+    }
+    let (kept, rest, half) = cut(digits, dropped as u64);
     let significand = kept as u64;
     if rest > half {
         scaled_bits(double, significand + 1, exponent)
@@ -75,15 +78,12 @@ const fn settle(double: bool, digits: u128, more: bool, dropped: u64, exponent: 
     }
 }
 
-// Returns digits with the same value that are at least `2 ^ 64`, and by how many bits they are longer.
+// Returns digits with the same value that are at least `2 ^ 64`, by how many bits they are longer, and their highest bit.
 #[inline(always)]
-const fn lifted(digits: u128) -> (u128, u64) {
-    if digits >= 1 << 64 {
-        return (digits, 0);
-    }
-    let small = digits as u64;
-    let zeros = small.leading_zeros();
-    ((small << zeros) as u128 * 2, zeros as u64 + 1)
+const fn lifted(digits: u128) -> (u128, u64, u64) {
+    let zeros = digits.leading_zeros() as u64;
+    let lift = zeros.saturating_sub(63);
+    (digits << lift, lift, 127 - zeros + lift)
 }
 
 // Returns how many bits to drop, and the exponent.
@@ -104,11 +104,7 @@ pub const fn nearest_bits(double: bool, digits: u128, more: bool, up: u128, down
     if digits == 0 {
         return 0;
     }
-    let (lifted, lift) = lifted(digits);
-    let size = 128 - lifted.leading_zeros() as u64;
-    let (dropped, exponent) = dropped(size - precision(double), up + lowest(double) as u128, down + lift as u128);
-    if dropped > 121 {
-        return 0;
-    }
-    settle(double, lifted, more, dropped as u64, exponent)
+    let (lifted, lift, top) = lifted(digits);
+    let (dropped, exponent) = dropped(top + 1 - precision(double), up + lowest(double) as u128, down + lift as u128);
+    settle(double, lifted, more, dropped, exponent)
 }

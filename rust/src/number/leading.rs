@@ -7,7 +7,7 @@ use crate::digit::char_to_digit;
 /// The leading digits of a number, without the lowest `dropped`, of which some are not 0 if `more` is true.
 #[derive(Debug, Clone, Copy, PartialEq, Eq)]
 pub struct Leading {
-    /// The number that the leading digits represent. It is below `2 ^ 70`.
+    /// The number that the leading digits represent. It is below `2 ^ 96`, if the radix is at most 36.
     pub digits: u128,
     /// Whether some digit that was dropped is not 0.
     pub more: bool,
@@ -24,10 +24,10 @@ impl Leading {
 #[inline(always)]
 const fn push(leading: Leading, radix: u32, digit: u32) -> Leading {
     let Leading { digits, more, dropped } = leading;
-    if digits < 1 << 64 {
+    if digits < 1 << 90 {
         Leading { digits: digits * radix as u128 + digit as u128, more, dropped }
     } else {
-        Leading { digits, more: more || digit != 0, dropped: dropped + 1 }
+        Leading { digits, more: more | (digit != 0), dropped: dropped + 1 }
     }
 }
 
@@ -48,16 +48,10 @@ pub const fn push_all(leading: Leading, radix: u32, bytes: &[u8]) -> Leading {
 /// Returns the number that the digits among `bytes` represent in `radix`, or `2 ^ 90` if that is less.
 #[must_use]
 pub const fn saturating(bytes: &[u8], radix: u32) -> u128 {
-    let mut value: u128 = 0;
-    let mut index = 0;
-    while index < bytes.len() {
-        if let Some(digit) = char_to_digit(bytes[index], radix) {
-            value = value * radix as u128 + digit as u128;
-            if value > 1 << 90 {
-                value = 1 << 90;
-            }
-        }
-        index += 1;
+    let digits = push_all(Leading::ZERO, radix, bytes).digits;
+    if digits < 1 << 90 {
+        digits
+    } else {
+        1 << 90
     }
-    value
 }

@@ -24,8 +24,17 @@ pub fn to_float<F: Float>(format: FormatView, parts: &Parts) -> Result<F, ValueE
     } else {
         return Err(ValueErrorKind::UnsupportedRadix);
     };
-    let negative = is_minus(parts.sign);
-    Ok(if negative { size.negated() } else { size })
+    Ok(signed(size, is_minus(parts.sign)))
+}
+
+// Returns a float with a sign.
+#[inline(always)]
+pub(crate) fn signed<F: Float>(size: F, negative: bool) -> F {
+    if negative {
+        size.negated()
+    } else {
+        size
+    }
 }
 
 /// Returns whether a literal of `format` has a value of a float type: whether the mantissa radix and the exponent base are

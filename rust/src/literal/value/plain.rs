@@ -1,32 +1,69 @@
 // Made by rust/tools/erase.py from crates/lexical_value/src/plain.rt: change that file.
 
-//! Integers without separators, prefix and suffix, which take less time.
+//! Numbers without separators, prefix and suffix, which take less time.
 
+use crate::literal::read::Parts;
+use crate::literal::syntax::{Conditions, Syntax};
+use crate::literal::value::integer::is_minus;
 use crate::number::integer::Integer;
 use crate::number::numeral::Numeral;
-use crate::word::FormatView;
 
-// Returns the value of the literal `text` if it has digits alone, of which the first is not 0, after `-` or no sign. For
-// some of these texts, and for all others, returns `None`. Literals have no conditions.
+// Returns the value of the integer `text` if it has digits alone behind its sign. For some of these texts, and for all
+// others, returns `None`.
 #[inline(always)]
-pub(crate) fn plain_integer<T: Integer>(format: FormatView, text: &[u8]) -> Option<T> {
-    if format.required_mantissa_sign() || format.required_exponent_notation() {
+pub(crate) fn plain_integer<T: Integer>(syntax: Syntax, text: &[u8]) -> Option<T> {
+    let format = syntax.format().view();
+    if format.required_mantissa_sign() || format.required_exponent_notation() || !allow_plain(syntax.conditions(), text)
+    {
         return None;
     }
-    let (negative, bytes) = split_minus(text);
-    match bytes {
-        [first, ..] if *first != b'0' => {
-            T::from_numeral(&Numeral { negative, bytes, radix: format.mantissa_radix(), separated: false })
-        }
-        _ => None,
+    let (sign, integer) = split_sign(text, !format.no_positive_mantissa_sign());
+    let parts = Parts {
+        sign,
+        prefix: &[],
+        integer,
+        point: &[],
+        fraction: &[],
+        exponent_character: &[],
+        exponent_sign: &[],
+        exponent: &[],
+        suffix: &[],
+    };
+    if !is_spelled(&parts) {
+        return None;
     }
+    T::from_numeral(&Numeral {
+        negative: is_minus(text),
+        bytes: integer,
+        radix: format.mantissa_radix(),
+        separated: false,
+    })
 }
 
-// Returns whether `text` begins with `-`, and what follows it.
+// Returns whether literals without a prefix, a suffix and separators, with the sign of `text`, are as `conditions` require.
 #[inline(always)]
-const fn split_minus(text: &[u8]) -> (bool, &[u8]) {
-    match text {
-        [b'-', rest @ ..] => (true, rest),
-        _ => (false, text),
-    }
+pub(crate) const fn allow_plain(conditions: Conditions, text: &[u8]) -> bool {
+    !conditions.required_base_prefix
+        && !conditions.required_base_suffix
+        && matches!(conditions.integer_group_size, None)
+        && !(conditions.no_negative_mantissa_sign && is_minus(text))
+}
+
+// Returns whether the parts have the digits that they need, and no leading zero.
+#[inline(always)]
+pub(crate) const fn is_spelled(parts: &Parts) -> bool {
+    !matches!(parts.integer, [] | [b'0', _, ..])
+        && (parts.fraction.len() == 0) == (parts.point.len() == 0)
+        && (parts.exponent.len() == 0) == (parts.exponent_character.len() == 0)
+        && (parts.exponent_sign.len() == 0 || parts.exponent_character.len() > 0)
+}
+
+// Splits off the first byte if it is a minus sign or, where `plus` is true, a plus sign.
+#[inline(always)]
+pub(crate) fn split_sign(bytes: &[u8], plus: bool) -> (&[u8], &[u8]) {
+    let is_sign = match bytes {
+        [first, ..] => (*first == b'-') | ((*first == b'+') & plus),
+        _ => false,
+    };
+    bytes.split_at(is_sign as usize)
 }

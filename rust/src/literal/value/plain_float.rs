@@ -4,14 +4,18 @@
 
 use crate::literal::read::Parts;
 use crate::literal::syntax::{Options, Syntax};
+use crate::literal::value::float::signed;
 use crate::literal::value::integer::is_minus;
+use crate::literal::value::plain::{allow_plain, is_spelled, split_sign};
 use crate::number::decimal::exact;
 use crate::number::float::Float;
 use crate::word::FormatView;
 
-// The parts of a literal, and the numbers that the digits of its mantissa and of its exponent represent, modulo `2 ^ 64`.
+// A text behind its sign, its parts, and the numbers that the digits of its mantissa and of its exponent represent, modulo
+// `2 ^ 64`.
 #[derive(Clone, Copy)]
 struct Plain<'a> {
+    unsigned: &'a [u8],
     parts: Parts<'a>,
     mantissa: u64,
     exponent: u64,
@@ -30,36 +34,41 @@ struct Run<'a> {
 #[inline(always)]
 pub(crate) fn plain_float<F: Float>(syntax: Syntax, text: &[u8]) -> Option<F> {
     let options = syntax.options()?;
-    let format = syntax.format().view();
-    if !syntax.conditions().is_none() {
+    if !allow_plain(syntax.conditions(), text) || !takes_decimals(syntax.format().view()) {
         return None;
     }
-    if !takes_plain(format) {
-        return None;
-    }
-    let plain = read_plain(format, options, text)?;
-    match short_size::<F>(&plain) {
-        Some(size) => Some(if is_minus(text) { size.negated() } else { size }),
-        None => written(text, &plain.parts),
-    }
+    let plain = read_plain(syntax, options, text)?;
+    let size = size_of(&plain)?;
+    Some(signed(size, is_minus(text)))
 }
 
-// Returns the value of the decimal literal `text` if std reads it as it is. For some of these literals, and for all others,
-// returns `None`.
+// Returns the value of the decimal literal `text` if it is one that `plain_float` reads. For all others, returns `None`.
 #[inline(always)]
 pub(crate) fn text_to_float<F: Float>(format: FormatView, text: &[u8], parts: &Parts) -> Option<F> {
-    if !takes_plain(format) || parts.prefix.len() > 0 || parts.suffix.len() > 0 || !is_spelled(parts) {
+    if !takes_decimals(format) || parts.prefix.len() > 0 || parts.suffix.len() > 0 || !is_spelled(parts) {
         return None;
     }
-    if !are_digits(parts.integer) || !are_digits(parts.fraction) || !are_digits(parts.exponent) {
-        return None;
-    }
-    written(text, parts)
+    let mantissa = value_of(parts.fraction, value_of(parts.integer, 0)?)?;
+    let exponent = value_of(parts.exponent, 0)?;
+    let (_, unsigned) = text.split_at(parts.sign.len());
+    let size = size_of(&Plain { unsigned, parts: *parts, mantissa, exponent })?;
+    Some(signed(size, is_minus(parts.sign)))
 }
 
-// Returns whether all radixes are 10, and no flag requires a sign or an exponent, or refuses an exponent.
+// Returns the number that `bytes` represent after other digits, modulo `2 ^ 64`, if they are digits alone.
 #[inline(always)]
-const fn takes_plain(format: FormatView) -> bool {
+fn value_of(bytes: &[u8], before: u64) -> Option<u64> {
+    let run = take_digits(bytes, before);
+    if run.rest.len() == 0 {
+        Some(run.value)
+    } else {
+        None
+    }
+}
+
+// Returns whether all radixes are 10, and no flag requires a sign or an exponent, or restricts exponents.
+#[inline(always)]
+const fn takes_decimals(format: FormatView) -> bool {
     format.mantissa_radix() == 10
         && format.exponent_base() == 10
         && format.exponent_radix() == 10
@@ -70,13 +79,17 @@ const fn takes_plain(format: FormatView) -> bool {
         && !format.no_exponent_without_fraction()
 }
 
-// Returns the parts of `text` if it is a literal with digits in each part, without leading zeros. There are no conditions.
+// Returns the parts of `text` if it is a literal with digits alone in each part, without leading zeros.
 #[inline(always)]
-fn read_plain<'a>(format: FormatView, options: Options, text: &'a [u8]) -> Option<Plain<'a>> {
+fn read_plain<'a>(syntax: Syntax, options: Options, text: &'a [u8]) -> Option<Plain<'a>> {
+    let format = syntax.format().view();
     let (sign, unsigned) = split_sign(text, !format.no_positive_mantissa_sign());
     let integer = take_digits(unsigned, 0);
-    let (point, fraction) = take_fraction(integer.rest, options.point, integer.value);
-    let (exponent_character, exponent_sign, exponent) = take_exponent(format, options.exponent, fraction.rest);
+    let (point, after_point) = split_point(integer.rest, options.point);
+    let fraction = take_digits(after_point, integer.value);
+    let (exponent_character, after_character) = split_exponent_character(format, options.exponent, fraction.rest);
+    let (exponent_sign, after_sign) = split_sign(after_character, !format.no_positive_exponent_sign());
+    let exponent = take_digits(after_sign, 0);
     let parts = Parts {
         sign,
         prefix: &[],
@@ -89,25 +102,10 @@ fn read_plain<'a>(format: FormatView, options: Options, text: &'a [u8]) -> Optio
         suffix: &[],
     };
     if exponent.rest.len() == 0 && is_spelled(&parts) {
-        Some(Plain { parts, mantissa: fraction.value, exponent: exponent.value })
+        Some(Plain { unsigned, parts, mantissa: fraction.value, exponent: exponent.value })
     } else {
         None
     }
-}
-
-// Returns whether the parts have the digits that they need, and no leading zero.
-#[inline(always)]
-const fn is_spelled(parts: &Parts) -> bool {
-    !matches!(parts.integer, [] | [b'0', _, ..])
-        && (parts.fraction.len() == 0) == (parts.point.len() == 0)
-        && (parts.exponent.len() == 0) == (parts.exponent_character.len() == 0)
-        && (parts.exponent_sign.len() == 0 || parts.exponent_character.len() > 0)
-}
-
-// Returns no digits, and all of `bytes` as the rest.
-#[inline(always)]
-const fn no_digits(bytes: &[u8], before: u64) -> Run<'_> {
-    Run { digits: &[], rest: bytes, value: before }
 }
 
 // Splits off the digits that `bytes` begins with.
@@ -134,69 +132,43 @@ const fn sum_digits(bytes: &[u8], before: u64) -> (usize, u64) {
     (size, value)
 }
 
-// Returns whether all bytes are decimal digits.
+// Splits off the decimal point if `bytes` begins with it.
 #[inline(always)]
-const fn are_digits(bytes: &[u8]) -> bool {
-    let (size, _) = sum_digits(bytes, 0);
-    size == bytes.len()
-}
-
-// Splits off the first byte if it is a minus sign or, where `plus` is true, a plus sign.
-#[inline(always)]
-fn split_sign(bytes: &[u8], plus: bool) -> (&[u8], &[u8]) {
-    let is_sign = match bytes {
-        [first, ..] => (*first == b'-') | ((*first == b'+') & plus),
-        _ => false,
-    };
-    bytes.split_at(is_sign as usize)
-}
-
-// Splits off the decimal point, if `bytes` begins with it, and the digits behind it.
-#[inline(always)]
-fn take_fraction(bytes: &[u8], point: u8, before: u64) -> (&[u8], Run<'_>) {
+fn split_point(bytes: &[u8], point: u8) -> (&[u8], &[u8]) {
     match bytes {
-        [first, ..] if *first == point && point != 0 => {
-            let (mark, rest) = bytes.split_at(1);
-            (mark, take_digits(rest, before))
-        }
-        _ => (&[], no_digits(bytes, before)),
+        [first, ..] if *first == point && point != 0 => bytes.split_at(1),
+        _ => (&[], bytes),
     }
 }
 
-// Splits off the exponent character, if `bytes` begins with it, and a sign and the digits behind it.
+// Splits off the exponent character if `bytes` begins with it.
 #[inline(always)]
-fn take_exponent(format: FormatView, exponent: u8, bytes: &[u8]) -> (&[u8], &[u8], Run<'_>) {
+fn split_exponent_character(format: FormatView, exponent: u8, bytes: &[u8]) -> (&[u8], &[u8]) {
     match bytes {
-        [first, ..] if format.is_exponent_character(exponent, *first) => {
-            let (mark, after_mark) = bytes.split_at(1);
-            let (sign, rest) = split_sign(after_mark, !format.no_positive_exponent_sign());
-            (mark, sign, take_digits(rest, 0))
-        }
-        _ => (&[], &[], no_digits(bytes, 0)),
+        [first, ..] if format.is_exponent_character(exponent, *first) => bytes.split_at(1),
+        _ => (&[], bytes),
     }
 }
 
-// Returns the value of a literal without its sign, if one operation makes it.
+// Returns the value of a literal without its sign, if one operation makes it, or if std reads the literal as it is.
 #[inline(always)]
-fn short_size<F: Float>(plain: &Plain) -> Option<F> {
+fn size_of<F: Float>(plain: &Plain) -> Option<F> {
     let parts = &plain.parts;
-    if parts.integer.len() > 19
-        || parts.fraction.len() > 19 - parts.integer.len()
-        || parts.exponent.len() > 19
-        || plain.exponent > 9999
+    if parts.integer.len() <= 19
+        && parts.fraction.len() <= 19 - parts.integer.len()
+        && parts.exponent.len() <= 19
+        && plain.exponent <= 9999
     {
-        return None;
+        if let Some(size) =
+            exact(plain.mantissa, parts.fraction.len() as u64, is_minus(parts.exponent_sign), plain.exponent)
+        {
+            return Some(size);
+        }
     }
-    exact(plain.mantissa, parts.fraction.len() as u64, is_minus(parts.exponent_sign), plain.exponent)
-}
-
-// Returns the value of a literal that std reads as it is, or `None` if std does not.
-#[inline(always)]
-fn written<F: Float>(text: &[u8], parts: &Parts) -> Option<F> {
     if !is_mark(parts.point, b'.', b'.') || !is_mark(parts.exponent_character, b'e', b'E') {
         return None;
     }
-    match core::str::from_utf8(text) {
+    match core::str::from_utf8(plain.unsigned) {
         Ok(text) => Some(F::from_text(text)),
         Err(_) => None,
     }

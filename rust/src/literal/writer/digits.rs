@@ -10,7 +10,7 @@ use crate::literal::writer::sink::Sink;
 pub(crate) fn without_zeros(bytes: &[u8], radix: u32) -> &[u8] {
     let mut index = 0;
     while index < bytes.len() {
-        if matches!(char_to_digit(bytes[index], radix), Some(1..)) {
+        if let Some(1..) = char_to_digit(bytes[index], radix) {
             return &bytes[index..];
         }
         index += 1;
@@ -31,35 +31,33 @@ pub(crate) fn count(bytes: &[u8], radix: u32) -> usize {
     count
 }
 
-// Writes digits to the end of what is before the index `at` of a buffer, and returns the index of the first one.
+// Returns a number without its last digit, and this digit.
 #[inline(always)]
-fn put_short(buffer: &mut [u8; 128], at: usize, number: u64, radix: u32) -> usize {
-    let mut left = number;
-    let mut start = at;
-    while left > 0 {
-        start -= 1;
-        buffer[start] = digit_to_char((left % radix as u64) as u32);
-        left /= radix as u64;
+fn split_last(number: u128, radix: u32) -> (u128, u32) {
+    let base = radix as u128;
+    if number > u64::MAX as u128 {
+        return (number / base, (number % base) as u32);
     }
-    start
-}
-
-// Writes the digits of a number to the end of a buffer, and returns the index of the first one.
-#[inline(always)]
-fn put_number(buffer: &mut [u8; 128], number: u128, radix: u32) -> usize {
-    let mut left = number;
-    let mut start = 128;
-    while left > u64::MAX as u128 {
-        start -= 1;
-        buffer[start] = digit_to_char((left % radix as u128) as u32);
-        left /= radix as u128;
-    }
+    let short = number as u64;
     // A radix that is known when this is compiled takes less time.
     if radix == 10 {
-        put_short(buffer, start, left as u64, 10)
-    } else {
-        put_short(buffer, start, left as u64, radix)
+        return ((short / 10) as u128, (short % 10) as u32);
     }
+    ((short / radix as u64) as u128, (short % radix as u64) as u32)
+}
+
+// Writes the digits of a number to the end of a buffer, and returns them.
+#[inline(always)]
+fn characters<'a>(buffer: &'a mut [u8; 128], number: u128, radix: u32) -> &'a [u8] {
+    let mut left = number;
+    let mut start = 128;
+    while left > 0 {
+        let (rest, digit) = split_last(left, radix);
+        start -= 1;
+        buffer[start] = digit_to_char(digit);
+        left = rest;
+    }
+    &buffer[start..]
 }
 
 // Returns whether a group ends where `left` digits are left.
@@ -68,13 +66,29 @@ const fn ends_group(group: usize, left: usize) -> bool {
     left > 0 && group > 0 && left % group == 0
 }
 
+// Returns `byte` if `condition` is true.
+#[inline(always)]
+pub(crate) const fn only_if(condition: bool, byte: u8) -> Option<u8> {
+    if condition {
+        Some(byte)
+    } else {
+        None
+    }
+}
+
+// Writes a byte, if there is one.
+#[inline(always)]
+pub(crate) fn put_if_any<S: Sink>(sink: &mut S, byte: Option<u8>) {
+    if let Some(byte) = byte {
+        sink.put(byte);
+    }
+}
+
 // Writes a digit and, where a group ends, a separator. Behind the digit, `left` more are to be written.
 #[inline(always)]
 fn put_digit<S: Sink>(sink: &mut S, digit: u32, left: usize, run: &Run) {
     sink.put(digit_to_char(digit));
-    if ends_group(run.group, left) {
-        sink.put(run.separator);
-    }
+    put_if_any(sink, only_if(ends_group(run.group, left), run.separator));
 }
 
 // Writes the digits among bytes in groups, where `count` is the number of these digits.
@@ -91,7 +105,8 @@ fn put_digits<S: Sink>(sink: &mut S, bytes: &[u8], count: usize, run: &Run) {
 }
 
 // Writes the digits among bytes in groups or, if there are none, a 0 if the run has one.
-fn put_or_zero<S: Sink>(sink: &mut S, bytes: &[u8], count: usize, run: &Run) {
+fn put_or_zero<S: Sink>(sink: &mut S, bytes: &[u8], run: &Run) {
+    let count = count(bytes, run.radix);
     if count == 0 && run.zero {
         sink.put(b'0');
     } else {
@@ -100,13 +115,13 @@ fn put_or_zero<S: Sink>(sink: &mut S, bytes: &[u8], count: usize, run: &Run) {
 }
 
 // Writes the digits of a number in groups or, if it is 0, a 0 if the run has one.
-fn put_whole<S: Sink>(sink: &mut S, number: u128, run: &Run) {
+fn put_number<S: Sink>(sink: &mut S, number: u128, run: &Run) {
     let mut buffer = [0; 128];
-    let start = put_number(&mut buffer, number, run.radix);
+    let bytes = characters(&mut buffer, number, run.radix);
     if run.group == 0 && number > 0 {
-        sink.put_all(&buffer[start..]);
+        sink.put_all(bytes);
     } else {
-        put_or_zero(sink, &buffer[start..], 128 - start, run);
+        put_or_zero(sink, bytes, run);
     }
 }
 
@@ -114,9 +129,9 @@ impl Run<'_> {
     // Writes the digits, or a 0 for absent ones.
     pub(crate) fn put<S: Sink>(&self, sink: &mut S) {
         match self.source {
-            Source::Bytes([]) if !self.zero => (),
-            Source::Bytes(bytes) => put_or_zero(sink, bytes, count(bytes, self.radix), self),
-            Source::Number(number) => put_whole(sink, number, self),
+            Source::Number(0) if !self.zero => (),
+            Source::Bytes(bytes) => put_or_zero(sink, bytes, self),
+            Source::Number(number) => put_number(sink, number, self),
         }
     }
 }

@@ -3,7 +3,7 @@
 //! Integers are written.
 
 use crate::literal::syntax::Syntax;
-use crate::literal::writer::layout::{Amount, Layout, Style, WriteError};
+use crate::literal::writer::layout::{needs_exponent, Amount, Layout, Style, WriteError};
 use crate::literal::writer::run::Source;
 use crate::number::integer::Integer;
 
@@ -11,8 +11,8 @@ use crate::number::integer::Integer;
 ///
 /// # Errors
 ///
-/// [`WriteError::Float`] if each literal of `syntax` has an exponent, and [`WriteError::Negative`] if the value is
-/// below 0 and no literal has the sign `-`.
+/// [`WriteError::Float`] if each literal of `syntax` has an exponent, and otherwise [`WriteError::Negative`] if the
+/// value is below 0 and no literal has the sign `-`.
 pub fn format_integer<T: Integer>(syntax: &Syntax, value: T, style: Style) -> Result<Layout<'static>, WriteError> {
     if needs_exponent(syntax) {
         return Err(WriteError::Float);
@@ -20,10 +20,4 @@ pub fn format_integer<T: Integer>(syntax: &Syntax, value: T, style: Style) -> Re
     let (negative, size) = value.sign_and_size();
     let amount = Amount { negative, integer: Source::Number(size), fraction: None, exponent: None };
     amount.lay_out(syntax, style)
-}
-
-// Returns whether each literal has an exponent.
-fn needs_exponent(syntax: &Syntax) -> bool {
-    let required = syntax.format().view().required_exponent_notation();
-    required && syntax.options().is_some()
 }

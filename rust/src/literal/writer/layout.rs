@@ -3,7 +3,7 @@
 //! Numbers are laid out as literals.
 
 use crate::literal::syntax::{Conditions, Options, Syntax};
-use crate::literal::writer::digits::{count, without_zeros};
+use crate::literal::writer::digits::{count, only_if, put_if_any, without_zeros};
 use crate::literal::writer::run::{Run, Source};
 use crate::literal::writer::sink::{Sink, Window};
 use crate::word::{base_prefix, base_suffix, digit_separator, FormatView};
@@ -79,7 +79,7 @@ pub struct Layout<'a> {
 
 impl Layout<'_> {
     /// Writes the text to the beginning of a buffer, and returns its length, or `usize::MAX` if that is less. If the
-    /// buffer is shorter than the text, its content is unspecified.
+    /// buffer is shorter than the text, its content is unspecified. Bytes behind the text are not changed.
     pub fn write(&self, buffer: &mut [u8]) -> usize {
         let mut window = Window { bytes: buffer, length: 0 };
         self.fill(&mut window);
@@ -105,40 +105,11 @@ impl Layout<'_> {
     }
 }
 
-// Writes a byte, if there is one.
-fn put_if_any<S: Sink>(sink: &mut S, byte: Option<u8>) {
-    if let Some(byte) = byte {
-        sink.put(byte);
-    }
-}
-
 // Writes a zero and a byte, if there is one.
 fn put_prefix<S: Sink>(sink: &mut S, byte: Option<u8>) {
     if let Some(byte) = byte {
         sink.put(b'0');
         sink.put(byte);
-    }
-}
-
-// Returns `byte` if `condition` is true.
-const fn only_if(condition: bool, byte: u8) -> Option<u8> {
-    if condition {
-        Some(byte)
-    } else {
-        None
-    }
-}
-
-// Returns the first error whose condition is true.
-const fn first_error(negative: bool, fraction: bool, exponent: bool) -> Option<WriteError> {
-    if negative {
-        Some(WriteError::Negative)
-    } else if fraction {
-        Some(WriteError::Fraction)
-    } else if exponent {
-        Some(WriteError::Exponent)
-    } else {
-        None
     }
 }
 
@@ -151,7 +122,12 @@ const fn sign_of(negative: bool, required: bool) -> Option<u8> {
     }
 }
 
-// Returns a run without groups, and without digits if there are no bytes.
+// Returns `byte` if `condition` is true, unless it is absent.
+const fn base_byte(condition: bool, byte: u8) -> Option<u8> {
+    only_if(condition && byte != 0, byte)
+}
+
+// Returns a run without groups.
 const fn plain_run<'a>(source: Source<'a>, radix: u32, zero: bool) -> Run<'a> {
     Run { source, radix, zero, group: 0, separator: 0 }
 }
@@ -188,37 +164,48 @@ impl<'a> Amount<'a> {
         if let Some(refusal) = self.refusal(syntax) {
             return Err(refusal);
         }
-        let options = syntax.options();
-        let has_exponent = self.has_exponent(syntax);
-        let has_point = self.has_point(syntax);
+        let (radix, exponent_radix) = (format.mantissa_radix(), format.exponent_radix());
         let conditions = syntax.conditions();
+        let options = syntax.options().unwrap_or(Options { exponent: 0, point: 0 });
+        let power = self.exponent.unwrap_or(Power { negative: false, source: Source::Number(0) });
+        let (point, exponent) = (self.has_point(syntax), self.has_exponent(syntax));
         Ok(Layout {
             sign: sign_of(self.negative, format.required_mantissa_sign()),
-            prefix: byte_if(style.prefix || conditions.required_base_prefix, base_prefix(format.word())),
-            integer: self.integer_run(syntax, style),
-            point: only_if(has_point, point_byte(options)),
-            fraction: self.fraction_run(syntax, has_point),
-            exponent_character: only_if(has_exponent, exponent_byte(options)),
-            exponent_sign: self.exponent_sign(syntax, has_exponent),
-            exponent: self.exponent_run(syntax, has_exponent),
-            suffix: byte_if(style.suffix || conditions.required_base_suffix, base_suffix(format.word())),
+            prefix: base_byte(style.prefix | conditions.required_base_prefix, base_prefix(format.word())),
+            integer: Run {
+                source: lean(self.integer, radix),
+                radix,
+                zero: self.has_zero(format),
+                group: group_of(format, conditions, style),
+                separator: digit_separator(format.word()),
+            },
+            point: only_if(point, options.point),
+            fraction: plain_run(self.fraction(), radix, point & format.required_fraction_digits()),
+            exponent_character: only_if(exponent, options.exponent),
+            exponent_sign: sign_of(power.negative, exponent & format.required_exponent_sign()),
+            exponent: plain_run(lean(power.source, exponent_radix), exponent_radix, exponent),
+            suffix: base_byte(style.suffix | conditions.required_base_suffix, base_suffix(format.word())),
         })
     }
 
     // Returns why the number cannot be written, if it cannot.
     fn refusal(&self, syntax: &Syntax) -> Option<WriteError> {
-        let integers = lacks_options(syntax.options());
-        let no_exponent = integers || syntax.format().view().no_exponent_notation();
-        let negative = self.negative && syntax.conditions().no_negative_mantissa_sign;
-        let fraction = integers && self.fraction.is_some();
-        let exponent = no_exponent && self.exponent.is_some();
-        first_error(negative, fraction, exponent)
+        let integers = syntax.options().is_none();
+        let no_exponent = integers | syntax.format().view().no_exponent_notation();
+        if self.negative & syntax.conditions().no_negative_mantissa_sign {
+            Some(WriteError::Negative)
+        } else if integers & self.fraction.is_some() {
+            Some(WriteError::Fraction)
+        } else if no_exponent & self.exponent.is_some() {
+            Some(WriteError::Exponent)
+        } else {
+            None
+        }
     }
 
     // Returns whether an exponent is written.
     fn has_exponent(&self, syntax: &Syntax) -> bool {
-        let required = syntax.format().view().required_exponent_notation();
-        self.exponent.is_some() || (required && syntax.options().is_some())
+        self.exponent.is_some() || needs_exponent(syntax)
     }
 
     // Returns whether a decimal point is written.
@@ -230,60 +217,21 @@ impl<'a> Amount<'a> {
     // Returns whether a 0 stands for absent integer digits.
     fn has_zero(&self, format: FormatView) -> bool {
         let radix = format.mantissa_radix();
-        format.required_integer_digits()
-            || has_digits(self.integer, radix)
-            || !has_digits(self.fraction_source(), radix)
-    }
-
-    // Returns the integer digits.
-    fn integer_run(&self, syntax: &Syntax, style: Style) -> Run<'a> {
-        let format = syntax.format().view();
-        let radix = format.mantissa_radix();
-        Run {
-            source: lean(self.integer, radix),
-            radix,
-            zero: self.has_zero(format),
-            group: group_of(format, syntax.conditions(), style),
-            separator: digit_separator(format.word()),
-        }
-    }
-
-    // Returns the fraction digits.
-    fn fraction_run(&self, syntax: &Syntax, has_point: bool) -> Run<'a> {
-        let format = syntax.format().view();
-        let zero = has_point && format.required_fraction_digits();
-        plain_run(self.fraction_source(), format.mantissa_radix(), zero)
-    }
-
-    // Returns the exponent digits.
-    fn exponent_run(&self, syntax: &Syntax, has_exponent: bool) -> Run<'a> {
-        let radix = syntax.format().view().exponent_radix();
-        let source = match self.exponent {
-            Some(power) => power.source,
-            None => Source::Bytes(&[]),
-        };
-        plain_run(lean(source, radix), radix, has_exponent)
-    }
-
-    // Returns the sign of the exponent.
-    fn exponent_sign(&self, syntax: &Syntax, has_exponent: bool) -> Option<u8> {
-        if !has_exponent {
-            return None;
-        }
-        let negative = match self.exponent {
-            Some(power) => power.negative,
-            None => false,
-        };
-        sign_of(negative, syntax.format().view().required_exponent_sign())
+        format.required_integer_digits() || has_digits(self.integer, radix) || !has_digits(self.fraction(), radix)
     }
 
     // Returns the fraction digits, if there are any.
-    fn fraction_source(&self) -> Source<'a> {
+    fn fraction(&self) -> Source<'a> {
         match self.fraction {
             Some(bytes) => Source::Bytes(bytes),
-            None => Source::Bytes(&[]),
+            None => Source::Number(0),
         }
     }
+}
+
+// Returns whether each literal has an exponent.
+pub(crate) fn needs_exponent(syntax: &Syntax) -> bool {
+    syntax.format().view().required_exponent_notation() && syntax.options().is_some()
 }
 
 // Returns the number of digits of a group, or 0 if there are no groups.
@@ -295,34 +243,5 @@ const fn group_of(format: FormatView, conditions: Conditions, style: Style) -> u
         _ if style.group == 0 => 0,
         Some(size) => size as usize,
         None => style.group,
-    }
-}
-
-// Returns `byte` if `condition` is true, unless it is absent.
-const fn byte_if(condition: bool, byte: u8) -> Option<u8> {
-    only_if(condition && byte != 0, byte)
-}
-
-// Returns whether literals are integers.
-const fn lacks_options(options: Option<Options>) -> bool {
-    match options {
-        Some(_) => false,
-        None => true,
-    }
-}
-
-// Returns the decimal point.
-const fn point_byte(options: Option<Options>) -> u8 {
-    match options {
-        Some(options) => options.point,
-        None => 0,
-    }
-}
-
-// Returns the exponent character.
-const fn exponent_byte(options: Option<Options>) -> u8 {
-    match options {
-        Some(options) => options.exponent,
-        None => 0,
     }
 }

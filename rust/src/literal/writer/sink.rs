@@ -27,10 +27,10 @@ impl Sink for Window<'_> {
     }
 
     fn put_all(&mut self, bytes: &[u8]) {
-        let end = self.length.saturating_add(bytes.len());
-        if end <= self.bytes.len() {
-            self.bytes[self.length..end].copy_from_slice(bytes);
+        let start = self.length;
+        self.length = start.saturating_add(bytes.len());
+        if self.length <= self.bytes.len() {
+            self.bytes[start..self.length].copy_from_slice(bytes);
         }
-        self.length = end;
     }
 }

@@ -1,29 +1,26 @@
--- Digits are shifted up to 65 bits.
-use Rattle.core.specs.Prelude.{◌≡◌, suc, ◌+◌, ◌*◌, ◌%◌, ◌^◌, ◌<◌}
-use mathlib.Core.Path.{sym, ap, ◌∙◌}
+-- The highest bit becomes bit 64, if it is lower.
+use Rattle.core.specs.Prelude.{◌≡◌, suc, ◌+◌, ◌-◌, ◌*◌, ◌%◌, ◌^◌, ◌<◌, ◌≤◌}
+use mathlib.Core.Path.{ap, ◌∙◌}
 use native.Mathlib.Omega.{arith}
-use native.Mathlib.Nat.{mul-le-mul_right}
-use lib.Pow.{pow-add, shl_exact}
+use native.Mathlib.Nat.{lt_of_not-le, mul-le-mul_right, mul-lt-mul_of_pos_right}
+use lib.Pow.{pow_pos, pow_mono, pow-add, shl_exact}
 use lib.Count.{leading_top, count_leading_zeros}
 use Rattle.lexical_number.proofs.binary.lifted.Goals as goal
 
-pub returns-clause-value : goal.returns-clause-value
-returns-clause-value c =
+pub returns : goal.returns
+returns c =
     let w = c.args.digits in
-    let z = count_leading_zeros 64 w in
-    let t = leading_top 64 w c.requires.0 (omega arith) in
-    let places : z + suc t.0 ≡ 64 = t.1 in
-    let exact : w * 2 ^ z % 2 ^ 64 ≡ w * 2 ^ z = shl_exact (suc t.0) z 64 t.3 (omega arith) in
-    let twice : 2 ^ (z + 1) ≡ 2 ^ z * 2 = pow-add 2 z 1 in
-    omega (arith, exact, ap (λ x. w * x) twice)
-
-pub returns-clause-size : goal.returns-clause-size
-returns-clause-size c =
-    let w = c.args.digits in
-    let z = count_leading_zeros 64 w in
-    let t = leading_top 64 w c.requires.0 (omega arith) in
-    let places : z + suc t.0 ≡ 64 = t.1 in
-    let exact : w * 2 ^ z % 2 ^ 64 ≡ w * 2 ^ z = shl_exact (suc t.0) z 64 t.3 (omega arith) in
-    let top : 2 ^ t.0 * 2 ^ z ≡ 2 ^ 63 = sym (pow-add 2 t.0 z) ∙ ap (λ x. 2 ^ x) {y = 63} (omega arith) in
-    let below : w * 2 ^ z % 2 ^ 64 < 2 ^ 64 = omega arith in
-    (omega (arith, mul-le-mul_right (2 ^ z) t.2), omega arith)
+    let l = c.saturating_sub-lift.result in
+    let top = 127 - count_leading_zeros 128 w + l in
+    let t = leading_top 128 w c.requires.0 (omega arith) in
+    let under : t.0 < 120 = lt_of_not-le (λ g. let p : 2 ^ 120 ≤ 2 ^ t.0 = pow_mono g in omega (arith, t.2)) in
+    let exact : w * 2 ^ l % 2 ^ 128 ≡ w * 2 ^ l = shl_exact (suc t.0) l 128 t.3 (omega (arith, t.1)) in
+    let from : 2 ^ top ≡ 2 ^ t.0 * 2 ^ l = ap (λ k. 2 ^ k) {x = top} {y = t.0 + l} (omega (arith, t.1)) ∙ pow-add 2 t.0 l in
+    let below : 2 ^ (top + 1) ≡ 2 ^ suc t.0 * 2 ^ l = ap (λ k. 2 ^ k) {x = top + 1} {y = suc t.0 + l} (omega (arith, t.1)) ∙ pow-add 2 (suc t.0) l in
+    record {
+      value = exact;
+      lift = omega (arith, t.1);
+      none = λ long. let over : 64 < suc t.0 = lt_of_not-le (λ g. let p : 2 ^ suc t.0 ≤ 2 ^ 64 = pow_mono g in omega (arith, t.3)) in omega (arith, t.1);
+      top = (omega (arith, exact, from, mul-le-mul_right (2 ^ l) t.2), omega (arith, exact, below, mul-lt-mul_of_pos_right t.3 (pow_pos l)));
+      range = (omega (arith, t.1), omega (arith, t.1));
+    }

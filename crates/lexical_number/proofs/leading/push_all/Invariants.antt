@@ -1,4 +1,4 @@
-use Rattle.std.proofs.Common.{length, drop, ◌-◌, ◌≡◌, ◌+◌, ◌*◌, ◌^◌, ◌<◌, ◌≤◌, ℕ}
+use Rattle.std.proofs.Common.{length, drop, ◌-◌, ◌≡◌, ◌+◌, ◌*◌, ◌^◌, ◌≤◌, ℕ}
 use Rattle.lexical_number.specs.Leading.{number_after, Leads}
 use Rattle.lexical_number.proofs.leading.push_all.Given as goal
 
@@ -6,7 +6,7 @@ use Rattle.lexical_number.proofs.leading.push_all.Given as goal
 abbrev pub invariant-loop-index : goal.invariant-loop-index
 invariant-loop-index l = record {
   within : l.index ≤ length l.bytes;
-  small : l.leading.digits < 2 ^ 64 * l.radix;
+  small : l.leading.digits ≤ 2 ^ 90 * l.radix;
   dropped : l.leading.dropped ≤ l.initial.leading.dropped + l.index;
   value : (n : ℕ) → Leads l.radix n l.initial.leading.digits l.initial.leading.more l.initial.leading.dropped
       → (m : ℕ) × Leads l.radix m l.leading.digits l.leading.more l.leading.dropped × (number_after l.radix m (drop l.index l.bytes)

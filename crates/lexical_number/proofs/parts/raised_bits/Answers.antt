@@ -1,46 +1,49 @@
 -- A large exponent makes 0 or infinity, and another one a scale.
-use Rattle.core.specs.Prelude.{◌≡◌, ◌+◌, ◌*◌, ◌^◌, if◌then◌else◌}
+use Rattle.core.specs.Prelude.{◌≡◌, ◌+◌, ◌*◌, ◌^◌, ◌≤◌, if◌then◌else◌}
 use mathlib.Core.Path.{sym, subst, ap, ◌∙◌}
 use native.Mathlib.Omega.{arith}
+use native.Mathlib.Nat.{mul-le-mul_left}
+use lib.Pow.{pow_pos}
 use Rattle.core.specs.Dec2flt.Rounding.{IsNearestBits}
 use Rattle.core.proofs.dec2flt.Extremes.{nearest_of_zero}
-use Rattle.lexical_number.specs.Binary.{format_of, raised_up, raised_down}
-use Rattle.lexical_number.proofs.PartsLemmas.{bound, some_number, no_number, vanishes, explodes}
-use Rattle.lexical_number.proofs.PartsLemmas.{den_pos, with_exponent, small, saturated, unsaturated, at_scale}
+use Rattle.lexical_number.specs.Binary.{format_of}
+use Rattle.lexical_number.specs.Leading.{IsCutTo}
+use Rattle.lexical_number.proofs.LeadingLemmas.{digits_le, few, many}
+use Rattle.lexical_number.proofs.PartsLemmas.{bound, explodes, in_radixes, pow_of, vanishes}
 use Rattle.lexical_number.proofs.parts.raised_bits.Goals as goal
 
 pub returns-then-digits-eq0 : goal.returns-then-digits-eq0
 returns-then-digits-eq0 c n e l h =
-    let z : n ≡ 0 = no_number c.args.radix_bits n c.args.leading.digits c.args.leading.dropped c.args.leading.more c.if-digits-eq0.true l in
-    nearest_of_zero (format_of c.args.double) _ _ (den_pos c.args.radix_bits c.args.places c.args.base_bits e c.args.negative)
-    (ap (λ x. x * raised_up c.args.negative (2 ^ c.args.base_bits) e) z ∙ omega arith)
+    in_radixes (λ num den. IsNearestBits (format_of c.args.double) num den 0) n c.args.radix_bits c.args.places c.args.base_bits e c.args.negative
+    (nearest_of_zero (format_of c.args.double) _ _ (pow_pos _)
+    (ap (λ x. x * 2 ^ (if c.args.negative then 0 else e * c.args.base_bits)) (few l (omega arith) ∙ c.if-digits-eq0.true) ∙ omega arith))
 
 pub returns-then-negative : goal.returns-then-negative
 returns-then-negative c n e l h =
-    subst (λ b. IsNearestBits (format_of c.args.double) (n * raised_up b (2 ^ c.args.base_bits) e)
-    ((2 ^ c.args.radix_bits) ^ c.args.places * raised_down b (2 ^ c.args.base_bits) e) 0)
-    (sym c.if-negative.true)
-    (vanishes (format_of c.args.double) n (c.args.leading.dropped * c.args.radix_bits) c.args.radix_bits c.args.places c.args.base_bits e
-    (bound c.args.radix_bits n c.args.leading.digits c.args.leading.dropped c.args.leading.more c.requires.radix.1 l)
-    (small c.args.leading.dropped c.args.radix_bits c.requires.dropped c.requires.radix.1)
-    c.requires.base.0 (saturated c.args.exponent e h c.if-exponent.true))
+    let far : e * 1 ≤ e * c.args.base_bits = mul-le-mul_left e c.requires.base.0 in
+    let small : c.args.leading.dropped * c.args.radix_bits ≤ c.args.leading.dropped * 5 = mul-le-mul_left _ c.requires.radix.1 in
+    in_radixes (λ num den. IsNearestBits (format_of c.args.double) num den 0) n c.args.radix_bits c.args.places c.args.base_bits e c.args.negative
+    (vanishes (format_of c.args.double) n _ _ _ (bound c.args.radix_bits _ c.requires.radix.1 l)
+    (ap (λ b. if b then 0 else e * c.args.base_bits) c.if-negative.true)
+    (omega (arith, ap (λ b. if b then e * c.args.base_bits else 0) c.if-negative.true)))
 
 pub returns-else-negative : goal.returns-else-negative
 returns-else-negative c n e l h =
-    let f = format_of c.args.double in
-    subst (λ b. IsNearestBits f (n * raised_up b (2 ^ c.args.base_bits) e) ((2 ^ c.args.radix_bits) ^ c.args.places * raised_down b
-    (2 ^ c.args.base_bits) e) c.infinity.result)
-    (sym c.if-negative.false)
-    (subst (IsNearestBits f (n * (2 ^ c.args.base_bits) ^ e) ((2 ^ c.args.radix_bits) ^ c.args.places * 1)) (sym c.infinity.ensures.value)
-    (explodes f n c.args.radix_bits c.args.places c.args.base_bits e
-    (some_number c.args.radix_bits n c.args.leading.digits c.args.leading.dropped c.args.leading.more (omega arith) l)
-    c.requires.radix.1 c.ranges.places.fits c.requires.base.0 (saturated c.args.exponent e h c.if-exponent.true)))
+    let far : e * 1 ≤ e * c.args.base_bits = mul-le-mul_left e c.requires.base.0 in
+    let small : c.args.places * c.args.radix_bits ≤ c.args.places * 5 = mul-le-mul_left _ c.requires.radix.1 in
+    in_radixes (λ num den. IsNearestBits (format_of c.args.double) num den c.infinity.result) n c.args.radix_bits c.args.places c.args.base_bits e
+    c.args.negative (subst (IsNearestBits _ _ _) (sym c.infinity.ensures.value) (explodes (format_of c.args.double) n _ _ (omega (arith, digits_le l))
+    (omega (arith, ap (λ b. if b then e * c.args.base_bits else 0) c.if-negative.false, ap (λ b. if b then 0 else e * c.args.base_bits) c.if-negative.false))))
+
+pub nearest_bits-requires-clause-more : goal.nearest_bits-requires-clause-more
+nearest_bits-requires-clause-more c more = omega (arith, many c.requires.leading.1 more)
 
 pub returns : goal.returns
 returns c n e l h =
-    let same : e ≡ c.args.exponent = unsaturated c.args.exponent e h c.if-exponent.false in
-    c.nearest_bits.ensures _ _ (den_pos c.args.radix_bits c.args.places c.args.base_bits e c.args.negative)
-    (at_scale _ _ c.args.leading.digits _ _ _ _ c.args.leading.more
+    let same : e ≡ c.args.exponent = omega arith in
+    in_radixes (λ num den. IsNearestBits (format_of c.args.double) num den c.nearest_bits.result) n c.args.radix_bits c.args.places c.args.base_bits e
+    c.args.negative (subst (λ d. IsNearestBits (format_of c.args.double) (n * 2 ^ (if c.args.negative then 0 else e * c.args.base_bits)) (2 ^ d) c.nearest_bits.result)
+    (c.scales-up.ensures.down ∙ ap (λ x. c.args.places * c.args.radix_bits + (if c.args.negative then x * c.args.base_bits else 0)) (sym same))
+    (c.nearest_bits.ensures n (c.args.leading.dropped * c.args.radix_bits) (if c.args.negative then 0 else e * c.args.base_bits)
     (ap (λ x. c.args.leading.dropped * c.args.radix_bits + (if c.args.negative then 0 else x * c.args.base_bits)) same ∙ sym c.scales-up.ensures.up)
-    (ap (λ x. c.args.places * c.args.radix_bits + (if c.args.negative then x * c.args.base_bits else 0)) same ∙ sym c.scales-up.ensures.down)
-    (with_exponent n c.args.leading.digits c.args.leading.dropped c.args.radix_bits c.args.places c.args.base_bits e c.args.leading.more c.args.negative l.cut))
+    (subst (IsCutTo n c.args.leading.digits c.args.leading.more) (pow_of c.args.radix_bits c.args.leading.dropped) l.cut)))

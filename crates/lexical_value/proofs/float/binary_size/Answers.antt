@@ -8,13 +8,13 @@ use Rattle.lexical_number.specs.Leading.{Leads, number_after}
 use Rattle.lexical_number.specs.Number.{number, places}
 use Rattle.lexical_number.proofs.LeadingLemmas.{starts}
 use Rattle.lexical_number.proofs.NumberLemmas.{number_after-append}
-use Rattle.lexical_value.proofs.FloatLemmas.{by_bits, of_value, two_le}
+use Rattle.lexical_value.proofs.FloatLemmas.{by_bits, of_value}
 use Rattle.lexical_value.proofs.float.binary_size.Goals as goal
 
 pub raised_bits-requires-clause-leading : goal.raised_bits-requires-clause-leading
 raised_bits-requires-clause-leading c =
     let power = c.in-Some.ensures.some in
-    (_, by_bits _ _ _ _ _ _ power.0 (c.push_all-leading.ensures.value _ (c.push_all.ensures.value 0 (starts _ (two_le _ _ power.0 power.1)))))
+    (_, by_bits _ _ _ _ _ _ power.0 (c.push_all-leading.ensures.value _ (c.push_all.ensures.value 0 (starts _))))
 
 pub returns-clause-value : goal.returns-clause-value
 returns-clause-value c =
@@ -22,7 +22,7 @@ returns-clause-value c =
     let power = c.in-Some.ensures.some in
     let n = number_after c.mantissa_radix-radix.result (number_after c.mantissa_radix-radix.result 0 l.integer) l.fraction in
     let leads : Leads (2 ^ c.in-Some.radix_bits) n c.push_all-leading.result.digits c.push_all-leading.result.more c.push_all-leading.result.dropped =
-    by_bits _ _ n _ _ _ power.0 (c.push_all-leading.ensures.value _ (c.push_all.ensures.value 0 (starts _ (two_le _ _ power.0 power.1)))) in
+    by_bits _ _ n _ _ _ power.0 (c.push_all-leading.ensures.value _ (c.push_all.ensures.value 0 (starts _))) in
     let radix = c.mantissa_radix-radix.ensures.value in
     of_value (λ num den. IsNearestBits (format_of c.args.double) num den c.raised_bits.result) (raw c.args.format) l n _ _ _ _ _
     (sym (number_after-append c.mantissa_radix-radix.result 0 l.integer l.fraction) ∙ ap (λ r. number r (l.integer ++ l.fraction)) radix)

@@ -1,15 +1,14 @@
 -- The size is the nearest float, and the sign is that of the literal.
-use Rattle.std.proofs.Common.{◌≡◌, ap, ◌∙◌, subst, sym, false}
+use Rattle.std.proofs.Common.{◌≡◌, ap, ◌∙◌, subst, false}
 use Rattle.std.specs.Prelude.{from_bits}
-use lib.Ieee.{neg, round}
-use Rattle.core.proofs.dec2flt.Patterns.{neg-round}
+use lib.Ieee.{round}
 use Rattle.lexical_util.specs.Record.{raw}
 use Rattle.lexical_literal.specs.Parts.{literal_of}
 use Rattle.lexical_number.specs.Binary.{format_of}
 use Rattle.lexical_value.specs.Value.{denominator, numerator}
 use Rattle.lexical_value.proofs.FloatLemmas.{not_nan}
 use Rattle.lexical_value.proofs.float.to_float.Goals as goal
-use Rattle.lexical_value.proofs.float.to_float.Goals.{then-has_decimal_floats, else-has_decimal_floats+in-Some, then-negative, else-negative}
+use Rattle.lexical_value.proofs.float.to_float.Goals.{then-has_decimal_floats, else-has_decimal_floats+in-Some}
 
 pub returns-clause-value : goal.returns-clause-value
 returns-clause-value g c =
@@ -22,13 +21,7 @@ returns-clause-value g c =
       | else-has_decimal_floats+in-Some w ↦ ap g.F.Float.value w.size-is ∙ w.from_magnitude.ensures
           ∙ subst (λ double. from_bits (format_of double) w.in-Some.bits ≡ round (format_of double) false num den) w.DOUBLE.ensures w.in-Some.ensures.value.0
     ] in
-    elim c.if-negative.branch [
-      | then-negative w ↦
-          ap g.F.Float.value w.result-is ∙ w.negated.ensures ∙ ap neg size ∙ neg-round f num den
-          ∙ ap (λ sign. round f sign num den) (sym w.if-negative.true ∙ c.is_minus-negative.ensures)
-      | else-negative w ↦
-          ap g.F.Float.value w.result-is ∙ size ∙ ap (λ sign. round f sign num den) (sym w.if-negative.false ∙ c.is_minus-negative.ensures)
-    ]
+    c.signed.ensures num den size ∙ ap (λ sign. round f sign num den) c.is_minus.ensures
 
 pub returns-clause-no_nan : goal.returns-clause-no_nan
 returns-clause-no_nan g c = not_nan _ _ _ _ _ (returns-clause-value g c)

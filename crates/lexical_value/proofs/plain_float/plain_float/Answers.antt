@@ -1,59 +1,24 @@
--- The size is that of the literal, or std reads the literal.
-use Rattle.std.proofs.Common.{◌≡◌, ◌||◌, ◌&&◌, not, is_some, ap, ◌∙◌, refl, sym, subst, Some, IfSome}
-use lib.Ieee.{neg, round}
-use Rattle.core.proofs.dec2flt.Patterns.{neg-round}
+-- The size is that of the literal, and the sign that of the text.
+use Rattle.std.proofs.Common.{ap, ◌∙◌, refl, subst}
+use lib.Ieee.{round}
 use Rattle.lexical_util.specs.Record.{raw}
-use Rattle.lexical_literal.specs.Literal.{Literal}
-use Rattle.lexical_literal.specs.Notation.{has, no_conditions}
-use Rattle.lexical_literal.specs.Takes.{Takes}
 use Rattle.lexical_literal.specs.Parts.{literal_of}
-use Rattle.lexical_literal.specs.declared.syntax.Condition.TheVariants as conditions
-use Rattle.lexical_literal.specs.declared.syntax.Conditions.{Conditions}
-use Rattle.lexical_literal.specs.declared.syntax.Grammar.{Grammar}
 use Rattle.lexical_number.specs.Binary.{format_of}
-use Rattle.lexical_value.specs.Float.{nearest}
+use Rattle.lexical_value.specs.Private.{TakesDecimals}
 use Rattle.lexical_value.specs.Value.{denominator, numerator}
-use Rattle.lexical_value.proofs.PlainFloatLemmas.{minus_is, with_literal}
-use Rattle.lexical_value.proofs.PlainLemmas.{no_more}
 use Rattle.lexical_value.proofs.plain_float.plain_float.Goals as goal
-use Rattle.lexical_value.proofs.plain_float.plain_float.Goals.{then-is_minus, else-is_minus}
 
-pub returns-after-is_minus : goal.returns-after-is_minus
-returns-after-is_minus g c =
-    let f = format_of g.F.Float.DOUBLE in
+pub read_plain-requires-clause-decimals : goal.read_plain-requires-clause-decimals
+read_plain-requires-clause-decimals g c =
+    subst (λ w. TakesDecimals (raw w)) (c.view.ensures.word ∙ c.format.ensures.word) (c.if-not-takes_decimals.ensures refl)
+
+pub returns : goal.returns
+returns g c =
     let l = literal_of c.in_ok-plain.plain.parts in
-    let none = no_more c.args.syntax.conditions (ap (λ (k : Conditions). not (has k conditions.BasePrefix || (has k conditions.BaseSuffix || has k conditions.NegativeSign))
-    && not (is_some k.integer_group_size)) (sym c.conditions.ensures) ∙ sym c.is_none.ensures ∙ c.if-not-is_none.false) in
-    let own : Grammar = record { word = c.view-format.result; options = Some c.in_ok-options.options; conditions = no_conditions } in
-    let same : own ≡ c.args.syntax =
-    (λ i. record { word = (c.view-format.ensures.word ∙ c.format.ensures.word) i; options = (sym c.in_ok-options.was ∙ c.options.ensures) i; conditions = none i }) in
-    let decimal = c.if-not-takes_plain.ensures refl in
-    let num = numerator (raw c.view-format.result) l in
-    let den = denominator (raw c.view-format.result) l in
-    let sign = sym (minus_is c.args.text.now l c.in_ok-plain.ensures.reads.whole c.in_ok-plain.ensures.plain) ∙ sym c.is_minus.ensures in
-    let value : g.F.Float.value c.if-is_minus.result ≡ nearest f (raw c.view-format.result) l =
-    elim c.if-is_minus.branch [
-      | then-is_minus w ↦
-          ap g.F.Float.value w.result-is ∙ w.negated.ensures ∙ ap neg (c.in-Some.ensures _ decimal) ∙ neg-round f num den
-          ∙ ap (λ s. round f s num den) (sym (sign ∙ w.if-is_minus.true))
-      | else-is_minus w ↦ ap g.F.Float.value w.result-is ∙ c.in-Some.ensures _ decimal ∙ ap (λ s. round f s num den) (sym (sign ∙ w.if-is_minus.false))
-    ] in (
+    let r = raw c.args.syntax.word in (
       l,
-      subst (λ syntax. Takes syntax l c.args.text.now) same (record { reads = c.in_ok-plain.ensures.reads; groups = refl }),
-      subst (λ syntax. g.F.Float.value c.if-is_minus.result ≡ nearest f (raw syntax.word) l) same value,
+      c.in_ok-plain.ensures.takes,
+      c.signed.ensures _ _ (c.in_ok-size.ensures r (subst (λ w. TakesDecimals (raw w)) (c.view.ensures.word ∙ c.format.ensures.word)
+          (c.if-not-takes_decimals.ensures refl)))
+          ∙ ap (λ sign. round (format_of g.F.Float.DOUBLE) sign (numerator r l) (denominator r l)) (c.is_minus.ensures ∙ c.in_ok-plain.ensures.minus),
     )
-
-pub returns-in-None : goal.returns-in-None
-returns-in-None g c =
-    let f = format_of g.F.Float.DOUBLE in
-    let l = literal_of c.in_ok-plain.plain.parts in
-    let none = no_more c.args.syntax.conditions (ap (λ (k : Conditions). not (has k conditions.BasePrefix || (has k conditions.BaseSuffix || has k conditions.NegativeSign))
-    && not (is_some k.integer_group_size)) (sym c.conditions.ensures) ∙ sym c.is_none.ensures ∙ c.if-not-is_none.false) in
-    let own : Grammar = record { word = c.view-format.result; options = Some c.in_ok-options.options; conditions = no_conditions } in
-    let same : own ≡ c.args.syntax =
-    (λ i. record { word = (c.view-format.ensures.word ∙ c.format.ensures.word) i; options = (sym c.in_ok-options.was ∙ c.options.ensures) i; conditions = none i }) in
-    let decimal = c.if-not-takes_plain.ensures refl in
-    subst (λ syntax. IfSome c.written.result (λ value. (l : Literal) × Takes syntax l c.args.text.now
-    × (g.F.Float.value value ≡ nearest f (raw syntax.word) l))) same
-    (with_literal g.F.Float.value (λ x. Takes own x c.args.text.now) (λ x. nearest f (raw c.view-format.result) x) l c.written.result
-    (record { reads = c.in_ok-plain.ensures.reads; groups = refl }) (c.written.ensures _ decimal))

@@ -1,13 +1,12 @@
 use Rattle.std.proofs.Common.{length, drop, ◌-◌, ◌≡◌, ◌≤◌}
-use Rattle.lexical_number.specs.Number.{digits_in}
-use Rattle.lexical_writer.specs.Digits.{without_zeros}
+use Rattle.lexical_number.specs.Number.{number}
 use Rattle.lexical_writer.proofs.digits.without_zeros.Given as goal
 
 -- What has been passed are zeros.
 abbrev pub invariant-loop-index : goal.invariant-loop-index
 invariant-loop-index l = record {
   within : l.index ≤ length l.bytes;
-  rest : without_zeros (digits_in l.radix (drop l.index l.bytes)) ≡ without_zeros (digits_in l.radix l.bytes);
+  rest : number l.radix (drop l.index l.bytes) ≡ number l.radix l.bytes;
 }
 
 abbrev pub decreases-loop-index : goal.decreases-loop-index
