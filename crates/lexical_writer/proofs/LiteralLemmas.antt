@@ -1,10 +1,11 @@
 -- What is laid out is a literal with the digits of the amount.
 use Rattle.std.proofs.Common.{ℕ, ◌≡◌, ◌<◌, ◌≤◌, ◌==◌, ◌&&◌, ◌||◌, not, if◌then◌else◌, Bool, true, false, IsTrue, List, []}
-use Rattle.std.proofs.Common.{cond, Option, Some, None, Result, Ok, Err, IfOk, is_some, option_map, option_to_list, unwrap_or, refl, sym, subst, ap, ◌∙◌, arith}
+use Rattle.std.proofs.Common.{cond, Option, Some, None, Result, Ok, Err, IfOk, is_some, option_to_list, unwrap_or, refl, sym, subst, ap, ◌∙◌, arith}
 use Rattle.std.proofs.lemmas.Bool.{false_from_ne_true, false≢true, lt-ltb, ltb-true, or_left, or_right, and_right}
 use Rattle.std.proofs.lemmas.Bool.Decides.{nat_tests}
 use Rattle.std.proofs.lemmas.Int.Digits.{all_below_base_digits_of, number_digits_of}
 use Rattle.std.specs.Int.Digits.{AllBelowBase, digits_of, number_from_digits}
+use Rattle.lexical_util.specs.Ascii.{ByteSet}
 use Rattle.lexical_util.specs.Digits.{byte_value}
 use Rattle.lexical_util.specs.Layout as layout
 use Rattle.lexical_util.specs.Layout.{Flag}
@@ -34,11 +35,8 @@ use Rattle.lexical_writer.specs.Layout.{HasNumber, given_fraction, given_power, 
 use Rattle.lexical_writer.specs.Layout.{IsLaidOut, literal_of, refusal, sign_of}
 use Rattle.lexical_writer.specs.declared.layout.Amount.{Amount}
 use Rattle.lexical_writer.specs.declared.layout.Layout.{Layout}
-use Rattle.lexical_writer.specs.declared.layout.Power.{Power}
 use Rattle.lexical_writer.specs.declared.layout.WriteError.{WriteError}
 use Rattle.lexical_writer.specs.declared.layout.WriteError.TheVariants as errors
-use Rattle.lexical_writer.specs.declared.run.Source.TheVariants as sources
-use Rattle.std.specs.Borrow.{Bor}
 use Rattle.lexical_writer.specs.declared.layout.Style.{Style}
 use Rattle.lexical_writer.proofs.DigitLemmas.{grouped_digits, grouped_present, values_below, zero_below, zero_number}
 use Rattle.lexical_writer.proofs.GroupLemmas.{Between, grouped_rest, no_leading_zero, right_groups}
@@ -73,6 +71,10 @@ exponent_none : (lacks forbidden required some : Bool) → (forbidden && require
     → (lacks || forbidden) ≡ true → (some || (required && not lacks)) ≡ false
 exponent_none lacks forbidden required some agree can none = grind arith
 
+one_byte : (S : ByteSet) (lacks test : Bool) (byte : ℕ) → (lacks ≡ true → test ≡ false) → (lacks ≡ false → S byte ≡ true)
+    → is_none_or_one S (option_to_list (only_if test byte)) ≡ true
+one_byte S lacks test byte none some = grind arith
+
 absent_unless : (b : Bool) (byte : ℕ) → is_absent (option_to_list (only_if b byte)) ≡ not b
 absent_unless b byte = grind arith
 
@@ -96,21 +98,20 @@ some_sign : (here negative required : Bool) (byte : ℕ) → required ≡ true
 some_sign here negative required byte is = grind arith
 
 -- Without a decimal point, there is no fraction, and without an exponent character, no exponent.
-no_fraction : (fraction : Option (Bor (List ℕ))) (other required : Bool) (byte radix : ℕ)
-    → is_absent (option_to_list (only_if (is_some fraction || other) byte)) ≡ true
-    → grouped 0 0 (or_zero ((is_some fraction || other) && required) (values_of radix (unwrap_or (option_map sources.Bytes fraction) (sources.Number 0)))) ≡ []
-no_fraction fraction other required byte radix absent = grind arith
+no_fraction : (amount : Amount) (other required : Bool) (byte radix : ℕ) → is_absent (option_to_list (only_if (is_some amount.fraction || other) byte)) ≡ true
+    → grouped 0 0 (or_zero ((is_some amount.fraction || other) && required) (values_of radix (given_fraction amount))) ≡ []
+no_fraction amount other required byte radix absent = grind arith
 
-fraction_is_float : (integer : Bool) (fraction : Option (Bor (List ℕ))) (other : Bool) (radix byte : ℕ) (exponent : Bool)
-    → (integer || is_present (values_of radix (unwrap_or (option_map sources.Bytes fraction) (sources.Number 0)))) ≡ true
-    → (integer || (is_present (option_to_list (only_if (is_some fraction || other) byte)) || exponent)) ≡ true
-fraction_is_float integer fraction other radix byte exponent some = grind arith
+no_power : (amount : Amount) (other required : Bool) (byte radix : ℕ) → is_absent (option_to_list (only_if (is_some amount.exponent || other) byte)) ≡ true
+    → (option_to_list (sign_of (given_power amount).negative ((is_some amount.exponent || other) && required)) ≡ [])
+    × (grouped 0 0 (or_zero (is_some amount.exponent || other) (digits_of radix (size_of radix (given_power amount).source))) ≡ [])
+no_power amount other required byte radix absent = (grind arith, grind arith)
 
-no_power : (power : Option Power) (other required : Bool) (byte radix : ℕ) → is_absent (option_to_list (only_if (is_some power || other) byte)) ≡ true
-    → (option_to_list (sign_of (unwrap_or power (record { negative = false; source = sources.Number 0 })).negative ((is_some power || other) && required)) ≡ [])
-    × (grouped 0 0 (or_zero (is_some power || other) (digits_of radix
-    (size_of radix (unwrap_or power (record { negative = false; source = sources.Number 0 })).source))) ≡ [])
-no_power power other required byte radix absent = (grind arith, grind arith)
+-- Digits of a fraction make a float.
+fraction_is_float : (integer : Bool) (amount : Amount) (other exponent : Bool) (radix byte : ℕ)
+    → (integer || is_present (values_of radix (given_fraction amount))) ≡ true
+    → (integer || (is_present (option_to_list (only_if (is_some amount.fraction || other) byte)) || exponent)) ≡ true
+fraction_is_float integer amount other exponent radix byte some = grind arith
 
 -- The radixes of a lawful format are between 2 and 36.
 pub radixes : (word : ℕ) → Lawful word → (part : Part) → (2 ≤ radix_of (raw word) part) × (radix_of (raw word) part ≤ 36)
@@ -146,11 +147,6 @@ module _ (g : Grammar) (style : Style) (amount : Amount) (is : IsSyntax g)
 
   abbrev exponent_radix : ℕ
   exponent_radix = effective_exponent_radix r
-
-  flags_agree : ((r.flag layout.no_exponent_notation && r.flag layout.required_exponent_notation) ≡ false)
-      × ((r.flag layout.no_positive_mantissa_sign && r.flag layout.required_mantissa_sign) ≡ false)
-      × ((r.flag layout.no_positive_exponent_sign && r.flag layout.required_exponent_sign) ≡ false)
-  flags_agree = agree g.word is.lawful
 
   -- The digits of each part are digits of this part, and represent the same number.
   digit : (part : Part) (d : ℕ) → d < radix_of r part → m.digit part (character d) ≡ true
@@ -235,7 +231,7 @@ module _ (g : Grammar) (style : Style) (amount : Amount) (is : IsSyntax g)
 
   no_exponent : (lacks_options g.options || r.flag layout.no_exponent_notation) ≡ true → has_exponent g amount ≡ false
   no_exponent none =
-      exponent_none (lacks_options g.options) (r.flag layout.no_exponent_notation) _ (is_some amount.exponent) flags_agree.0 allowed.2 none
+      exponent_none (lacks_options g.options) (r.flag layout.no_exponent_notation) _ (is_some amount.exponent) (agree g.word is.lawful).0 allowed.2 none
 
   integer_present : is_present l.integer ≡ (has_zero r amount || is_present (digits_of radix (size_of radix amount.integer)))
   integer_present = grouped_present separator group (has_zero r amount) (digits_of radix (size_of radix amount.integer))
@@ -266,10 +262,10 @@ module _ (g : Grammar) (style : Style) (amount : Amount) (is : IsSyntax g)
   met layout.required_fraction_digits set = rw fraction_present (fraction_digits (has_point g amount) _ _ _ set)
   met layout.required_exponent_digits set = exponent_digits
   met layout.required_mantissa_digits set = rw fraction_present (or_more (is_present l.integer) _ _ some_digits)
-  met layout.no_positive_mantissa_sign set = no_plus true amount.negative _ _ flags_agree.1 set
+  met layout.no_positive_mantissa_sign set = no_plus true amount.negative _ _ (agree g.word is.lawful).1 set
   met layout.required_mantissa_sign set = some_sign true amount.negative _ 0 set
   met layout.no_exponent_notation set = absent_unless (has_exponent g amount) _ ∙ ap not (no_exponent (or_right (lacks_options g.options) _ set))
-  met layout.no_positive_exponent_sign set = no_plus (has_exponent g amount) (given_power amount).negative _ _ flags_agree.2 set
+  met layout.no_positive_exponent_sign set = no_plus (has_exponent g amount) (given_power amount).negative _ _ (agree g.word is.lawful).2 set
   met layout.required_exponent_sign set = some_sign (has_exponent g amount) (given_power amount).negative _ _ set
   met layout.no_exponent_without_fraction set = some_point set
   met layout.no_integer_leading_zeros set = or_right _ _ (ap not (and_right (is_absent l.prefix) _ no_lead))
@@ -286,40 +282,31 @@ module _ (g : Grammar) (style : Style) (amount : Amount) (is : IsSyntax g)
   one_sign negative required = grind arith
 
   -- The decimal point and the exponent character are those of the options.
-  point_there : (o : Option Options) → FitIfAny g.word o → (test : Bool) → (lacks_options o ≡ true → test ≡ false)
-      → is_none_or_one (point_of o) (option_to_list (only_if test (unwrap_or o (record { exponent = 0; point = 0 })).point)) ≡ true
-  point_there o fit false has = refl
-  point_there None fit true has = absurd (false≢true (sym (has refl)))
-  point_there (Some o) fit true has = own true o.point (some_byte r o.point fit.point_is_punctuation)
-
-  character_there : (o : Option Options) → FitIfAny g.word o → (test : Bool) → (lacks_options o ≡ true → test ≡ false)
-      → is_none_or_one (exponent_character_of r o) (option_to_list (only_if test (unwrap_or o (record { exponent = 0; point = 0 })).exponent)) ≡ true
-  character_there o fit false has = refl
-  character_there None fit true has = absurd (false≢true (sym (has refl)))
-  character_there (Some o) fit true has = own _ o.exponent (some_byte r o.exponent fit.exponent_is_punctuation)
+  in_role : (o : Option Options) → FitIfAny g.word o → lacks_options o ≡ false
+      → (point_of o (unwrap_or o (record { exponent = 0; point = 0 })).point ≡ true)
+      × (exponent_character_of r o (unwrap_or o (record { exponent = 0; point = 0 })).exponent ≡ true)
+  in_role None fit some = absurd (false≢true (sym some))
+  in_role (Some o) fit some =
+      (own true o.point (some_byte r o.point fit.point_is_punctuation), own _ o.exponent (some_byte r o.exponent fit.exponent_is_punctuation))
 
   no_point : lacks_options g.options ≡ true → has_point g amount ≡ false
   no_point lacks = let none = no_exponent (or_left _ (r.flag layout.no_exponent_notation) lacks) in let fraction = allowed.1 in grind arith
-
-  some_number : (is_present l.integer || (is_present l.point || is_present l.exponent_character)) ≡ true
-  some_number =
-      fraction_is_float (is_present l.integer) amount.fraction (has_exponent g amount && r.flag layout.no_exponent_without_fraction) radix (options_of g).point
-      (is_present l.exponent_character) some_digits
 
   spelled : IsSpelled m l
   spelled = record {
     sign = one_sign amount.negative _;
     prefix = grind (arith, own);
     integer = integer_run.0;
-    point = point_there g.options is.fit (has_point g amount) no_point;
+    point = one_byte (point_of g.options) (lacks_options g.options) (has_point g amount) _ no_point (λ some. (in_role g.options is.fit some).0);
     fraction = fraction_run.0;
-    exponent_character = character_there g.options is.fit (has_exponent g amount) (λ lacks. no_exponent (or_left _ _ lacks));
+    exponent_character = one_byte (exponent_character_of r g.options) (lacks_options g.options) (has_exponent g amount) _
+        (λ lacks. no_exponent (or_left _ _ lacks)) (λ some. (in_role g.options is.fit some).1);
     exponent_sign = one_sign (given_power amount).negative _;
     exponent = exponent_run.0;
     suffix = grind (arith, own);
-    after_point = no_fraction amount.fraction _ _ (options_of g).point radix;
-    after_character = no_power amount.exponent _ _ (options_of g).exponent exponent_radix;
-    some_number = some_number;
+    after_point = no_fraction amount _ _ (options_of g).point radix;
+    after_character = no_power amount _ _ (options_of g).exponent exponent_radix;
+    some_number = fraction_is_float (is_present l.integer) amount _ (is_present l.exponent_character) radix (options_of g).point some_digits;
     requirements = met;
   }
 

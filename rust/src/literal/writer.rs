@@ -9,7 +9,6 @@ use crate::number::integer::Integer;
 
 mod digits;
 mod integer;
-#[allow(clippy::redundant_pattern_matching, reason = "as it is proved")]
 mod layout;
 #[allow(clippy::module_inception, clippy::needless_lifetimes, reason = "as it is proved")]
 mod literal;

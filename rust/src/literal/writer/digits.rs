@@ -36,7 +36,7 @@ fn split_last(number: u128, radix: u32) -> (u128, u32) {
 
 // Writes the digits of a number to the end of a buffer, and returns them.
 #[inline(always)]
-fn characters<'a>(buffer: &'a mut [u8; 128], number: u128, radix: u32) -> &'a [u8] {
+fn characters(buffer: &mut [u8; 128], number: u128, radix: u32) -> &[u8] {
     let mut left = number;
     let mut start = 128;
     while left > 0 {
