@@ -10,10 +10,10 @@ use Rattle.lexical_flags.specs.Layout.{Flag, Byte, part, bit, shift, flags}
 use Rattle.lexical_flags.specs.Layout as layout
 use Rattle.lexical_flags.specs.Record.{Record, HasBytes}
 use Rattle.lexical_flags.proofs.RecordLemmas.{record_same}
-use Rattle.lexical_builder.specs.Writes.{Write, write_flag, write_byte, IsLegal, new_record, flag_written, byte_written}
+use Rattle.lexical_builder.specs.Writes.{Write, write_flag, IsLegal, new_record, flag_written, byte_written}
 use Rattle.lexical_builder.specs.Writes.{after}
 use Rattle.lexical_builder.specs.Writes.{SameWrites, flags_with, write_flags, last_flag, last_byte}
-use Rattle.lexical_builder.specs.BuilderBits.{byte_index, builder_record_of_parts}
+use Rattle.lexical_builder.specs.BuilderBits.{builder_record_of_parts}
 
 -- `left_by h writes d` is the value of a field after `writes`, if the value was `d` and `h` is the value that one write
 -- writes to the field.
@@ -96,19 +96,6 @@ after-mask_byte r fs value b = ap (λ o. unwrap_or o (r.byte b)) (none fs) where
   none : (fs : List Flag) → last_byte (write_flags fs value) b ≡ None
   none [] = refl
   none (f ∷ fs) = none fs
-
--- If one byte is written, the byte at its index has the new value, and all other bytes are unchanged.
-pub after-byte : (r : Record) (c : Byte) (value : ℕ) (b : Byte)
-    → (after r (write_byte c value ∷ [])).byte b ≡ (if byte_index b == byte_index c then value else r.byte b)
-unfolding after
-after-byte r c value b =
-    left_by-cons (λ x. byte_written x b) (write_byte c value) [] (r.byte b) ∙ ap (λ e. unwrap_or (if e then Some value else None) (r.byte b)) (same b c)
-    ∙ chosen (byte_index b == byte_index c) where
-      same : (b c : Byte) → (shift c == shift b) ≡ (byte_index b == byte_index c)
-      same b c = grind arith
-
-      chosen : (e : Bool) → unwrap_or (if e then Some value else None) (r.byte b) ≡ (if e then value else r.byte b)
-      chosen e = grind arith
 
 -- The record of these flags and bytes is the record of a new builder.
 pub new_parts : builder_record_of_parts 0xC (0 ∷ 0 ∷ 0 ∷ 10 ∷ 0 ∷ 0 ∷ []) ≡ new_record

@@ -332,6 +332,7 @@ impl NumberFormatBuilder {
     }
 
     // Sets the byte at `index`.
+    #[tactic(auto, unfolding(crate::specs::Writes::after))]
     const fn with_byte(mut self, index: usize, value: u8) -> Self
         requires below { index < 6 }
         requires byte { byte_index (byte_at index) ≡ index }

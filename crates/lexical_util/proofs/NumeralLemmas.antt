@@ -3,9 +3,10 @@ use Rattle.std.proofs.Common.{◌≡◌, ℕ, ◌+◌, ◌*◌, ◌^◌, ◌<◌
 use Rattle.std.proofs.Common.{nat_le}
 use Rattle.std.proofs.Common.{sym, ap, ◌∙◌, arith, Some}
 use Rattle.std.specs.Int.Digits.{number_from_digits}
-use Rattle.std.specs.List.{AllPass, list_all}
+use Rattle.std.specs.List.{AllPass}
 use Rattle.std.proofs.Math.Nat.{pow-le-pow_left, pow-le-pow_right}
-use Rattle.std.proofs.lemmas.Bool.{and_from, and_parts, le-leb, leb-true, ltb-true}
+use Rattle.std.proofs.lemmas.Bool.Decides.{nat_tests}
+use Rattle.std.proofs.lemmas.Bool.{and_from, le-leb, ltb-true}
 use Rattle.std.proofs.lemmas.Int.Digits.{number_lt, number_push}
 use Rattle.std.proofs.lemmas.List.{length-map, length-take, map_more, take_all}
 use Rattle.std.proofs.lemmas.List.Elements.{All-map, All-more, recursion_from_All}
@@ -22,14 +23,11 @@ pub record NumeralParts (radix most : ℕ) (digits : List ℕ) : Type 0 where
 
 pub numeral_parts : (radix most : ℕ) (digits : List ℕ) → IsTrue (is_numeral radix most digits)
     → NumeralParts radix most digits
-numeral_parts radix most digits test =
-    let first = and_parts (nat_le 1 (length digits)) _ test in
-    let rest = and_parts (nat_le (length digits) most) (list_all (is_digit_of_radix radix) digits) first.1 in
-    record {
-      some = leb-true _ _ first.0;
-      few = leb-true _ _ rest.0;
-      all_digits = AllPass-from_list_all (is_digit_of_radix radix) digits rest.1;
-    }
+numeral_parts radix most digits test = record {
+  some = grind (arith, nat_tests);
+  few = grind (arith, nat_tests);
+  all_digits = AllPass-from_list_all (is_digit_of_radix radix) digits (grind (arith, nat_tests));
+}
 
 pub numeral_from : (radix most : ℕ) (digits : List ℕ) → NumeralParts radix most digits
     → IsTrue (is_numeral radix most digits)

@@ -18,6 +18,7 @@ use Rattle.std.proofs.lemmas.List.{take-append-drop}
 use Rattle.std.proofs.lemmas.List.Sums.{AllPass-from_list_all, list_all-from_AllPass, passes_at_first}
 use Rattle.std.proofs.lemmas.List.Elements.{All-cons, All-head, All-nil, All-tail, All-weaker}
 use Rattle.lexical_base.specs.Digits.{digit_characters, is_lowercase, uppercase, byte_value}
+use Rattle.lexical_base.proofs.ValueLemmas.{byte_value-digit_character}
 use Rattle.lexical_util.specs.Additions.Numeral.{is_digit_of_radix}
 use Rattle.lexical_util.specs.Additions.WordText.{hex, hex_digits, IsPrintedForm, digit_at, last_digits, printed}
 use Rattle.lexical_util.proofs.NumeralLemmas.{numeral_from, numeral_parts}
@@ -51,12 +52,6 @@ digit_character-byte_value byte printed =
           let is : byte_value byte ≡ 255 = ap (λ truth. unwrap_or (cond truth (Some i) None) 255) missing in
           absurd (omega (arith, is, ltb-true _ _ (is_digit_of_radix-uppercase byte printed)))
     ]
-
--- The digit character of a value below 16 has this value.
-byte_value-digit_character : (digit : ℕ) → digit < 16 → byte_value (slice_index_or digit_characters digit 0) ≡ digit
-unfolding byte_value
-byte_value-digit_character digit small = eqb-true _ _
-    (agree_below_at (λ d. byte_value (slice_index_or digit_characters d 0) == d) (λ _. true) 16 digit refl small)
 
 -- The digit character of a value below 16 is not a lowercase letter.
 IsUppercase-digit_character : (digit : ℕ) → digit < 16 → IsUppercase (slice_index_or digit_characters digit 0)

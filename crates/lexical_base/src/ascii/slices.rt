@@ -26,6 +26,7 @@ pub fn is_valid_letter_slice(slc: &[u8]) -> bool
 }
 
 // Returns whether every byte of `bytes` is in one of two ranges. Each range is given by its lowest and its highest byte.
+#[tactic(auto, using(crate::proofs::LaneLemmas::chunks_and_rest))]
 fn all_in_ranges(bytes: &[u8], first: (u8, u8), second: (u8, u8)) -> bool
     ensures { IsTrue result ↔ AllPass (in_two_ranges first second) bytes.now }
 {
@@ -41,6 +42,7 @@ fn chunks_in_ranges(chunks: &[[u8; 32]], first: (u8, u8), second: (u8, u8)) -> b
 }
 
 // Returns whether all 32 bytes of `lanes` are in one of two ranges.
+#[tactic(auto, using(crate::proofs::LaneLemmas::all_lanes))]
 fn lanes_in_ranges(lanes: u8x32, first: (u8, u8), second: (u8, u8)) -> bool
     ensures { result ≡ list_all (in_two_ranges first second) lanes }
 {

@@ -38,6 +38,7 @@ impl Ord for Error {
 
     ghost matches_eq = { Prim.search (comparing, rules) };
 
+    #[tactic(auto, using(crate::proofs::OutcomeLemmas::tied, crate::proofs::OutcomeLemmas::reversed))]
     fn cmp(&self, other: &Error) -> Ordering
         ensures value { result ≡ compare_outcomes self.now other.now }
         ensures equal { (result ≡ Ordering.Equal) ↔ (self.now ≡ other.now) }
