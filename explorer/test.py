@@ -538,13 +538,9 @@ class Walk(unittest.TestCase):
         self.driver.execute_cdp_cmd("Emulation.setDeviceMetricsOverride", metrics)
         self.addCleanup(self.driver.execute_cdp_cmd, "Emulation.clearDeviceMetricsOverride", {})
 
-    def test_controls_have_names_and_texts_fit_a_phone(self):
+    def test_texts_fit_a_phone(self):
         self.emulate(320, 700, True)
         self.load(f"#word={MIXED}&numbers={60 * '1'},%0A!1")
-        self.assertEqual(self.run_script(
-            """return [...document.querySelectorAll("input, button, select")].filter((it) => !(it.labels?.length
-                || it.getAttribute("aria-label") || it.textContent.trim())).map((it) => it.outerHTML)"""
-        ), [])
         self.assertEqual(self.run_script("return [document.documentElement.scrollWidth, innerWidth]"), [320, 320])
         place = "return document.querySelector('#base_prefix').getBoundingClientRect().top"
         self.find("#base_prefix").send_keys(Keys.CONTROL, "a")

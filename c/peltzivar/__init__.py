@@ -751,8 +751,8 @@ class LiteralError(ValueError):
     of the text, characters are missing. `span` is the first index and the end of the characters to show, maybe none, as
     in `text[slice(*span)]`. `kind` is the kind of the cause, and `part` the part of a separator or of missing digits.
     `mask` has the flags to blame as bits of a word, and `conditions` the names of conditions. A wrong byte and missing
-    digits blame none. `error` is the error of
-    `lexical-util`. `form` is the name of the form of a language for which most of the text is right, or empty.
+    digits blame none. `error` is the error of `lexical-util`. `form` is the name of the form of a language for which
+    most of the text is right, or empty.
     """
 
     sentence: str
@@ -1323,8 +1323,9 @@ class Syntax:
         (-12.0, '8', '3')
 
     The conditions are that a literal has the base prefix or the base suffix, that its sign is not `-`, and that the
-    digit separators of its integer, if it has any, make groups of 2 to 8 digits, as in `1,234`. The format is in normal form, so equivalent formats have the same syntax. Raises OptionsError if the exponent character or the
-    decimal point does not fit the normal form, if only one of them is None, or if the format contradicts a condition.
+    digit separators of its integer, if it has any, make groups of 2 to 8 digits, as in `1,234`. The format is in normal
+    form, so equivalent formats have the same syntax. Raises OptionsError if the exponent character or the decimal point
+    does not fit the normal form, if only one of them is None, or if the format contradicts a condition.
     """
 
     format: Format

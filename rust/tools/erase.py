@@ -144,10 +144,6 @@ TOKEN = re.compile(r"""//[^\n]*|b?"(?:\\.|[^"\\])*"|b?'(?:\\[^']+|[^\\'\n])'|'?\
 OPENS, CLOSES = ("(", "[", "{"), (")", "]", "}")
 
 
-class Refused(Exception):
-    """A source that cannot be read, with its file and line."""
-
-
 class Source:
     """The tokens of a file, including comments, and the changes that turn it into plain Rust."""
 
@@ -160,7 +156,7 @@ class Source:
     def refuse(self, index, what):
         at = self.tokens[min(index, len(self.tokens) - 1)].start()
         line = self.text.count("\n", 0, at)
-        raise Refused(f"{self.path}:{line + 1}: {what}: {self.text.splitlines()[line].strip()}")
+        sys.exit(f"{self.path}:{line + 1}: {what}: {self.text.splitlines()[line].strip()}")
 
     def stands(self, index, *words):
         return self.words[index : index + len(words)] == list(words)
@@ -264,7 +260,7 @@ def replaced(path):
     for file, old, new in REPLACED:
         if path.match(file):
             if text.count(old) != 1:
-                raise Refused(f"{path}: stands {text.count(old)} times, and not once: {old}")
+                sys.exit(f"{path}: stands {text.count(old)} times, and not once: {old}")
             text = text.replace(old, new)
     for old, new in EVERYWHERE:
         text = text.replace(old, new)
@@ -314,16 +310,11 @@ def made_files():
         files[RUST / f"{name}.txt"] = re.sub(r"\[([^][]*)\]\([^)#][^)]*\)", r"\1", page)
     unused = [old for file, old, _ in REPLACED if not any(path.match(file) for path in read)]
     unused += [old for old, _ in EVERYWHERE if old not in sources]
-    if unused:
-        raise Refused(f"no source has {', '.join(unused)}")
-    return files
+    return files if not unused else sys.exit(f"no source has {', '.join(unused)}")
 
 
 def main():
-    try:
-        files = made_files()
-    except Refused as refused:
-        sys.exit(f"rust/tools/erase.py: {refused}")
+    files = made_files()
     stale = [path for path, text in files.items() if not path.exists() or path.read_text() != text]
     folders = {folder for folder, *_ in PLACES.values()} | set(COPIED.values())
     sources = {it for folder in folders for it in (RUST / folder).rglob("*.rs")}

@@ -14,6 +14,7 @@ use lexical_flags::laws::rule_facts;
 /// States the fields of a record after writes, that an empty list of writes changes nothing, that applying two lists in
 /// turn is equivalent to applying both as one list, that a field that no write writes keeps its value, and that writes of
 /// different fields can be in any order.
+#[tactic(auto, unfolding(crate::specs::Writes::after))]
 pub fn write_facts()
     ensures flag { (r : Record) → (writes : List Write) → (f : Flag)
         → (after r writes).flag f ≡ unwrap_or (last_flag writes f) (r.flag f) }

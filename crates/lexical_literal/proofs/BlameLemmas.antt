@@ -79,7 +79,8 @@ as_flags : (Q : (Flag → Bool) → Type 0) (P : Flag → Bool) → Q P → Q (r
 as_flags Q P = subst Q (λ j f. sym (mask_flags P f) j)
 
 module _ (m : Notation) (s : Summary) (front : List ℕ) (read : IsReadOf m s front) (next : Option ℕ) where
-  refuses : (A : Flag → Bool) (D : Condition → Bool) → IsWeaker m A D → (not (lets (with_rules m A D) s next) ≡ true) ↔ (Allows (with_rules m A D) front next → ⊥)
+  refuses : (A : Flag → Bool) (D : Condition → Bool) → IsWeaker m A D
+      → (not (lets (with_rules m A D) s next) ≡ true) ↔ (Allows (with_rules m A D) front next → ⊥)
   refuses A D weaker = (
     λ none allowed. false≢true (sym (ap not ((read.decides next A D weaker).1 allowed)) ∙ none),
     λ none. ap not (false_from_ne_true _ (λ is. none ((read.decides next A D weaker).0 is))),
@@ -237,8 +238,8 @@ module _ (m : Notation) (s : Summary) (front : List ℕ) (read : IsReadOf m s fr
         })
         (λ some. as_flags (IsCause m front (Some byte) causes.Case) (cases m s byte)
         (record { refused = not_allowed; no_separator = no_flag _ permits zero; some = some_of _ some; each = is_case })))
-        (λ some. as_flags (IsCause m front (Some byte) (causes.Separator s.part (place_of m s (in_part s.part (byte_class m byte))))) (separators m s (Some byte))
-        (record { refused = not_allowed; some = some_of _ some; each = permits; at = at }))
+        (λ some. as_flags (IsCause m front (Some byte) (causes.Separator s.part (place_of m s (in_part s.part (byte_class m byte)))))
+        (separators m s (Some byte)) (record { refused = not_allowed; some = some_of _ some; each = permits; at = at }))
 
   is_otherwise : (next : Option ℕ) → lets (bare m) s next ≡ false → IsCause m front next (otherwise m s next).kind (raw (otherwise m s next).mask).flag
   is_otherwise None none = record {

@@ -184,7 +184,8 @@ module _ (m : Notation) (h : HasRoles m) where
 
     -- One byte whose role is known, and what follows it.
     one_byte : (s : Summary) (b : ℕ) (r : Role) (c : Cuts) (text : List ℕ) → role_in m s.part b ≡ Some r → admits C s (b == 43) (b == 48) r ≡ true
-        → (Arrives O m (Some (after s (b == 48) r)) (add c (piece_of s.part r)) text d → Arrives C m (Some (after s (b == 48) r)) (add c (piece_of s.part r)) text d)
+        → (Arrives O m (Some (after s (b == 48) r)) (add c (piece_of s.part r)) text d
+        → Arrives C m (Some (after s (b == 48) r)) (add c (piece_of s.part r)) text d)
         → Arrives O m (Some s) c (b ∷ text) d → Arrives C m (Some s) c (b ∷ text) d
     one_byte s b r c text role admitted more is =
         let t = peel s b c text d is in
@@ -219,7 +220,8 @@ module _ (m : Notation) (h : HasRoles m) where
           calm roles.Sign other taken = absurd (other refl)
           calm _ other taken = record { prefix = grind arith; sign = grind arith }
 
-    module _ (prefix rest : List ℕ) (is_prefix : is_none_or_prefix m.prefix prefix ≡ true) (has_prefix : C conditions.BasePrefix ≡ true → is_present prefix ≡ true) where
+    module _ (prefix rest : List ℕ) (is_prefix : is_none_or_prefix m.prefix prefix ≡ true)
+        (has_prefix : C conditions.BasePrefix ≡ true → is_present prefix ≡ true) where
       -- The prefix, where it is required.
       prefixed : (stage : Stage) (c : Cuts) (x : List ℕ) → C conditions.BasePrefix ≡ true → begins stage ≡ true → nat_lt 0 (c pieces.Suffix) ≡ false
           → is_none_or_prefix m.prefix x ≡ true → is_present x ≡ true
@@ -241,7 +243,8 @@ module _ (m : Notation) (h : HasRoles m) where
       prefixed stage c _ set begin suffix one some is = absurd (grind arith)
 
       begun : (stage : Stage) (c : Cuts) → begins stage ≡ true → nat_lt 0 (c pieces.Suffix) ≡ false → (is_fresh stage ≡ true → nat_lt 0 (d pieces.Sign) ≡ false)
-          → Arrives O m (Some (reading parts.Integer stage false)) c (prefix ++ rest) d → Arrives C m (Some (reading parts.Integer stage false)) c (prefix ++ rest) d
+          → Arrives O m (Some (reading parts.Integer stage false)) c (prefix ++ rest) d
+          → Arrives C m (Some (reading parts.Integer stage false)) c (prefix ++ rest) d
       begun stage c begin suffix unsigned is = elim (cases_Bool (C conditions.BasePrefix)) [
         | inl set ↦ prefixed stage c prefix set begin suffix is_prefix (has_prefix set) is
         | inr none ↦ first_byte stage c (prefix ++ rest) none begin suffix unsigned is

@@ -7,7 +7,8 @@ use Rattle.lexical_util.specs.Roles.{signs}
 use Rattle.lexical_util.specs.declared.format_flags.Part.TheVariants as parts
 use Rattle.lexical_literal.specs.Cause.{all_conditions, requirement_flags}
 use Rattle.lexical_literal.specs.Notation.{Notation}
-use Rattle.lexical_literal.specs.Literal.{Literal, IsLiteral, condition, text_of, requirement, is_absent, is_present, is_float, is_none_or_one, is_none_or_prefix}
+use Rattle.lexical_literal.specs.Literal.{Literal, IsLiteral, condition, text_of, requirement}
+use Rattle.lexical_literal.specs.Literal.{is_absent, is_present, is_float, is_none_or_one, is_none_or_prefix}
 use Rattle.lexical_literal.specs.Readings.{HasTwoReadings}
 use Rattle.lexical_literal.specs.Run.{is_run}
 use Rattle.lexical_literal.specs.Additions.Summary.{implies}

@@ -88,8 +88,10 @@ module _ (m : Notation) (text : List ℕ) where
       let unmet = one_set a.conditions b.conditions (λ c. same_truth (has a.conditions c) (has b.conditions c) (one.conditions c)
       (subst (λ n. (has b.conditions c ≡ true) ↔ IsUnmet m (take n text) (slice_get text n) c) (sym size) (two.conditions c))) (one.groups ∙ sym two.groups) in
       let byte = one.byte ∙ ap (slice_get text) size ∙ sym two.byte in
-      let span = one.span ∙ (λ j. span_of m (marks_of m (take (size j) text)) (byte j) (same.kind j) (lowest (mask j)) (first_unmet (mask j) (unmet j))) ∙ sym two.span in
-      let code = one.code ∙ (λ j. error_of m (marks_of m (take (size j) text)) (same.kind j) (lowest (mask j)) (first_unmet (mask j) (unmet j)) (span j).0) ∙ sym two.code in
+      let span = one.span
+      ∙ (λ j. span_of m (marks_of m (take (size j) text)) (byte j) (same.kind j) (lowest (mask j)) (first_unmet (mask j) (unmet j))) ∙ sym two.span in
+      let code = one.code
+      ∙ (λ j. error_of m (marks_of m (take (size j) text)) (same.kind j) (lowest (mask j)) (first_unmet (mask j) (unmet j)) (span j).0) ∙ sym two.code in
       λ j. record {
         valid_up_to = size j;
         byte = byte j;

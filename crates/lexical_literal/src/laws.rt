@@ -31,7 +31,8 @@ pub fn literal_facts()
 
     // Equivalent words have the same literals. The words and the options may be any.
     ensures same_literals { (a b : ℕ) → normal_form_of a ≡ normal_form_of b → (options : Option Options)
-        → (conditions : Conditions) → (l : Literal) → (text : List ℕ) → Reads (notation_of (record { word = a; options = options; conditions = conditions })) l text
+        → (conditions : Conditions) → (l : Literal) → (text : List ℕ)
+        → Reads (notation_of (record { word = a; options = options; conditions = conditions })) l text
         → Reads (notation_of (record { word = b; options = options; conditions = conditions })) l text }
 
     // Each byte of a literal has the role of its part, or is the zero of a prefix. Digits are those of the radix of

@@ -250,7 +250,7 @@ impl Reader {
 
     // Returns why the byte that follows is not allowed, or what is missing.
     #[cold]
-    const fn refuse_byte(&self, text: &[u8], stop: Stop) -> ReadError
+    fn refuse_byte(&self, text: &[u8], stop: Stop) -> ReadError
         requires stopped { IsStopped (notation_of self.now) text.now stop }
         requires refused { lets (notation_of self.now) (summary_at stop.row) (slice_get text.now stop.size) ≡ false }
         ensures { IsRefusal (notation_of self.now) text.now result.refusal }
@@ -265,7 +265,7 @@ impl Reader {
                 row: stop.row,
                 byte,
                 tail: tail_at(text, size, byte),
-                marks: marks(grammar, text, size),
+                marks: marks(grammar, front_of(text, size)),
                 is_ungrouped: false,
             },
         }

@@ -1,6 +1,6 @@
 //! The bytes to show for a cause, and the error of `lexical-util`.
 
-ghost use Rattle.std.specs.Prelude.{◌≡◌, ◌≤◌, ◌<◌, ◌^◌, length, take};
+ghost use Rattle.std.specs.Prelude.{◌≡◌, ◌<◌, ◌^◌};
 ghost use Rattle.lexical_literal.specs.Additions.Causes.{kind_set};
 ghost use Rattle.lexical_literal.specs.Cause.{behind, condition_span, error_of, first_in, flag_at, is_in, marks_of, requirement_error};
 ghost use Rattle.lexical_literal.specs.Cause.{requirement_span, span_of};
@@ -34,49 +34,46 @@ const fn is_kind(grammar: Grammar, kind: Kind, byte: u8) -> bool
     }
 }
 
-// Returns the index behind the last byte of a kind among the first `end`, or 0 if there is none.
+// Returns the index behind the last byte of a kind, or 0 if there is none.
 #[inline(always)]
-const fn behind(grammar: Grammar, kind: Kind, text: &[u8], end: usize) -> usize
-    requires { end ≤ length text.now }
-    ensures { result ≡ behind (kind_set (notation_of grammar) kind) (take end text.now) }
+const fn behind(grammar: Grammar, kind: Kind, text: &[u8]) -> usize
+    ensures { result ≡ behind (kind_set (notation_of grammar) kind) text.now }
 {
-    let mut index = end;
-    while index > 0 {
-        if is_kind(grammar, kind, text[index - 1]) {
-            return index;
+    let mut front = text;
+    while let [rest @ .., byte] = front {
+        if is_kind(grammar, kind, *byte) {
+            return front.len();
         }
-        index -= 1;
+        front = rest;
     }
     0
 }
 
-// Returns the index of the first byte of a kind among the first `end`, or `end` if there is none.
+// Returns the index of the first byte of a kind, or the length of `text` if there is none.
 #[inline(always)]
-const fn first(grammar: Grammar, kind: Kind, text: &[u8], end: usize) -> usize
-    requires { end ≤ length text.now }
-    ensures { result ≡ first_in (kind_set (notation_of grammar) kind) (take end text.now) }
+const fn first(grammar: Grammar, kind: Kind, text: &[u8]) -> usize
+    ensures { result ≡ first_in (kind_set (notation_of grammar) kind) text.now }
 {
-    let mut index = 0;
-    while index < end {
-        if is_kind(grammar, kind, text[index]) {
-            return index;
+    let mut rest = text;
+    while let [byte, more @ ..] = rest {
+        if is_kind(grammar, kind, *byte) {
+            return text.len() - rest.len();
         }
-        index += 1;
+        rest = more;
     }
-    index
+    text.len()
 }
 
-// Returns what spans and errors of `text` are made of, of which `size` bytes are right.
+// Returns what spans and errors of a text are made of, the right bytes of which are `front`.
 #[inline(always)]
-pub(crate) const fn marks(grammar: Grammar, text: &[u8], size: usize) -> Marks
-    requires { size ≤ length text.now }
-    ensures { result ≡ marks_of (notation_of grammar) (take size text.now) }
+pub(crate) const fn marks(grammar: Grammar, front: &[u8]) -> Marks
+    ensures { result ≡ marks_of (notation_of grammar) front.now }
 {
     Marks {
-        size,
-        exponent: behind(grammar, Kind::Body, text, size),
-        first: first(grammar, Kind::Digit, text, size),
-        run: behind(grammar, Kind::NotSeparator, text, size),
+        size: front.len(),
+        exponent: behind(grammar, Kind::Body, front),
+        first: first(grammar, Kind::Digit, front),
+        run: behind(grammar, Kind::NotSeparator, front),
     }
 }
 

@@ -34,11 +34,7 @@ const fn hidden(double: bool) -> u64
 pub(crate) const fn infinity(double: bool) -> u64
     ensures value { result ≡ ones (format_of double) * hid (format_of double) }
 {
-    if double {
-        0x7ff0_0000_0000_0000
-    } else {
-        0x7f80_0000
-    }
+    if double { 0x7ff << 52 } else { 0xff << 23 }
 }
 
 // Returns the bits of `significand * 2 ^ exponent` least floats, or those of infinity.

@@ -52,6 +52,7 @@ impl Float for f64 {
     ghost value = { λ value. value };
 
     #[inline(always)]
+    #[tactic(auto, using(crate::proofs::TenLemmas::patterns))]
     fn from_magnitude(bits: u64) -> f64 {
         f64::from_bits(bits)
     }
@@ -84,6 +85,7 @@ impl Float for f32 {
     ghost value = { λ value. value };
 
     #[inline(always)]
+    #[tactic(auto, using(crate::proofs::TenLemmas::patterns))]
     fn from_magnitude(bits: u64) -> f32 {
         f32::from_bits(bits as u32)
     }

@@ -37,23 +37,14 @@ const fn push(leading: Leading, radix: u32, digit: u32) -> Leading
     ensures small { result.digits ≤ 2 ^ 90 * radix }
     ensures dropped { result.dropped ≤ leading.dropped + 1 }
 {
-    let Leading {
-        digits,
-        more,
-        dropped,
-    } = leading;
-    if digits < 1 << 90 {
-        Leading {
-            digits: digits * radix as u128 + digit as u128,
-            more,
-            dropped,
-        }
-    } else {
-        Leading {
-            digits,
-            more: more | (digit != 0),
-            dropped: dropped + 1,
-        }
+    if leading.digits < 1 << 90 {
+        let digits = leading.digits * radix as u128 + digit as u128;
+        return Leading { digits, ..leading };
+    }
+    Leading {
+        more: leading.more | (digit != 0),
+        dropped: leading.dropped + 1,
+        ..leading
     }
 }
 

@@ -58,9 +58,6 @@ pub short_numbers : (xs ys : List ℕ) → AllDigits 10 xs → AllDigits 10 ys �
 short_numbers xs ys a b short =
     ap (λ n. n % 2 ^ 64) (ap (λ n. digits_value_after 10 (n % 2 ^ 64) ys) (sym (numbers 0 xs a)) ∙ sym (numbers _ ys b)) ∙ number_short xs ys short
 
-pub short_number : (xs : List ℕ) → AllDigits 10 xs → length xs ≤ 19 → digits_value 10 xs % 2 ^ 64 ≡ number 10 xs
-short_number xs a short = ap (λ n. n % 2 ^ 64) (sym (numbers 0 xs a)) ∙ number_short [] xs (omega arith)
-
 -- What has been read are digits, and their number.
 pub read_digits : (bytes : List ℕ) (before size value : ℕ) → HasRead bytes 0 before size value → AllDigits 10 (take size bytes)
 read_digits bytes before size value r = AllDigits-digits_len bytes size (omega (arith, r.digits))

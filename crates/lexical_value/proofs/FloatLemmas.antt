@@ -28,10 +28,8 @@ of_value P r l n m b e k s N M B E K S is =
 pub of_decimal : (P : ℕ → ℕ → Type 0) (r : Record) (l : Literal) (n e : ℕ) (s : Bool) → TakesDecimals r → AllDigits 10 l.fraction
     → n ≡ number 10 (l.integer ++ l.fraction) → e ≡ number 10 l.exponent → s ≡ is_minus l.exponent_sign
     → P (n * raised_up s 10 e) (10 ^ length l.fraction * raised_down s 10 e) → P (numerator r l) (denominator r l)
-of_decimal P r l n e s decimal digits N E =
-    of_value P r l n 10 10 e (length l.fraction) s (N ∙ ap (λ radix. number radix (l.integer ++ l.fraction)) (sym decimal.radix))
-    (sym decimal.radix) (sym decimal.base) (E ∙ ap (λ radix. number radix l.exponent) (sym decimal.exponent_radix))
-    (sym (counted l.fraction digits) ∙ ap (λ radix. places radix l.fraction) (sym decimal.radix))
+of_decimal P r l n e s decimal digits N E S is =
+    rw (decimal.base, decimal.exponent_radix, decimal.radix, counted l.fraction digits, ← N, ← E, ← S) is
 
 -- A rounded fraction is no NaN.
 odd_number : (d : ℕ) (s : Bool) (q k l : ℕ) → is_nan (odd d s q k l) ≡ false

@@ -1,7 +1,6 @@
 -- Digits alone, in each part that is announced, are a literal of a syntax that requires no more.
-use Rattle.std.proofs.Common.{ℕ, ◌≡◌, ◌≢◌, ◌<◌, ◌++◌, ◌⊎◌, ◌||◌, inl, inr, append-nil, drop, Bool, true, false, cond, IsTrue, IsSome, List, [], ◌∷◌, length, slice_index, nat_lt}
+use Rattle.std.proofs.Common.{ℕ, ◌≡◌, ◌≢◌, ◌<◌, ◌++◌, ◌⊎◌, ◌||◌, inl, inr, append-nil, drop, true, false, IsTrue, IsSome, List, [], ◌∷◌, length, slice_index, nat_lt}
 use Rattle.std.proofs.Common.{refl, sym, ap, ◌∙◌, subst, arith, ℤ, Option, Some, None, IfSome, option_map}
-use Rattle.std.proofs.lemmas.Bool.{false≢true}
 use Rattle.std.specs.List.{AllByRecursion}
 use Rattle.std.specs.Option.{SomeIff}
 use lib.Seq.{drop_at}
@@ -20,7 +19,6 @@ use Rattle.lexical_literal.specs.Run.{are_fit}
 use Rattle.lexical_literal.specs.Takes.{Takes}
 use Rattle.lexical_literal.specs.Groups.{has_groups}
 use Rattle.lexical_literal.specs.declared.syntax.Condition.{Condition}
-use Rattle.lexical_literal.specs.declared.syntax.Condition.TheVariants as conditions
 use Rattle.lexical_literal.specs.declared.syntax.Grammar.{Grammar}
 use Rattle.lexical_value.specs.Private.{AllowPlain, IsSpelled, TakesDecimals, unsigned}
 use Rattle.lexical_value.specs.Value.{is_minus}
@@ -66,9 +64,12 @@ module _ (g : Grammar) (sign integer point fraction character exponent_sign expo
       (digits : AllIn (m.digit parts.Integer) integer) where
     -- A condition requires nothing that is not there.
     admitted : (c : Condition) → IsTrue (has g.conditions c) → IsTrue (is_none_or_one signs sign) → IsTrue (condition c plain)
-    admitted conditions.BasePrefix set is = absurd (false≢true (sym allow.prefix ∙ set))
-    admitted conditions.BaseSuffix set is = absurd (false≢true (sym allow.suffix ∙ set))
-    admitted conditions.NegativeSign set is = positive sign (allow.sign set) is
+    admitted c set is =
+        let prefix = allow.prefix in
+        let suffix = allow.suffix in
+        let minus = allow.sign in
+        let signed = positive sign in
+        grind arith
       where
         positive : (sign : List ℕ) → is_minus sign ≡ false → IsTrue (is_none_or_one signs sign) → IsTrue (is_absent sign || is_plus sign)
         positive [] not_minus is = refl
@@ -129,11 +130,7 @@ unsigned_is l text whole prefix suffix =
 pub are_digits : (radix own : ℕ) (bytes : List ℕ) → radix ≡ own → AllByRecursion (λ byte. IsSome (digit_of byte radix)) bytes
     → AllByRecursion (λ byte. IsTrue (nat_lt (byte_value byte) own)) bytes
 are_digits radix own [] same all = tt
-are_digits radix own (byte ∷ bytes) same all = (ap (λ r. nat_lt (byte_value byte) r) (sym same) ∙ go _ all.0, are_digits radix own bytes same all.1)
-  where
-    go : (test : Bool) → IsSome (cond test (Some (byte_value byte)) None) → IsTrue test
-    go true some = refl
-    go false some = absurd (let apart : false ≡ true = some in cc)
+are_digits radix own (byte ∷ bytes) same all = let digit = all.0 in (grind (arith, same), are_digits radix own bytes same all.1)
 
 -- What holds of the value that a type has holds of the value that is returned.
 pub if_fits : {T : Type 0} (value : T → ℤ) (Is : ℤ → Type 0) (Fits : Type 0) (z : ℤ) (result : Option T) → SomeIff (option_map value result) Fits z

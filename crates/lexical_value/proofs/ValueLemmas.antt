@@ -1,11 +1,10 @@
 -- On what the value of a literal does not depend.
-use Rattle.std.proofs.Common.{ℕ, ◌≡◌, ◌*◌, ◌<◌, ◌^◌, Bool, true, false, not, cond, if◌then◌else◌, IsTrue, IsFalse, List, [], ◌∷◌, ◌++◌, filter, map, nat_lt}
+use Rattle.std.proofs.Common.{ℕ, ◌≡◌, ◌*◌, ◌<◌, ◌^◌, cond, if◌then◌else◌, IsTrue, IsFalse, List, [], ◌∷◌, ◌++◌, nat_lt}
 use Rattle.std.proofs.Common.{Some, None, refl, sym, ap, ◌∙◌, arith, append-nil, length}
 use Rattle.std.proofs.Math.Nat.{pow-zero}
 use Rattle.std.proofs.lemmas.Bool.Decides.{nat_tests}
 use Rattle.std.proofs.lemmas.List.Elements.{filter_map-append}
 use Rattle.std.specs.Int.Digits.{number_from_digits}
-use Rattle.std.specs.List.{cons_option}
 use Rattle.std.specs.Prelude.{◌==◌, position, unwrap_or}
 use Rattle.lexical_util.specs.Digits.{byte_value, digit_characters, digit_of, uppercase}
 use Rattle.lexical_util.specs.Layout as layout
@@ -15,7 +14,7 @@ use Rattle.lexical_literal.specs.Literal.{Literal, Reads, is_float}
 use Rattle.lexical_literal.specs.Notation.{Notation}
 use Rattle.lexical_number.specs.Number.{digits_in, number}
 use Rattle.lexical_value.specs.Integer.{integer_size}
-use Rattle.lexical_value.specs.Value.{SameDigits, SameValue, is_minus, mantissa, numerator, power, spelled}
+use Rattle.lexical_value.specs.Value.{SameDigits, SameValue, mantissa, numerator, power, spelled}
 
 -- The value depends on the mantissa radix, and on the effective exponent base and radix.
 pub same_word : (r s : Record) (l : Literal) → SameFormat r s → SameValue r l s l
@@ -41,17 +40,7 @@ module _ (m : Notation) (radix : ℕ) (apart : (byte : ℕ) → byte_value byte 
 
   spelled_digits : (bytes : List ℕ) → digits_in radix (spelled m bytes) ≡ digits_in radix bytes
   spelled_digits [] = refl
-  spelled_digits (byte ∷ bytes) = go (m.separator byte) refl (spelled_digits bytes)
-    where
-      no_digit : (test : Bool) → nat_lt (byte_value byte) radix ≡ test → m.separator byte ≡ true → cond test (Some (byte_value byte)) None ≡ None
-      no_digit true is separator = absurd (apart byte (grind (arith, nat_tests)) separator)
-      no_digit false is separator = refl
-
-      go : (test : Bool) → m.separator byte ≡ test → digits_in radix (spelled m bytes) ≡ digits_in radix bytes
-          → digits_in radix (map uppercase (cond (not test) (byte ∷ filter (λ b. not (m.separator b)) bytes) (filter (λ b. not (m.separator b)) bytes)))
-          ≡ digits_in radix (byte ∷ bytes)
-      go true is rest = rest ∙ sym (ap (λ d. cons_option d (digits_in radix bytes)) (no_digit _ refl is))
-      go false is rest = (λ i. cons_option (same_digit byte i) (rest i))
+  spelled_digits (byte ∷ bytes) = let rest = spelled_digits bytes in let same = same_digit byte in let none = apart byte in grind (arith, nat_tests)
 
   -- Two runs that are spelled alike have the same digits.
   pub same_digits : (xs ys : List ℕ) → spelled m xs ≡ spelled m ys → digits_in radix xs ≡ digits_in radix ys
@@ -92,8 +81,4 @@ integer_numerator m r l text reads whole =
     ap (number (r.byte layout.mantissa_radix)) (ap (λ bytes. l.integer ++ bytes) fraction ∙ append-nil l.integer) in
     let base = effective_exponent_base r in
     let one : power r l ≡ 1 = ap (λ bytes. base ^ number (effective_exponent_radix r) bytes) exponent ∙ pow-zero base in
-    times_one (is_minus l.exponent_sign) _ _ one ∙ same
-  where
-    times_one : (minus : Bool) (size n : ℕ) → n ≡ 1 → size * (if minus then 1 else n) ≡ size
-    times_one true size n one = omega arith
-    times_one false size n one = ap (λ k. size * k) one ∙ omega arith
+    grind (arith, same, one)

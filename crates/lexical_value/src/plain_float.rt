@@ -1,6 +1,6 @@
 //! Decimal floats without separators, prefix and suffix, which take less time.
 
-ghost use Rattle.std.specs.Prelude.{◌≡◌, ◌==◌, ◌||◌, ◌++◌, ◌%◌, ◌^◌, ◌≤◌, false, length, take, IfSome, IsTrue, Some};
+ghost use Rattle.std.specs.Prelude.{◌≡◌, ◌==◌, ◌||◌, ◌++◌, ◌%◌, ◌^◌, false, IfSome, IsTrue, Some};
 ghost use Rattle.std.specs.Float.Ieee.{round};
 ghost use Rattle.std.specs.Str.Parse.{AllDigits, digits_value_after};
 ghost use Rattle.lexical_util.specs.Record.{Record, raw};
@@ -166,33 +166,19 @@ fn take_digits<'a>(bytes: &'a [u8], before: u64) -> Run<'a>
     ensures digits { AllDigits 10 result.digits.now }
     ensures value { result.value ≡ digits_value_after 10 before result.digits.now % 2 ^ 64 }
 {
-    let (size, value) = sum_digits(bytes, before);
+    let mut size = 0;
+    let mut value = before;
+    while size < bytes.len() && bytes[size].wrapping_sub(b'0') <= 9 {
+        let digit = bytes[size].wrapping_sub(b'0');
+        value = value.wrapping_mul(10).wrapping_add(digit as u64);
+        size += 1;
+    }
     let (digits, rest) = bytes.split_at(size);
     Run {
         digits,
         rest,
         value,
     }
-}
-
-// Returns the number of digits that `bytes` begins with, and the number that they represent after others, modulo `2 ^ 64`.
-#[inline(always)]
-const fn sum_digits(bytes: &[u8], before: u64) -> (usize, u64)
-    ensures within { result.0 ≤ length bytes.now }
-    ensures digits { AllDigits 10 (take result.0 bytes.now) }
-    ensures value { result.1 ≡ digits_value_after 10 before (take result.0 bytes.now) % 2 ^ 64 }
-{
-    let mut size = 0;
-    let mut value = before;
-    while size < bytes.len() {
-        let digit = bytes[size].wrapping_sub(b'0');
-        if digit > 9 {
-            break;
-        }
-        value = value.wrapping_mul(10).wrapping_add(digit as u64);
-        size += 1;
-    }
-    (size, value)
 }
 
 // Splits off the decimal point if `bytes` begins with it.

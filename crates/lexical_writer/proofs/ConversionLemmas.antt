@@ -37,11 +37,12 @@ source_is : (bytes : Bor (List ℕ)) (from to : ℕ) (source : Source) → sourc
 source_is bytes from to source is = grind (arith, nat_tests)
 
 fraction_is : (radix : ℕ) (a : Bool) (bytes : Bor (List ℕ))
-    → values_of radix (unwrap_or (option_map sources.Bytes (if a && is_absent bytes.now then None else Some bytes)) (sources.Number 0)) ≡ digits_in radix bytes.now
+    → values_of radix (unwrap_or (option_map sources.Bytes (if a && is_absent bytes.now then None else Some bytes)) (sources.Number 0))
+    ≡ digits_in radix bytes.now
 fraction_is radix a bytes = grind arith
 
-no_bytes : (a : Bool) (bytes : List ℕ) → (a || is_present bytes) ≡ false → bytes ≡ []
-no_bytes a bytes none = grind arith
+no_number : (radix : ℕ) (bytes : List ℕ) (a : Bool) → (a || is_present bytes) ≡ false → number radix bytes ≡ 0
+no_number radix bytes a none = grind arith
 
 module _ (r : Record) (parts : Parts) (s : Record) where
   -- `IsAmount amount` holds if `amount` has the signs and the digits of `parts`. An exponent that it lacks is 0.
@@ -52,7 +53,7 @@ module _ (r : Record) (parts : Parts) (s : Record) where
     fraction : values_of (s.byte layout.mantissa_radix) (given_fraction amount) ≡ digits_in (s.byte layout.mantissa_radix) parts.fraction.now
     exponent : size_of (effective_exponent_radix s) (given_power amount).source ≡ number (effective_exponent_radix r) parts.exponent.now
     power : (((given_power amount).negative ≡ is_minus parts.exponent_sign.now) × (effective_exponent_base r ≡ effective_exponent_base s))
-        ⊎ (parts.exponent.now ≡ [])
+        ⊎ (number (effective_exponent_radix r) parts.exponent.now ≡ 0)
 
   is_amount : (amount : Amount) → amount_of r parts s ≡ Ok amount → IsAmount amount
   is_amount amount is = record {
@@ -62,22 +63,22 @@ module _ (r : Record) (parts : Parts) (s : Record) where
     fraction =
         let given : amount.fraction ≡ fraction_of parts = grind (arith, nat_tests) in
         rw given (fraction_is (s.byte layout.mantissa_radix) (is_absent parts.point.now) parts.fraction);
-    exponent = grind (arith, nat_tests, source_is, no_bytes);
-    power = grind (arith, nat_tests, no_bytes);
+    exponent = grind (arith, nat_tests, source_is, no_number);
+    power = grind (arith, nat_tests, no_number);
   }
 
 -- The factors by which the number is multiplied and divided.
-same_powers : (given written : Bool) (b c n k : ℕ) → k ≡ c ^ n → ((written ≡ given) × (b ≡ c)) ⊎ (n ≡ 0)
+same_powers : (given negative written : Bool) (b c n k : ℕ) → written ≡ negative → k ≡ c ^ n → ((negative ≡ given) × (b ≡ c)) ⊎ (n ≡ 0)
     → ((if written then 1 else k) ≡ (if given then 1 else b ^ n)) × ((if written then k else 1) ≡ (if given then b ^ n else 1))
-same_powers given written b c n k is (inl same) = (cc, cc)
-same_powers given written b c n k is (inr none) =
+same_powers given negative written b c n k sign is (inl same) = (cc, cc)
+same_powers given negative written b c n k sign is (inr none) =
     let one : b ^ n ≡ 1 = rw none (pow-zero b) in
     let other : k ≡ 1 = is ∙ (rw none (pow-zero c)) in
     (grind arith, grind arith)
 
 -- What has the digits of the amount of a literal has its value.
-pub same_fraction : (r : Record) (parts : Parts) (g : Grammar) (amount : Amount) → amount_of r parts (raw g.word) ≡ Ok amount → (l : Literal) → HasNumber g amount l
-    → SameFraction r (literal_of parts) (raw g.word) l
+pub same_fraction : (r : Record) (parts : Parts) (g : Grammar) (amount : Amount) → amount_of r parts (raw g.word) ≡ Ok amount
+    → (l : Literal) → HasNumber g amount l → SameFraction r (literal_of parts) (raw g.word) l
 same_fraction r parts g amount is l has =
     let a = is_amount r parts (raw g.word) amount is in
     let s = raw g.word in
@@ -100,16 +101,9 @@ same_fraction r parts g amount is l has =
       fraction =
           let up = if is_minus k.exponent_sign then 1 else power r k in
           let down = if is_minus k.exponent_sign then power r k else 1 in
-          let powers = same_powers (is_minus k.exponent_sign) (is_minus l.exponent_sign) (effective_exponent_base r) (effective_exponent_base s)
-          (number (effective_exponent_radix r) parts.exponent.now) (power s l) written_power (signs a.power) in
+          let powers = same_powers (is_minus k.exponent_sign) (given_power amount).negative (is_minus l.exponent_sign) (effective_exponent_base r)
+          (effective_exponent_base s) (number (effective_exponent_radix r) parts.exponent.now) (power s l) has.exponent_sign written_power a.power in
           (λ i. (given_mantissa i * up) * (written_scale i * powers.1 i))
           ∙ cross (number_from_digits_after radix front places) (radix ^ length places) factor.0 up down
           ∙ sym (λ i. (written_mantissa i * powers.0 i) * (given_scale i * down));
     }
-  where
-    signs : (((given_power amount).negative ≡ is_minus parts.exponent_sign.now) × (effective_exponent_base r ≡ effective_exponent_base (raw g.word)))
-        ⊎ (parts.exponent.now ≡ [])
-        → ((is_minus l.exponent_sign ≡ is_minus parts.exponent_sign.now) × (effective_exponent_base r ≡ effective_exponent_base (raw g.word)))
-        ⊎ (number (effective_exponent_radix r) parts.exponent.now ≡ 0)
-    signs (inl same) = inl (has.exponent_sign ∙ same.0, same.1)
-    signs (inr none) = inr (ap (number (effective_exponent_radix r)) none)

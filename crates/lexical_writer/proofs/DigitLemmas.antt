@@ -1,6 +1,6 @@
 -- Digits and their characters.
 use Rattle.std.proofs.Common.{ℕ, ◌≡◌, ◌+◌, ◌*◌, ◌<◌, ◌≤◌, ◌||◌, Bool, true, false, cond, nat_lt, List, [], ◌∷◌, ◌++◌, length, drop, get_or}
-use Rattle.std.proofs.Common.{◌-◌, ◌/◌, ◌%◌, map, set, slice_get, option_to_list, Some, None, refl, sym, ap, ◌∙◌, arith, append-nil, drop-cons}
+use Rattle.std.proofs.Common.{◌-◌, ◌/◌, ◌%◌, map, set, slice_get, option_to_list, Some, None, refl, sym, ap, ◌∙◌, arith, suc, drop-cons}
 use Rattle.std.proofs.lemmas.Int.Digits.{all_below_base_digits_of, digits_of_step, first_digits_of}
 use Rattle.std.proofs.lemmas.List.{append_assoc, drop-set, map_push}
 use Rattle.std.proofs.lemmas.Bool.Decides.{nat_tests}
@@ -29,34 +29,30 @@ pub values_below : (radix : ℕ) (source : Source) → 2 ≤ radix → AllBelowB
 values_below radix (sources.Bytes bytes) two = digits_below radix bytes.now
 values_below radix (sources.Number n) two = all_below_base_digits_of radix n two
 
--- The digits of a number, of which `digits` are the last ones.
-after : (radix n : ℕ) (digits : List ℕ) → 2 ≤ radix → 0 < n → AllBelowBase radix digits
-    → digits_of radix (number_from_digits_after radix n digits) ≡ digits_of radix n ++ digits
-after radix n [] two some all = sym (append-nil (digits_of radix n))
-after radix n (d ∷ digits) two some all =
-    after radix (n * radix + d) digits two (more n radix d some two) all.1
-    ∙ ap (λ front. front ++ digits) (digits_of_step radix (n * radix + d) two (more n radix d some two)
-    ∙ (λ i. digits_of radix (div-mul-add n radix d all.0 i) ++ mod-mul-add n radix d all.0 i ∷ []))
-    ∙ append_assoc (digits_of radix n) (d ∷ []) digits
-  where
-    more : (n radix d : ℕ) → 0 < n → 2 ≤ radix → 0 < n * radix + d
-    more n radix d some two = grind arith
+-- Digits that follow those of a number, and do not begin the whole with a zero, are digits of the whole.
+last : (radix n d : ℕ) → 2 ≤ radix → 0 < n * radix + d → d < radix → digits_of radix (n * radix + d) ≡ digits_of radix n ++ d ∷ []
+last radix n d two some below = digits_of_step radix (n * radix + d) two some
+    ∙ (λ i. digits_of radix (div-mul-add n radix d below i) ++ mod-mul-add n radix d below i ∷ [])
 
--- Digits that do not begin with a zero are those of the number that they represent.
-pub digits_of_number : (radix : ℕ) (digits : List ℕ) → 2 ≤ radix → AllBelowBase radix digits → 0 < get_or digits 0 0
-    → digits ≡ digits_of radix (number_from_digits radix digits)
-digits_of_number radix [] two all some = absurd (omega (arith, some))
-digits_of_number radix (d ∷ digits) two all some =
-    let whole = 0 * radix + d in
-    let one : digits_of radix whole ≡ d ∷ [] = digits_of_step radix whole two (omega (arith, some))
-    ∙ (λ i. digits_of radix (div-mul-add 0 radix d all.0 i) ++ mod-mul-add 0 radix d all.0 i ∷ []) in
-    sym (after radix whole digits two (omega (arith, some)) all.1 ∙ ap (λ front. front ++ digits) one)
+more : (n radix d : ℕ) → 0 < n → 2 ≤ radix → 0 < n * radix + d
+more n radix d some two = grind arith
+
+after : (radix n d : ℕ) (digits : List ℕ) → 2 ≤ radix → 0 < n * radix + d → AllBelowBase radix (d ∷ digits)
+    → digits_of radix (number_from_digits_after radix n (d ∷ digits)) ≡ digits_of radix n ++ d ∷ digits
+after radix n d [] two some all = last radix n d two some all.0
+after radix n d (e ∷ digits) two some all =
+    after radix (n * radix + d) e digits two (more (n * radix + d) radix e some two) all.1
+    ∙ ap (λ front. front ++ e ∷ digits) (last radix n d two some all.0) ∙ append_assoc (digits_of radix n) (d ∷ []) (e ∷ digits)
 
 -- What is left of the bytes at the index `i`, where a digit other than 0 is.
 pub lead : (radix i d : ℕ) (bytes : List ℕ) → 2 ≤ radix → i < length bytes → digit_of (get_or bytes i 0) radix ≡ Some d → 0 < d
     → digits_in radix (drop i bytes) ≡ digits_of radix (number radix (drop i bytes))
-lead radix i d bytes two inside is some = digits_of_number radix (digits_in radix (drop i bytes)) two (digits_below radix (drop i bytes))
-    (rw (drop-cons bytes i 0 inside, is) some)
+lead radix i d bytes two inside is some =
+    let rest = drop (suc i) bytes in
+    let below : d < radix = grind (arith, nat_tests) in
+    let first : digits_in radix (drop i bytes) ≡ d ∷ digits_in radix rest = rw (drop-cons bytes i 0 inside, is) refl in
+    first ∙ sym (ap (λ digits. digits_of radix (number_from_digits radix digits)) first
+    ∙ after radix 0 d (digits_in radix rest) two (omega arith) (below, digits_below radix rest))
 
 -- The digits among grouped ones are those that were grouped.
 pub grouped_digits : (radix separator group : ℕ) → radix ≤ 36 → (0 < group → digit_of separator radix ≡ None) → (digits : List ℕ) → AllBelowBase radix digits
@@ -78,8 +74,7 @@ pub grouped_plain : (separator : ℕ) (digits : List ℕ) → grouped separator 
 grouped_plain separator [] = refl
 grouped_plain separator (d ∷ digits) =
     let none : ends_group 0 (length digits) ≡ false = grind arith in
-    let rest = grouped_plain separator digits in
-    rw (none, rest) refl
+    rw (none, grouped_plain separator digits) refl
 
 pub read_back : (radix n : ℕ) → 2 ≤ radix → radix ≤ 36 → digits_in radix (map character (digits_of radix n)) ≡ digits_of radix n
 read_back radix n two small = ap (digits_in radix) (sym (grouped_plain 0 (digits_of radix n)))

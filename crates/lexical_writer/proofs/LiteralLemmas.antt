@@ -41,7 +41,7 @@ use Rattle.lexical_writer.specs.declared.run.Source.TheVariants as sources
 use Rattle.std.specs.Borrow.{Bor}
 use Rattle.lexical_writer.specs.declared.layout.Style.{Style}
 use Rattle.lexical_writer.proofs.DigitLemmas.{grouped_digits, grouped_present, values_below, zero_below, zero_number}
-use Rattle.lexical_writer.proofs.GroupLemmas.{grouped_rest, no_leading_zero, right_groups}
+use Rattle.lexical_writer.proofs.GroupLemmas.{Between, grouped_rest, no_leading_zero, right_groups}
 
 -- The flags of a lawful format agree.
 agree : (word : ℕ) → Lawful word → (((raw word).flag layout.no_exponent_notation && (raw word).flag layout.required_exponent_notation) ≡ false)
@@ -108,7 +108,8 @@ fraction_is_float integer fraction other radix byte exponent some = grind arith
 
 no_power : (power : Option Power) (other required : Bool) (byte radix : ℕ) → is_absent (option_to_list (only_if (is_some power || other) byte)) ≡ true
     → (option_to_list (sign_of (unwrap_or power (record { negative = false; source = sources.Number 0 })).negative ((is_some power || other) && required)) ≡ [])
-    × (grouped 0 0 (or_zero (is_some power || other) (digits_of radix (size_of radix (unwrap_or power (record { negative = false; source = sources.Number 0 })).source))) ≡ [])
+    × (grouped 0 0 (or_zero (is_some power || other) (digits_of radix
+    (size_of radix (unwrap_or power (record { negative = false; source = sources.Number 0 })).source))) ≡ [])
 no_power power other required byte radix absent = (grind arith, grind arith)
 
 -- The radixes of a lawful format are between 2 and 36.
@@ -157,11 +158,7 @@ module _ (g : Grammar) (style : Style) (amount : Amount) (is : IsSyntax g)
       let small : radix_of r part ≤ 36 = (radixes g.word is.lawful part).1 in
       lt-ltb (byte_value (character d)) (radix_of r part) (omega (arith, byte_value-digit_character d (omega arith)))
 
-  abbrev Between : Part → ℕ → ℕ → Type 0
-  Between part separator group =
-      0 < group → (m.separator separator ≡ true) × (m.flag (layout.separators_in part).internal ≡ true) × (m.digit part separator ≡ false)
-
-  run : (part : Part) (separator group : ℕ) (zero : Bool) (digits : List ℕ) → Between part separator group → AllBelowBase (radix_of r part) digits
+  run : (part : Part) (separator group : ℕ) (zero : Bool) (digits : List ℕ) → Between m part separator group → AllBelowBase (radix_of r part) digits
       → (is_run m part (grouped separator group (or_zero zero digits)) ≡ true)
       × (digits_in (radix_of r part) (grouped separator group (or_zero zero digits)) ≡ or_zero zero digits)
   run part separator group zero digits between all =
@@ -173,7 +170,7 @@ module _ (g : Grammar) (style : Style) (amount : Amount) (is : IsSyntax g)
             (or_zero zero digits) below,
       )
 
-  between : Between parts.Integer separator group
+  between : Between m parts.Integer separator group
   between some =
       let internal : r.flag layout.integer_internal_digit_separator ≡ true = grind arith in
       let byte : (separator == 0) ≡ false = grind arith in
@@ -181,7 +178,7 @@ module _ (g : Grammar) (style : Style) (amount : Amount) (is : IsSyntax g)
       let in_use : sets.used_separator r separator ≡ true = grind arith in
       (in_use, internal, false_from_ne_true _ (λ below. apart separator (ltb-true _ _ below) in_use))
 
-  plain : (part : Part) → Between part 0 0
+  plain : (part : Part) → Between m part 0 0
   plain part some = absurd (omega (arith, some))
 
   integer_run : (is_run m parts.Integer l.integer ≡ true)
@@ -196,8 +193,10 @@ module _ (g : Grammar) (style : Style) (amount : Amount) (is : IsSyntax g)
 
   exponent_run : (is_run m parts.Exponent l.exponent ≡ true)
       × (digits_in exponent_radix l.exponent ≡ or_zero (has_exponent g amount) (digits_of exponent_radix (size_of exponent_radix (given_power amount).source)))
-  exponent_run = run parts.Exponent 0 0 (has_exponent g amount) (digits_of exponent_radix (size_of exponent_radix (given_power amount).source))
-      (plain parts.Exponent) (all_below_base_digits_of exponent_radix (size_of exponent_radix (given_power amount).source) (radixes g.word is.lawful parts.Exponent).0)
+  exponent_run =
+      let size = size_of exponent_radix (given_power amount).source in
+      run parts.Exponent 0 0 (has_exponent g amount) (digits_of exponent_radix size) (plain parts.Exponent)
+      (all_below_base_digits_of exponent_radix size (radixes g.word is.lawful parts.Exponent).0)
 
   same_number : (radix n : ℕ) (zero : Bool) (bytes : List ℕ) → 2 ≤ radix → digits_in radix bytes ≡ or_zero zero (digits_of radix n) → number radix bytes ≡ n
   same_number radix n zero bytes two is = ap (number_from_digits radix) is ∙ zero_number radix zero (digits_of radix n) ∙ number_digits_of radix n two
@@ -245,9 +244,6 @@ module _ (g : Grammar) (style : Style) (amount : Amount) (is : IsSyntax g)
       ≡ ((has_point g amount && r.flag layout.required_fraction_digits) || is_present (values_of radix (given_fraction amount)))
   fraction_present = grouped_present 0 0 (has_point g amount && r.flag layout.required_fraction_digits) (values_of radix (given_fraction amount))
 
-  exponent_present : is_present l.exponent ≡ (has_exponent g amount || is_present (digits_of exponent_radix (size_of exponent_radix (given_power amount).source)))
-  exponent_present = grouped_present 0 0 (has_exponent g amount) (digits_of exponent_radix (size_of exponent_radix (given_power amount).source))
-
   some_digits : (is_present l.integer || is_present (values_of radix (given_fraction amount))) ≡ true
   some_digits = rw integer_present (zero_or_digits (r.flag layout.required_integer_digits) _ (is_absent (values_of radix (given_fraction amount))) _)
 
@@ -262,7 +258,8 @@ module _ (g : Grammar) (style : Style) (amount : Amount) (is : IsSyntax g)
   some_exponent set = grind arith
 
   exponent_digits : (is_absent l.exponent_character || is_present l.exponent) ≡ true
-  exponent_digits = rw exponent_present (grind arith)
+  exponent_digits =
+      rw (grouped_present 0 0 (has_exponent g amount) (digits_of exponent_radix (size_of exponent_radix (given_power amount).source))) (grind arith)
 
   met : (f : Flag) → IsTrue (m.flag f) → IsTrue (requirement f m l)
   met layout.required_integer_digits set = integer_present ∙ or_left _ _ (or_left _ _ set)

@@ -1,6 +1,6 @@
 -- How a number is laid out as a literal.
-use Rattle.std.specs.Prelude.{ℕ, ◌≡◌, suc, ℤ, pos, negsuc, ◌==◌, ◌&&◌, ◌||◌, not, Bool, false, true, if◌then◌else◌, List, [], ◌∷◌, Option, Some, None, Result, Ok}
-use Rattle.std.specs.Prelude.{Err, is_some, option_map, option_to_list, unwrap_or}
+use Rattle.std.specs.Prelude.{ℕ, ◌≡◌, suc, ℤ, pos, negsuc, ◌==◌, ◌&&◌, ◌||◌, not, Bool, false, true, if◌then◌else◌, List, ◌++◌, Option, Some, None}
+use Rattle.std.specs.Prelude.{Result, Ok, Err, is_some, option_map, option_to_list, unwrap_or}
 use Rattle.std.specs.Int.Digits.{digits_of}
 use Rattle.lexical_util.specs.Layout as layout
 use Rattle.lexical_util.specs.Record.{Record, raw, effective_exponent_radix}
@@ -23,8 +23,7 @@ use Rattle.lexical_writer.specs.declared.layout.WriteError.TheVariants as errors
 
 -- `after_zero byte` is a zero and `byte`, or nothing if `byte` is absent.
 abbrev pub after_zero : Option ℕ → List ℕ
-after_zero None = []
-after_zero (Some byte) = 48 ∷ byte ∷ []
+after_zero byte = option_to_list (only_if (is_some byte) 48) ++ option_to_list byte
 
 -- `literal_of layout` is the literal with the parts of `layout`.
 abbrev pub literal_of : Layout → Literal

@@ -9,6 +9,7 @@ ghost use Rattle.lexical_writer.specs.Digits.{character, ends_group, grouped, on
 use crate::run::{Run, Source};
 use crate::sink::Sink;
 use lexical_base::digit::{char_to_digit, digit_to_char};
+use lexical_number::parts::count;
 
 // Returns what follows the zeros that the digits among bytes begin with.
 pub(crate) fn without_zeros(bytes: &[u8], radix: u32) -> &[u8]
@@ -23,21 +24,6 @@ pub(crate) fn without_zeros(bytes: &[u8], radix: u32) -> &[u8]
         index += 1;
     }
     &[]
-}
-
-// Returns the number of digits among bytes.
-pub(crate) fn count(bytes: &[u8], radix: u32) -> usize
-    ensures { result ≡ places radix bytes.now }
-{
-    let mut count = 0;
-    let mut index = 0;
-    while index < bytes.len() {
-        if char_to_digit(bytes[index], radix).is_some() {
-            count += 1;
-        }
-        index += 1;
-    }
-    count
 }
 
 // Returns a number without its last digit, and this digit.

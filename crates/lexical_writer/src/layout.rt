@@ -8,14 +8,15 @@ ghost use Rattle.lexical_literal.specs.Literal.{is_present, text_of};
 ghost use Rattle.lexical_literal.specs.Syntax.{IsSyntax};
 ghost use Rattle.lexical_literal.specs.Takes.{Takes};
 ghost use Rattle.lexical_writer.specs.Digits.{grouped, only_if, or_zero, run_text, size_of, values_of};
-ghost use Rattle.lexical_writer.specs.Layout.{after_zero, base_byte, given_fraction, group_of, has_exponent, has_point, has_zero};
+ghost use Rattle.lexical_writer.specs.Layout.{base_byte, given_fraction, group_of, has_zero};
 ghost use Rattle.lexical_writer.specs.Layout.{HasNumber, IsLaidOut, literal_of, needs_exponent, refusal, sign_of};
 ghost use Rattle.lexical_writer.specs.Private.{IsTaken};
 
-use crate::digits::{count, only_if, put_if_any, without_zeros};
+use crate::digits::{only_if, put_if_any, without_zeros};
 use crate::run::{Run, Source};
 use crate::sink::{Sink, Window};
 use lexical_literal::syntax::{Conditions, Options, Syntax};
+use lexical_number::parts::count;
 use lexical_util::format::{NumberFormat, base_prefix, base_suffix, digit_separator};
 use lexical_util::laws::byte_facts;
 
@@ -115,7 +116,8 @@ impl Layout<'_> {
             → S.has start sink.new (text ++ text_of (literal_of self.now)) }
     {
         put_if_any(sink, self.sign);
-        put_prefix(sink, self.prefix);
+        put_if_any(sink, only_if(self.prefix.is_some(), b'0'));
+        put_if_any(sink, self.prefix);
         self.integer.put(sink);
         put_if_any(sink, self.point);
         self.fraction.put(sink);
@@ -123,17 +125,6 @@ impl Layout<'_> {
         put_if_any(sink, self.exponent_sign);
         self.exponent.put(sink);
         put_if_any(sink, self.suffix);
-    }
-}
-
-// Writes a zero and a byte, if there is one.
-fn put_prefix<S: Sink>(sink: &mut S, byte: Option<u8>)
-    ensures { (start : S) → (text : List ℕ) → S.has start sink.old text
-        → S.has start sink.new (text ++ after_zero byte) }
-{
-    if let Some(byte) = byte {
-        sink.put(b'0');
-        sink.put(byte);
     }
 }
 
@@ -197,6 +188,7 @@ impl<'a> Amount<'a> {
     /// # Errors
     ///
     /// If no literal has this form, returns why.
+    #[inline(always)]
     pub fn lay_out(&self, syntax: &Syntax, style: Style) -> Result<Layout<'a>, WriteError>
         ensures parts { IsLaidOut syntax.now style self.now result }
         ensures literal { IfOk result (λ layout. Takes syntax.now (literal_of layout) (text_of (literal_of layout))) }
@@ -207,7 +199,8 @@ impl<'a> Amount<'a> {
         self.plan(syntax, style)
     }
 
-    // Returns the parts of the literal.
+    // Returns the parts of the literal. For an integer, which has no fraction and no exponent, inlining takes less time.
+    #[inline(always)]
     fn plan(&self, syntax: &Syntax, style: Style) -> Result<Layout<'a>, WriteError>
         ensures lawful { IsSyntax syntax.now }
         ensures parts { IsLaidOut syntax.now style self.now result }
@@ -226,7 +219,8 @@ impl<'a> Amount<'a> {
             negative: false,
             source: Source::Number(0),
         });
-        let (point, exponent) = (self.has_point(syntax), self.has_exponent(syntax));
+        let exponent = self.exponent.is_some() | needs_exponent(syntax);
+        let point = self.fraction.is_some() | (exponent & format.no_exponent_without_fraction());
         Ok(Layout {
             sign: sign_of(self.negative, format.required_mantissa_sign()),
             prefix: base_byte(
@@ -271,21 +265,6 @@ impl<'a> Amount<'a> {
         } else {
             None
         }
-    }
-
-    // Returns whether an exponent is written.
-    fn has_exponent(&self, syntax: &Syntax) -> bool
-        ensures { result ≡ has_exponent syntax.now self.now }
-    {
-        self.exponent.is_some() || needs_exponent(syntax)
-    }
-
-    // Returns whether a decimal point is written.
-    fn has_point(&self, syntax: &Syntax) -> bool
-        ensures { result ≡ has_point syntax.now self.now }
-    {
-        let required = syntax.format().view().no_exponent_without_fraction();
-        self.fraction.is_some() || (self.has_exponent(syntax) && required)
     }
 
     // Returns whether a 0 stands for absent integer digits.

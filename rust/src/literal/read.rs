@@ -181,7 +181,7 @@ impl Reader {
                 row: stop.row,
                 byte,
                 tail: tail_at(text, size, byte),
-                marks: marks(grammar, text, size),
+                marks: marks(grammar, front_of(text, size)),
                 is_ungrouped: false,
             },
         }

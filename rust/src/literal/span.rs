@@ -28,40 +28,40 @@ const fn is_kind(grammar: Grammar, kind: Kind, byte: u8) -> bool {
     }
 }
 
-// Returns the index behind the last byte of a kind among the first `end`, or 0 if there is none.
+// Returns the index behind the last byte of a kind, or 0 if there is none.
 #[inline(always)]
-const fn behind(grammar: Grammar, kind: Kind, text: &[u8], end: usize) -> usize {
-    let mut index = end;
-    while index > 0 {
-        if is_kind(grammar, kind, text[index - 1]) {
-            return index;
+const fn behind(grammar: Grammar, kind: Kind, text: &[u8]) -> usize {
+    let mut front = text;
+    while let [rest @ .., byte] = front {
+        if is_kind(grammar, kind, *byte) {
+            return front.len();
         }
-        index -= 1;
+        front = rest;
     }
     0
 }
 
-// Returns the index of the first byte of a kind among the first `end`, or `end` if there is none.
+// Returns the index of the first byte of a kind, or the length of `text` if there is none.
 #[inline(always)]
-const fn first(grammar: Grammar, kind: Kind, text: &[u8], end: usize) -> usize {
-    let mut index = 0;
-    while index < end {
-        if is_kind(grammar, kind, text[index]) {
-            return index;
+const fn first(grammar: Grammar, kind: Kind, text: &[u8]) -> usize {
+    let mut rest = text;
+    while let [byte, more @ ..] = rest {
+        if is_kind(grammar, kind, *byte) {
+            return text.len() - rest.len();
         }
-        index += 1;
+        rest = more;
     }
-    index
+    text.len()
 }
 
-// Returns what spans and errors of `text` are made of, of which `size` bytes are right.
+// Returns what spans and errors of a text are made of, the right bytes of which are `front`.
 #[inline(always)]
-pub(crate) const fn marks(grammar: Grammar, text: &[u8], size: usize) -> Marks {
+pub(crate) const fn marks(grammar: Grammar, front: &[u8]) -> Marks {
     Marks {
-        size,
-        exponent: behind(grammar, Kind::Body, text, size),
-        first: first(grammar, Kind::Digit, text, size),
-        run: behind(grammar, Kind::NotSeparator, text, size),
+        size: front.len(),
+        exponent: behind(grammar, Kind::Body, front),
+        first: first(grammar, Kind::Digit, front),
+        run: behind(grammar, Kind::NotSeparator, front),
     }
 }
 

@@ -32,9 +32,9 @@ const fn hidden(double: bool) -> u64 {
 #[inline(always)]
 pub(crate) const fn infinity(double: bool) -> u64 {
     if double {
-        0x7ff0_0000_0000_0000
+        0x7ff << 52
     } else {
-        0x7f80_0000
+        0xff << 23
     }
 }
 

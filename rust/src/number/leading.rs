@@ -23,12 +23,11 @@ impl Leading {
 // Returns the leading digits after one more digit.
 #[inline(always)]
 const fn push(leading: Leading, radix: u32, digit: u32) -> Leading {
-    let Leading { digits, more, dropped } = leading;
-    if digits < 1 << 90 {
-        Leading { digits: digits * radix as u128 + digit as u128, more, dropped }
-    } else {
-        Leading { digits, more: more | (digit != 0), dropped: dropped + 1 }
+    if leading.digits < 1 << 90 {
+        let digits = leading.digits * radix as u128 + digit as u128;
+        return Leading { digits, ..leading };
     }
+    Leading { more: leading.more | (digit != 0), dropped: leading.dropped + 1, ..leading }
 }
 
 /// Returns the leading digits after those of `bytes`. Other bytes are skipped.

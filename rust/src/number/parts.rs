@@ -46,20 +46,19 @@ pub const fn raised_bits(
     exponent: u128,
     base_bits: u32,
 ) -> u64 {
-    let Leading { digits, more, dropped } = leading;
-    if digits == 0 {
+    if leading.digits == 0 {
         return 0;
     }
     if exponent == 1 << 90 {
         return if negative { 0 } else { infinity(double) };
     }
     let (up, down) = scales(
-        dropped * radix_bits as u128,
+        leading.dropped * radix_bits as u128,
         places as u128 * radix_bits as u128,
         negative,
         exponent * base_bits as u128,
     );
-    nearest_bits(double, digits, more, up, down)
+    nearest_bits(double, leading.digits, leading.more, up, down)
 }
 
 // Returns the exponents above and below the line of a fraction.

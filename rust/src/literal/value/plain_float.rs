@@ -111,25 +111,15 @@ fn read_plain<'a>(syntax: Syntax, options: Options, text: &'a [u8]) -> Option<Pl
 // Splits off the digits that `bytes` begins with.
 #[inline(always)]
 fn take_digits<'a>(bytes: &'a [u8], before: u64) -> Run<'a> {
-    let (size, value) = sum_digits(bytes, before);
-    let (digits, rest) = bytes.split_at(size);
-    Run { digits, rest, value }
-}
-
-// Returns the number of digits that `bytes` begins with, and the number that they represent after others, modulo `2 ^ 64`.
-#[inline(always)]
-const fn sum_digits(bytes: &[u8], before: u64) -> (usize, u64) {
     let mut size = 0;
     let mut value = before;
-    while size < bytes.len() {
+    while size < bytes.len() && bytes[size].wrapping_sub(b'0') <= 9 {
         let digit = bytes[size].wrapping_sub(b'0');
-        if digit > 9 {
-            break;
-        }
         value = value.wrapping_mul(10).wrapping_add(digit as u64);
         size += 1;
     }
-    (size, value)
+    let (digits, rest) = bytes.split_at(size);
+    Run { digits, rest, value }
 }
 
 // Splits off the decimal point if `bytes` begins with it.

@@ -5,6 +5,7 @@
 use crate::digit::{char_to_digit, digit_to_char};
 use crate::literal::writer::run::{Run, Source};
 use crate::literal::writer::sink::Sink;
+use crate::number::parts::count;
 
 // Returns what follows the zeros that the digits among bytes begin with.
 pub(crate) fn without_zeros(bytes: &[u8], radix: u32) -> &[u8] {
@@ -16,19 +17,6 @@ pub(crate) fn without_zeros(bytes: &[u8], radix: u32) -> &[u8] {
         index += 1;
     }
     &[]
-}
-
-// Returns the number of digits among bytes.
-pub(crate) fn count(bytes: &[u8], radix: u32) -> usize {
-    let mut count = 0;
-    let mut index = 0;
-    while index < bytes.len() {
-        if char_to_digit(bytes[index], radix).is_some() {
-            count += 1;
-        }
-        index += 1;
-    }
-    count
 }
 
 // Returns a number without its last digit, and this digit.

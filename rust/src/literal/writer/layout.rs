@@ -3,9 +3,10 @@
 //! Numbers are laid out as literals.
 
 use crate::literal::syntax::{Conditions, Options, Syntax};
-use crate::literal::writer::digits::{count, only_if, put_if_any, without_zeros};
+use crate::literal::writer::digits::{only_if, put_if_any, without_zeros};
 use crate::literal::writer::run::{Run, Source};
 use crate::literal::writer::sink::{Sink, Window};
+use crate::number::parts::count;
 use crate::word::{base_prefix, base_suffix, digit_separator, FormatView};
 
 /// How numbers are written where a syntax leaves a choice.
@@ -94,7 +95,8 @@ impl Layout<'_> {
     // Writes the text.
     pub(crate) fn put<S: Sink>(&self, sink: &mut S) {
         put_if_any(sink, self.sign);
-        put_prefix(sink, self.prefix);
+        put_if_any(sink, only_if(self.prefix.is_some(), b'0'));
+        put_if_any(sink, self.prefix);
         self.integer.put(sink);
         put_if_any(sink, self.point);
         self.fraction.put(sink);
@@ -102,14 +104,6 @@ impl Layout<'_> {
         put_if_any(sink, self.exponent_sign);
         self.exponent.put(sink);
         put_if_any(sink, self.suffix);
-    }
-}
-
-// Writes a zero and a byte, if there is one.
-fn put_prefix<S: Sink>(sink: &mut S, byte: Option<u8>) {
-    if let Some(byte) = byte {
-        sink.put(b'0');
-        sink.put(byte);
     }
 }
 
@@ -154,11 +148,13 @@ impl<'a> Amount<'a> {
     /// # Errors
     ///
     /// If no literal has this form, returns why.
+    #[inline(always)]
     pub fn lay_out(&self, syntax: &Syntax, style: Style) -> Result<Layout<'a>, WriteError> {
         self.plan(syntax, style)
     }
 
-    // Returns the parts of the literal.
+    // Returns the parts of the literal. For an integer, which has no fraction and no exponent, inlining takes less time.
+    #[inline(always)]
     fn plan(&self, syntax: &Syntax, style: Style) -> Result<Layout<'a>, WriteError> {
         let format = syntax.format().view();
         if let Some(refusal) = self.refusal(syntax) {
@@ -168,7 +164,8 @@ impl<'a> Amount<'a> {
         let conditions = syntax.conditions();
         let options = syntax.options().unwrap_or(Options { exponent: 0, point: 0 });
         let power = self.exponent.unwrap_or(Power { negative: false, source: Source::Number(0) });
-        let (point, exponent) = (self.has_point(syntax), self.has_exponent(syntax));
+        let exponent = self.exponent.is_some() | needs_exponent(syntax);
+        let point = self.fraction.is_some() | (exponent & format.no_exponent_without_fraction());
         Ok(Layout {
             sign: sign_of(self.negative, format.required_mantissa_sign()),
             prefix: base_byte(style.prefix | conditions.required_base_prefix, base_prefix(format.word())),
@@ -201,17 +198,6 @@ impl<'a> Amount<'a> {
         } else {
             None
         }
-    }
-
-    // Returns whether an exponent is written.
-    fn has_exponent(&self, syntax: &Syntax) -> bool {
-        self.exponent.is_some() || needs_exponent(syntax)
-    }
-
-    // Returns whether a decimal point is written.
-    fn has_point(&self, syntax: &Syntax) -> bool {
-        let required = syntax.format().view().no_exponent_without_fraction();
-        self.fraction.is_some() || (self.has_exponent(syntax) && required)
     }
 
     // Returns whether a 0 stands for absent integer digits.

@@ -1,5 +1,6 @@
 -- One byte less.
-use Rattle.std.proofs.Common.{ℕ, ◌≡◌, ◌<◌, ◌≤◌, ◌+◌, ◌-◌, if◌then◌else◌, List, length, take, get_or, ap, sym, ◌∙◌, arith}
+use Rattle.std.proofs.Common.{ℕ, ◌≡◌, ◌+◌, ◌-◌, if◌then◌else◌, List, length, take, get_or, ap, sym, ◌∙◌, arith}
+use Rattle.std.proofs.Math.Seq.{take-length}
 use Rattle.std.proofs.lemmas.List.{take_more, length-take-le}
 use Rattle.lexical_util.specs.Ascii.{ByteSet}
 use Rattle.lexical_literal.specs.Additions.Causes.{kind_set}
@@ -8,24 +9,21 @@ use Rattle.lexical_literal.specs.Notation.{notation_of}
 use Rattle.lexical_literal.proofs.CauseLemmas.{behind_more}
 use Rattle.lexical_literal.proofs.span.behind.Goals as goal
 
-step : (A : ByteSet) (text : List ℕ) (i : ℕ) → 0 < i → i ≤ length text
-    → behind A (take i text) ≡ (if A (get_or text (i - 1) 0) then i else behind A (take (i - 1) text))
-step A text i some within =
-    let size : length (take (i - 1) text) ≡ i - 1 = length-take-le (i - 1) text (omega (arith, within)) in
-    let same : i - 1 + 1 ≡ i = omega (arith, some) in
-    let more = ap (λ n. behind A (take n text)) (sym same) ∙ ap (behind A) (take_more text (i - 1) 0 (omega (arith, some, within)))
-    ∙ behind_more A (take (i - 1) text) (get_or text (i - 1) 0) in
-    more ∙ ap (λ n. if A (get_or text (i - 1) 0) then n else behind A (take (i - 1) text)) (ap (λ n. n + 1) size ∙ same)
+last : (A : ByteSet) (text : List ℕ) (k : ℕ) → length text ≡ k + 1
+    → behind A text ≡ (if A (get_or text k 0) then length text else behind A (take k text))
+last A text k size =
+    let short = length-take-le k text (omega arith) in
+    ap (behind A) (sym (take-length text) ∙ ap (λ n. take n text) size ∙ take_more text k 0 (omega arith)) ∙ behind_more A (take k text) (get_or text k 0)
+    ∙ ap (λ n. if A (get_or text k 0) then n else behind A (take k text)) (omega arith)
 
 pub returns-then-is_kind : goal.returns-then-is_kind
 returns-then-is_kind c =
-    let now = step (kind_set (notation_of c.args.grammar) c.args.kind) c.args.text.now c.loop-index.index c.loop-index-test.true
-    (omega (arith, c.loop-index.invariant.within, c.requires)) in
-    let last = c.loop-index.invariant.last in let is = sym c.is_kind.ensures ∙ c.if-is_kind.true in grind arith
+    let text = c.loop-front.front.now in
+    let now = last (kind_set (notation_of c.args.grammar) c.args.kind) text (length text - 1) (omega arith) in
+    let inv = c.loop-front.invariant in let is = sym c.is_kind.ensures ∙ c.if-is_kind.true in grind arith
 
-pub loop-index-preserved : goal.loop-index-preserved
-loop-index-preserved c =
-    let now = step (kind_set (notation_of c.args.grammar) c.args.kind) c.args.text.now c.loop-index.index c.loop-index-test.true
-    (omega (arith, c.loop-index.invariant.within, c.requires)) in
-    let last = c.loop-index.invariant.last in let is = sym c.is_kind.ensures ∙ c.if-is_kind.false in
-    record { within = omega (arith, c.loop-index.invariant.within); last = grind arith }
+pub loop-front-preserved : goal.loop-front-preserved
+loop-front-preserved c =
+    let text = c.loop-front.front.now in
+    let now = last (kind_set (notation_of c.args.grammar) c.args.kind) text (length text - 1) (omega arith) in
+    let inv = c.loop-front.invariant in let is = sym c.is_kind.ensures ∙ c.if-is_kind.false in grind arith

@@ -1,15 +1,15 @@
-use Rattle.std.proofs.Common.{◌-◌, ◌+◌, ◌≡◌, ◌≤◌, take, drop}
+use Rattle.std.proofs.Common.{◌-◌, ◌+◌, ◌≡◌, ◌≤◌, length}
 use Rattle.lexical_literal.specs.Additions.Causes.{kind_set}
 use Rattle.lexical_literal.specs.Cause.{first_in}
 use Rattle.lexical_literal.specs.Notation.{notation_of}
 use Rattle.lexical_literal.proofs.span.first.Given as goal
 
-abbrev pub invariant-loop-index : goal.invariant-loop-index
-invariant-loop-index l = record {
-  within : l.index ≤ l.end;
-  rest : first_in (kind_set (notation_of l.grammar) l.kind) (take l.end l.text)
-      ≡ l.index + first_in (kind_set (notation_of l.grammar) l.kind) (drop l.index (take l.end l.text));
+abbrev pub invariant-loop-rest : goal.invariant-loop-rest
+invariant-loop-rest l = record {
+  within : length l.rest ≤ length l.text;
+  same : first_in (kind_set (notation_of l.grammar) l.kind) l.text
+      ≡ length l.text - length l.rest + first_in (kind_set (notation_of l.grammar) l.kind) l.rest;
 }
 
-abbrev pub decreases-loop-index : goal.decreases-loop-index
-decreases-loop-index l = l.end - l.index
+abbrev pub decreases-loop-rest : goal.decreases-loop-rest
+decreases-loop-rest l = length l.rest

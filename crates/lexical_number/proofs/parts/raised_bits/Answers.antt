@@ -12,11 +12,11 @@ use Rattle.lexical_number.proofs.LeadingLemmas.{digits_le, few, many}
 use Rattle.lexical_number.proofs.PartsLemmas.{bound, explodes, in_radixes, pow_of, vanishes}
 use Rattle.lexical_number.proofs.parts.raised_bits.Goals as goal
 
-pub returns-then-digits-eq0 : goal.returns-then-digits-eq0
-returns-then-digits-eq0 c n e l h =
+pub returns-then-leading-eq0 : goal.returns-then-leading-eq0
+returns-then-leading-eq0 c n e l h =
     in_radixes (λ num den. IsNearestBits (format_of c.args.double) num den 0) n c.args.radix_bits c.args.places c.args.base_bits e c.args.negative
     (nearest_of_zero (format_of c.args.double) _ _ (pow_pos _)
-    (ap (λ x. x * 2 ^ (if c.args.negative then 0 else e * c.args.base_bits)) (few l (omega arith) ∙ c.if-digits-eq0.true) ∙ omega arith))
+    (ap (λ x. x * 2 ^ (if c.args.negative then 0 else e * c.args.base_bits)) (few l (omega arith) ∙ c.if-leading-eq0.true) ∙ omega arith))
 
 pub returns-then-negative : goal.returns-then-negative
 returns-then-negative c n e l h =

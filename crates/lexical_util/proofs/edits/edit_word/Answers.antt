@@ -1,22 +1,17 @@
--- The result is the edited word, and each clause is a lemma on edited words.
-use Rattle.std.proofs.Common.{◌∙◌, refl, ap}
+use Rattle.std.proofs.Common.{◌∙◌, sym, ap}
 use Rattle.lexical_flags.specs.Record.{pack}
 use Rattle.lexical_builder.specs.Writes.{after}
 use Rattle.lexical_util.specs.Edits.{all_writes}
-use Rattle.lexical_util.proofs.EditLemmas.{edited-fields, edited-clean, edited-only, edited-same}
+use Rattle.lexical_util.proofs.EditLemmas.{edited-only, edited-same}
 use Rattle.lexical_util.proofs.edits.edit_word.Goals as goal
 
-pub returns : goal.returns
-returns c =
-    let word = c.args.format in
-    let writes = all_writes c.args.edits.now in
-    let legal = c.apply_all.ensures.legal in
-    rw (c.build_unchecked.ensures.word
-    ∙ ap pack (c.apply_all.ensures.fields ∙ ap (λ r. after r writes) c.rebuild.ensures)) (record {
-      word = refl;
-      fields = edited-fields word writes legal;
-      clean = edited-clean word writes legal;
-      unique = edited-only word writes legal;
-      same_writes = λ others other_legal same. edited-same word others writes same;
-      legal = legal;
-    })
+pub returns-clause-word : goal.returns-clause-word
+returns-clause-word c = c.build_unchecked.ensures.word
+    ∙ ap pack (c.apply_all.ensures.fields ∙ ap (λ r. after r (all_writes c.args.edits.now)) c.rebuild.ensures)
+
+pub returns-clause-unique : goal.returns-clause-unique
+returns-clause-unique c other fits clean same =
+    edited-only c.args.format _ c.apply_all.ensures.legal other fits clean same ∙ sym (returns-clause-word c)
+
+pub returns-clause-same_writes : goal.returns-clause-same_writes
+returns-clause-same_writes c others legal same = edited-same c.args.format others _ same ∙ sym (returns-clause-word c)

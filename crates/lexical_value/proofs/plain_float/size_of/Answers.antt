@@ -1,11 +1,11 @@
 -- Short digits are the numbers that they represent, and std reads the others.
-use Rattle.std.proofs.Common.{◌≡◌, ◌∙◌, ap, arith, false, sym}
+use Rattle.std.proofs.Common.{[], ◌≡◌, ◌∙◌, ap, arith, false, sym}
 use Rattle.std.specs.Float.Ieee.{round}
 use Rattle.std.specs.Float.Parse.{parse_float}
 use Rattle.lexical_literal.specs.Parts.{literal_of}
 use Rattle.lexical_number.specs.Binary.{format_of}
 use Rattle.lexical_value.proofs.FloatLemmas.{of_decimal}
-use Rattle.lexical_value.proofs.DigitLemmas.{short_number, short_numbers}
+use Rattle.lexical_value.proofs.DigitLemmas.{short_numbers}
 use Rattle.lexical_value.proofs.TextLemmas.{as_written}
 use Rattle.lexical_value.proofs.plain_float.size_of.Goals as goal
 
@@ -15,7 +15,7 @@ returns-in-Some g c r decimal =
     let plain = c.requires in
     of_decimal (λ num den. g.F.Float.value c.in-Some.size ≡ round (format_of g.F.Float.DOUBLE) false num den) r l _ _ _ decimal plain.fraction
     (plain.mantissa ∙ short_numbers l.integer l.fraction plain.integer plain.fraction (omega arith))
-    (plain.exponent_value ∙ short_number l.exponent plain.exponent (omega arith)) c.is_minus.ensures c.in-Some.ensures
+    (plain.exponent_value ∙ short_numbers [] l.exponent tt plain.exponent (omega arith)) c.is_minus.ensures c.in-Some.ensures
 
 pub returns-in-Ok : goal.returns-in-Ok
 returns-in-Ok g c r decimal =

@@ -29,7 +29,6 @@ loop-left-preserved c =
     record {
       within = omega arith;
       room = rw (c.split_last-rest.ensures.rest) (omega arith);
-      text = rw (c.split_last-rest.ensures.rest) (one_more c.args.radix l.left l.start c.digit_to_char.result l.buffer c.requires.0 c.loop-left-test.true (omega arith) (omega arith)
-          (rw (c.split_last-rest.ensures.digit) at c.digit_to_char.ensures.character)
-          ∙ l.invariant.text);
+      text = rw (c.split_last-rest.ensures.rest) (one_more c.args.radix l.left l.start c.digit_to_char.result l.buffer c.requires.0 c.loop-left-test.true
+          (omega arith) (omega arith) (rw (c.split_last-rest.ensures.digit) at c.digit_to_char.ensures.character) ∙ l.invariant.text);
     }

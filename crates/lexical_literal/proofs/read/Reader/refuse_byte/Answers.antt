@@ -1,5 +1,5 @@
 -- What has been read decides what may follow, and so why what follows is refused.
-use Rattle.std.proofs.Common.{◌≡◌, false, slice_get, sym, subst, take}
+use Rattle.std.proofs.Common.{◌≡◌, false, slice_get, sym, ap, subst, ◌∙◌, take}
 use Rattle.lexical_literal.specs.Additions.Causes.{IsReadOf, lets}
 use Rattle.lexical_literal.specs.Additions.Longest.{IsStopped}
 use Rattle.lexical_literal.specs.Additions.Summary.{start}
@@ -30,7 +30,8 @@ returns c =
       part = ends_in m is_ready.roles start front s stopped.read;
     } in
     let same = c.grammar-grammar.ensures.value in
-    let is_marks = subst (λ h. c.marks.result ≡ marks_of (notation_of h) front) same c.marks.ensures in
+    let is_marks = subst (λ h. c.marks.result ≡ marks_of (notation_of h) front) same
+    (c.marks.ensures ∙ ap (marks_of (notation_of c.grammar-grammar.result)) c.front_of.ensures) in
     let spot : Grammar → Spot = λ h. record {
       grammar = h;
       row = c.args.stop.row;

@@ -3,7 +3,7 @@ use Rattle.std.proofs.Common.{arith, get_or}
 use Rattle.core.proofs.dec2flt.DigitsLemmas.{HasRead_more, is_digit}
 use Rattle.core.proofs.slice.Prefixes.{drop_more, prefix_len-drop_yes}
 use Rattle.lexical_value.proofs.DigitLemmas.{read_digits, read_value}
-use Rattle.lexical_value.proofs.plain_float.sum_digits.Goals as goal
+use Rattle.lexical_value.proofs.plain_float.take_digits.Goals as goal
 
 pub loop-size-preserved : goal.loop-size-preserved
 loop-size-preserved c =
@@ -14,14 +14,8 @@ loop-size-preserved c =
     HasRead_more bytes _ _ size _ 1 _ c.loop-size.invariant (omega arith) (prefix_len-drop_yes _ bytes size 0 c.loop-size-test.true digit.0)
     (rw (drop_more bytes size 0 c.loop-size-test.true) (omega arith))
 
-pub returns-after-loop-size-clause-digits : goal.returns-after-loop-size-clause-digits
-returns-after-loop-size-clause-digits c = read_digits _ _ _ _ c.loop-size.invariant
+pub returns-clause-digits : goal.returns-clause-digits
+returns-clause-digits c = rw c.split_at.ensures.front (read_digits _ _ _ _ c.loop-size.invariant)
 
-pub returns-after-loop-size-clause-value : goal.returns-after-loop-size-clause-value
-returns-after-loop-size-clause-value c = read_value _ _ _ _ c.loop-size.invariant
-
-pub returns-then-digit-gt9-clause-digits : goal.returns-then-digit-gt9-clause-digits
-returns-then-digit-gt9-clause-digits c = read_digits _ _ _ _ c.loop-size.invariant
-
-pub returns-then-digit-gt9-clause-value : goal.returns-then-digit-gt9-clause-value
-returns-then-digit-gt9-clause-value c = read_value _ _ _ _ c.loop-size.invariant
+pub returns-clause-value : goal.returns-clause-value
+returns-clause-value c = rw c.split_at.ensures.front (read_value _ _ _ _ c.loop-size.invariant)
