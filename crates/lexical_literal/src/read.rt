@@ -1,6 +1,6 @@
 //! How literals are found, and the lengths of their parts.
 
-ghost use Rattle.std.specs.Prelude.{◌≡◌, ◌++◌, ◌∷◌, ◌&&◌, ◌<◌, ◌≤◌, Bool, ℕ, List, [], false, length, slice_get, take};
+ghost use Rattle.std.specs.Prelude.{◌≡◌, ◌++◌, ◌∷◌, ◌<◌, ◌≤◌, Bool, ℕ, List, [], false, length, slice_get, take};
 ghost use Rattle.lexical_literal.specs.Additions.Explained.{tail_byte, tail_size};
 ghost use Rattle.lexical_literal.specs.Additions.Longest.{IsCountedFront, IsFronted, IsGrouped, IsMeasured, IsScanned, IsStopped};
 ghost use Rattle.lexical_literal.specs.Additions.Summary.{HasLengths, is_complete};
@@ -180,7 +180,7 @@ impl Reader {
             };
             row = next.row;
             counts[piece_number(next.piece)] += 1;
-            if self.is_sought(row, seeks) {
+            if seeks && self.is_complete(row) {
                 literal = Some(index + 1);
             }
             index += 1;
@@ -191,15 +191,6 @@ impl Reader {
             literal,
             counts,
         }
-    }
-
-    // Returns whether `seeks` is true and a row is that of a literal.
-    #[inline(always)]
-    const fn is_sought(&self, row: u8, seeks: bool) -> bool
-        requires { row < ROWS }
-        ensures { result ≡ (seeks && is_complete (notation_of self.now) (summary_at row)) }
-    {
-        seeks && self.is_complete(row)
     }
 
     // Returns whether a row is that of a literal.

@@ -123,19 +123,13 @@ impl Reader {
             };
             row = next.row;
             counts[piece_number(next.piece)] += 1;
-            if self.is_sought(row, seeks) {
+            if seeks && self.is_complete(row) {
                 literal = Some(index + 1);
             }
             index += 1;
         }
         let stop = Stop { size: index, row };
         Scanned { stop, literal, counts }
-    }
-
-    // Returns whether `seeks` is true and a row is that of a literal.
-    #[inline(always)]
-    const fn is_sought(&self, row: u8, seeks: bool) -> bool {
-        seeks && self.is_complete(row)
     }
 
     // Returns whether a row is that of a literal.

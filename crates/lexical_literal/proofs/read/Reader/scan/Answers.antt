@@ -9,13 +9,14 @@ use Rattle.lexical_literal.proofs.TableLemmas.{no_counts, count_one, small_more}
 use Rattle.lexical_literal.proofs.ScanLemmas.{IsReady}
 use Rattle.lexical_literal.proofs.LongestLemmas.{HasRead, read_nothing, read_more, wrong_at, wrong_at_end, is_scanned}
 use Rattle.lexical_literal.proofs.read.Reader.scan.Goals as goal
-use Rattle.lexical_literal.proofs.read.Reader.scan.Goals.{then-is_sought, else-is_sought}
+use Rattle.lexical_literal.proofs.read.Reader.scan.Goals.{then-seeks+then-is_complete, else-seeks}
+use Rattle.lexical_literal.proofs.read.Reader.scan.Goals.{else-seeks-via-then-seeks+else-is_complete, else-seeks-via-else-seeks}
 
 pub step-requires : goal.step-requires
 step-requires c = c.loop-index.invariant.is_row
 
-pub is_sought-requires : goal.is_sought-requires
-is_sought-requires c = (c.in-Some.ensures (notation_of c.self.inside.syntax) c.self.invariant.1).1
+pub is_complete-requires : goal.is_complete-requires
+is_complete-requires c = (c.in-Some.ensures (notation_of c.self.inside.syntax) c.self.invariant.1).1
 
 pub loop-index-init : goal.loop-index-init
 loop-index-init c =
@@ -40,9 +41,12 @@ loop-index-preserved c =
       size = length-set counts c.piece_number.result (get_or counts c.piece_number.result 0 + 1) ∙ now.size;
       small = small_more counts i c.piece_number.result inside now.small;
       has = subst (HasRead m c.args.seeks c.args.text.now (i + 1) t (cuts_of (set counts c.piece_number.result (get_or counts c.piece_number.result 0 + 1))))
-          (elim c.if-is_sought.branch [
-            | then-is_sought w ↦ sym (w.literal-is ∙ ap (λ b. if b then Some (i + 1) else old) (sym w.if-is_sought.true ∙ c.is_sought.ensures))
-            | else-is_sought w ↦ sym (w.literal-is ∙ ap (λ b. if b then Some (i + 1) else old) (sym w.if-is_sought.false ∙ c.is_sought.ensures))
+          (elim c.if-seeks.branch [
+            | then-seeks+then-is_complete w ↦ rw (w.if-seeks.true, sym w.is_complete.ensures ∙ w.if-is_complete.true) (sym w.literal-is)
+            | else-seeks w ↦ elim w.else-seeks.branch [
+              | else-seeks-via-then-seeks+else-is_complete w' ↦ rw (w'.if-seeks.true, sym w'.is_complete.ensures ∙ w'.if-is_complete.false) (sym w.literal-is)
+              | else-seeks-via-else-seeks w' ↦ rw (w'.if-seeks.false) (sym w.literal-is)
+            ]
           ])
           (read_more m now.has.ready c.args.text.now c.args.seeks i (summary_at c.loop-index.row) (cuts_of counts) old now.has t _ c.loop-index-test.true next.0
           (next.2 (cuts_of counts) ∙ count_one counts now.size c.in-Some.next.piece

@@ -1,8 +1,8 @@
 -- The parts are those of the literal, which is not in groups.
 use Rattle.std.proofs.Common.{ℕ, ◌≡◌, ◌≤◌, ◌+◌, List, false, length, length-append, refl, sym, ap, subst, ◌∙◌, arith}
 use Rattle.lexical_literal.specs.Groups.{IsFirstWrongGroup, is_grouped}
-use Rattle.lexical_literal.specs.Literal.{Literal, text_of}
-use Rattle.lexical_literal.specs.Notation.{notation_of}
+use Rattle.lexical_literal.specs.Literal.{Literal, Reads, text_of}
+use Rattle.lexical_literal.specs.Notation.{no_conditions, notation_of}
 use Rattle.lexical_literal.specs.Parts.{literal_of}
 use Rattle.lexical_literal.specs.declared.syntax.Grammar.{Grammar}
 use Rattle.lexical_literal.proofs.GroupLemmas.{not_grouped}
@@ -18,50 +18,55 @@ cut-parts-requires c = let l = c.requires.read in (l.0, l.1.whole, c.scan.ensure
 pub wrong_group-start-requires : goal.wrong_group-start-requires
 wrong_group-start-requires c =
     let l = c.requires.read in
+    let parts = c.cut-parts.ensures l.0 l.1.whole (c.scan.ensures.counted l.0 (whole_front _ _ _ c.scan.ensures.stop l.0 l.1)) in
+    let reads = subst (λ k. Reads (notation_of c.args.self.now) k c.args.text.now) (sym parts) l.1 in
     let same = c.grammar-grammar.ensures.value ∙ c.self.view_is in
-    let required = sym (ap (λ (g : Grammar). g.conditions.integer_group_size) same) ∙ c.in-Some.is in
-    let parts : literal_of c.cut-parts.result ≡ l.0 = c.cut-parts.ensures l.0 l.1.whole (c.scan.ensures.counted l.0 (whole_front _ _ _ c.scan.ensures.stop l.0 l.1)) in
     subst (λ (g : Grammar). is_grouped (notation_of g).separator c.in-Some.size c.cut-parts.result.integer.now ≡ false) (sym same)
-    (subst (λ (k : Literal). is_grouped (notation_of c.args.self.now).separator c.in-Some.size k.integer ≡ false) (sym parts)
-    (not_grouped c.args.self.now c.args.text.now l.0 l.1 c.requires.refuses c.in-Some.size required))
+    (not_grouped c.args.self.now c.args.text.now _ reads c.requires.refuses c.in-Some.size
+    (sym (ap (λ (g : Grammar). g.conditions.integer_group_size) same) ∙ c.in-Some.is))
 
 pub overflow_add-result : goal.overflow_add-result
 overflow_add-result c =
     let l = c.requires.read in
     let parts = c.cut-parts.ensures l.0 l.1.whole (c.scan.ensures.counted l.0 (whole_front _ _ _ c.scan.ensures.stop l.0 l.1)) in
     let group = c.wrong_group-start.ensures in
-    omega (arith, within c.args.text.now (literal_of c.cut-parts.result) c.wrong_group-start.result.0 (l.1.whole ∙ ap text_of (sym parts)) (omega (arith, group.ends, group.within)), c.type_inv.text)
+    let small = within c.args.text.now (literal_of c.cut-parts.result) c.wrong_group-start.result.0 (l.1.whole ∙ ap text_of (sym parts))
+    (omega (arith, group.ends, group.within)) in
+    omega (arith, small, c.type_inv.text)
 
 pub overflow_add-result-2 : goal.overflow_add-result-2
 overflow_add-result-2 c =
     let l = c.requires.read in
     let parts = c.cut-parts.ensures l.0 l.1.whole (c.scan.ensures.counted l.0 (whole_front _ _ _ c.scan.ensures.stop l.0 l.1)) in
-    omega (arith, within c.args.text.now (literal_of c.cut-parts.result) c.wrong_group-start.result.1 (l.1.whole ∙ ap text_of (sym parts)) c.wrong_group-start.ensures.within, c.type_inv.text)
+    let small = within c.args.text.now (literal_of c.cut-parts.result) c.wrong_group-start.result.1 (l.1.whole ∙ ap text_of (sym parts))
+    c.wrong_group-start.ensures.within in
+    omega (arith, small, c.type_inv.text)
 
 pub returns : goal.returns
 returns c =
     let l = c.requires.read in
+    let parts = c.cut-parts.ensures l.0 l.1.whole (c.scan.ensures.counted l.0 (whole_front _ _ _ c.scan.ensures.stop l.0 l.1)) in
+    let reads = subst (λ k. Reads (notation_of c.args.self.now) k c.args.text.now) (sym parts) l.1 in
     let same = c.grammar-grammar.ensures.value ∙ c.self.view_is in
     let size = c.in-Some.size in
     let required = sym (ap (λ (g : Grammar). g.conditions.integer_group_size) same) ∙ c.in-Some.is in
-    let parts : literal_of c.cut-parts.result ≡ l.0 = c.cut-parts.ensures l.0 l.1.whole (c.scan.ensures.counted l.0 (whole_front _ _ _ c.scan.ensures.stop l.0 l.1)) in
+    let group = c.wrong_group-start.result in
     record {
-      literal = l.0;
-      reads = l.1;
+      literal = literal_of c.cut-parts.result;
+      reads = reads;
       size = size;
       required = required;
-      ungrouped = not_grouped c.args.self.now c.args.text.now l.0 l.1 c.requires.refuses size required;
-      start = c.wrong_group-start.result.0;
-      end = c.wrong_group-start.result.1;
-      group = subst (λ (g : Grammar). IsFirstWrongGroup (notation_of g).separator size l.0.integer c.wrong_group-start.result.0 c.wrong_group-start.result.1) same
-          (subst (λ (k : Literal). IsFirstWrongGroup (notation_of c.grammar-grammar.result).separator size k.integer c.wrong_group-start.result.0 c.wrong_group-start.result.1)
-          parts c.wrong_group-start.ensures);
+      ungrouped = not_grouped c.args.self.now c.args.text.now _ reads c.requires.refuses size required;
+      start = group.0;
+      end = group.1;
+      group = subst (λ (g : Grammar). IsFirstWrongGroup (notation_of g).separator size c.cut-parts.result.integer.now group.0 group.1) same
+          c.wrong_group-start.ensures;
       valid_up_to = refl;
       byte = refl;
       kind = refl;
       mask = refl;
-      conditions = λ j. record { required_base_prefix = false; required_base_suffix = false; no_negative_mantissa_sign = false; integer_group_size = c.in-Some.is j };
-      error_start = ap (λ (k : Literal). length k.sign + length k.prefix + c.wrong_group-start.result.0) parts;
-      error_end = ap (λ (k : Literal). length k.sign + length k.prefix + c.wrong_group-start.result.1) parts;
+      conditions = ap (λ size. record no_conditions { integer_group_size = size }) c.in-Some.is;
+      error_start = refl;
+      error_end = refl;
       code = refl;
     }
