@@ -14,7 +14,7 @@ use Rattle.lexical_literal.specs.Cause.{Allows, IsCaseFlag, IsCause, IsRefusal, 
 use Rattle.lexical_literal.specs.Cause.{bare, binds, case_set, error_of, first_unmet, is_at, is_one_of, is_same, lowest, marks_of, number_separator_flags}
 use Rattle.lexical_literal.specs.Cause.{requirement_flags, requiring, span_of, with_rules}
 use Rattle.lexical_literal.specs.Front.{IsValidUpTo}
-use Rattle.lexical_literal.specs.Additions.Causes.{IsReadOf, IsWeaker, class_of_next, lets, place_of}
+use Rattle.lexical_literal.specs.Additions.Causes.{IsReadOf, IsWeaker, class_of_next, is_at_gap, lets, place_of}
 use Rattle.lexical_literal.specs.Additions.Explained.{alone, blame, cases, conditions_of, mask_of, otherwise, refusal_of, requirements, separators}
 use Rattle.lexical_literal.specs.Additions.Explained.{some_unmet, unmet, zeros}
 use Rattle.lexical_literal.specs.Additions.Summary.{byte_class, in_part, no_condition}
@@ -205,17 +205,26 @@ module _ (m : Notation) (s : Summary) (front : List ℕ) (read : IsReadOf m s fr
     not_allowed : Allows (bare m) front (Some byte) → ⊥
     not_allowed = (refuses m s front read (Some byte) (bare m).flag no_condition (bare_weaker m)).0 (ap not none)
 
+    at_place : (f : Flag) → is_one_of number_separator_flags f ≡ true → lets (adding f (bare m)) s (Some byte) ≡ true
+        → (is_at_gap m s (Some byte) ≡ true) × (is_at (place_of m s (in_part s.part (byte_class m byte))) s.part f ≡ true)
+    at_place f separates allowed = and_parts (is_at_gap m s (Some byte)) _
+        (at_next m f s (byte_class m byte) separates (sym (free_is m (bare m).flag s (Some (byte_class m byte))) ∙ none)
+        (sym (free_is m (adding f (bare m)).flag s (Some (byte_class m byte))) ∙ allowed))
+
+    found : (f : Flag) → separators m s (Some byte) f ≡ true
+        → (is_one_of number_separator_flags f ≡ true) × (lets (adding f (bare m)) s (Some byte) ≡ true)
+    found f is = and_parts (is_one_of number_separator_flags f) _ (and_parts (is_at_gap m s (Some byte)) _ is).1
+
     permits : (f : Flag) → IsTrue (separators m s (Some byte) f) ↔ Permits m front byte f
     permits f = (
-      λ is. let both = and_parts (is_one_of number_separator_flags f) _ is in (both.0, (read.decides (Some byte) _ _ (permits_weaker m f both.0)).0 both.1),
-      λ is. and_from _ _ is.0 ((read.decides (Some byte) _ _ (permits_weaker m f is.0)).1 is.1),
+      λ is. let both = found f is in (both.0, (read.decides (Some byte) _ _ (permits_weaker m f both.0)).0 both.1),
+      λ is.
+          let allowed = (read.decides (Some byte) _ _ (permits_weaker m f is.0)).1 is.1 in
+          and_from _ _ (at_place f is.0 allowed).0 (and_from _ _ is.0 allowed),
     )
 
     at : (f : Flag) → separators m s (Some byte) f ≡ true → is_at (place_of m s (in_part s.part (byte_class m byte))) s.part f ≡ true
-    at f is =
-        let both = and_parts (is_one_of number_separator_flags f) _ is in
-        at_next m f s (byte_class m byte) both.0 (sym (free_is m (bare m).flag s (Some (byte_class m byte))) ∙ none)
-        (sym (free_is m (adding f (bare m)).flag s (Some (byte_class m byte))) ∙ both.1)
+    at f is = let both = found f is in (at_place f both.0 both.1).1
 
     is_case : (f : Flag) → IsTrue (cases m s byte f) ↔ IsCaseFlag m front byte f
     is_case f =

@@ -157,7 +157,7 @@ module _ (m : Notation) where
 
   at_role : (f : Flag) (part : Part) (stage : Stage) (gap plus : Bool) (o : Option Role) → is_one_of number_separator_flags f ≡ true
       → taken (bare m) (reading part stage gap) plus o ≡ false → taken (adding f (bare m)) (reading part stage gap) plus o ≡ true
-      → is_at (place_of m (reading part stage gap) o) part f ≡ true
+      → ((gap || is_separator o) && is_at (place_of m (reading part stage gap) o) part f) ≡ true
   at_role f part stage gap plus None is refused allowed = absurd (false≢true allowed)
   at_role layout.required_integer_digits part stage gap plus (Some role) is refused allowed = grind arith
   at_role _ part stage gap plus (Some role) is refused allowed = grind arith
@@ -184,9 +184,11 @@ module _ (m : Notation) where
 
   -- A flag that allows the byte is of the place and the part.
   pub at_next : (f : Flag) (s : Summary) (class : Class) → is_one_of number_separator_flags f ≡ true → free_allows (bare m) s (Some class) ≡ false
-      → free_allows (adding f (bare m)) s (Some class) ≡ true → is_at (place_of m s (in_part s.part class)) s.part f ≡ true
+      → free_allows (adding f (bare m)) s (Some class) ≡ true
+      → ((s.gap || is_separator (in_part s.part class)) && is_at (place_of m s (in_part s.part class)) s.part f) ≡ true
   at_next f s class is refused allowed =
-      subst (λ (P : Notation → Bool). P (bare m) ≡ false → P (adding f (bare m)) ≡ true → is_at (place_of m s (in_part s.part class)) s.part f ≡ true)
+      subst (λ (P : Notation → Bool). P (bare m) ≡ false → P (adding f (bare m)) ≡ true
+      → ((s.gap || is_separator (in_part s.part class)) && is_at (place_of m s (in_part s.part class)) s.part f) ≡ true)
       (same s (Some class) (let is = sym (moved (adding f (bare m)) s s.ended (is_plus_class class) (is_zero class) (in_part s.part class))
       ∙ allowed in grind arith))
       (at_role f s.part s.stage s.gap (is_plus_class class) (in_part s.part class) is) refused allowed

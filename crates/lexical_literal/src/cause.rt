@@ -4,7 +4,7 @@ ghost use Rattle.std.specs.Prelude.{◌≡◌, ◌<◌, ◌^◌, Some, if◌then
 ghost use Rattle.lexical_util.specs.Layout.{Flag, bit};
 ghost use Rattle.lexical_util.specs.Record.{raw};
 ghost use Rattle.lexical_util.specs.Roles.{other_case};
-ghost use Rattle.lexical_literal.specs.Additions.Causes.{lets, place_of};
+ghost use Rattle.lexical_literal.specs.Additions.Causes.{is_at_gap, lets, place_of};
 ghost use Rattle.lexical_literal.specs.Additions.Explained.{alone, blame, cases, conditions_of, mask_of, refusal_of, requirements, separators};
 ghost use Rattle.lexical_literal.specs.Additions.Explained.{ungrouped_of, unmet, zeros};
 ghost use Rattle.lexical_literal.specs.Additions.Summary.{byte_class, in_part};
@@ -434,7 +434,24 @@ impl Stop {
     const fn separators(self) -> u128
         ensures { result ≡ mask_of (separators (notation_of self.grammar) self.read self.byte) }
     {
-        SEPARATORS & !self.refusing(SEPARATORS)
+        if self.is_at_gap() {
+            SEPARATORS & !self.refusing(SEPARATORS)
+        } else {
+            0
+        }
+    }
+
+    // Returns whether what cannot follow is a separator, or follows one.
+    const fn is_at_gap(self) -> bool
+        ensures { result ≡ is_at_gap (notation_of self.grammar) self.read self.byte }
+    {
+        match self.byte {
+            None => self.read.gap,
+            Some(byte) => {
+                let role = in_part(self.read.part, byte_class(self.grammar, byte));
+                self.read.gap || matches!(role, Some(Role::Separator))
+            }
+        }
     }
 
     // Returns where a separator is not allowed, before or after `byte`.

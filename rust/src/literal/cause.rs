@@ -333,7 +333,22 @@ impl Stop {
 
     // Returns the flags each of which would allow a separator that is not allowed.
     const fn separators(self) -> u128 {
-        SEPARATORS & !self.refusing(SEPARATORS)
+        if self.is_at_gap() {
+            SEPARATORS & !self.refusing(SEPARATORS)
+        } else {
+            0
+        }
+    }
+
+    // Returns whether what cannot follow is a separator, or follows one.
+    const fn is_at_gap(self) -> bool {
+        match self.byte {
+            None => self.read.gap,
+            Some(byte) => {
+                let role = in_part(self.read.part, byte_class(self.grammar, byte));
+                self.read.gap || matches!(role, Some(Role::Separator))
+            }
+        }
     }
 
     // Returns where a separator is not allowed, before or after `byte`.

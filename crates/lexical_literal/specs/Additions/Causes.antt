@@ -33,6 +33,11 @@ abbrev pub is_separator : Option Role → Bool
 is_separator (Some roles.Separator) = true
 is_separator _ = false
 
+-- `is_at_gap m s next` is true if the byte `next` is a separator, or follows one.
+abbrev pub is_at_gap : Notation → Summary → Option ℕ → Bool
+is_at_gap m s None = s.gap
+is_at_gap m s (Some byte) = s.gap || is_separator (in_part s.part (byte_class m byte))
+
 -- `IsWeaker m A D` holds if the flags for which `A` is true require no more than those of `m`, and are no less otherwise, and
 -- if each condition for which `D` is true is one of `m`.
 pub record IsWeaker (m : Notation) (A : Flag → Bool) (D : Condition → Bool) : Type 0 where

@@ -4,7 +4,7 @@ use Rattle.lexical_util.specs.declared.error.Error.TheVariants as errors
 use Rattle.lexical_util.specs.Layout.{Flag}
 use Rattle.lexical_util.specs.Record.{word_of}
 use Rattle.lexical_util.specs.Roles.{other_case}
-use Rattle.lexical_literal.specs.Additions.Causes.{lets, place_of}
+use Rattle.lexical_literal.specs.Additions.Causes.{is_at_gap, lets, place_of}
 use Rattle.lexical_literal.specs.Additions.Summary.{byte_class, in_part}
 use Rattle.lexical_literal.specs.Additions.Tables.{summary_at}
 use Rattle.lexical_literal.specs.Cause.{Explained, adding, bare, binds, case_set, error_of, first_unmet, is_one_of}
@@ -55,7 +55,7 @@ requirements m s next =
 
 -- `separators m s next f` is true if the flag `f` would allow a separator that is not allowed.
 abbrev pub separators : Notation → Summary → Option ℕ → Flag → Bool
-separators m s next f = is_one_of number_separator_flags f && lets (adding f (bare m)) s next
+separators m s next f = is_at_gap m s next && (is_one_of number_separator_flags f && lets (adding f (bare m)) s next)
 
 -- `cases m s byte f` is true if the other case of `byte` may follow `s`, and counts by the flag `f`.
 abbrev pub cases : Notation → Summary → ℕ → Flag → Bool

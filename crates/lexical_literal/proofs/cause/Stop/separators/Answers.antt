@@ -1,26 +1,34 @@
-use Rattle.std.proofs.Common.{◌≡◌, ◌&&◌, Bool, not, refl, ap, ◌∙◌, arith}
+use Rattle.std.proofs.Common.{◌≡◌, ◌&&◌, Bool, not, refl, sym, ap, ◌∙◌, arith}
 use Rattle.std.proofs.lemmas.Nat.{and_comm}
 use Rattle.std.specs.Int.{w128, bit_not}
 use Rattle.lexical_util.specs.Layout.{Flag}
 use Rattle.lexical_util.specs.Record.{raw}
 use Rattle.lexical_literal.specs.Additions.Causes.{lets}
-use Rattle.lexical_literal.specs.Additions.Explained.{separators}
+use Rattle.lexical_literal.specs.Additions.Explained.{mask_of}
 use Rattle.lexical_literal.specs.Cause.{adding, bare, is_one_of, number_separator_flags}
 use Rattle.lexical_literal.specs.Notation.{notation_of}
 use Rattle.lexical_literal.specs.declared.cause.TheConstants.{SEPARATORS}
-use Rattle.lexical_literal.proofs.CauseLemmas.{flag_and, flag_not, mask_flags, masked_by, separators_mask}
+use Rattle.lexical_literal.proofs.CauseLemmas.{flag_and, flag_not, mask_flags, masked_by, no_mask, separators_mask}
 use Rattle.lexical_literal.proofs.cause.Stop.separators.Goals as goal
 
 rest : (s a : Bool) → (not (s && not a) && s) ≡ (s && a)
 rest s a = grind arith
 
-pub returns : goal.returns
-returns c =
+pub returns-then-is_at_gap : goal.returns-then-is_at_gap
+returns-then-is_at_gap c =
     let r = c.refusing.result in
     let allowed = λ (f : Flag). lets (adding f (bare (notation_of c.args.self.grammar))) c.args.self.read c.args.self.byte in
     let others : (f : Flag) → (raw (bit_not w128 r)).flag f ≡ not (is_one_of number_separator_flags f && not (allowed f)) =
     λ f. flag_not f r c.refusing.type_inv ∙ ap not (ap (λ n. (raw n).flag f) c.refusing.ensures
     ∙ mask_flags (λ f. (raw SEPARATORS).flag f && not (allowed f)) f ∙ ap (λ t. t && not (allowed f)) (separators_mask f)) in
+    let gap = sym c.if-is_at_gap.true ∙ c.is_at_gap.ensures in
     and_comm SEPARATORS (bit_not w128 r)
-    ∙ masked_by (bit_not w128 r) SEPARATORS (separators (notation_of c.args.self.grammar) c.args.self.read c.args.self.byte) refl
+    ∙ masked_by (bit_not w128 r) SEPARATORS (λ f. is_one_of number_separator_flags f && allowed f) refl
     (λ f. flag_and f (bit_not w128 r) SEPARATORS ∙ (λ j. others f j && separators_mask f j) ∙ rest (is_one_of number_separator_flags f) (allowed f))
+    ∙ (λ j. mask_of (λ f. gap j && (is_one_of number_separator_flags f && allowed f)))
+
+pub returns-else-is_at_gap : goal.returns-else-is_at_gap
+returns-else-is_at_gap c =
+    let gap = sym c.if-is_at_gap.false ∙ c.is_at_gap.ensures in
+    sym no_mask ∙ (λ j. mask_of (λ f. gap j && (is_one_of number_separator_flags f
+    && lets (adding f (bare (notation_of c.args.self.grammar))) c.args.self.read c.args.self.byte)))
