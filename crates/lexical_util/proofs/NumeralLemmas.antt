@@ -77,3 +77,6 @@ HasRead-whole radix most digits count number read done some few =
       numeral_from radix most digits (record { some = some; few = few; all_digits = rw all at read.all_digits }),
       read.sum ∙ ap (numeral radix) all,
     )
+
+-- `reading` are the lemmas that the loop of `read_numeral` needs.
+pub ruleset reading = (HasRead-fits, HasRead-next)
