@@ -1,12 +1,11 @@
 -- Lemmas on reading a numeral digit by digit.
 use Rattle.std.proofs.Common.{◌≡◌, ℕ, ◌+◌, ◌*◌, ◌^◌, ◌<◌, ◌≤◌, true, IsTrue, List, length, map, take, get_or, nat_lt}
-use Rattle.std.proofs.Common.{nat_le}
 use Rattle.std.proofs.Common.{sym, ap, ◌∙◌, arith, Some}
 use Rattle.std.specs.Int.Digits.{number_from_digits}
 use Rattle.std.specs.List.{AllPass}
 use Rattle.std.proofs.Math.Nat.{pow-le-pow_left, pow-le-pow_right}
 use Rattle.std.proofs.lemmas.Bool.Decides.{nat_tests}
-use Rattle.std.proofs.lemmas.Bool.{and_from, le-leb, ltb-true}
+use Rattle.std.proofs.lemmas.Bool.{ltb-true}
 use Rattle.std.proofs.lemmas.Int.Digits.{number_lt, number_push}
 use Rattle.std.proofs.lemmas.List.{length-map, length-take, map_more, take_all}
 use Rattle.std.proofs.lemmas.List.Elements.{All-map, All-more, recursion_from_All}
@@ -32,9 +31,7 @@ numeral_parts radix most digits test = record {
 pub numeral_from : (radix most : ℕ) (digits : List ℕ) → NumeralParts radix most digits
     → IsTrue (is_numeral radix most digits)
 numeral_from radix most digits parts =
-    and_from (nat_le 1 (length digits)) _ (le-leb _ _ parts.some)
-    (and_from (nat_le (length digits) most) _ (le-leb _ _ parts.few)
-    (list_all-from_AllPass (is_digit_of_radix radix) digits parts.all_digits))
+    let all = list_all-from_AllPass (is_digit_of_radix radix) digits parts.all_digits in grind (arith, nat_tests)
 
 -- `HasRead radix digits count number` holds if the first `count` of `digits` are digits of `radix` and write `number`.
 pub record HasRead (radix : ℕ) (digits : List ℕ) (count number : ℕ) : Type 0 where
@@ -77,3 +74,6 @@ HasRead-whole radix most digits count number read done some few =
       numeral_from radix most digits (record { some = some; few = few; all_digits = rw all at read.all_digits }),
       read.sum ∙ ap (numeral radix) all,
     )
+
+-- `reading` are the lemmas that the loop of `read_numeral` needs.
+pub ruleset reading = (HasRead-fits, HasRead-next)

@@ -10,6 +10,7 @@ use lexical_base::digit::char_to_digit;
 /// Parses `digits` as a number in `radix`. Returns `None` unless `digits` consists of 1 to `most` digits in this radix.
 /// The radix must be at most 16, and `most` must be at most 32, so that the number fits in a `u128`.
 #[must_use]
+#[tactic(auto, using(crate::proofs::NumeralLemmas::reading))]
 pub fn read_numeral(digits: &[u8], radix: u32, most: usize) -> Option<u128>
     requires radix { radix ≤ 16 }
     requires most { most ≤ 32 }

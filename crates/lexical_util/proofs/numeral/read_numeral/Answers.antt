@@ -7,15 +7,6 @@ overflow_mul-number c =
     let read = HasRead-next _ _ _ _ _ c.loop-digit.invariant c.loop-digit-test.true c.in_ok-value.ensures.digit in
     record { fits = omega (arith, HasRead-fits _ _ _ _ read c.requires.radix (omega arith)) }
 
-pub overflow_add-number : goal.overflow_add-number
-overflow_add-number c =
-    let read = HasRead-next _ _ _ _ _ c.loop-digit.invariant c.loop-digit-test.true c.in_ok-value.ensures.digit in
-    record { fits = HasRead-fits _ _ _ _ read c.requires.radix (omega arith) }
-
-pub loop-digit-preserved : goal.loop-digit-preserved
-loop-digit-preserved c =
-    HasRead-next _ _ _ _ _ c.loop-digit.invariant c.loop-digit-test.true c.in_ok-value.ensures.digit
-
 pub returns : goal.returns
 returns c = HasRead-whole _ c.args.most _ _ _ c.loop-digit.invariant c.loop-digit-test.false
     (grind (arith, c.is_empty.ensures)) (omega arith)
