@@ -1,5 +1,5 @@
 -- What one pass over several forms finds.
-use Rattle.std.specs.Prelude.{ℕ, ◌≡◌, if◌then◌else◌, nat_lt, IfErr, IfOk, IsErr, IsSomeAnd, List, Option, Some, None, Result, All, slice_get}
+use Rattle.std.specs.Prelude.{ℕ, if◌then◌else◌, nat_lt, IfErr, IfOk, IsErr, IsSomeAnd, List, Option, Some, None, Result, All, slice_get}
 use Rattle.lexical_literal.specs.Additions.Longest.{IsCountedFront, IsGroupedFront, IsStopped}
 use Rattle.lexical_literal.specs.Additions.Summary.{HasLengths}
 use Rattle.lexical_literal.specs.Additions.Tables.{cuts_of}
