@@ -1,8 +1,10 @@
 //! Writers: what is written, and that it is read back with the same value.
 
-use peltzivar::literal::{Conditions, FromLiteral, Language, Reader, Style, Syntax, WriteError, WriteInteger};
-use peltzivar::{Format, NumberFormatBuilder};
-use std::{fmt::Debug, num::NonZeroU8};
+use peltzivar::literal::{Conditions, FromLiteral, Language, Literal, Reader, Style, Syntax, WriteError, WriteInteger};
+use peltzivar::{Format, NumberFormatBuilder, Part};
+use std::{collections::BTreeMap, fmt::Debug, num::NonZeroU8};
+
+const LITERALS: &str = include_str!("literals.txt");
 
 /// Returns a reader of each syntax of the languages.
 fn readers() -> impl Iterator<Item = Reader> {
@@ -32,18 +34,80 @@ fn integers_are_read_back() {
     is_read_back(i128::MIN);
 }
 
+/// Returns each language with a text of `literals.txt` that it reads as a literal.
+fn rows() -> impl Iterator<Item = (Language, &'static str)> {
+    let rows = LITERALS.lines().filter(|line| !line.starts_with('#'));
+    rows.filter_map(|row| {
+        let mut words = row.split_whitespace();
+        let (name, text) = (words.next()?, words.nth(1)?);
+        let language = *Language::ALL.iter().find(|it| it.name() == name)?;
+        language.read(text.as_bytes()).ok()?.literal().map(|_| (language, text))
+    })
+}
+
+/// Returns the digits of a literal without zeros at both ends, the place of the last one, the exponent and the sign. The
+/// exponent of the tests is short.
+fn value(literal: &Literal) -> (Vec<u8>, isize, i128, bool) {
+    let mut digits = Vec::from_iter(literal.digits(Part::Integer).skip_while(|digit| *digit == 0));
+    digits.extend(literal.digits(Part::Fraction));
+    let mut place = -(literal.digits(Part::Fraction).count() as isize);
+    while digits.last() == Some(&0) {
+        digits.pop();
+        place += 1;
+    }
+    let zeros = digits.iter().take_while(|digit| **digit == 0).count();
+    digits.drain(..zeros);
+    let radix = i128::from(literal.radix(Part::Exponent));
+    let size = literal.digits(Part::Exponent).fold(0, |size, digit| size * radix + i128::from(digit));
+    let place = if digits.is_empty() { 0 } else { place };
+    (digits, place, if literal.exponent_sign() == b"-" { -size } else { size }, literal.is_negative())
+}
+
+/// Returns whether an error is why a literal of `source` cannot be written in `target`.
+fn is_reason(error: WriteError, literal: &Literal, source: &Syntax, target: &Syntax) -> bool {
+    let (from, to) = (source.format(), target.format());
+    let has_exponent = !literal.exponent_character().is_empty();
+    match error {
+        WriteError::Radix => from.radix() != to.radix() || has_exponent && from.exponent_base() != to.exponent_base(),
+        WriteError::Negative => literal.is_negative() && target.conditions().no_negative_mantissa_sign,
+        WriteError::Fraction => !literal.point().is_empty() && target.point().is_none(),
+        WriteError::Exponent => has_exponent && (target.exponent().is_none() || to.no_exponent_notation()),
+        _ => false,
+    }
+}
+
 #[test]
-fn literals_keep_their_values() {
-    for (language, text) in
-        [(Language::C, "1'000.50e3"), (Language::C, "0x1.8p-3"), (Language::TOML, "-1_0.5"), (Language::TOML, "0b1_01")]
-    {
-        let literal = language.read(text.as_bytes()).unwrap().literal().unwrap();
-        for reader in readers() {
-            if let Ok(written) = reader.syntax().format_literal(&literal, Style::PLAIN.group(2)) {
-                assert_eq!(reader.parse(written.to_string()).ok(), literal.to_f64().ok(), "{text}: {written}");
+fn literals_are_written_in_other_languages() {
+    let mut counts = BTreeMap::new();
+    for (language, text) in rows() {
+        let number = language.read(text.as_bytes()).unwrap();
+        let (literal, form) = (number.literal().unwrap(), number.form().unwrap());
+        let source = language.forms()[form].syntax;
+        for target in Language::ALL {
+            for (form, reader) in target.forms().iter().zip(target.readers().as_slice()) {
+                let style = Style::PLAIN.group(text.len() % 5);
+                let key = match form.syntax.format_literal(&literal, style) {
+                    Ok(written) => {
+                        let back = written.to_string();
+                        let read = reader.read(back.as_bytes()).unwrap_or_else(|error| {
+                            panic!("{language} {text:?} in {target} {}: {back:?}: {error}", form.name)
+                        });
+                        assert_eq!(value(&read), value(&literal), "{language} {text:?} in {target}: {back:?}");
+                        "written".to_string()
+                    }
+                    Err(error) => {
+                        assert!(
+                            is_reason(error, &literal, &source, &form.syntax),
+                            "{language} {text:?} in {target}: {error:?}"
+                        );
+                        format!("{error:?}")
+                    }
+                };
+                *counts.entry(key).or_insert(0) += 1;
             }
         }
     }
+    println!("{counts:?}");
 }
 
 /// Converts a text of the standard format to one with `.` and `e`.
