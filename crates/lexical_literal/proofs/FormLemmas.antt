@@ -185,7 +185,8 @@ module _ (forms : List Grammar) (text : List ℕ) (i : ℕ) (end : length forms 
   all_tried P all = subst (All P) (take_all i forms end) all
 
 -- An error of the form that goes furthest says how far this is.
-pub error_is : (g : Grammar) (text : List ℕ) (size : ℕ) (error : Refusal) → IsValidUpTo (notation_of g) text size → IsError g text error → size ≡ error.valid_up_to
+pub error_is : (g : Grammar) (text : List ℕ) (size : ℕ) (error : Refusal) → IsValidUpTo (notation_of g) text size → IsError g text error
+    → size ≡ error.valid_up_to
 error_is g text size error valid is =
     let reached = error_up_to g text error is in
     let up = one_size (notation_of g) text size error.valid_up_to valid reached in

@@ -131,7 +131,8 @@ module _ (m : Notation) where
           then_byte (reading parts.Fraction stage gap) ready.exponent roles.Exponent refl
           (is_role m ready.roles parts.Fraction roles.Exponent ready.exponent (λ e. cc) (ready.has_exponent (grind arith))) (and_from _ _ end (grind arith))
           (grind arith)
-          (part_completed parts.Exponent stages.Mark false (grind arith) (record { closes = refl; led = refl; prefixed = grind arith; inside = refl }) exponent_finishes)
+          (part_completed parts.Exponent stages.Mark false (grind arith)
+          (record { closes = refl; led = refl; prefixed = grind arith; inside = refl }) exponent_finishes)
       | inr none ↦ stopped parts.Fraction stage gap settled (and_from _ _ end (ap not none))
     ]
 
@@ -142,7 +143,8 @@ module _ (m : Notation) where
           then_byte (reading parts.Integer stage gap) ready.point roles.Point refl
           (is_role m ready.roles parts.Integer roles.Point ready.point (λ e. cc) (ready.has_point (grind arith))) (and_from _ _ end (grind arith))
           (grind arith)
-          (part_completed parts.Fraction (after_point (has_digit stage)) false (grind arith) (record { closes = refl; led = grind arith; prefixed = grind arith; inside = grind arith })
+          (part_completed parts.Fraction (after_point (has_digit stage)) false (grind arith)
+          (record { closes = refl; led = grind arith; prefixed = grind arith; inside = grind arith })
           fraction_finishes)
     ]
 
@@ -151,13 +153,15 @@ module _ (m : Notation) where
     bare_completed set =
         then_byte (reading parts.Integer stages.Bare false) ready.prefix roles.Prefix refl
         (is_role m ready.roles parts.Integer roles.Prefix ready.prefix (λ e. cc) (ready.has_prefix set)) refl (grind arith)
-        (digit_completed parts.Integer stages.Free false (grind arith) refl (record { closes = refl; led = refl; prefixed = grind arith; inside = refl }) integer_finishes)
+        (digit_completed parts.Integer stages.Free false (grind arith) refl
+        (record { closes = refl; led = refl; prefixed = grind arith; inside = refl }) integer_finishes)
 
     zero_completed : C conditions.BasePrefix ≡ true → (stage : Stage) → begins stage ≡ true → is_signed m parts.Integer stage ≡ true
         → Completed (reading parts.Integer stage false)
     zero_completed set stage begin signed =
         then_byte (reading parts.Integer stage false) 48 roles.Digit refl (digit_role m ready.roles parts.Integer 48 (ready.roles.zero_is_digit parts.Integer))
-        (grind arith) (grind arith) (subst Completed (let is : reading parts.Integer stages.Bare false ≡ after (reading parts.Integer stage false) true roles.Digit
+        (grind arith) (grind arith)
+        (subst Completed (let is : reading parts.Integer stages.Bare false ≡ after (reading parts.Integer stage false) true roles.Digit
         = grind arith in is) (bare_completed set))
 
     prefix_completed : (stage : Stage) → C conditions.BasePrefix ≡ true → lacks_prefix stage ≡ true → Completed (reading parts.Integer stage false)
@@ -186,7 +190,8 @@ module _ (m : Notation) where
     -- What has been read is a front of a literal.
     pub front_from : (text : List ℕ) (s : Summary) → scan m (Some start) text ≡ Some s → IsFront m text
     front_from text s is =
-        let more = completed s.part s.stage s.gap s.ended (all_go_on ready.roles start text s (record { closes = refl; led = refl; prefixed = grind arith; inside = refl }) is) in
+        let more = completed s.part s.stage s.gap s.ended
+        (all_go_on ready.roles start text s (record { closes = refl; led = refl; prefixed = grind arith; inside = refl }) is) in
         let found = literal_from m ready.roles (text ++ more.0) (rw (scan_append C m (Some start) text more.0, is) more.1) in
         record { more = more.0; literal = found.0; reads = found.1 }
 

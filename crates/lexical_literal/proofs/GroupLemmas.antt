@@ -43,7 +43,8 @@ module _ (S : ByteSet) (size : ℕ) where
   digit b bytes more is below rest = record {
     groups = rest.groups;
     count = omega (arith, rest.count);
-    are = let behind : length bytes % (size + 1) ≡ more = ap (λ n. n % (size + 1)) rest.count ∙ mod-mul-add rest.groups (size + 1) more (omega (arith, below)) in
+    are = let behind : length bytes % (size + 1) ≡ more = ap (λ n. n % (size + 1)) rest.count ∙ mod-mul-add rest.groups (size + 1) more
+        (omega (arith, below)) in
         let here : beq (S b) (length bytes % (size + 1) == size) ≡ true = rw (is, behind) (grind (arith, nat_tests)) in and_from _ _ here rest.are;
   }
 
@@ -130,7 +131,8 @@ module _ (S : ByteSet) (size : ℕ) where
   pub rest_separator : (start n next b : ℕ) (bytes : List ℕ) → S b ≡ true → is_right start n size ≡ true → 0 < next
       → is_rest next 0 bytes ≡ true → is_rest start n (b ∷ bytes) ≡ true
   rest_separator start n next b bytes is right behind all =
-      let rest : rights 0 bytes ≡ true = let other : (next == 0) ≡ false = grind (arith, nat_tests) in subst (λ t. (if t then firsts 0 bytes else rights 0 bytes) ≡ true) other all in
+      let rest : rights 0 bytes ≡ true = let other : (next == 0) ≡ false = grind (arith, nat_tests) in subst
+      (λ t. (if t then firsts 0 bytes else rights 0 bytes) ≡ true) other all in
       elim (cases_Bool (start == 0)) [
         | inl first ↦ let zero : start ≡ 0 = grind (arith, nat_tests) in rw (zero, is) (and_from _ _ (subst (λ s. is_right s n size ≡ true) zero right) rest)
         | inr other ↦ let whole : (n == size) ≡ true = grind arith in rw (other, is) (and_from _ _ whole rest)
@@ -163,7 +165,8 @@ NoneFrom S bytes start end = (k : ℕ) → start ≤ k → k < end → S (get_or
 pub size_at : (S : ByteSet) (bytes : List ℕ) (start d : ℕ) → start + d ≤ length bytes → NoneFrom S bytes start (start + d)
     → (start + d < length bytes → S (get_or bytes (start + d) 0) ≡ true) → group_size S bytes start ≡ d
 size_at S bytes start zero within none ends = elim (cases_lt start (length bytes)) [
-  | inl inside ↦ rw (drop-cons bytes start 0 inside) (let is : S (get_or bytes start 0) ≡ true = subst (λ k. S (get_or bytes k 0) ≡ true) (omega arith) (ends (omega (arith, inside))) in rw is refl)
+  | inl inside ↦ rw (drop-cons bytes start 0 inside)
+      (let is : S (get_or bytes start 0) ≡ true = subst (λ k. S (get_or bytes k 0) ≡ true) (omega arith) (ends (omega (arith, inside))) in rw is refl)
   | inr end ↦ rw (drop_of_length-le bytes end) refl
 ]
 size_at S bytes start (suc d) within none ends =

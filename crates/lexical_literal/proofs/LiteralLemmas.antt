@@ -15,7 +15,8 @@ use Rattle.lexical_literal.specs.Run.{is_run}
 use Rattle.lexical_literal.specs.Literal.{Literal, IsSpelled, text_of, is_present, is_absent, is_plus, is_none_or_one, is_none_or_prefix, is_zero_led}
 use Rattle.lexical_literal.specs.Additions.Summary.{Cuts, implies, has_digit, is_lone, is_led, after_digit, after_mark, after_point, may_follow}
 use Rattle.lexical_literal.specs.Additions.Summary.{may_lead, is_signed}
-use Rattle.lexical_literal.specs.Additions.Summary.{forbids_plus, gap_fits, digits_suffice, ends, continues, add, digits_piece, no_condition, piece_of, start, no_cuts}
+use Rattle.lexical_literal.specs.Additions.Summary.{forbids_plus, gap_fits, digits_suffice, ends, continues, add, digits_piece, no_condition}
+use Rattle.lexical_literal.specs.Additions.Summary.{piece_of, start, no_cuts}
 use Rattle.lexical_literal.specs.declared.steps.Piece.TheVariants as pieces
 use Rattle.lexical_literal.specs.declared.steps.Stage.{Stage}
 use Rattle.lexical_literal.specs.declared.steps.Stage.TheVariants as stages

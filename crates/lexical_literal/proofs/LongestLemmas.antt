@@ -76,7 +76,8 @@ module _ (m : Notation) (text : List ℕ) where
       ]
 
   -- The longest front that is a literal.
-  pub front_literal : (literal : Option ℕ) → IsLongest m text (length text) literal → (size : ℕ) → literal ≡ Some size → (l : Literal) × ReadsFront m l text size
+  pub front_literal : (literal : Option ℕ) → IsLongest m text (length text) literal → (size : ℕ) → literal ≡ Some size → (l : Literal)
+      × ReadsFront m l text size
   front_literal literal longest size found = let l = longest.found size found in (
     l.1,
     record {
@@ -132,7 +133,13 @@ module _ (m : Notation) (ready : IsReady m) (text : List ℕ) where
       ready = ready;
       within = omega arith;
       read = next_scan inside ∙ taken;
-      counted = rw (take_more text i 0 inside, tally_append m.condition m (Some start) no_cuts (take i text) (get_or text i 0 ∷ []), has.read, has.counted) counted;
+      counted = rw (
+        take_more text i 0 inside,
+        tally_append m.condition m (Some start) no_cuts (take i text)
+            (get_or text i 0 ∷ []),
+        has.read,
+        has.counted,
+      ) counted;
       longest_is = next_longest t (next_scan inside ∙ taken);
     }
 

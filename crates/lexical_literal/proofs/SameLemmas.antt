@@ -24,7 +24,8 @@ module _ (r s : Record) (same : SameFormat r s) where
 
 -- Equivalent words have the same notation.
 pub same_notation : (a b : ℕ) (options : Option Options) (conditions : Conditions) → SameFormat (raw a) (raw b)
-    → notation_of (record { word = a; options = options; conditions = conditions }) ≡ notation_of (record { word = b; options = options; conditions = conditions })
+    → notation_of (record { word = a; options = options; conditions = conditions }) ≡ notation_of
+    (record { word = b; options = options; conditions = conditions })
 same_notation a b options conditions same = λ j. record {
   flag = λ f. same.flags f j;
   condition = has conditions;

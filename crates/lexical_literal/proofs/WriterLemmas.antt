@@ -36,7 +36,8 @@ module _ (m : Notation) (h : HasRoles m) where
 
   module _ (first : ℕ) (digits : List ℕ) (not_zero : first ≢ 48) (all : AllIn (m.digit parts.Integer) (first ∷ digits)) where
     -- The first digit, which is not 0.
-    first_digit : (stage : Stage) → let s = reading parts.Integer stage false in step m s (byte_class m first) ≡ move_by m.condition m s (first == 43) false (Some roles.Digit)
+    first_digit : (stage : Stage) → let s = reading parts.Integer stage false in step m s (byte_class m first) ≡ move_by m.condition m s (first == 43) false
+        (Some roles.Digit)
     first_digit stage =
         let other : (first == 48) ≡ false = grind (arith, nat_tests) in
         moved m.condition m h (reading parts.Integer stage false) first (Some roles.Digit) (digit_role m h parts.Integer first all.0)
@@ -51,7 +52,8 @@ module _ (m : Notation) (h : HasRoles m) where
     pub negative_read : ((l : Literal) × Reads m l (45 ∷ first ∷ digits)) ↔ IsFalse ((m.condition conditions.BasePrefix || m.condition conditions.BaseSuffix)
         || (m.condition conditions.NegativeSign || (m.flag layout.required_exponent_notation && not m.integers_only)))
     negative_read = literal_exactly (45 ∷ first ∷ digits) _ (ap (λ o. is_accepted m (scan m o (first ∷ digits)))
-        (moved m.condition m h start 45 (Some roles.Sign) (is_role m h parts.Integer roles.Sign 45 (λ e. cc) refl)) ∙ go (m.condition conditions.NegativeSign) refl) where
+        (moved m.condition m h start 45 (Some roles.Sign) (is_role m h parts.Integer roles.Sign 45 (λ e. cc) refl)) ∙ go
+        (m.condition conditions.NegativeSign) refl) where
           go : (minus : Bool) → m.condition conditions.NegativeSign ≡ minus
               → is_accepted m (scan m (move_by m.condition m start false false (Some roles.Sign)) (first ∷ digits))
               ≡ not ((m.condition conditions.BasePrefix || m.condition conditions.BaseSuffix)

@@ -32,7 +32,8 @@ module _ (f : Format) (num den d k : ℕ) {h : ℕ} {more : Bool} (near : IsCutT
   within_one = record { from = near.from; below = near.below }
 
   -- If what is cut off is half of the lowest kept bit, then the number is halfway, or above that if more digits follow.
-  module _ {kept rest half : ℕ} (fits : IsSignificand f (h / 2 ^ d) k) (cut : IsCut h d kept rest half) (D : 0 < den) (same : rest ≡ half) (least : 1 ≤ half) where
+  module _ {kept rest half : ℕ} (fits : IsSignificand f (h / 2 ^ d) k) (cut : IsCut h d kept rest half) (D : 0 < den) (same : rest ≡ half)
+      (least : 1 ≤ half) where
     halfway : (2 * kept + 1) * (den * 2 ^ k) * 2 ^ d ≡ 2 * (h * (den * 2 ^ k))
     halfway =
         let whole : kept * 2 ^ d + rest ≡ h = rw (cut.above, cut.below) (div-add-mod' h (2 ^ d)) in

@@ -66,6 +66,7 @@ pub number_short : (xs ys : List ℕ) → length xs + length ys ≤ 19
     → number_after 10 (number_after 10 0 xs % 2 ^ 64) ys % 2 ^ 64 ≡ number_after 10 0 (xs ++ ys)
 number_short xs ys short =
     let most : 10 ^ length xs ≤ 10 ^ 19 = pow-le-pow_right {n = 10} (omega arith) {i = length xs} {j = 19} (omega arith) in
-    let all : 10 ^ length (xs ++ ys) ≤ 10 ^ 19 = pow-le-pow_right {n = 10} (omega arith) {i = length (xs ++ ys)} {j = 19} (omega (arith, length-append xs ys)) in
+    let all : 10 ^ length (xs ++ ys) ≤ 10 ^ 19 = pow-le-pow_right {n = 10} (omega arith) {i = length (xs ++ ys)} {j = 19}
+    (omega (arith, length-append xs ys)) in
     let first : number_after 10 0 xs % 2 ^ 64 ≡ number_after 10 0 xs = omega (arith, below 0 xs, most) in
     ap (λ n. number_after 10 n ys % 2 ^ 64) first ∙ ap (λ n. n % 2 ^ 64) (sym (number_after-append 10 0 xs ys)) ∙ omega (arith, below 0 (xs ++ ys), all)

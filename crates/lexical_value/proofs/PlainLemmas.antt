@@ -1,5 +1,6 @@
 -- Digits alone, in each part that is announced, are a literal of a syntax that requires no more.
-use Rattle.std.proofs.Common.{ℕ, ◌≡◌, ◌≢◌, ◌<◌, ◌++◌, ◌⊎◌, ◌||◌, inl, inr, append-nil, drop, true, false, IsTrue, IsSome, List, [], ◌∷◌, length, slice_index, nat_lt}
+use Rattle.std.proofs.Common.{ℕ, ◌≡◌, ◌≢◌, ◌<◌, ◌++◌, ◌⊎◌, ◌||◌, inl, inr, append-nil, drop, true, false, IsTrue, IsSome, List, [], ◌∷◌, length}
+use Rattle.std.proofs.Common.{slice_index, nat_lt}
 use Rattle.std.proofs.Common.{refl, sym, ap, ◌∙◌, subst, arith, ℤ, Option, Some, None, IfSome, option_map}
 use Rattle.std.specs.List.{AllByRecursion}
 use Rattle.std.specs.Option.{SomeIff}

@@ -1,5 +1,6 @@
 -- What std reads of a decimal literal is its value.
-use Rattle.std.proofs.Common.{◌≡◌, ℕ, suc, ◌+◌, ◌*◌, ◌^◌, ◌<◌, ◌++◌, Bool, true, false, cond, ◌||◌, ◌&&◌, List, [], ◌∷◌, length, get_or, refl, sym, ap, ◌∙◌, arith}
+use Rattle.std.proofs.Common.{◌≡◌, ℕ, suc, ◌+◌, ◌*◌, ◌^◌, ◌<◌, ◌++◌, Bool, true, false, cond, ◌||◌, ◌&&◌, List, [], ◌∷◌, length, get_or, refl, sym}
+use Rattle.std.proofs.Common.{ap, ◌∙◌, arith}
 use Rattle.std.proofs.Common.{append-nil, Some, IsTrue, slice_range}
 use Rattle.std.proofs.Math.Nat.{add-zero}
 use Rattle.core.proofs.str.DigitBytes.{digit_from_value}
@@ -94,7 +95,8 @@ record Ends (t : List ℕ) (negative : Bool) (exponent : List ℕ) : Type 0 wher
   tail : (front : List ℕ) → IsTail (front ++ t) (length front) negative exponent
 
 ends : (character sign exponent : List ℕ) → IsTrue (is_none_or_one is_e character) → IsTrue (is_none_or_one signs sign) → AllDigits 10 exponent
-    → is_absent exponent ≡ is_absent character → IsTrue (is_absent sign || is_present character) → Ends (character ++ (sign ++ exponent)) (is_minus sign) exponent
+    → is_absent exponent ≡ is_absent character → IsTrue (is_absent sign || is_present character) → Ends (character ++ (sign ++ exponent))
+    (is_minus sign) exponent
 ends [] [] [] e s digits same behind = record {
   no_digit = refl;
   no_point = refl;

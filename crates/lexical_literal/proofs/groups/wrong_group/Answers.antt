@@ -106,6 +106,7 @@ returns c =
       begins = now.begins;
       ends = sym (ap (λ n. start + n) size ∙ whole);
       within = now.within;
-      wrong = rw size (false_from_ne_true _ (λ right. false≢true (sym c.requires ∙ now.rest (rw (drop_of_length-le bytes end) (rest_end S n start (i - start) right)))));
+      wrong = rw size (false_from_ne_true _
+          (λ right. false≢true (sym c.requires ∙ now.rest (rw (drop_of_length-le bytes end) (rest_end S n start (i - start) right)))));
       first = now.first;
     }

@@ -17,7 +17,8 @@ returns-then-digits-eq0 c n k p is cut =
 
 pub settle-requires-clause-digits : goal.settle-requires-clause-digits
 settle-requires-clause-digits c =
-    let most : 2 ^ (c.lifted-lifted.result.2 + 1) ≤ 2 ^ 120 = pow_mono {i = c.lifted-lifted.result.2 + 1} {j = 120} (omega (arith, c.lifted-lifted.ensures.range)) in
+    let most : 2 ^ (c.lifted-lifted.result.2 + 1) ≤ 2 ^ 120 = pow_mono {i = c.lifted-lifted.result.2 + 1} {j = 120}
+    (omega (arith, c.lifted-lifted.ensures.range)) in
     (omega (arith, c.lifted-lifted.ensures.range, c.dropped-dropped.ensures.least, c.precision.ensures.range), omega (arith, c.lifted-lifted.ensures.top))
 
 pub settle-requires-clause-kept : goal.settle-requires-clause-kept

@@ -42,7 +42,8 @@ pub returns : goal.returns
 returns c n e l h =
     let same : e ≡ c.args.exponent = omega arith in
     in_radixes (λ num den. IsNearestBits (format_of c.args.double) num den c.nearest_bits.result) n c.args.radix_bits c.args.places c.args.base_bits e
-    c.args.negative (subst (λ d. IsNearestBits (format_of c.args.double) (n * 2 ^ (if c.args.negative then 0 else e * c.args.base_bits)) (2 ^ d) c.nearest_bits.result)
+    c.args.negative (subst
+    (λ d. IsNearestBits (format_of c.args.double) (n * 2 ^ (if c.args.negative then 0 else e * c.args.base_bits)) (2 ^ d) c.nearest_bits.result)
     (c.scales-up.ensures.down ∙ ap (λ x. c.args.places * c.args.radix_bits + (if c.args.negative then x * c.args.base_bits else 0)) (sym same))
     (c.nearest_bits.ensures n (c.args.leading.dropped * c.args.radix_bits) (if c.args.negative then 0 else e * c.args.base_bits)
     (ap (λ x. c.args.leading.dropped * c.args.radix_bits + (if c.args.negative then 0 else x * c.args.base_bits)) same ∙ sym c.scales-up.ensures.up)

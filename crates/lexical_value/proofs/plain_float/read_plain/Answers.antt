@@ -42,7 +42,8 @@ returns-then-is_spelled c =
           (λ set. c.split_sign.ensures.plus (ap not (c.no_positive_mantissa_sign.ensures ∙ flag layout.no_positive_mantissa_sign ∙ set)))
           (subst (λ o. IsTrue (is_none_or_one (point_of o) c.split_point.result.0.now)) (sym c.requires.options) c.split_point.ensures.point)
           (are_digits _ fraction decimals.radix c.take_digits-fraction.ensures.digits)
-          (subst (λ o. IsTrue (is_none_or_one (exponent_character_of (raw c.args.syntax.word) o) c.split_exponent_character.result.0.now)) (sym c.requires.options)
+          (subst (λ o. IsTrue (is_none_or_one (exponent_character_of (raw c.args.syntax.word) o) c.split_exponent_character.result.0.now))
+          (sym c.requires.options)
           (subst (λ w. IsTrue (is_none_or_one (sets.exponent (raw w) c.args.options.exponent) c.split_exponent_character.result.0.now)) word
           c.split_exponent_character.ensures.character))
           c.split_sign-2.ensures.sign
