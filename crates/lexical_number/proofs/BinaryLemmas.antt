@@ -9,23 +9,38 @@ use Rattle.core.specs.Dec2flt.Rounding.{scaled_bits, IsNearestBits, IsCut, IsJus
 use Rattle.core.proofs.dec2flt.RoundingLemmas.{nearest_tie, nearest_above}
 use Rattle.core.proofs.dec2flt.Settle.{lies_above, significand_of}
 use Rattle.lexical_number.specs.Leading.{IsCutTo}
-use Rattle.lexical_number.proofs.LeadingLemmas.{beyond, exact, scaled, longer_digits}
+use Rattle.lexical_number.proofs.LeadingLemmas.{beyond, exact, scaled, unscaled, longer_digits}
 
-powers : (k p l d q lift e : ℕ) → k + p + l + d ≡ q + lift + e → 2 ^ k * (2 ^ p * 2 ^ l * 2 ^ d) ≡ 2 ^ lift * (2 ^ q * 2 ^ e)
-powers k p l d q lift e is =
-    ap (λ t. 2 ^ k * (t * 2 ^ d)) (sym (pow-add 2 p l)) ∙ ap (λ t. 2 ^ k * t) (sym (pow-add 2 (p + l) d)) ∙ sym (pow-add 2 k (p + l + d))
-    ∙ ap (λ t. 2 ^ t) {x = k + (p + l + d)} {y = lift + (q + e)} (omega arith) ∙ pow-add 2 lift (q + e) ∙ ap (λ t. 2 ^ lift * t) (pow-add 2 q e)
+powers : (den up l d down lift e : ℕ) → up + l + d ≡ down + lift + e → den * 2 ^ up * (2 ^ l * 2 ^ d) ≡ 2 ^ lift * (den * 2 ^ e) * 2 ^ down
+powers den up l d down lift e is =
+    let same : 2 ^ up * (2 ^ l * 2 ^ d) ≡ 2 ^ down * (2 ^ lift * 2 ^ e) =
+    ap (λ t. 2 ^ up * t) (sym (pow-add 2 l d)) ∙ sym (pow-add 2 up (l + d)) ∙ ap (λ t. 2 ^ t) {x = up + (l + d)} {y = down + (lift + e)} (omega arith)
+    ∙ pow-add 2 down (lift + e) ∙ ap (λ t. 2 ^ down * t) (pow-add 2 lift e) in
+    let left : den * 2 ^ up * (2 ^ l * 2 ^ d) ≡ den * (2 ^ up * (2 ^ l * 2 ^ d)) = grind arith in
+    let right : den * (2 ^ down * (2 ^ lift * 2 ^ e)) ≡ 2 ^ lift * (den * 2 ^ e) * 2 ^ down = grind arith in
+    left ∙ ap (λ t. den * t) same ∙ right
 
 -- The digits may be longer by `lift` bits, if no more digits follow.
-pub cut_at : {n digits : ℕ} {more : Bool} (k p l d q lift e h : ℕ) → h ≡ digits * 2 ^ lift → (more ≡ true → lift ≡ 0) → k + p + l + d ≡ q + lift + e
-    → IsCutTo n digits more (2 ^ k) → IsCutTo (n * 2 ^ p * 2 ^ l * 2 ^ d) h more (2 ^ q * 2 ^ e)
-cut_at {n = n} {digits = digits} {more = more} k p l d q lift e h is none places cut =
-    let whole : n * (2 ^ p * 2 ^ l * 2 ^ d) ≡ n * 2 ^ p * 2 ^ l * 2 ^ d = grind arith in
-    let at = scaled cut (2 ^ p * 2 ^ l * 2 ^ d) (mul-pos (mul-pos (pow_pos p) (pow_pos l)) (pow_pos d)) in
-    subst (λ h. IsCutTo (n * 2 ^ p * 2 ^ l * 2 ^ d) h more (2 ^ q * 2 ^ e)) (sym is)
-    (longer_digits (2 ^ lift) (mul-pos (pow_pos q) (pow_pos e)) (λ m. ap (λ t. 2 ^ t) (none m))
-    (subst (λ m. IsCutTo m digits more (2 ^ lift * (2 ^ q * 2 ^ e))) whole
-    (subst (λ u. IsCutTo (n * (2 ^ p * 2 ^ l * 2 ^ d)) digits more u) (powers k p l d q lift e places) at)))
+pub cut_at : {digits : ℕ} {more : Bool} (num den up down l d lift e h : ℕ) → h ≡ digits * 2 ^ lift → (more ≡ true → lift ≡ 0) → 0 < den
+    → up + l + d ≡ down + lift + e → IsCutTo (num * 2 ^ down) digits more (den * 2 ^ up) → IsCutTo (num * 2 ^ l * 2 ^ d) h more (den * 2 ^ e)
+cut_at {digits = digits} {more = more} num den up down l d lift e h is none D places cut =
+    let moved : num * 2 ^ down * (2 ^ l * 2 ^ d) ≡ num * 2 ^ l * 2 ^ d * 2 ^ down = grind arith in
+    let at = scaled cut (2 ^ l * 2 ^ d) (mul-pos (pow_pos l) (pow_pos d)) in
+    subst (λ h. IsCutTo (num * 2 ^ l * 2 ^ d) h more (den * 2 ^ e)) (sym is)
+    (longer_digits (2 ^ lift) (mul-pos D (pow_pos e)) (λ m. ap (λ t. 2 ^ t) (none m))
+    (unscaled (2 ^ down) (pow_pos down)
+    (subst (λ m. IsCutTo m digits more (2 ^ lift * (den * 2 ^ e) * 2 ^ down)) moved
+    (subst (IsCutTo (num * 2 ^ down * (2 ^ l * 2 ^ d)) digits more) (powers den up l d down lift e places) at))))
+
+-- Powers of two can be on either side.
+pub raised : {n digits : ℕ} {more : Bool} (k p up down : ℕ) → k + p ≡ up → IsCutTo n digits more (2 ^ k)
+    → IsCutTo (n * 2 ^ p * 2 ^ down) digits more (2 ^ down * 2 ^ up)
+raised {n = n} {digits = digits} {more = more} k p up down is cut =
+    let number : n * (2 ^ p * 2 ^ down) ≡ n * 2 ^ p * 2 ^ down = grind arith in
+    let units : 2 ^ k * (2 ^ p * 2 ^ down) ≡ 2 ^ down * (2 ^ k * 2 ^ p) = grind arith in
+    subst (λ m. IsCutTo m digits more (2 ^ down * 2 ^ up)) number
+    (subst (IsCutTo (n * (2 ^ p * 2 ^ down)) digits more) (units ∙ ap (λ t. 2 ^ down * t) (sym (pow-add 2 k p) ∙ ap (λ t. 2 ^ t) is))
+    (scaled cut (2 ^ p * 2 ^ down) (mul-pos (pow_pos p) (pow_pos down))))
 
 module _ (f : Format) (num den d k : ℕ) {h : ℕ} {more : Bool} (near : IsCutTo (num * 2 ^ low f * 2 ^ d) h more (den * 2 ^ k)) where
   pub within_one : IsWithin f num den h 1 d k

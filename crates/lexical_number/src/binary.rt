@@ -126,7 +126,7 @@ pub const fn nearest_bits(double: bool, digits: u128, more: bool, up: u128, down
     requires size { digits < 2 ^ 120 }
     requires more { more ≡ true → 2 ^ 64 ≤ digits }
     requires scale { (up < 2 ^ 120) × (down < 2 ^ 120) }
-    ensures { (n k p : ℕ) → k + p ≡ up → IsCutTo n digits more (2 ^ k) → IsNearestBits (format_of double) (n * 2 ^ p) (2 ^ down) result }
+    ensures { (num den : ℕ) → 0 < den → IsCutTo (num * 2 ^ down) digits more (den * 2 ^ up) → IsNearestBits (format_of double) num den result }
 {
     if digits == 0 {
         return 0;

@@ -2,6 +2,7 @@
 use Rattle.core.specs.Prelude.{◌≡◌, ◌+◌, ◌*◌, ◌^◌, ◌≤◌, false}
 use mathlib.Core.Path.{ap, ◌∙◌}
 use native.Mathlib.Omega.{arith}
+use native.Mathlib.Nat.{eq_of_mul-eq-mul_right}
 use lib.Pow.{pow_mono, pow_pos}
 use Rattle.core.proofs.dec2flt.Extremes.{nearest_of_zero}
 use Rattle.lexical_number.specs.Binary.{format_of}
@@ -10,10 +11,10 @@ use Rattle.lexical_number.proofs.LeadingLemmas.{exact}
 use Rattle.lexical_number.proofs.binary.nearest_bits.Goals as goal
 
 pub returns-then-digits-eq0 : goal.returns-then-digits-eq0
-returns-then-digits-eq0 c n k p is cut =
+returns-then-digits-eq0 c num den D cut =
     let none : c.args.more ≡ false = grind (arith, c.if-digits-eq0.true, c.requires.more) in
-    nearest_of_zero (format_of c.args.double) _ _ (pow_pos c.args.down)
-    (ap (λ m. m * 2 ^ p) (exact cut none) ∙ ap (λ d. d * 2 ^ k * 2 ^ p) c.if-digits-eq0.true ∙ omega arith)
+    nearest_of_zero (format_of c.args.double) _ _ D (eq_of_mul-eq-mul_right (2 ^ c.args.down) (pow_pos c.args.down) num 0
+    (exact cut none ∙ ap (λ d. d * (den * 2 ^ c.args.up)) c.if-digits-eq0.true ∙ omega arith))
 
 pub settle-requires-clause-digits : goal.settle-requires-clause-digits
 settle-requires-clause-digits c =
@@ -27,7 +28,6 @@ settle-requires-clause-kept c =
     (omega (arith, c.dropped-dropped.ensures.least, c.precision.ensures)) (λ K. omega (arith, c.dropped-dropped.ensures.normal K, c.precision.ensures))
 
 pub returns : goal.returns
-returns c n k p is cut =
-    c.settle.ensures _ _ (pow_pos c.args.down)
-    (cut_at k p _ _ c.args.down _ _ _ c.lifted-lifted.ensures.value (λ m. c.lifted-lifted.ensures.none (c.requires.more m))
-    (omega (arith, c.dropped-dropped.ensures.places, c.precision.ensures)) cut)
+returns c num den D cut =
+    c.settle.ensures num den D (cut_at num den c.args.up c.args.down _ _ _ _ _ c.lifted-lifted.ensures.value
+    (λ m. c.lifted-lifted.ensures.none (c.requires.more m)) D (omega (arith, c.dropped-dropped.ensures.places, c.precision.ensures)) cut)

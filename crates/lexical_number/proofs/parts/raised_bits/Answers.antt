@@ -8,6 +8,7 @@ use Rattle.core.specs.Dec2flt.Rounding.{IsNearestBits}
 use Rattle.core.proofs.dec2flt.Extremes.{nearest_of_zero}
 use Rattle.lexical_number.specs.Binary.{format_of}
 use Rattle.lexical_number.specs.Leading.{IsCutTo}
+use Rattle.lexical_number.proofs.BinaryLemmas.{raised}
 use Rattle.lexical_number.proofs.LeadingLemmas.{digits_le, few, many}
 use Rattle.lexical_number.proofs.PartsLemmas.{bound, explodes, in_radixes, pow_of, vanishes}
 use Rattle.lexical_number.proofs.parts.raised_bits.Goals as goal
@@ -45,6 +46,6 @@ returns c n e l h =
     c.args.negative (subst
     (λ d. IsNearestBits (format_of c.args.double) (n * 2 ^ (if c.args.negative then 0 else e * c.args.base_bits)) (2 ^ d) c.nearest_bits.result)
     (c.scales-up.ensures.down ∙ ap (λ x. c.args.places * c.args.radix_bits + (if c.args.negative then x * c.args.base_bits else 0)) (sym same))
-    (c.nearest_bits.ensures n (c.args.leading.dropped * c.args.radix_bits) (if c.args.negative then 0 else e * c.args.base_bits)
+    (c.nearest_bits.ensures _ _ (pow_pos _) (raised (c.args.leading.dropped * c.args.radix_bits) (if c.args.negative then 0 else e * c.args.base_bits) _ _
     (ap (λ x. c.args.leading.dropped * c.args.radix_bits + (if c.args.negative then 0 else x * c.args.base_bits)) same ∙ sym c.scales-up.ensures.up)
-    (subst (IsCutTo n c.args.leading.digits c.args.leading.more) (pow_of c.args.radix_bits c.args.leading.dropped) l.cut)))
+    (subst (IsCutTo n c.args.leading.digits c.args.leading.more) (pow_of c.args.radix_bits c.args.leading.dropped) l.cut))))
