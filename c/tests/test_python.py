@@ -3,6 +3,7 @@ docs/EXPLANATIONS.md, and known words and sentences."""
 import contextlib
 import copy
 import doctest
+import locale
 import math
 import os
 import pathlib
@@ -16,6 +17,7 @@ import tempfile
 import unittest
 from decimal import Decimal
 from fractions import Fraction
+from unittest import mock
 
 TESTS = pathlib.Path(__file__).resolve().parent
 TOP = TESTS.parent.parent
@@ -253,6 +255,24 @@ class Literals(unittest.TestCase):
         wrong = [(german, math.inf, "NaN or infinity"), (german, Decimal("NaN"), "NaN or infinity"), (hexadecimal, 2**127, "radix")]
         for syntax, value, sentence in [*wrong, (Syntax.integers(Format()), 1.5, "decimal point"), (Language.C.forms["octal"], -1, "'-'")]:
             self.assertRaisesRegex(ValueError, sentence, syntax.format_number, value)
+
+    def test_a_locale_plays_no_role(self):
+        """Tests C, too, which is in the same process."""
+        folder = tempfile.mkdtemp()
+        self.addCleanup(shutil.rmtree, folder)
+        if shutil.which("localedef"):
+            subprocess.run(["localedef", "-i", "de_DE", "-f", "UTF-8", f"{folder}/de_DE.UTF-8"], capture_output=True)
+        self.addCleanup(locale.setlocale, locale.LC_ALL, locale.setlocale(locale.LC_ALL))
+        for path in ({}, {"LOCPATH": folder}):
+            with contextlib.suppress(locale.Error), mock.patch.dict(os.environ, path):
+                locale.setlocale(locale.LC_ALL, "de_DE.UTF-8")
+                break
+        else:
+            self.skipTest("no locale de_DE.UTF-8")
+        self.assertEqual(f"{1.5:n}", "1,5")
+        literal = Language.JSON.read("12345678901234567890.5")
+        self.assertEqual((literal.value, literal.parts.fraction), (1.2345678901234567e19, "5"))
+        self.assertEqual([literal.syntax.format_number(it) for it in (1234.5, literal)], ["1234.5", literal.text])
 
     def test_causes_of_format(self):
         self.assertGreater(len(CAUSES), 10)
