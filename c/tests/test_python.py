@@ -381,14 +381,27 @@ class Wrong(unittest.TestCase):
             with self.subTest(code), self.assertRaisesRegex(error, f"^{re.escape(sentence)}$"):
                 eval(code)
 
-    def test_other_objects_are_refused(self):
+    def test_other_objects_are_refused_by_name(self):
         view, syntax = FormatView((1 << 128) - 1), Syntax(Format())
-        calls = [view.is_separator, view.mantissa_digit, view.role_of, syntax.role_of, FormatView, Format.parse, Edit, Format().edit]
-        calls += [Syntax, Syntax.of, syntax.read, syntax.read_prefix, Language.JSON.read, view.separators, syntax.read("1").digits]
-        for call in calls + [lambda it: notes_of(base_prefix=it), lambda it: Edit.of("radix", it), lambda it: Specials(it).read(syntax, "")]:
+        calls = {
+            "a byte": [view.is_separator, view.mantissa_digit, view.role_of, syntax.role_of],
+            "a format word": [FormatView, Format, Format.parse],
+            "a setting|=|unknown|takes": [Edit, Format().edit, Syntax.of, Syntax.notes_of],
+            "a text|here$|expected": [syntax.read, syntax.read_prefix, Language.JSON.read],
+            "part is": [view.separators, syntax.read("1").digits],
+            "format is": [Syntax, Syntax.integers],
+            "base_prefix is": [lambda it: notes_of(base_prefix=it), lambda it: Format.of(base_prefix=it)],
+            "setter|radix": [lambda it: Edit.of(it, 8), lambda it: Edit.of("radix", it)],
+            "exponent|point": [lambda it: Syntax(Format(), it), lambda it: Format().check_options("e", it)],
+            "spelling|a text": [lambda it: Specials(it).read(syntax, ""), lambda it: Specials().read(syntax, it)],
+        }
+        for names, call in [(names, call) for names, some in calls.items() for call in some]:
             for it in (1.5, -1, 1 << 128, 10**5000, "\u00e9\u00e9", "\ud800\ud800", "a\0b", b"\xff\xff", [], {}, object(), print, Error.EMPTY):
-                with self.subTest(call=call, kind=type(it)), contextlib.suppress(TypeError, ValueError):
-                    self.assertIsNone(call(it))
+                with self.subTest(call=call, kind=type(it)):
+                    try:
+                        self.assertIn(call(it), (None, ()))
+                    except (TypeError, ValueError) as error:
+                        self.assertRegex(str(error), names)
 
     @unittest.skipUnless(shutil.which("mypy"), "mypy")
     def test_a_type_checker_refuses_wrong_arguments(self):
