@@ -41,6 +41,31 @@ NORMAL = "0x0A0A0A0000000000000000000000000C"
 STATES = [(STANDARD, "e", ".", NORMAL), (MIXED, "p", ",", f"{MIXED} required_base_prefix=true"), (STANDARD, "\\", "'", NORMAL), (STANDARD, "", "", NORMAL),
           ("0x000002095C000027000000010000000C", "^", '"', "0x020202095C000027000000010000000C"),
           ("0x00000A000000005F000000000000000C", "e", ".", NORMAL), ("0x01FF257862000020800017FF8003FFFF", "e", ".", "")]
+# Returns the texts whose contrast with the ground behind them is below 4.5, with this contrast.
+FAINT = """const canvas = document.createElement("canvas").getContext("2d", { willReadFrequently: true });
+    const luminance = (colours) => {
+        for (const colour of ["white", ...colours]) { canvas.fillStyle = colour; canvas.fillRect(0, 0, 1, 1); }
+        const [red, green, blue] = [...canvas.getImageData(0, 0, 1, 1).data].map((it) => it / 255)
+            .map((it) => (it <= 0.04045 ? it / 12.92 : ((it + 0.055) / 1.055) ** 2.4));
+        return 0.2126 * red + 0.7152 * green + 0.0722 * blue;
+    };
+    const grounds = (node) => (node ? [...grounds(node.parentElement), getComputedStyle(node).backgroundColor] : []);
+    const contrast = (node) => {
+        const [ground, text] = [[], [getComputedStyle(node).color]].map((it) => luminance([...grounds(node), ...it]) + 0.05);
+        return Math.max(ground / text, text / ground);
+    };
+    const hasText = (node) => node.value || [...node.childNodes].some((it) => it.nodeType === 3 && it.data.trim());
+    return [...document.querySelectorAll("body *")]
+        .filter((it) => it.checkVisibility({ visibilityProperty: true }) && !it.disabled && hasText(it) && contrast(it) < 4.5)
+        .map((it) => `${it.textContent.slice(0, 40)} ${contrast(it)}`);"""
+# Returns the controls that have the focus without an outline.
+BARE = """return [...document.querySelectorAll("button, input, select, textarea, summary, pre[tabindex]")].filter((it) => {
+        it.focus();
+        const { outlineStyle, outlineWidth } = getComputedStyle(it);
+        return it === document.activeElement && (outlineStyle === "none" || parseFloat(outlineWidth) < 2);
+    }).map((it) => it.id || it.textContent);"""
+
+
 def has(*programs):
     """Returns whether the machine has all of these programs."""
     return all(map(shutil.which, programs))
@@ -483,6 +508,19 @@ class Walk(unittest.TestCase):
             self.wait(lambda: self.run_script("return copied === document.getElementById('code').textContent"))
         self.click("#copy-word")
         self.wait(lambda: self.run_script("return copied") == STANDARD)
+
+    def test_texts_can_be_read_in_light_and_dark(self):
+        self.addCleanup(self.driver.execute_cdp_cmd, "Emulation.setEmulatedMedia", {"features": []})
+        for mode in ("light", "dark"):
+            self.driver.execute_cdp_cmd("Emulation.setEmulatedMedia", {"features": [{"name": "prefers-color-scheme", "value": mode}]})
+            for word, compare in ((MIXED, "JSON"), ("0x000010006200005F00000000000000CC", "another")):
+                self.load(f"#word={word}&exponent=112&compare={compare}&numbers=%2B0x1_0.8p%2B1%0A!1%0A1k")
+                self.run_script("document.querySelectorAll('details').forEach((it) => { it.open = true; })")
+                self.assertEqual(self.run_script(FAINT), [], mode)
+
+    def test_what_has_the_focus_has_an_outline(self):
+        self.find("body").send_keys(Keys.TAB)
+        self.assertEqual(self.run_script(BARE), [])
 
     def test_bits_are_those_of_the_word(self):
         self.load(f"#word={MIXED}")

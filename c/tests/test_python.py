@@ -3,6 +3,7 @@ docs/EXPLANATIONS.md, and known words and sentences."""
 import contextlib
 import copy
 import doctest
+import locale
 import math
 import os
 import pathlib
@@ -16,6 +17,7 @@ import tempfile
 import unittest
 from decimal import Decimal
 from fractions import Fraction
+from unittest import mock
 
 TESTS = pathlib.Path(__file__).resolve().parent
 TOP = TESTS.parent.parent
@@ -254,6 +256,24 @@ class Literals(unittest.TestCase):
         for syntax, value, sentence in [*wrong, (Syntax.integers(Format()), 1.5, "decimal point"), (Language.C.forms["octal"], -1, "'-'")]:
             self.assertRaisesRegex(ValueError, sentence, syntax.format_number, value)
 
+    def test_a_locale_plays_no_role(self):
+        """Tests C, too, which is in the same process."""
+        folder = tempfile.mkdtemp()
+        self.addCleanup(shutil.rmtree, folder)
+        if shutil.which("localedef"):
+            subprocess.run(["localedef", "-i", "de_DE", "-f", "UTF-8", f"{folder}/de_DE.UTF-8"], capture_output=True)
+        self.addCleanup(locale.setlocale, locale.LC_ALL, locale.setlocale(locale.LC_ALL))
+        for path in ({}, {"LOCPATH": folder}):
+            with contextlib.suppress(locale.Error), mock.patch.dict(os.environ, path):
+                locale.setlocale(locale.LC_ALL, "de_DE.UTF-8")
+                break
+        else:
+            self.skipTest("no locale de_DE.UTF-8")
+        self.assertEqual(f"{1.5:n}", "1,5")
+        literal = Language.JSON.read("12345678901234567890.5")
+        self.assertEqual((literal.value, literal.parts.fraction), (1.2345678901234567e19, "5"))
+        self.assertEqual([literal.syntax.format_number(it) for it in (1234.5, literal)], ["1234.5", literal.text])
+
     def test_causes_of_format(self):
         self.assertGreater(len(CAUSES), 10)
         for text, settings, cause, blamed, *numbers in CAUSES:
@@ -361,14 +381,27 @@ class Wrong(unittest.TestCase):
             with self.subTest(code), self.assertRaisesRegex(error, f"^{re.escape(sentence)}$"):
                 eval(code)
 
-    def test_other_objects_are_refused(self):
+    def test_other_objects_are_refused_by_name(self):
         view, syntax = FormatView((1 << 128) - 1), Syntax(Format())
-        calls = [view.is_separator, view.mantissa_digit, view.role_of, syntax.role_of, FormatView, Format.parse, Edit, Format().edit]
-        calls += [Syntax, Syntax.of, syntax.read, syntax.read_prefix, Language.JSON.read, view.separators, syntax.read("1").digits]
-        for call in calls + [lambda it: notes_of(base_prefix=it), lambda it: Edit.of("radix", it), lambda it: Specials(it).read(syntax, "")]:
+        calls = {
+            "a byte": [view.is_separator, view.mantissa_digit, view.role_of, syntax.role_of],
+            "a format word": [FormatView, Format, Format.parse],
+            "a setting|=|unknown|takes": [Edit, Format().edit, Syntax.of, Syntax.notes_of],
+            "a text|here$|expected": [syntax.read, syntax.read_prefix, Language.JSON.read],
+            "part is": [view.separators, syntax.read("1").digits],
+            "format is": [Syntax, Syntax.integers],
+            "base_prefix is": [lambda it: notes_of(base_prefix=it), lambda it: Format.of(base_prefix=it)],
+            "setter|radix": [lambda it: Edit.of(it, 8), lambda it: Edit.of("radix", it)],
+            "exponent|point": [lambda it: Syntax(Format(), it), lambda it: Format().check_options("e", it)],
+            "spelling|a text": [lambda it: Specials(it).read(syntax, ""), lambda it: Specials().read(syntax, it)],
+        }
+        for names, call in [(names, call) for names, some in calls.items() for call in some]:
             for it in (1.5, -1, 1 << 128, 10**5000, "\u00e9\u00e9", "\ud800\ud800", "a\0b", b"\xff\xff", [], {}, object(), print, Error.EMPTY):
-                with self.subTest(call=call, kind=type(it)), contextlib.suppress(TypeError, ValueError):
-                    self.assertIsNone(call(it))
+                with self.subTest(call=call, kind=type(it)):
+                    try:
+                        self.assertIn(call(it), (None, ()))
+                    except (TypeError, ValueError) as error:
+                        self.assertRegex(str(error), names)
 
     @unittest.skipUnless(shutil.which("mypy"), "mypy")
     def test_a_type_checker_refuses_wrong_arguments(self):
