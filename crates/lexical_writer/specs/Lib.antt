@@ -1,4 +1,4 @@
 pub mod Digits
 pub mod Layout
 pub mod Conversion
-pub mod Private
+pub mod Buffer

@@ -10,7 +10,7 @@ ghost use Rattle.lexical_literal.specs.Takes.{Takes};
 ghost use Rattle.lexical_writer.specs.Digits.{grouped, only_if, or_zero, run_text, size_of, values_of};
 ghost use Rattle.lexical_writer.specs.Layout.{base_byte, given_fraction, group_of, has_zero};
 ghost use Rattle.lexical_writer.specs.Layout.{HasNumber, IsLaidOut, literal_of, needs_exponent, refusal, sign_of};
-ghost use Rattle.lexical_writer.specs.Private.{IsTaken};
+ghost use Rattle.lexical_writer.specs.Buffer.{IsTaken};
 
 use crate::digits::{only_if, put_if_any, without_zeros};
 use crate::run::{Run, Source};

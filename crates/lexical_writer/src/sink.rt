@@ -25,7 +25,7 @@ pub(crate) struct Window<'a> {
 
 impl Sink for Window<'_> {
     ghost use Rattle.std.specs.Prelude.{◌≡◌};
-    ghost use Rattle.lexical_writer.specs.Private.{IsTaken};
+    ghost use Rattle.lexical_writer.specs.Buffer.{IsTaken};
 
     ghost has = { λ start window text. (window.bytes.ghost_name ≡ start.bytes.ghost_name)
         × IsTaken text start.bytes.now window.bytes.now window.length };
