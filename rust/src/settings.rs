@@ -75,7 +75,7 @@ pub struct Settings {
     options: [u8; 2],
     conditions: Conditions,
     /// What the settings would write that were refused, and no later setting writes.
-    refused: u128,
+    refused: Mask,
     /// The number of texts.
     count: usize,
     /// The settings of which a field is not overridden, sorted by their indexes.
@@ -89,12 +89,31 @@ pub struct Settings {
 struct Setting {
     index: usize,
     name: &'static str,
-    mask: u128,
+    mask: Mask,
 }
 
-/// Returns the bit of an option, by its index in [`OPTIONS`]. No field has it, so that a mask can name both.
-const fn bit_of(option: usize) -> u128 {
-    1 << (72 + option)
+/// The bits of fields of a word, and a bit for each option, by its index in [`OPTIONS`]. A word has no bits to spare: a
+/// reserved one may become a field.
+#[derive(Debug, Clone, Copy, PartialEq, Eq, Hash)]
+struct Mask {
+    word: u128,
+    options: u8,
+}
+
+impl Mask {
+    const EMPTY: Mask = Mask::of_word(0);
+
+    const fn of_word(word: u128) -> Mask {
+        Mask { word, options: 0 }
+    }
+
+    const fn without(self, other: Mask) -> Mask {
+        Mask { word: self.word & !other.word, options: self.options & !other.options }
+    }
+
+    const fn meets(self, other: Mask) -> bool {
+        self.word & other.word != 0 || self.options & other.options != 0
+    }
 }
 
 impl Default for Settings {
@@ -111,7 +130,7 @@ impl Settings {
             builder: NumberFormatBuilder::new(),
             options: DEFAULTS,
             conditions: Conditions::NONE,
-            refused: 0,
+            refused: Mask::EMPTY,
             count: 0,
             live: [None; LIVE],
             overridden: [None; OVERRIDDEN],
@@ -153,15 +172,15 @@ impl Settings {
             return Ok(());
         }
         let (option, edit) = parse(index, text).inspect_err(|it| match (it.option, it.error.0) {
-            (Some(option), _) => self.refused |= bit_of(option),
-            (None, Fault::BadValue(setter)) => self.refused |= setter.mask(),
+            (Some(option), _) => self.refused.options |= 1 << option,
+            (None, Fault::BadValue(setter)) => self.refused.word |= setter.mask(),
             _ => (),
         })?;
         let (name, mask) = match option {
-            Some(option) => (OPTIONS[option], bit_of(option)),
-            None => (edit.name(), edit.mask()),
+            Some(option) => (OPTIONS[option], Mask { word: 0, options: 1 << option }),
+            None => (edit.name(), Mask::of_word(edit.mask())),
         };
-        self.refused &= !mask;
+        self.refused = self.refused.without(mask);
         match option {
             Some(option @ (0 | 1)) => self.options[option] = edit.argument_byte(),
             Some(option) => self.conditions = self.conditions.edited(option - 2, edit.argument_byte()),
@@ -173,10 +192,10 @@ impl Settings {
 
     /// Adds a setting, and moves the settings that it overrides completely.
     fn push(&mut self, new: Setting) {
-        let old = self.live.into_iter().flatten().map(|old| Setting { mask: old.mask & !new.mask, ..old });
-        let gone = old.clone().filter(|old| old.mask == 0).map(|old| (old, new.index));
+        let old = self.live.into_iter().flatten().map(|old| Setting { mask: old.mask.without(new.mask), ..old });
+        let gone = old.clone().filter(|old| old.mask == Mask::EMPTY).map(|old| (old, new.index));
         let mut overridden = self.overridden.into_iter().flatten().chain(gone);
-        let mut live = old.filter(|old| old.mask != 0).chain([new]);
+        let mut live = old.filter(|old| old.mask != Mask::EMPTY).chain([new]);
         self.overridden = array::from_fn(|_| overridden.next());
         self.live = array::from_fn(|_| live.next());
     }
@@ -217,8 +236,10 @@ impl Settings {
             _ => None,
         });
         let reasons = error.flat_map(|error| error.reasons());
-        let reasons = reasons
-            .filter_map(|reason| self.finding(FindingKind::Reason(reason), reason.mask() | options_of(reason.cause())));
+        let reasons = reasons.filter_map(|reason| {
+            let mask = Mask { word: reason.mask(), options: options_of(reason.cause()) };
+            self.finding(FindingKind::Reason(reason), mask)
+        });
         reasons.chain(contradiction)
     }
 
@@ -231,16 +252,16 @@ impl Settings {
             Finding::new(kind, [old.index, *by].into_iter())
         });
         let notes = self.builder.notes();
-        let notes = notes.filter_map(|note| self.finding(FindingKind::Note(note), note.mask()));
+        let notes = notes.filter_map(|note| self.finding(FindingKind::Note(note), Mask::of_word(note.mask())));
         overridden.chain(notes)
     }
 
     /// Returns a finding with the indexes of the settings that write what `mask` has, unless a refused one would do so.
     /// The exponent bytes only follow a mantissa radix that is to blame.
-    fn finding(&self, kind: FindingKind, mask: u128) -> Option<Finding> {
-        let blamed = self.live.iter().flatten().filter(|it| it.mask & mask != 0);
-        let followers = if mask & MANTISSA_RADIX == 0 { 0 } else { EXPONENT_BASE | EXPONENT_RADIX };
-        let is_refused = mask & !followers & self.refused != 0;
+    fn finding(&self, kind: FindingKind, mask: Mask) -> Option<Finding> {
+        let blamed = self.live.iter().flatten().filter(|it| it.mask.meets(mask));
+        let followers = if mask.word & MANTISSA_RADIX == 0 { 0 } else { EXPONENT_BASE | EXPONENT_RADIX };
+        let is_refused = mask.without(Mask::of_word(followers)).meets(self.refused);
         (!is_refused).then(|| Finding::new(kind, blamed.map(|it| it.index)))
     }
 }
@@ -270,13 +291,13 @@ fn parse(index: usize, text: &[u8]) -> Result<(Option<usize>, Edit), LineError> 
 }
 
 /// Returns the fields and the condition that contradict each other.
-fn mask_of(error: ConditionsError) -> u128 {
-    bit_of(2 + error.condition())
-        | match error {
-            ConditionsError::NoBasePrefix => BASE_PREFIX,
-            ConditionsError::NoBaseSuffix => BASE_SUFFIX,
-            ConditionsError::GroupSize | ConditionsError::NoInternalSeparator => INTEGER_INTERNAL_DIGIT_SEPARATOR,
-        }
+fn mask_of(error: ConditionsError) -> Mask {
+    let word = match error {
+        ConditionsError::NoBasePrefix => BASE_PREFIX,
+        ConditionsError::NoBaseSuffix => BASE_SUFFIX,
+        ConditionsError::GroupSize | ConditionsError::NoInternalSeparator => INTEGER_INTERNAL_DIGIT_SEPARATOR,
+    };
+    Mask { word, options: 4 << error.condition() }
 }
 
 /// Returns whether an option is `none`. This is a cause if the other is not.
@@ -285,12 +306,12 @@ const fn is_one_option(cause: Cause) -> bool {
 }
 
 /// Returns the bits of the options that a cause names, or of both if one is `none`.
-fn options_of(cause: Cause) -> u128 {
+fn options_of(cause: Cause) -> u8 {
     let bytes = cause.bytes().into_iter().flatten();
     bytes.fold(0, |mask, byte| match byte.name {
-        _ if is_one_option(cause) => bit_of(0) | bit_of(1),
-        Byte::ExponentCharacter => mask | bit_of(0),
-        Byte::DecimalPoint => mask | bit_of(1),
+        _ if is_one_option(cause) => 3,
+        Byte::ExponentCharacter => mask | 1,
+        Byte::DecimalPoint => mask | 2,
         _ => mask,
     })
 }

@@ -119,6 +119,10 @@ fn words_are_parsed_and_printed() {
     ] {
         assert_eq!(text.parse::<FormatView>().map(u128::from), word, "{text}");
     }
+    for byte in '\0'..='\u{FF}' {
+        let word = byte.to_digit(16).map(|digit| u128::from(digit) << 4 | 0x100).ok_or(Error::InvalidDigit(3));
+        assert_eq!(format!("0x1{byte}0").parse::<FormatView>().map(u128::from), word, "{byte:?}");
+    }
     let (format, view) = (Format::default(), FormatView::new(0xAB));
     assert_eq!(format!("{view:>36} {view:x} {view:#X}"), format!("  0x{:032X} ab 0xAB", 0xAB));
     let printed = format!("  0x{STANDARD:032X} {STANDARD:x} {STANDARD:#X}");

@@ -28,10 +28,15 @@ fn the_error_is_that_of_the_form_that_goes_furthest() {
         is_refused(language, "10d", "decimal", 2, "unexpected character 'd'");
         is_refused(language, "0b", "binary", 2, "expected a digit of the integer");
         is_refused(language, "0b102z", "binary", 4, "unexpected character '2'");
+        is_refused(language, "1fz", "decimal", 1, "unexpected character 'f'");
         is_refused(language, "-1", "decimal", 0, "unexpected minus sign");
+        is_refused(language, "ff", "decimal", 0, "unexpected character 'f'");
         is_refused(language, "0xfg", "hexadecimal", 3, "unexpected character 'g'");
     }
-    is_refused(Language::C, "09", "decimal", 2, "unexpected leading zero");
+    for language in [Language::C, Language::PYTHON] {
+        is_refused(language, "09", "decimal", 2, "unexpected leading zero");
+    }
+    is(Language::RUST, "09", "decimal", 9.0);
     is_refused(Language::RUST, "0X1F", "decimal", 1, "unexpected character 'X'");
     is_refused(Language::NASM, "0FF", "hexadecimal, h", 3, "expected the suffix h");
 }
@@ -40,11 +45,16 @@ fn the_error_is_that_of_the_form_that_goes_furthest() {
 fn the_first_form_that_takes_a_text_gives_its_value() {
     for language in [Language::C, Language::PYTHON, Language::RUST] {
         is(language, "10", "decimal", 10.0);
+        is(language, "1.5e1", "decimal", 15.0);
         is(language, "0x1F", "hexadecimal", 31.0);
+        is(language, "0b101", "binary", 5.0);
+        is(language, "0", "decimal", 0.0);
     }
     is(Language::C, "017", "octal", 15.0);
     is(Language::C, "0x1.8p3", "hexadecimal float", 12.0);
     is(Language::C, "09.5", "decimal", 9.5);
+    is(Language::PYTHON, "0o17", "octal", 15.0);
+    is(Language::PYTHON, "0x_1F", "hexadecimal", 31.0);
     is(Language::NASM, "0FFh", "hexadecimal, h", 255.0);
     is(Language::NASM, "10bh", "hexadecimal, h", 267.0);
     // The longest front is of the decimal form, although the hexadecimal one goes further.

@@ -216,6 +216,18 @@ fn parts_are_known() {
     }
 }
 
+/// Between two digits of decimal numbers, each byte is a digit, the separator, the decimal point or the exponent character,
+/// or is refused.
+#[test]
+fn each_byte_between_two_digits_is_read_or_refused() {
+    let reader = reader("digit_separator='_' internal_digit_separator=true");
+    for byte in 0..=u8::MAX {
+        let text = [b'1', byte, b'2'];
+        let found = read(&reader, &text).err().map(|it| (it.valid_up_to(), it.byte()));
+        assert_eq!(found, (!b"0123456789_.eE".contains(&byte)).then_some((1, Some(byte))), "{byte}");
+    }
+}
+
 /// Each text of literals.txt, and of what the tools of languages answered, with its value if the tool printed one.
 #[test]
 fn languages_answer_as_their_grammars_and_tools_do() {

@@ -5,7 +5,7 @@
 #[allow(dead_code)]
 mod settings;
 
-use peltzivar::{EditErrorKind, Settings};
+use peltzivar::{Edit, EditErrorKind, FindingKind, FlagSetter, Settings};
 use settings::load;
 
 /// The syntax of a file, and the lines that are printed for it. The word of a syntax is in normal form.
@@ -127,4 +127,17 @@ fn reading_ends_at_the_first_error() {
     let many = Settings::read((0..1000).map(|radix| format!("radix={}", radix % 256))).unwrap();
     let [first, last] = [many.notes().next(), many.reasons().next()].map(Option::unwrap);
     assert_eq!((many.notes().count(), first.indexes(), last.indexes()), (32, &[0, 1][..], &[999][..]));
+}
+
+/// An option shares no bit with a field, so none overrides the other.
+#[test]
+fn options_and_fields_are_apart() {
+    for name in Edit::NAMES {
+        let value = if name.parse::<FlagSetter>().is_ok() { "true" } else { "33" };
+        let field = format!("{name}={value}");
+        let settings = Settings::read(["exponent='p'", "point=','", &field, "exponent='x'", "point='.'"]).unwrap();
+        let overridden = settings.notes().filter(|it| matches!(it.kind(), FindingKind::Overridden(_)));
+        let overridden: Vec<_> = overridden.map(|it| it.indexes().to_vec()).collect();
+        assert_eq!(overridden, [[0, 3], [1, 4]], "{name}");
+    }
 }

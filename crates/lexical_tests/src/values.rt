@@ -21,6 +21,11 @@ const DECIMAL: u128 = 0x0A0A0A00_0000005F_00000201_0000000C;
 
 const HEXADECIMAL: u128 = 0x0A021000_0000005F_00000201_0000000C;
 
+// The same with the exponent base 4, and ternary.
+const BASE_4: u128 = 0x0A041000_0000005F_00000201_0000000C;
+
+const TERNARY: u128 = 0x03030300_0000005F_00000201_0000000C;
+
 // Returns the value of an integer.
 fn integer<T: Integer>(word: u128, text: &str) -> Option<Result<T, ParseError>> {
     let reader = Reader::new(Syntax::integers(Format::new(word).ok()?));
@@ -80,8 +85,22 @@ fn floats_are_rounded_once(rt: HostRuntime) {
     assert!(rt; bits(DECIMAL, "9007199254740993") == Some((0x4340_0000_0000_0000, 0x5A00_0000)));
     let above = "9007199254740993.00001";
     assert!(rt; bits(DECIMAL, above) == Some((0x4340_0000_0000_0001, 0x5A00_0000)));
+    // A tie in hexadecimal is even, unless a digit follows.
+    let tie = "20_0000_0000_0001";
+    assert!(rt; bits(HEXADECIMAL, tie) == Some((0x4340_0000_0000_0000, 0x5A00_0000)));
+    let above = "20_0000_0000_0001.00001";
+    assert!(rt; bits(HEXADECIMAL, above) == Some((0x4340_0000_0000_0001, 0x5A00_0000)));
+    // The least float, what is below half of it, and values that are infinite.
     assert!(rt; bits(DECIMAL, "5^-324") == Some((1, 0)));
-    assert!(rt; bits(HEXADECIMAL, "1^9999999") == Some((0x7FF0_0000_0000_0000, 0x7F80_0000)));
+    assert!(rt; bits(HEXADECIMAL, "1^-1074") == Some((1, 0)));
+    assert!(rt; bits(DECIMAL, "2.47^-324") == Some((0, 0)));
+    assert!(rt; bits(DECIMAL, "1^400") == Some((0x7FF0_0000_0000_0000, 0x7F80_0000)));
+    let most = "1^9999999999999999999999999999999999999999";
+    assert!(rt; bits(HEXADECIMAL, most) == Some((0x7FF0_0000_0000_0000, 0x7F80_0000)));
+    assert!(rt; bits(HEXADECIMAL, "1^-9999999999999999999999999999999999999999") == Some((0, 0)));
+    assert!(rt; bits(BASE_4, "-1.8^3") == Some((0xC058_0000_0000_0000, 0xC2C0_0000)));
+    // The literal has no float in this radix.
+    assert!(rt; integer::<u8>(TERNARY, "12").is_some() && bits(TERNARY, "12").is_none());
 }
 
 const PLAIN: Style = Style {
