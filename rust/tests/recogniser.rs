@@ -1,7 +1,7 @@
 //! A recogniser of literals, written from docs/FORMAT.md and docs/EXPLANATIONS.md alone, and the comparison of the
 //! reader with it. The recogniser tries all splits of a text into parts, all fronts of a text, and all flags.
 //!
-//! `cargo test` compares a sample. To compare all texts, which takes ten minutes:
+//! `cargo test` compares a sample. To compare all texts, which takes a quarter of an hour:
 //!
 //!     cargo test --release --test recogniser -- --ignored
 
@@ -391,7 +391,7 @@ fn some_answers_are_those_of_the_recogniser() {
 }
 
 #[test]
-#[ignore = "ten minutes in release"]
+#[ignore = "a quarter of an hour in release"]
 fn all_answers_are_those_of_the_recogniser() {
     compare_all(6, 500, 8);
 }

@@ -88,16 +88,16 @@ pub struct ReadError {
 }
 
 impl ReadError {
-    /// Returns the length of the longest front of the text that some literal begins with, apart from the condition on groups:
-    /// the index of the first byte that cannot follow the bytes before it, or the length of the text if bytes are missing, or if
-    /// groups of digits alone refuse the text. In the last two cases, `byte` is `None` and, outside Rattle, `is_incomplete` is
-    /// `true`.
+    /// Returns the length of the longest front of the text that some literal begins with, apart from the condition on
+    /// groups: the index of the first byte that cannot follow the bytes before it, or the length of the text if bytes are
+    /// missing. If groups of digits alone refuse a text, or the front that `read_prefix` finds, it is the length of that
+    /// text or front. Then, and if bytes are missing, `byte` is `None` and, outside Rattle, `is_incomplete` is `true`.
     #[must_use]
     pub const fn valid_up_to(&self) -> usize {
         self.spot.marks.size
     }
 
-    /// Returns the byte that cannot follow, or `None` if bytes are missing.
+    /// Returns the byte that cannot follow, or `None` if bytes are missing, or if groups of digits alone refuse the text.
     #[must_use]
     pub const fn byte(&self) -> Option<u8> {
         self.spot.byte
