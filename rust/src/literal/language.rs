@@ -134,8 +134,8 @@ trait Grammar {
     const READERS: Readers<'static>;
 }
 
-/// Returns the readers of a language. It is generic, so that the compiler makes the tables of those languages alone that a
-/// program reads.
+/// Returns the readers of a language. It and the types that implement [`Grammar`] are generic, so that the compiler makes
+/// the tables of those languages alone that a program reads, and none where the library is compiled alone.
 fn readers<T: Grammar>() -> &'static Readers<'static> {
     const { &T::READERS }
 }
@@ -150,9 +150,9 @@ macro_rules! languages {
 
             $($(#[$about])+
             pub const $name: Language = {
-                enum It {}
+                enum It<const N: u8> {}
                 const SPECIALS: Specials<'static> = [$($specials,)? Specials { nan: None, inf: None, infinity: None }][0];
-                impl Grammar for It {
+                impl<const N: u8> Grammar for It<N> {
                     const READERS: Readers<'static> =
                         Readers::new_or_panic(const { &[$(Reader::new($syntax)),+] }).with_specials(SPECIALS);
                 }
@@ -160,7 +160,7 @@ macro_rules! languages {
                 Language(&Definition {
                     name: stringify!($name),
                     forms: &[$(Form { name: $form, syntax: $syntax }),+],
-                    readers: readers::<It>,
+                    readers: readers::<It<0>>,
                     specials: SPECIALS,
                 })
             };)+
