@@ -48,7 +48,8 @@ from itertools import count, repeat, takewhile
 from pathlib import Path
 from struct import Struct
 from types import SimpleNamespace
-from typing import Any, AnyStr, Callable, Dict, Generic, Iterable, List, Optional, Tuple, Type, TypeVar, Union, cast
+from typing import Any, AnyStr, Callable, Dict, Generic, Iterable, List, Optional, SupportsFloat, SupportsIndex
+from typing import Tuple, Type, TypeVar, Union, cast
 
 __all__ = ["STANDARD", "Byte", "Edit", "Error", "Format", "FormatError", "FormatView", "Language", "Literal"]
 __all__ += ["LiteralError", "Note", "OptionsError", "Part", "Parts", "ReadErrorKind", "Reason", "ReasonsError", "Role", "Rule"]
@@ -602,15 +603,15 @@ def _setting(name: str, value: Value) -> Union[Edit, str]:
     if name in _SETTERS:
         return Edit.of(name, value)
     if name in _CONDITIONS:
-        return f"{name}={'none' if value is None else str(_condition(name, value)).lower()}"
+        return f"{name}={str(_condition(name, value)).lower()}"
     return f"{name}={'none' if value is None else _byte(name, value)}"
 
 
-def _condition(name: str, value: Value) -> int:
-    """Returns the value of a condition. Raises an error that names it if it does not take the value."""
+def _condition(name: str, value: Value) -> Optional[int]:
+    """Returns the value of a condition, None for 0. Raises an error that names it if it does not take the value."""
     if _CONDITIONS[name] is c_bool:
         return _typed(name, value, bool)
-    return 0 if value is None else _number(name, value)
+    return None if value is None else _number(name, value) or None
 
 
 @dataclass(frozen=True, init=False, repr=False)
@@ -1170,6 +1171,9 @@ class Literal(Generic[AnyStr]):
     __slots__ = ("_owner", "_text", "_found", "_data")
     __match_args__ = ("syntax", "text")
 
+    def __init__(self, *arguments: object) -> None:
+        raise TypeError("`read` of a Syntax or a Language makes a Literal")
+
     def _set(self, owner: Union[Syntax, Language], text: AnyStr, found: _Literal, data: bytes) -> Literal[AnyStr]:
         self._owner, self._found = owner, found
         self._text: AnyStr = text
@@ -1223,8 +1227,8 @@ class Literal(Generic[AnyStr]):
         return value.value
 
     def decimal(self) -> Decimal:
-        """Returns the exact value, which has the digits of the text if all radixes are 10. Raises OverflowError if it has
-        more than 10^6 digits, and ValueError if a float has a radix with other prime factors than 2 and 5."""
+        """Returns the exact value, with the digits and exponent of the text if all radixes are 10. Raises OverflowError
+        if it has more than 10^6 digits, and ValueError if a float has a radix with other prime factors than 2 and 5."""
         digits, places, exponent = self._scaled()
         radix, base = self.syntax._fields.mantissa_radix, self.syntax._fields.exponent_base
         if self.is_float and not (radix in _FACTORS and base in _FACTORS):
@@ -1232,19 +1236,18 @@ class Literal(Generic[AnyStr]):
         of_radix, of_base = _FACTORS.get(radix, (0, 0)), _FACTORS.get(base, (0, 0))
         twos, fives = (more * exponent - less * places for less, more in zip(of_radix, of_base))
         try:
-            if radix == 10:
-                number = Decimal(digits)
-            else:
-                whole = int(digits, radix)
-                shift = max((whole & -whole).bit_length() - 1, 0)
-                number, twos = Decimal(whole >> shift), twos + shift
+            if radix == base == 10:
+                return _EXACT.create_decimal(f"{digits}E{exponent - places}")
+            whole = int(Decimal(digits)) if radix == 10 else int(digits, radix)
+            if not whole:
+                return Decimal(digits)
+            shift = (whole & -whole).bit_length() - 1
+            number, twos = Decimal(whole >> shift), twos + shift
             tens = min(twos, fives)
             if max(twos, fives) - tens > 4 * _MOST_DIGITS:
                 raise OverflowError
-            if twos != fives:
-                power = _EXACT.power(2, twos - tens) if twos > fives else _EXACT.power(5, fives - tens)
-                number = _EXACT.multiply(number, power)
-            return _EXACT.scaleb(number, tens)
+            power = _EXACT.power(2, twos - tens) if twos > fives else _EXACT.power(5, fives - tens)
+            return _EXACT.scaleb(_EXACT.multiply(number, power), tens)
         except (DecimalException, OverflowError):
             raise OverflowError(_TOO_LONG) from None
 
@@ -1253,7 +1256,8 @@ class Literal(Generic[AnyStr]):
         the fraction is reduced."""
         digits, places, exponent = self._scaled()
         radix, base = self.syntax._fields.mantissa_radix, self.syntax._fields.exponent_base
-        number, up, down = int(digits, radix), max(exponent, 0), max(-exponent, 0)
+        number = int(digits, radix)
+        up, down = (max(it, 0) if number else 0 for it in (exponent, -exponent))
         above = math.log10(abs(number) or 1) + up * math.log10(base)
         if max(above, places * math.log10(radix) + down * math.log10(base)) >= _MOST_DIGITS:
             raise OverflowError(_TOO_LONG)
@@ -1267,7 +1271,7 @@ class Literal(Generic[AnyStr]):
             raise OverflowError(_TOO_LONG)
         # Of a longer exponent, 64 digits are too many.
         power = int(f"{exponent_sign}{exponent.lstrip('0')[:64] or 0}", fields.exponent_radix)
-        return f"{sign}{digits or 0}", len(fraction), power if digits else 0
+        return f"{sign}{digits or 0}", len(fraction), power
 
     def _written(self) -> List[str]:
         """Returns the sign, the digits of the integer and of the fraction, the sign of the exponent, and its digits."""
@@ -1287,7 +1291,7 @@ class Literal(Generic[AnyStr]):
         return text.decode() if isinstance(text, bytes) else text
 
     def __repr__(self) -> str:
-        return f"{self.syntax!r}.read({self._text!r})"
+        return f"{self._owner!r}.read({self._text!r})"
 
     def __eq__(self, other: object) -> bool:
         if not isinstance(other, Literal):
@@ -1337,7 +1341,7 @@ class Syntax:
     no_negative_mantissa_sign: bool = False
     integer_group_size: Optional[int] = None
     # End
-    _reader: Any = field(init=False, repr=False, compare=False)
+    _reader: Any = field(init=False, repr=False, compare=False, default_factory=_Reader)
     _fields: Any = field(init=False, repr=False, compare=False)
 
     def __post_init__(self) -> None:
@@ -1349,9 +1353,9 @@ class Syntax:
             sentence = _settings_text(b"exponent=none", 0)
             raise OptionsError((Reason(sentence, options=(Role.EXPONENT, Role.POINT)),))
         exponent, point = (chr(it) if it else None for it in options)
-        conditions = [_condition(name, getattr(self, name)) for name in _CONDITIONS]
-        vars(self).update(format=format, exponent=exponent, point=point, _reader=_Reader(), _fields=format._unpacked())
-        numbers = _Syntax(format._halves, *options, *conditions)
+        conditions = {name: _condition(name, getattr(self, name)) for name in _CONDITIONS}
+        vars(self).update(conditions, format=format, exponent=exponent, point=point, _fields=format._unpacked())
+        numbers = _Syntax(format._halves, *options, *(it or 0 for it in conditions.values()))
         if _library.reader_init(self._reader, numbers):
             raise OptionsError((Reason(_text(_library.syntax_error_text, numbers)),))
 
@@ -1432,11 +1436,10 @@ class Syntax:
             Syntax.of(mantissa_radix=16, base_prefix="x", exponent="p")
 
         The keyword arguments are the attributes of a `FormatView` that are fields or groups, `radix`, and the other
-        attributes of a `Syntax`: `exponent`, `point` and its conditions.
-        A setting has the form that `Edit` takes, and a setting of `exponent` or `point` that of `base_prefix`. If both
-        are `none`, or None, literals are integers, and one alone is refused: for floats without an exponent, keep its
-        character and set `no_exponent_notation`. A setting that is blank or begins with `#` is skipped. A setting
-        overrides those before it.
+        attributes of a `Syntax`: `exponent`, `point` and its conditions. A setting has the form that `Edit` takes, and
+        a setting of `exponent` or `point` that of `base_prefix`. If both are `none`, or None, literals are integers,
+        and one alone is refused: for floats without an exponent, keep its character and set `no_exponent_notation`. A
+        setting that is blank or begins with `#` is skipped. A setting overrides those before it.
         """
         text, made = _lines(settings), _Syntax()
         if problems := _library.read_settings(text, len(text), made):
@@ -1511,18 +1514,16 @@ class Syntax:
 
     @classmethod
     def _of_numbers(cls, numbers: _Syntax) -> Syntax:
-        conditions: Any = {name: getattr(numbers, name) for name in _CONDITIONS if getattr(numbers, name)}
-        return cls(Format(_joined(numbers.format)), numbers.exponent or None, numbers.decimal_point or None, **conditions)
+        options = numbers.exponent or None, numbers.decimal_point or None
+        return cls(Format(_joined(numbers.format)), *options, *(getattr(numbers, name) for name in _CONDITIONS))
 
     def role_of(self, byte: Byte) -> Optional[Role]:
         """Returns the only role that a byte has in literals, or None."""
         return self.format.role_of(byte, exponent=self.exponent or 0, point=self.point or 0)
 
     def read(self, text: AnyStr) -> Literal[AnyStr]:
-        """Returns a text as a literal. Raises LiteralError if it is not one.
-
-        Each index is one of the text: of characters in a `str`, and of bytes in `bytes`.
-        """
+        """Returns a text as a literal. Raises LiteralError if it is not one. The indexes are those of characters in a
+        `str`, and of bytes in `bytes`."""
         return _accepted(self, text, _read(self, _library.read, text))
 
     def read_prefix(self, text: AnyStr) -> Tuple[Literal[AnyStr], AnyStr]:
@@ -1536,7 +1537,7 @@ class Syntax:
         return literal, text[len(literal.text) :]
 
     def format_number(
-        self, value: Union[int, float, Decimal, Literal[Any]], *, group: int = 0, without_base: bool = False
+        self, value: Union[SupportsIndex, SupportsFloat], *, group: int = 0, without_base: bool = False
     ) -> str:
         """Returns a number as a literal. Reading the text returns the same value.
 
@@ -1544,23 +1545,17 @@ class Syntax:
             >>> prices.format_number(Decimal("1234567.50"), group=3)
             '1.234.567,50'
 
-        Of a float, the digits are those of `repr`. `group` is the number of integer digits in a group, if the format
-        allows separators between them, or 0 for no groups. If the syntax has an `integer_group_size`, this replaces any
-        `group` but 0. `without_base` leaves out the base prefix and the base suffix, unless conditions require them. Raises ValueError if no literal has this value, or if the digits have another radix, as those of a
-        Decimal and of an int with more than 128 bits, which are decimal.
+        Takes an int, a float, a Decimal, a `Literal`, or an object with `__index__` or `__float__`, as those of numpy,
+        but no bool. Of a float, the digits are those of `repr`. `group` is the number of integer digits in a group, if
+        the format allows separators between them, or 0 for no groups. If the syntax has an `integer_group_size`, this
+        replaces any `group` but 0. `without_base` leaves out the base prefix and the base suffix, unless conditions
+        require them. Raises ValueError for NaN and infinity, for a sign `-`, a decimal point or an exponent if no
+        literal has one, for an int if each literal has an exponent, for an int of more than 4300 digits in radix 10, as
+        `str` does, and for another mantissa radix, which is 10 for a float and a Decimal, or exponent base than that of
+        the syntax. A `Literal` keeps its exponent, and a Decimal has one from 1E+401 on and below 1E-400.
         """
         style, needed = _Style(_number("group", group), _typed("without_base", without_base, bool)), c_size_t(64)
-        number: Any
-        if isinstance(value, int) and -(1 << 127) <= value < 1 << 127:
-            call, number = _library.format_i128, _I128(value & (1 << 64) - 1, value >> 64)
-        elif isinstance(value, float) or isinstance(value, Decimal) and not value.is_finite():
-            call, number = _library.format_f64, float(value)
-        elif isinstance(value, (int, Decimal)):
-            text = str(value) if isinstance(value, int) or abs(value.adjusted()) > 400 else f"{value:f}"
-            literal = _decimals().read(text)
-            call, number = _library.format_literal, literal._found
-        else:
-            call, number = _library.format_literal, _typed("value", value, Literal, "a number or a Literal")._found
+        call, number, _literal = _writing(value, self._fields.mantissa_radix)
         for _ in range(2):
             buffer = create_string_buffer(needed.value)
             if not (status := call(self._reader, number, style, buffer, len(buffer), needed)):
@@ -1574,9 +1569,29 @@ class Syntax:
     _names = ("",)
 
 
-@functools.lru_cache(None)
-def _decimals() -> Syntax:
-    return Syntax(Format())
+def _writing(value: Any, radix: int) -> Tuple[Any, Any, Optional[Literal[Any]]]:
+    """Returns the call that writes a number, its argument, and the literal to which this points. A longer int than 128
+    bits is a literal of the radix."""
+    kind = type(value)
+    if kind is bool or not (hasattr(kind, "__float__") or hasattr(kind, "__index__")):
+        raise TypeError(f"value is a number or a Literal, not {kind.__name__}")
+    if isinstance(value, Literal):
+        literal = value
+    elif isinstance(value, Decimal) and value.is_finite():
+        literal = _DECIMALS.read(str(value) if abs(value.adjusted()) > 400 else f"{value:f}")
+    elif not hasattr(kind, "__index__"):
+        return _library.format_f64, float(value), None
+    elif -(1 << 127) <= (number := operator.index(value)) < 1 << 127:
+        return _library.format_i128, _I128(number & (1 << 64) - 1, number >> 64), None
+    else:
+        rest, digits = (0, format(abs(number), "d" if radix == 10 else "X")) if radix in (10, 16) else (abs(number), "")
+        while rest:
+            rest, digits = rest // radix, "0123456789ABCDEFGHIJKLMNOPQRSTUVWXYZ"[rest % radix] + digits
+        literal = Syntax.integers(Format.of(radix=radix)).read(digits if number > 0 else f"-{digits}")
+    return _library.format_literal, literal._found, literal
+
+
+_DECIMALS = Syntax(Format())
 
 
 def _read(owner: Union[Syntax, Language], call: Any, text: AnyStr) -> Union[Literal[AnyStr], _ReadError]:
@@ -1796,6 +1811,9 @@ class Language(_Named):
         made = [_Syntax() for _ in self._names]
         return tuple(Syntax._of_numbers(it) for form, it in enumerate(made) if _library.form_syntax(self._reader, form, it))
 
+    def __repr__(self) -> str:
+        return f"languages.{self.name}"
+
     @property
     def forms(self) -> Dict[str, Syntax]:
         """The syntax of each form of literals, by its name. The first one that a text has decides its value."""
@@ -1816,8 +1834,7 @@ class Language(_Named):
         return self.specials.read(self._syntaxes[0], text) or _accepted(self, text, found)
 
     def read_prefix(self, text: AnyStr) -> Tuple[Literal[AnyStr], AnyStr]:
-        """Returns the longest literal of any form that a text begins with, and the rest. Raises LiteralError if there is
-        none."""
+        """Returns the longest literal that a text begins with, and the rest. Raises LiteralError if there is none."""
         literal = _accepted(self, text, _read(self, _library.read_prefix, text))
         return literal, text[len(literal.text) :]
 

@@ -24,7 +24,7 @@ TOP = TESTS.parent.parent
 sys.path.insert(0, str(TESTS.parent))
 import peltzivar
 from peltzivar import Edit, Error, Format, FormatError, FormatView, Language, LiteralError, OptionsError, Part, ReadErrorKind
-from peltzivar import Role, Rule, Setter, SettingsError, Special, Specials, Spelling, Syntax, notes_of
+from peltzivar import Role, Rule, Setter, SettingsError, Special, Specials, Spelling, Syntax, languages, notes_of
 
 PAGE = (TOP / "docs/FORMAT.md").read_text()
 EXPLANATIONS = (TOP / "docs/EXPLANATIONS.md").read_text()
@@ -198,6 +198,8 @@ class Literals(unittest.TestCase):
             (Language.CSV_EN, "1,234.50", 1234.5, "1234.50", Fraction(2469, 2)),
             (Language.RUST, "0x1_F", 31, "31", 31),
             (Language.SWIFT, "-0x1.8p-1", -0.75, "-0.75", Fraction(-3, 4)),
+            (Language.SWIFT, "-0x0.0p-99999999", -0.0, "-0", 0),
+            *((Language.JSON, zero, float(zero), str(Decimal(zero)), 0) for zero in ("0e5", "0.00e1", "-0e-5", "0e99999999")),
         ]
         for language, text, value, decimal, fraction in rows:
             for given in (text, text.encode()):
@@ -206,6 +208,7 @@ class Literals(unittest.TestCase):
                 self.assertEqual((repr(float(it)), it.decimal()), (repr(float(decimal)), Decimal(decimal)))
                 for same in (eval(repr(it)), pickle.loads(pickle.dumps(it)), copy.deepcopy(it)):
                     self.assertEqual((same, hash(same), same.value), (it, hash(it), it.value))
+                self.assertEqual(repr(language.read(text)), f"languages.{language.name}.read({text!r})")
         self.assertRaisesRegex(ValueError, "^'1.0' is a float$", int, Language.JSON.read("1.0"))
         self.assertEqual([repr(Language.TOML.read("-inf").value), str(Language.TOML.read("-inf").decimal())], ["-inf", "-Infinity"])
         # Literals are equal if their formats and parts are equal.
@@ -247,12 +250,12 @@ class Literals(unittest.TestCase):
     def test_numbers_are_written(self):
         german, hexadecimal = Syntax.of(digit_separator=".", internal_digit_separator=True, point=","), Syntax.of(radix=16, base_prefix="x", exponent="p")
         rows = [(0, "0"), (-1234567, "-1.234.567"), (10**40, "10" + ".000" * 13), (1234.5, "1.234,5"), (-1e300, "-1e300"), (Decimal("1234.50"), "1.234,50")]
-        for value, text in [*rows, (Decimal("1E+3"), "1.000"), (Decimal("1E-500"), "1e-500"), (Language.CSV_EN.read("1,234.50"), "1.234,50")]:
+        for value, text in [*rows, (Decimal("1E+3"), "1.000"), (Decimal("1E-500"), "1e-500"), (Language.CSV_EN.read("1,234.50"), "1.234,50"), (Fraction(1, 4), "0,25"), (FormatView(7), "7")]:
             self.assertEqual(german.format_number(value, group=3), text)
-            if not isinstance(value, peltzivar.Literal):
+            if not isinstance(value, (peltzivar.Literal, FormatView)):
                 self.assertEqual(german.read(text).decimal(), Decimal(repr(value)) if isinstance(value, float) else value)
         self.assertEqual([hexadecimal.format_number(2**128 // 3), hexadecimal.format_number(31, without_base=True)], ["0x" + "5" * 32, "1F"])
-        wrong = [(german, math.inf, "NaN or infinity"), (german, Decimal("NaN"), "NaN or infinity"), (hexadecimal, 2**127, "radix")]
+        wrong = [(german, math.inf, "NaN or infinity"), (german, Decimal("NaN"), "NaN or infinity"), (hexadecimal, 1.5, "radix")]
         for syntax, value, sentence in [*wrong, (Syntax.integers(Format()), 1.5, "decimal point"), (Language.C.forms["octal"], -1, "'-'")]:
             self.assertRaisesRegex(ValueError, sentence, syntax.format_number, value)
 
@@ -299,7 +302,7 @@ class Literals(unittest.TestCase):
             Syntax(Format()).read("7\u20ac".encode())
 
     def test_syntaxes(self):
-        syntaxes = [Syntax(Format()), Syntax(Format(), b"e", 46), Syntax(Format().normal_form()), Syntax.integers(Format())]
+        syntaxes = [Syntax(Format()), Syntax(Format(), b"e", 46), Syntax(Format().normal_form(), integer_group_size=0), Syntax.integers(Format())]
         got = [(it.exponent, it.point, it.role_of("e")) for it in syntaxes]
         self.assertEqual(got, 3 * [("e", ".", Role.EXPONENT)] + [(None, None, None)])
         for syntax in syntaxes:
@@ -364,6 +367,8 @@ WRONG = [
     ("Format.of(exponent='p')", TypeError, "of() got an unexpected keyword argument 'exponent': unknown setting name"),
     ("Syntax.of(required_base_prefix=1)", TypeError, "required_base_prefix is a bool, not int"),
     ("Syntax(Format()).format_number('1')", TypeError, "value is a number or a Literal, not str"),
+    ("Syntax(Format()).format_number(True)", TypeError, "value is a number or a Literal, not bool"),
+    ("peltzivar.Literal('1')", TypeError, "`read` of a Syntax or a Language makes a Literal"),
     ("Syntax.of(point='')", ValueError, f"point is {BYTE}: ''"),
     ("Edit.of('digit_seperator', '_')", ValueError, f"setter 'digit_seperator': {SUGGESTION}"),
     ("Format.of(\"digit_seperator='_'\")", ValueError, f"digit_seperator='_': {SUGGESTION}"),
