@@ -1,8 +1,10 @@
 """Tests the Python module: `make -C c check`. The expected values are the tables of docs/FORMAT.md and
 docs/EXPLANATIONS.md, and known words and sentences."""
+import concurrent.futures
 import contextlib
 import copy
 import doctest
+import itertools
 import locale
 import math
 import os
@@ -34,6 +36,7 @@ BYTES = re.findall(r"^\| (\d+) to \d+ \| `(\w+)` \|", PAGE, re.M)
 RULES = re.findall(r"^\| (\d+) \| (.*) \| `(Invalid\w+)` \| `+('.*')`+ \| `(\w+)` \| (.*) \|$", PAGE, re.M)
 CAUSES = re.findall(r"^\| (?:`(.*)` )?\| `(.*)` \| (\w+) ?(.*?) \| (\d+) \| (\d+)\.\.(\d+) \|$", EXPLANATIONS, re.M)
 CALLS = peltzivar._library
+OLDEST = re.search(r'requires-python = ">=(.*)"', (TESTS.parent / "pyproject.toml").read_text())[1]
 
 
 class Words(unittest.TestCase):
@@ -216,11 +219,33 @@ class Literals(unittest.TestCase):
         self.assertNotEqual(Syntax(Format()).read("1"), Syntax(Format.of(no_special=True)).read("1"))
         self.assertNotEqual(Syntax(Format()).read("1.5"), Syntax(Format(), "e", ",").read("1,5"))
 
+    def test_each_radix(self):
+        for radix in range(2, 37):
+            syntax, exact = Syntax(Format.of(radix=radix), "^"), Fraction(-radix - 1, radix**2)
+            for value in [sign * it for it in (0, 1, radix, 2**127 - 1, 2**127, 2**128 - 1, 10**40, 10**600) for sign in (1, -1)]:
+                it = syntax.read(syntax.format_number(value))
+                self.assertEqual({type(it.value), int(it.text, radix), it.value, it.decimal(), it.fraction()}, {int, value})
+            it, floats = syntax.read("-1.1^-1"), (2, 4, 8, 10, 16, 32)
+            self.assertEqual((it.fraction(), str(syntax.read("-0").decimal())), (exact, "-0"))
+            decimals = it.decimal, (*floats, 5, 20, 25), exact, "products of 2 and 5"
+            for call, radixes, value, sentence in (decimals, (it.__float__, floats, float(exact), "powers of two")):
+                with contextlib.nullcontext() if radix in radixes else self.assertRaisesRegex(ValueError, sentence):
+                    self.assertEqual(call(), value)
+
+    def test_four_threads_read_refuse_and_write(self):
+        def work(letter, syntax=Syntax(Format())):
+            for number in range(3000):
+                text = syntax.format_number(number + 0.5)
+                self.assertEqual((text, syntax.read(text).value), (f"{number}.5", number + 0.5))
+                self.assertRaisesRegex(LiteralError, f"^unexpected character '{letter}'$", syntax.read, text + letter)
+
+        sys.setswitchinterval(1e-6)
+        with concurrent.futures.ThreadPoolExecutor(4) as threads:
+            list(threads.map(work, "wxyz"))
+
     def test_values_that_are_refused(self):
-        ternary, decimal, binary = Syntax(Format.of(radix=3)), Language.JSON, Language.C
-        self.assertEqual((ternary.read("-12").value, str(ternary.read("12").decimal()), ternary.read("0.1").fraction()), (-5, "5", Fraction(1, 3)))
-        self.assertRaisesRegex(ValueError, "mantissa radix and the exponent base", float, ternary.read("12"))
-        self.assertRaisesRegex(ValueError, "products of 2 and 5", ternary.read("0.1").decimal)
+        decimal, binary = Language.JSON, Language.C
+        self.assertRaisesRegex(ValueError, "mantissa radix and the exponent base", float, Syntax(Format.of(radix=3)).read("12"))
         self.assertRaisesRegex(ValueError, r"\(4300", int, decimal.read("9" * 4301))
         self.assertEqual(int(Language.RUST.read("0x" + "F" * 5000)), 16**5000 - 1)
         self.assertEqual(len(decimal.read("9" * 10**6).decimal().as_tuple().digits), 10**6)
@@ -291,6 +316,23 @@ class Literals(unittest.TestCase):
                 else:
                     edits = tuple(Edit.of(Setter(int(flag)), cause == "separator") for flag in blamed.split())
                     self.assertEqual((error.edits, error.part is None), (edits, cause != "separator"), (text, settings))
+
+    def test_each_status_error_and_cause_has_a_sentence_of_its_own(self):
+        header, causes = (TESTS.parent / "peltzivar.h").read_text(), set()
+        descriptions = [getattr(CALLS, f"{kind.lower()}_description")(int(number)) for kind, number in re.findall(r"PELTZIVAR_(VALUE|WRITE)_\w+ = ([1-9]\d*)", header)]
+        names = {it.name.lower() for it in Setter if it.value < 64 and "SPECIAL" not in it.name} | {*peltzivar._CONDITIONS}
+        texts = ". + 01 1E5 1e5 1e+5 1e .5 1. +1 -1 01.5 _1 1_ 1__1 1_1 1._5 1.5_ 1.5__5 1e_5 1e5_ 1e5__5 0X1 1H 0x1 1e_ 1._"
+        for name, internal, text in itertools.product(names, (False, True), texts.split()):
+            internal |= "consecutive" in name or "group" in name  # These need another flag.
+            fields = {"base_prefix": "x", "base_suffix": "h", "digit_separator": "_", "internal_digit_separator": internal}
+            try:
+                Syntax.of(**fields, **{name: 3 if name == "integer_group_size" else True}).read(text)
+            except LiteralError as error:
+                blamed = (*(it.name for it in error.edits), *error.conditions)[: 2 if error.part else 1]
+                causes.add((error.kind, error.part, *blamed, str(error)))
+        self.assertEqual(({it[0] for it in causes}, {name for it in causes for name in it[2:-1]}), ({*ReadErrorKind}, names))
+        for sentences in (descriptions, [it.description for it in Error], [it[-1] for it in causes], [it[:-1] for it in causes]):
+            self.assertEqual((len({*sentences}), all(sentences)), (len(sentences), True), sentences)
 
     def test_indexes_are_those_of_characters(self):
         for text, index in (("12\u00e9", 2), ("\u20ac", 0), ("1.5\U0001F600e", 3), ("1e\ud800", 2), ("1x\u00e9", 1)):
@@ -410,17 +452,18 @@ class Wrong(unittest.TestCase):
 
     @unittest.skipUnless(shutil.which("mypy"), "mypy")
     def test_a_type_checker_refuses_wrong_arguments(self):
-        program = """from peltzivar import Edit, Format, Setter, Syntax, notes_of
+        program = """from decimal import Decimal; from fractions import Fraction; from peltzivar import Edit, Format, Setter, Syntax, notes_of
 Format.of("radix=16", Edit.of(Setter.NO_SPECIAL, True), mantissa_radix=16, base_prefix=b"x").edit(exponent_base=None)
 Format.of(mantissa_radix="x", base_prefx=3)
 Format().edit(no_special=1)
 Syntax.of(radix=16, point=1.5).read("1").value.real
 notes_of(mantissa_radix=None)
 print(Format().no_special + "", Format().edit().check().error().description)
+write = Syntax(Format()).format_number; print(write(1), write(1.5), write(Decimal(1)), write(Fraction(1)), write(Syntax(Format()).read("1")), write("1"))
 """
-        command = ["mypy", "--strict", "--cache-dir=/dev/null", peltzivar.__file__, "/dev/stdin"]
+        command = ["mypy", "--strict", f"--python-version={OLDEST}", "--cache-dir=/dev/null", peltzivar.__file__, "/dev/stdin"]
         ran = subprocess.run(command, env={**os.environ, "MYPYPATH": str(TESTS.parent)}, input=program, capture_output=True, text=True)
-        self.assertEqual(re.findall(r"^(.*):(\d+): error", ran.stdout, re.M), [("/dev/stdin", line) for line in "334567"], ran)
+        self.assertEqual(re.findall(r"^(.*):(\d+): error", ran.stdout, re.M), [("/dev/stdin", line) for line in "3345678"], ran)
 
     def test_help_has_no_private_names(self):
         text = pydoc.plain(pydoc.render_doc(peltzivar))
@@ -437,8 +480,8 @@ class Loading(unittest.TestCase):
         self.addCleanup(shutil.rmtree, self.folder)
         shutil.copy(peltzivar.__file__, self.folder / "peltzivar.py")
 
-    def run_copy(self, **variables):
-        command = [sys.executable, "-B", "-c", "import peltzivar; print(peltzivar._library.path)"]
+    def run_copy(self, python=sys.executable, **variables):
+        command = [python, "-B", "-W", "error", "-c", "import peltzivar; print(peltzivar._library.path)"]
         return subprocess.run(command, cwd=self.folder, env=variables, capture_output=True, text=True)
 
     def test_the_library_is_found(self):
@@ -451,6 +494,11 @@ class Loading(unittest.TestCase):
         os.rename(beside, self.folder / "lib" / versioned)
         self.assertEqual(self.run_copy(LD_LIBRARY_PATH=str(self.folder / "lib")).stdout, f"{versioned}\n")
         self.assertRegex(self.run_copy(PELTZIVAR_LIBRARY="no.so").stderr, r"ImportError: .*no\.so.*: name its path in PELTZIVAR_LIBRARY")
+
+    @unittest.skipUnless(shutil.which(f"python{OLDEST}"), f"python{OLDEST}")
+    def test_the_oldest_python_that_is_promised(self):
+        variables = {"PELTZIVAR_LIBRARY": CALLS.path, "PATH": os.environ["PATH"], "PYENV_VERSION": OLDEST}
+        self.assertEqual(self.run_copy(f"python{OLDEST}", **variables).stdout, f"{CALLS.path}\n")
 
     def test_another_library_is_refused(self):
         for code, version in [("", "0.0.0"), ("unsigned peltzivar_version(void) { return 0x7F0203; }", "127.2.3")]:
