@@ -199,7 +199,8 @@ typedef struct {
  * the form of a language for which this beginning is the longest, the first of equals, and otherwise 0. */
 typedef struct {
     PELTZIVAR_ALIGNED uint64_t magic;
-    size_t valid_up_to, form;
+    size_t valid_up_to;
+    uint8_t form;
     uint64_t stop[13];
 } peltzivar_read_error;
 
@@ -369,7 +370,8 @@ typedef struct {
 typedef uint8_t peltzivar_write_status;
 enum {
     PELTZIVAR_WRITE_OK = 0,
-    PELTZIVAR_WRITE_RADIX = 1, /* The mantissa radixes differ or, if there is an exponent, the exponent bases. */
+    /* The mantissa radixes differ or, for a double and for a literal with an exponent, the exponent bases. */
+    PELTZIVAR_WRITE_RADIX = 1,
     PELTZIVAR_WRITE_NEGATIVE = 2, /* No literal has the sign `-`. */
     PELTZIVAR_WRITE_FRACTION = 3, /* Literals are integers, and the number is a float, even if it is whole. */
     PELTZIVAR_WRITE_EXPONENT = 4, /* No literal has an exponent, or one of so many digits. */
@@ -379,6 +381,10 @@ enum {
     PELTZIVAR_WRITE_NOT_MADE = 8 /* No call has made the reader, or the literal. */
 };
 
+/* The sizes of buffers for any integer of the next three calls, and for any float of peltzivar_format_f64. */
+#define PELTZIVAR_INTEGER_SIZE 260
+#define PELTZIVAR_FLOAT_SIZE 622
+
 /* Write an integer, with its digits in the mantissa radix. */
 PELTZIVAR_MUST_USE peltzivar_write_status peltzivar_format_i64(const peltzivar_reader *reader, int64_t value,
     const peltzivar_style *style, char *text, size_t len, size_t *needed);
@@ -387,8 +393,8 @@ PELTZIVAR_MUST_USE peltzivar_write_status peltzivar_format_u64(const peltzivar_r
 PELTZIVAR_MUST_USE peltzivar_write_status peltzivar_format_i128(const peltzivar_reader *reader, peltzivar_i128 value,
     const peltzivar_style *style, char *text, size_t len, size_t *needed);
 
-/* Writes the shortest decimal digits that are read as this float, for radix 10. A very large or very small one has an
- * exponent, if the syntax has one. */
+/* Writes the shortest decimal digits that are read as this float, if the mantissa radix and the exponent base are 10. A
+ * very large or very small one has an exponent, if the syntax has one. */
 PELTZIVAR_MUST_USE peltzivar_write_status peltzivar_format_f64(const peltzivar_reader *reader, double value,
     const peltzivar_style *style, char *text, size_t len, size_t *needed);
 
