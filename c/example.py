@@ -1,6 +1,6 @@
 """Prints the values of texts that are numbers. The arguments are settings of the form NAME=VALUE, and then texts.
 
-python3 example.py radix=16 base_prefix=120 exponent=112 exponent_base=2 exponent_radix=10 0x1F 0x1.8p3 0x1_F
+python3 example.py radix=16 base_prefix=120 exponent=112 exponent_base=2 exponent_radix=10 0x1F -0x1.8p3 0x1_F
 """
 import sys
 

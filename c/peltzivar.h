@@ -212,8 +212,8 @@ PELTZIVAR_MUST_USE bool peltzivar_read(const peltzivar_reader *reader, const cha
 
 /* Does the same for the longest beginning of the text that is a literal. What follows it may be anything. If there is
  * none, *error is that of peltzivar_read. integer_group_size is tested last: if the groups of this beginning are wrong,
- * it is refused. Reads no byte behind the first that cannot follow or, if it begins a
- * character of UTF-8, behind this character. */
+ * it is refused. Reads no byte behind the first that cannot follow or, if it begins a character of UTF-8, behind this
+ * character. */
 PELTZIVAR_MUST_USE bool peltzivar_read_prefix(const peltzivar_reader *reader, const char *text, size_t len,
     peltzivar_literal *literal, peltzivar_read_error *error);
 
@@ -715,10 +715,10 @@ enum {
 };
 
 /* The errors: 1 to 19 are parse errors, 20 to 36 are format errors, and 37 to 48 are option errors. A later version may
- * add numbers from 49 on, of any kind. A parse error is
- * found in a string, a format error in a syntax, and an option error in other options of a parser or writer. The
- * functions above return only PELTZIVAR_SUCCESS, parse errors and format errors. The other errors are for parsers and
- * writers that use this library. Two rules share PELTZIVAR_INVALID_SPECIAL. */
+ * add numbers from 49 on, of any kind. A parse error is found in a string, a format error in a syntax, and an option
+ * error in other options of a parser or writer. The functions above return only PELTZIVAR_SUCCESS, parse errors and
+ * format errors. The other errors are for parsers and writers that use this library. Two rules share
+ * PELTZIVAR_INVALID_SPECIAL. */
 enum {
     PELTZIVAR_SUCCESS = 0,
     PELTZIVAR_OVERFLOW = 1,

@@ -114,6 +114,7 @@ static void test_readers(void) {
     peltzivar_reader readers[3];
     static const peltzivar_specials specials = {"1", "1", "1"};
     peltzivar_reader *const out = &readers[1];
+    peltzivar_literal literal;
     peltzivar_read_error error, unwritten;
     peltzivar_explanation why = {{1, 2}, 3, {4, 5}, 6, 7, 8, 9, 10};
     peltzivar_special special = {7, 7};
@@ -134,7 +135,10 @@ static void test_readers(void) {
     CHECK(!peltzivar_reader_init(out, &integers) && is_word(out->syntax.format, 0x0A0A0A0000000000, 0xC));
     CHECK(!peltzivar_reader_init(NULL, &integers) && WRITES("", peltzivar_syntax_error_text(&integers, text, sizeof text)));
     memcpy(&readers[0], out, sizeof *out), memset(out, 0, sizeof *out);
-    CHECK(peltzivar_read(&readers[0], "1", 1, NULL, &error) && !peltzivar_read(&readers[0], "1.", 2, NULL, NULL));
+    CHECK(peltzivar_read(&readers[0], "1", 1, &literal, &error) && literal.form == 0 && !peltzivar_read(&readers[0], "1.", 2, NULL, NULL));
+    CHECK(!peltzivar_read(&readers[0], "1.", 2, NULL, &error) && error.form == 0 && sizeof error.form == sizeof literal.form);
+    CHECK(peltzivar_read(language("C"), "0x1F", 4, &literal, NULL) && !strcmp(peltzivar_form_name(language("C"), literal.form), "hexadecimal"));
+    CHECK(!peltzivar_read(language("C"), "0x", 2, NULL, &error) && !strcmp(peltzivar_form_name(language("C"), error.form), "hexadecimal"));
     CHECK(!peltzivar_read(&readers[0], "1", SIZE_MAX, NULL, &error) && !peltzivar_explain(&error, &why) && why.code == 6);
     CHECK(WRITES("the text has more than PTRDIFF_MAX bytes", peltzivar_read_error_text(&error, text, sizeof text)));
     CHECK(!peltzivar_explain(&unwritten, &why) && WRITES("", peltzivar_read_error_text(&unwritten, text, sizeof text)));
