@@ -133,23 +133,15 @@ static void test_written(const peltzivar_reader *reader, const peltzivar_literal
     CHECK(peltzivar_to_i128(literal, &values[0].wide) == peltzivar_to_i128(&again, &values[1].wide));
     CHECK(peltzivar_to_f64(literal, &values[0].real) == peltzivar_to_f64(&again, &values[1].real));
     CHECK(!memcmp(&values[0], &values[1], sizeof values[0]));
-}
-
-/* A number that is written fits the sizes of the header, and is read as the same number. */
-static void test_numbers(const peltzivar_reader *reader) {
-    const peltzivar_style style = {(uint8_t)(draw() % 5), draw() % 2};
+    /* So is any other number that can be written, and it fits the size of the header. */
     const peltzivar_i128 wide = {draw() >> draw() % 64, (int64_t)draw() >> draw() % 64};
     const double real = (double)(int64_t)draw() * (draw() % 2 ? 1e-310 : draw() % 2 ? 1e289 : 1e-9);
-    peltzivar_literal literal;
-    peltzivar_i128 wide_again = {7, 7};
-    double real_again = 7;
-    size_t needed = 0;
     peltzivar_write_status status = peltzivar_format_i128(reader, wide, &style, text, PELTZIVAR_INTEGER_SIZE, &needed);
-    if (!status) CHECK(peltzivar_read(reader, text, needed - 1, &literal, NULL) && !peltzivar_to_i128(&literal, &wide_again));
-    CHECK(status != PELTZIVAR_WRITE_BUFFER && (status || !memcmp(&wide, &wide_again, sizeof wide)));
+    if (!status) CHECK(peltzivar_read(reader, text, needed - 1, &again, NULL) && !peltzivar_to_i128(&again, &values[0].wide));
+    CHECK(status != PELTZIVAR_WRITE_BUFFER && (status || !memcmp(&wide, &values[0].wide, sizeof wide)));
     status = peltzivar_format_f64(reader, real, &style, text, PELTZIVAR_FLOAT_SIZE, &needed);
-    if (!status) CHECK(peltzivar_read(reader, text, needed - 1, &literal, NULL) && !peltzivar_to_f64(&literal, &real_again));
-    CHECK(status != PELTZIVAR_WRITE_BUFFER && (status || !memcmp(&real, &real_again, sizeof real)));
+    if (!status) CHECK(peltzivar_read(reader, text, needed - 1, &again, NULL) && !peltzivar_to_f64(&again, &values[0].real));
+    CHECK(status != PELTZIVAR_WRITE_BUFFER && (status || !memcmp(&real, &values[0].real, sizeof real)));
 }
 
 /* What is read is written, and nothing else. The parts of a literal are its bytes. */
@@ -184,7 +176,7 @@ static void test_literals(peltzivar_word word) {
         const peltzivar_span *const parts = &literal.sign;
         for (int i = 0; i < 9; i++) CHECK(parts[i].start == (i ? parts[i - 1].end : 0) && parts[i].start <= parts[i].end);
         CHECK(literal.size == literal.suffix.end && literal.size <= len && (!is_read || literal.size == len));
-        test_written(&reader, &literal), test_numbers(&reader);
+        test_written(&reader, &literal);
     } else CHECK(!is_read);
     free(from);
 }

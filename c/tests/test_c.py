@@ -124,21 +124,16 @@ class Header(unittest.TestCase):
         numbered = {name: number for number, name in enumerate(errors)}
         self.assertEqual(self.numbers(ERRORS), numbered)
 
-    def test_names_are_those_of_the_header(self):
-        for call, pattern in (("setter_name", r"SET_(\w+)"), ("role_name", r"ROLE_(\w+)"), ("part_name", r"PART_(\w+)")):
+    def test_each_number_has_the_name_of_the_header_or_a_sentence_of_its_own(self):
+        names = {"setter_name": r"SET_(\w+)", "role_name": r"ROLE_(\w+)", "part_name": r"PART_(\w+)"}
+        sentences = {"value_description": r"VALUE_((?!OK)\w+)", "write_description": r"WRITE_((?!OK)\w+)"}
+        for call, pattern in {**names, **sentences, "description": ERRORS, "rule_condition": r"RULE_(\w+)"}.items():
             function = getattr(LIBRARY, f"peltzivar_{call}")
             function.restype = ctypes.c_char_p
-            names = {number: text.decode() for number in range(256) if (text := function(number))}
-            self.assertEqual(names, {number: name.lower() for name, number in self.numbers(pattern).items()})
-
-    def test_each_status_error_and_rule_has_a_sentence_of_its_own(self):
-        calls = {"value_description": r"VALUE_((?!OK)\w+)", "write_description": r"WRITE_((?!OK)\w+)"}
-        for call, pattern in {**calls, "description": ERRORS, "rule_condition": r"RULE_(\w+)"}.items():
-            function = getattr(LIBRARY, f"peltzivar_{call}")
-            function.restype = ctypes.c_char_p
-            found = {number: text for number in range(256) if (text := function(number))}
-            self.assertEqual([*found], sorted(self.numbers(pattern).values()), call)
-            self.assertEqual(len({*found.values()}), len(found), found)
+            texts = {number: text.decode() for number in range(256) if (text := function(number))}
+            named = {number: name.lower() if call in names else texts.get(number) for name, number in self.numbers(pattern).items()}
+            self.assertEqual(texts, named)
+            self.assertEqual(len({*texts.values()}), len(texts))
 
     def test_declarations_are_those_of_the_library(self):
         sources = " ".join("".join(path.read_text() for path in sorted((TOP / "rust/capi/src").glob("*.rs"))).split())

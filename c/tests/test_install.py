@@ -28,7 +28,7 @@ class InFolder(unittest.TestCase):
     def setUp(self):
         self.folder = pathlib.Path(tempfile.mkdtemp())
         self.addCleanup(shutil.rmtree, self.folder)
-        self.prefix = self.folder / "a prefix"
+        self.prefix = self.folder / "a home/.local"
         others = ("PELTZIVAR_LIBRARY", "PYTHONPATH", "MAKEFLAGS")
         self.environment = {name: value for name, value in os.environ.items() if name not in others}
         self.environment |= {"PKG_CONFIG_PATH": f"{self.prefix}/lib/pkgconfig", "LD_LIBRARY_PATH": f"{self.prefix}/lib"}
@@ -46,14 +46,12 @@ class Install(InFolder):
 
     @unittest.skipUnless(shutil.which("pkg-config"), "pkg-config")
     def test_a_program_is_built_by_the_lines_of_the_pages(self):
-        self.environment["HOME"] = str(self.prefix)
-        (readme,) = re.findall(r"^\| C \| `(.*?)`", README, re.M)
-        for lines in (INSTALL, readme):
-            self.run_in("bash", "-ec", f"unset PKG_CONFIG_PATH LD_LIBRARY_PATH; {lines}", cwd=C.parent)
+        self.environment["HOME"] = str(self.prefix.parent)
+        for lines in (INSTALL, *re.findall(r"^\| C \| `(.*?)`", README, re.M)):
+            self.run_in("bash", "-ec", lines, cwd=C.parent)
         shutil.copy(C / "example.c", self.folder)
         self.assertEqual(self.run_in("bash", "-ec", BUILD), "15\n")
         self.assertEqual(self.run_in("./example", "radix=8", input="17\n"), "15\n")
-        self.environment["PKG_CONFIG_PATH"] = f"{self.prefix}/.local/lib/pkgconfig"
         self.assertEqual(self.run_in("pkg-config", "--modversion", "peltzivar"), f"{VERSION}\n")
         moved = ["pkg-config", "--define-variable=prefix=/moved", "--variable=libdir", "peltzivar"]
         self.assertEqual(self.run_in(*moved), "/moved/lib\n")
@@ -141,8 +139,7 @@ class Package(InFolder):
         # Without a network, pip gets from the system what it would fetch.
         self.environment |= {"PIP_NO_INDEX": "1", "PIP_NO_BUILD_ISOLATION": "0"}
         self.environment["PATH"] = f"{checkout.parent}/environment/bin:{os.environ['PATH']}"
-        (readme,) = re.findall(r"^\| Python \| `(.*?)`", README, re.M)
-        for command in dict.fromkeys([PACKAGES, readme, *re.findall("`(pip install .*?)`", PAGE)]):
+        for command in dict.fromkeys([PACKAGES, *re.findall("`(pip install .*?)`", README + PAGE)]):
             self.run_in("bash", "-ec", f"python3() {{ '{PACKAGER}' \"$@\"; }}; {command}", cwd=checkout.parent)
             folder = checkout if "install -e" in command else ".*/site-packages"
             self.assertRegex(self.run_in("python", *IMPORT[1:]), f"^{WORD} {folder}/peltzivar/__init__.py$")
