@@ -370,8 +370,7 @@ typedef struct {
 typedef uint8_t peltzivar_write_status;
 enum {
     PELTZIVAR_WRITE_OK = 0,
-    /* The mantissa radixes differ or, for a double and for a literal with an exponent, the exponent bases. */
-    PELTZIVAR_WRITE_RADIX = 1,
+    PELTZIVAR_WRITE_RADIX = 1, /* The mantissa radixes differ or, for a double or an exponent, the exponent bases. */
     PELTZIVAR_WRITE_NEGATIVE = 2, /* No literal has the sign `-`. */
     PELTZIVAR_WRITE_FRACTION = 3, /* Literals are integers, and the number is a float, even if it is whole. */
     PELTZIVAR_WRITE_EXPONENT = 4, /* No literal has an exponent, or one of so many digits. */

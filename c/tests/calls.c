@@ -231,11 +231,10 @@ static void test_writing(void) {
     CHECK(make_reader("radix=2" LONGEST, &other) && !peltzivar_format_i128(&other, least, &ones, integer, sizeof integer, &needed));
     CHECK(needed == sizeof integer && make_reader("no_exponent_notation=true" LONGEST, &other));
     CHECK(!peltzivar_format_f64(&other, -DBL_MAX, &ones, real, sizeof real, &needed) && needed == sizeof real);
-    CHECK(make_reader("exponent=none\npoint=none", &other));
-    CHECK(peltzivar_format_f64(&other, 1e16, NULL, text, sizeof text, NULL) == PELTZIVAR_WRITE_FRACTION);
     CHECK(!peltzivar_format_u64(&hexadecimal, UINT64_MAX, NULL, text, sizeof text, NULL) && !strcmp(text, "0xFFFFFFFFFFFFFFFF"));
     CHECK(!peltzivar_format_u64(&hexadecimal, 31, &bare, text, 3, &needed) && !strcmp(text, "1F") && needed == 3);
     CHECK(peltzivar_format_f64(language("CSV_EN"), 5e-324, NULL, NULL, 0, &needed) == PELTZIVAR_WRITE_BUFFER && needed == 327);
+    CHECK(make_reader("exponent=none\npoint=none", &other) && peltzivar_format_f64(&other, 1e16, NULL, text, 1, NULL) == PELTZIVAR_WRITE_FRACTION);
     CHECK(peltzivar_format_f64(json, HUGE_VAL, NULL, text, sizeof text, &needed) == PELTZIVAR_WRITE_SPECIAL && needed == 327);
     CHECK(peltzivar_format_f64(&hexadecimal, 0.5, NULL, text, sizeof text, NULL) == PELTZIVAR_WRITE_RADIX);
     CHECK(peltzivar_format_i64(language("C"), -1, NULL, text, sizeof text, NULL) == PELTZIVAR_WRITE_NEGATIVE);

@@ -13,7 +13,7 @@ C = pathlib.Path(__file__).resolve().parent.parent
 PAGE, README = ((C.parent / path).read_text() for path in ("docs/C-AND-PYTHON.md", "README.md"))
 INSTALL, BUILD, PACKAGES = re.findall(r"^```sh\n(.*?)^```", PAGE, re.M | re.S)
 CMAKE = "cmake_minimum_required(VERSION 3.10)\nproject(it C)\nadd_executable(example example.c)\nfind_package(PkgConfig REQUIRED)\n"
-CMAKE += re.search(r"CMake.*\n\n((?:    .*\n)+)", PAGE)[1]
+CMAKE += re.search(r"`find_package\(PkgConfig REQUIRED\)`:\n\n((?:    .*\n)+)", PAGE)[1]
 VERSION = re.search('VERSION "(.*)"', (C / "peltzivar.h").read_text())[1]
 WORD = "0x0000100000000000000000000000000C"
 PROGRAM = "import peltzivar; print(peltzivar.Format.of(mantissa_radix=16), peltzivar.__file__)"
