@@ -77,19 +77,20 @@ class Install(InFolder):
         self.assertEqual(self.run_in("./example", "radix=8", input="17\n"), "15\n")
 
     def test_uninstall_removes_what_install_wrote_without_cargo_and_for_all_users(self):
-        paths = ["PREFIX=/usr/my own", "LIBDIR=/usr/my own/lib here", f"DESTDIR={self.folder}/a root"]
+        paths = ["PREFIX=/usr/my own", "LIBDIR=/usr/my own/lib here", "INCLUDEDIR=/usr/my own/headers", f"DESTDIR={self.folder}/a root"]
         self.make("uninstall", *paths)
         self.make("install", *paths, "CARGO=no-cargo", umask=0o077)
         root = self.folder / "a root/usr/my own"
         modes = {str(it.relative_to(root)): it.stat().st_mode & 0o777 for it in root.rglob("*") if not it.is_dir()}
         self.assertEqual({mode for path, mode in modes.items() if ".so" not in path}, {0o644}, modes)
         self.assertEqual({mode for path, mode in modes.items() if ".so" in path}, {0o755}, modes)
-        names = {"include/peltzivar.h", "lib here/libpeltzivar_c.a", "share/doc/peltzivar/LICENSE"}
+        names = {"headers/peltzivar.h", "lib here/libpeltzivar_c.a", "share/doc/peltzivar/LICENSE"}
         names |= {f"share/doc/peltzivar/{it}.md" for it in ("FORMAT", "EXPLANATIONS", "SETTINGS")}
         self.assertEqual(names - set(modes), set())
-        self.assertNotIn("a root", (root / "lib here/pkgconfig/peltzivar.pc").read_text())
-        links = [(it.exists(), "/" in os.readlink(it)) for it in root.rglob("*") if it.is_symlink()]
-        self.assertEqual(links, 2 * [(True, False)])
+        written = (root / "lib here/pkgconfig/peltzivar.pc").read_text()
+        self.assertRegex(written, r"\Aprefix=/usr/my own\nlibdir=\${prefix}/lib here\nincludedir=\${prefix}/headers\n")
+        links = [it for it in root.rglob("*") if it.is_symlink()]
+        self.assertEqual([it.exists() and "/" not in os.readlink(it) for it in links], [True, True])
         foreign = {root / path / "foreign" for path in {os.path.dirname(it) for it in modes} if "python" not in path}
         for it in foreign:
             it.touch()
@@ -117,7 +118,7 @@ class Install(InFolder):
                 self.make("install", f"PREFIX={prefix}", f"DESTDIR={self.folder}/")
 
 
-@unittest.skipUnless(PACKAGER, "pip, setuptools 66 and wheel")
+@unittest.skipUnless(PACKAGER, "pip, venv, setuptools 66 and wheel")
 class Package(InFolder):
     def build(self, what, source):
         """Builds a wheel or a source distribution, and returns its path."""
@@ -137,8 +138,8 @@ class Package(InFolder):
         self.assertRegex(files["METADATA"].decode(), r"(?ms)^License: MIT$.*^Requires-Python: >=3.9$.*^\n.* >>> from peltzivar import Syntax, languages$")
         self.assertRegex(wheel.name, f"-py3-none-linux_{os.uname().machine}.whl$")
         # Without a network, pip gets from the system what it would fetch.
-        self.environment |= {"PIP_NO_INDEX": "1", "PIP_NO_BUILD_ISOLATION": "0"}
-        self.environment["PATH"] = f"{checkout.parent}/environment/bin:{os.environ['PATH']}"
+        paths = f"{checkout.parent}/environment/bin:{os.environ['PATH']}"
+        self.environment |= {"PIP_NO_INDEX": "1", "PIP_NO_BUILD_ISOLATION": "0", "PATH": paths}
         for command in dict.fromkeys([PACKAGES, *re.findall("`(pip install .*?)`", README + PAGE)]):
             self.run_in("bash", "-ec", f"python3() {{ '{PACKAGER}' \"$@\"; }}; {command}", cwd=checkout.parent)
             folder = checkout if "install -e" in command else ".*/site-packages"
