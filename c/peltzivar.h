@@ -199,7 +199,8 @@ typedef struct {
  * the form of a language for which this beginning is the longest, the first of equals, and otherwise 0. */
 typedef struct {
     PELTZIVAR_ALIGNED uint64_t magic;
-    size_t valid_up_to, form;
+    size_t valid_up_to;
+    uint8_t form;
     uint64_t stop[13];
 } peltzivar_read_error;
 
@@ -211,8 +212,8 @@ PELTZIVAR_MUST_USE bool peltzivar_read(const peltzivar_reader *reader, const cha
 
 /* Does the same for the longest beginning of the text that is a literal. What follows it may be anything. If there is
  * none, *error is that of peltzivar_read. integer_group_size is tested last: if the groups of this beginning are wrong,
- * it is refused. Reads no byte behind the first that cannot follow or, if it begins a
- * character of UTF-8, behind this character. */
+ * it is refused. Reads no byte behind the first that cannot follow or, if it begins a character of UTF-8, behind this
+ * character. */
 PELTZIVAR_MUST_USE bool peltzivar_read_prefix(const peltzivar_reader *reader, const char *text, size_t len,
     peltzivar_literal *literal, peltzivar_read_error *error);
 
@@ -369,7 +370,7 @@ typedef struct {
 typedef uint8_t peltzivar_write_status;
 enum {
     PELTZIVAR_WRITE_OK = 0,
-    PELTZIVAR_WRITE_RADIX = 1, /* The mantissa radixes differ or, if there is an exponent, the exponent bases. */
+    PELTZIVAR_WRITE_RADIX = 1, /* The mantissa radixes differ or, for a double or an exponent, the exponent bases. */
     PELTZIVAR_WRITE_NEGATIVE = 2, /* No literal has the sign `-`. */
     PELTZIVAR_WRITE_FRACTION = 3, /* Literals are integers, and the number is a float, even if it is whole. */
     PELTZIVAR_WRITE_EXPONENT = 4, /* No literal has an exponent, or one of so many digits. */
@@ -379,6 +380,10 @@ enum {
     PELTZIVAR_WRITE_NOT_MADE = 8 /* No call has made the reader, or the literal. */
 };
 
+/* The sizes of buffers for any integer of the next three calls, and for any float of peltzivar_format_f64. */
+#define PELTZIVAR_INTEGER_SIZE 260
+#define PELTZIVAR_FLOAT_SIZE 622
+
 /* Write an integer, with its digits in the mantissa radix. */
 PELTZIVAR_MUST_USE peltzivar_write_status peltzivar_format_i64(const peltzivar_reader *reader, int64_t value,
     const peltzivar_style *style, char *text, size_t len, size_t *needed);
@@ -387,8 +392,8 @@ PELTZIVAR_MUST_USE peltzivar_write_status peltzivar_format_u64(const peltzivar_r
 PELTZIVAR_MUST_USE peltzivar_write_status peltzivar_format_i128(const peltzivar_reader *reader, peltzivar_i128 value,
     const peltzivar_style *style, char *text, size_t len, size_t *needed);
 
-/* Writes the shortest decimal digits that are read as this float, for radix 10. A very large or very small one has an
- * exponent, if the syntax has one. */
+/* Writes the shortest decimal digits that are read as this float, if the mantissa radix and the exponent base are 10. A
+ * very large or very small one has an exponent, if the syntax has one. */
 PELTZIVAR_MUST_USE peltzivar_write_status peltzivar_format_f64(const peltzivar_reader *reader, double value,
     const peltzivar_style *style, char *text, size_t len, size_t *needed);
 
@@ -709,10 +714,10 @@ enum {
 };
 
 /* The errors: 1 to 19 are parse errors, 20 to 36 are format errors, and 37 to 48 are option errors. A later version may
- * add numbers from 49 on, of any kind. A parse error is
- * found in a string, a format error in a syntax, and an option error in other options of a parser or writer. The
- * functions above return only PELTZIVAR_SUCCESS, parse errors and format errors. The other errors are for parsers and
- * writers that use this library. Two rules share PELTZIVAR_INVALID_SPECIAL. */
+ * add numbers from 49 on, of any kind. A parse error is found in a string, a format error in a syntax, and an option
+ * error in other options of a parser or writer. The functions above return only PELTZIVAR_SUCCESS, parse errors and
+ * format errors. The other errors are for parsers and writers that use this library. Two rules share
+ * PELTZIVAR_INVALID_SPECIAL. */
 enum {
     PELTZIVAR_SUCCESS = 0,
     PELTZIVAR_OVERFLOW = 1,

@@ -309,7 +309,7 @@ class _ReadError(Structure):
     _fields_ = [
         ("magic", c_uint64),
         ("valid_up_to", c_size_t),
-        ("form", c_size_t),
+        ("form", c_uint8),
         ("stop", c_uint64 * 13),
     ]
 

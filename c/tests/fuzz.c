@@ -133,6 +133,15 @@ static void test_written(const peltzivar_reader *reader, const peltzivar_literal
     CHECK(peltzivar_to_i128(literal, &values[0].wide) == peltzivar_to_i128(&again, &values[1].wide));
     CHECK(peltzivar_to_f64(literal, &values[0].real) == peltzivar_to_f64(&again, &values[1].real));
     CHECK(!memcmp(&values[0], &values[1], sizeof values[0]));
+    /* So is any other number that can be written, and it fits the size of the header. */
+    const peltzivar_i128 wide = {draw() >> draw() % 64, (int64_t)draw() >> draw() % 64};
+    const double real = (double)(int64_t)draw() * (draw() % 2 ? 1e-310 : draw() % 2 ? 1e289 : 1e-9);
+    peltzivar_write_status status = peltzivar_format_i128(reader, wide, &style, text, PELTZIVAR_INTEGER_SIZE, &needed);
+    if (!status) CHECK(peltzivar_read(reader, text, needed - 1, &again, NULL) && !peltzivar_to_i128(&again, &values[0].wide));
+    CHECK(status != PELTZIVAR_WRITE_BUFFER && (status || !memcmp(&wide, &values[0].wide, sizeof wide)));
+    status = peltzivar_format_f64(reader, real, &style, text, PELTZIVAR_FLOAT_SIZE, &needed);
+    if (!status) CHECK(peltzivar_read(reader, text, needed - 1, &again, NULL) && !peltzivar_to_f64(&again, &values[0].real));
+    CHECK(status != PELTZIVAR_WRITE_BUFFER && (status || !memcmp(&real, &values[0].real, sizeof real)));
 }
 
 /* What is read is written, and nothing else. The parts of a literal are its bytes. */

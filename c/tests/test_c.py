@@ -13,7 +13,7 @@ C, TOP = TESTS.parent, TESTS.parent.parent
 SHARED = pathlib.Path(os.environ["PELTZIVAR_LIBRARY"]).absolute()
 ARCHIVE = SHARED.with_suffix(".a")
 HEADER = (C / "peltzivar.h").read_text()
-STRICT = ["-Wall", "-Wextra", "-Wpedantic", "-Wconversion", "-Wshadow", "-Werror", "-I", C]
+STRICT = ["-Wall", "-Wextra", "-Wpedantic", "-Wconversion", "-Wshadow", "-Werror", "-pthread", "-I", C]
 SANITIZERS = ["-g", "-fsanitize=address,undefined", "-fno-sanitize-recover=all"]
 COMPILERS = {"gcc": "c99 c11 c17 c2x", "clang": "c99 c11 c17 c2x", "g++": "c++11 c++14 c++17 c++20"}
 COMPILERS |= {"clang++": "c++11 c++14 c++17 c++20"}
@@ -22,6 +22,7 @@ TYPES = {"size_t": "usize", "bool": "bool", "char": "u8", "uint8_t": "u8", "uint
 TYPES |= {"uint64_t": "u64", "double": "f64", "float": "f32"}
 TYPES |= {"peltzivar_edit": "NumberedEdit", "peltzivar_special": "NumberedSpecial", "peltzivar_error": "ErrorNumber"}
 TYPES |= {"peltzivar_part": "u8", "peltzivar_role": "u8"}
+ERRORS = r"((?!SET_|RULE_|PART_|ROLE_|KIND_|SPELLING_|VALUE_|CONDITION_|WRITE_)\w+)"
 LIBRARY = ctypes.CDLL(str(SHARED))
 
 
@@ -56,7 +57,7 @@ class Programs(unittest.TestCase):
                         self.skipTest(compiler)
                     language = ["-x", "c++"] if "++" in compiler else []
                     self.made(compiler, f"-std={standard}", *STRICT, *language, "-c", TESTS / "calls.c", name="calls.o")
-                    self.assertEqual(run(self.made(compiler, self.folder / "calls.o", ARCHIVE)), ("", 0))
+                    self.assertEqual(run(self.made(compiler, "-pthread", self.folder / "calls.o", ARCHIVE)), ("", 0))
 
     def test_the_calls_are_sound_with_the_checks_of_rust(self):
         build = self.folder / "checked"
@@ -68,6 +69,12 @@ class Programs(unittest.TestCase):
         for name, *arguments in (["calls"], ["fuzz", "20000"]):
             program = self.made("cc", *STRICT, *SANITIZERS, TESTS / f"{name}.c", build / target / "release" / ARCHIVE.name)
             self.assertEqual(run(program, *arguments), ("", 0))
+
+    def test_the_whole_archive_is_linked_and_none_of_it_is_exported(self):
+        options = ["-Wl,--whole-archive", ARCHIVE, "-Wl,--no-whole-archive"]
+        self.assertEqual(run(self.made("cc", "-I", C, C / "example.c", *options), "radix=8", input="17\n"), ("15\n", 0))
+        library = self.made("cc", "-shared", *options, "-Wl,--exclude-libs,ALL", "-Wl,--no-undefined")
+        self.assertEqual(run("nm", "-gD", "--defined-only", library), ("", 0))
 
     def test_the_first_program_of_the_header(self):
         lines = re.findall(r"^ \*     (.*)$", HEADER, re.M)
@@ -115,14 +122,18 @@ class Header(unittest.TestCase):
         self.assertEqual(self.numbers(r"RULE_(\w+)"), {name: number for number, name in enumerate(rules, 1)})
         errors = ["SUCCESS", *(it for it in variants("error.rs", "Error") if it != "SUCCESS")]
         numbered = {name: number for number, name in enumerate(errors)}
-        self.assertEqual(self.numbers(r"((?!SET_|RULE_|PART_|ROLE_|KIND_|SPELLING_|VALUE_|CONDITION_|WRITE_)\w+)"), numbered)
+        self.assertEqual(self.numbers(ERRORS), numbered)
 
-    def test_names_are_those_of_the_header(self):
-        for call, pattern in (("setter_name", r"SET_(\w+)"), ("role_name", r"ROLE_((?!NONE)\w+)"), ("part_name", r"PART_(\w+)")):
+    def test_each_number_has_the_name_of_the_header_or_a_sentence_of_its_own(self):
+        names = {"setter_name": r"SET_(\w+)", "role_name": r"ROLE_(\w+)", "part_name": r"PART_(\w+)"}
+        sentences = {"value_description": r"VALUE_((?!OK)\w+)", "write_description": r"WRITE_((?!OK)\w+)"}
+        for call, pattern in {**names, **sentences, "description": ERRORS, "rule_condition": r"RULE_(\w+)"}.items():
             function = getattr(LIBRARY, f"peltzivar_{call}")
             function.restype = ctypes.c_char_p
-            names = {number: text.decode() for number in range(256) if (text := function(number))}
-            self.assertEqual(names, {number: name.lower() for name, number in self.numbers(pattern).items()})
+            texts = {number: text.decode() for number in range(256) if (text := function(number))}
+            named = {number: name.lower() if call in names else texts.get(number) for name, number in self.numbers(pattern).items()}
+            self.assertEqual(texts, named)
+            self.assertEqual(len({*texts.values()}), len(texts))
 
     def test_declarations_are_those_of_the_library(self):
         sources = " ".join("".join(path.read_text() for path in sorted((TOP / "rust/capi/src").glob("*.rs"))).split())
@@ -154,8 +165,10 @@ class Header(unittest.TestCase):
             return f"&{'' if const else 'mut '}{in_rust(kind)}"
         return f"Out<{in_rust(kind)}>"
 
-    def test_sizes_in_comments(self):
+    def test_numbers_in_comments(self):
         words = " ".join(re.sub(r"^ \* ", "", HEADER, flags=re.M).split())
+        # calls.c tests that `form` is 0.
+        self.assertEqual(re.findall(r"`form` is [^.]* otherwise (\d+)", words), ["0", "0"])
         most, more = map(int, re.search(r"`0x` followed by 1 to (\d+) hex.*? and at least (\d+) hexadecimal digits", words).groups())
         for number, error in ((most, "SUCCESS"), (more - 1, "SUCCESS"), (most + 1, "OVERFLOW"), (more, "OVERFLOW")):
             parsed = LIBRARY.peltzivar_parse_word(b"0x" + b"1" * number, number + 2, None, None)

@@ -10,12 +10,15 @@ import unittest
 import zipfile
 
 C = pathlib.Path(__file__).resolve().parent.parent
-PAGE = (C.parent / "docs/C-AND-PYTHON.md").read_text()
+PAGE, README = ((C.parent / path).read_text() for path in ("docs/C-AND-PYTHON.md", "README.md"))
+INSTALL, BUILD, PACKAGES = re.findall(r"^```sh\n(.*?)^```", PAGE, re.M | re.S)
+CMAKE = "cmake_minimum_required(VERSION 3.10)\nproject(it C)\nadd_executable(example example.c)\nfind_package(PkgConfig REQUIRED)\n"
+CMAKE += re.search(r"`find_package\(PkgConfig REQUIRED\)`:\n\n((?:    .*\n)+)", PAGE)[1]
 VERSION = re.search('VERSION "(.*)"', (C / "peltzivar.h").read_text())[1]
 WORD = "0x0000100000000000000000000000000C"
 PROGRAM = "import peltzivar; print(peltzivar.Format.of(mantissa_radix=16), peltzivar.__file__)"
 IMPORT = [sys.executable, "-B", "-c", PROGRAM]
-NEEDS = "import setuptools, wheel, pip; assert int(setuptools.__version__.split('.')[0]) >= 66"
+NEEDS = "import setuptools, wheel, pip, ensurepip; assert int(setuptools.__version__.split('.')[0]) >= 66"
 # The first Python that can build packages. Where another one is first in PATH, that of the system may have what it needs.
 PYTHONS = filter(os.path.exists, (sys.executable, "/usr/bin/python3"))
 PACKAGER = next((it for it in PYTHONS if not subprocess.run([it, "-c", NEEDS], capture_output=True).returncode), None)
@@ -25,7 +28,7 @@ class InFolder(unittest.TestCase):
     def setUp(self):
         self.folder = pathlib.Path(tempfile.mkdtemp())
         self.addCleanup(shutil.rmtree, self.folder)
-        self.prefix = self.folder / "a prefix"
+        self.prefix = self.folder / "a home/.local"
         others = ("PELTZIVAR_LIBRARY", "PYTHONPATH", "MAKEFLAGS")
         self.environment = {name: value for name, value in os.environ.items() if name not in others}
         self.environment |= {"PKG_CONFIG_PATH": f"{self.prefix}/lib/pkgconfig", "LD_LIBRARY_PATH": f"{self.prefix}/lib"}
@@ -42,17 +45,21 @@ class Install(InFolder):
         return self.run_in("make", "-s", "-C", C, *arguments, **options)
 
     @unittest.skipUnless(shutil.which("pkg-config"), "pkg-config")
-    def test_a_program_is_built_by_the_lines_of_the_page(self):
-        self.make("install", f"PREFIX={self.prefix}", f"INCLUDEDIR={self.prefix}/headers")
+    def test_a_program_is_built_by_the_lines_of_the_pages(self):
+        self.environment["HOME"] = str(self.prefix.parent)
+        for lines in (INSTALL, *re.findall(r"^\| C \| `(.*?)`", README, re.M)):
+            self.run_in("bash", "-ec", lines, cwd=C.parent)
         shutil.copy(C / "example.c", self.folder)
-        lines = re.findall(r"^ *(?:eval )?cc .*pkg-config.*$", PAGE, re.M)
-        self.assertTrue(lines)
-        for line in lines:
-            self.run_in("bash", "-c", line)
-            self.assertEqual(self.run_in("./example", "radix=8", input="17\n"), "15\n")
+        self.assertEqual(self.run_in("bash", "-ec", BUILD), "15\n")
+        self.assertEqual(self.run_in("./example", "radix=8", input="17\n"), "15\n")
         self.assertEqual(self.run_in("pkg-config", "--modversion", "peltzivar"), f"{VERSION}\n")
         moved = ["pkg-config", "--define-variable=prefix=/moved", "--variable=libdir", "peltzivar"]
         self.assertEqual(self.run_in(*moved), "/moved/lib\n")
+        if not shutil.which("cmake"):
+            self.skipTest("cmake")
+        self.folder.joinpath("CMakeLists.txt").write_text(CMAKE)
+        self.run_in("bash", "-ec", "rm example; cmake . && make")
+        self.assertEqual(self.run_in("./example", "radix=8", input="17\n"), "15\n")
 
     def test_python_finds_the_library_below_the_prefix(self):
         self.make("install", f"PREFIX={self.prefix}")
@@ -70,19 +77,25 @@ class Install(InFolder):
         self.assertEqual(self.run_in("./example", "radix=8", input="17\n"), "15\n")
 
     def test_uninstall_removes_what_install_wrote_without_cargo_and_for_all_users(self):
-        paths = ["PREFIX=/usr/my own", "LIBDIR=/usr/my own/lib here", f"DESTDIR={self.folder}/a root"]
+        paths = ["PREFIX=/usr/my own", "LIBDIR=/usr/my own/lib here", "INCLUDEDIR=/usr/my own/headers", f"DESTDIR={self.folder}/a root"]
         self.make("uninstall", *paths)
         self.make("install", *paths, "CARGO=no-cargo", umask=0o077)
         root = self.folder / "a root/usr/my own"
         modes = {str(it.relative_to(root)): it.stat().st_mode & 0o777 for it in root.rglob("*") if not it.is_dir()}
         self.assertEqual({mode for path, mode in modes.items() if ".so" not in path}, {0o644}, modes)
         self.assertEqual({mode for path, mode in modes.items() if ".so" in path}, {0o755}, modes)
-        names = {"include/peltzivar.h", "lib here/libpeltzivar_c.a", "share/doc/peltzivar/LICENSE"}
+        names = {"headers/peltzivar.h", "lib here/libpeltzivar_c.a", "share/doc/peltzivar/LICENSE"}
         names |= {f"share/doc/peltzivar/{it}.md" for it in ("FORMAT", "EXPLANATIONS", "SETTINGS")}
         self.assertEqual(names - set(modes), set())
-        self.assertNotIn("a root", (root / "lib here/pkgconfig/peltzivar.pc").read_text())
+        written = (root / "lib here/pkgconfig/peltzivar.pc").read_text()
+        self.assertRegex(written, r"\Aprefix=/usr/my own\nlibdir=\${prefix}/lib here\nincludedir=\${prefix}/headers\n")
+        links = [it for it in root.rglob("*") if it.is_symlink()]
+        self.assertEqual([it.exists() and "/" not in os.readlink(it) for it in links], [True, True])
+        foreign = {root / path / "foreign" for path in {os.path.dirname(it) for it in modes} if "python" not in path}
+        for it in foreign:
+            it.touch()
         self.make("uninstall", *paths)
-        self.assertEqual([it for it in root.rglob("*") if not it.is_dir()], [])
+        self.assertEqual({it for it in root.rglob("*") if not it.is_dir()}, foreign)
 
     def test_without_python_the_rest_is_installed_and_tested(self):
         line = r"^no-python is not found: .* left out[^\n]*\n$"
@@ -99,12 +112,13 @@ class Install(InFolder):
         os.utime(library, (0, 0))
         self.assertRaisesRegex(AssertionError, "no-cargo is not found: install Rust", self.make, *install)
 
-    def test_a_relative_prefix_is_refused(self):
-        with self.assertRaisesRegex(AssertionError, "PREFIX must be an absolute path"):
-            self.make("install", "PREFIX=relative", f"DESTDIR={self.folder}/")
+    def test_a_prefix_that_is_relative_or_needs_quotes_is_refused(self):
+        for prefix in ("relative", *(f"/a{it}b" for it in ("'", '"', "`", "\\", "#", "$$"))):
+            with self.assertRaisesRegex(AssertionError, "PREFIX must be an absolute path|must have none of"):
+                self.make("install", f"PREFIX={prefix}", f"DESTDIR={self.folder}/")
 
 
-@unittest.skipUnless(PACKAGER, "pip, setuptools 66 and wheel")
+@unittest.skipUnless(PACKAGER, "pip, venv, setuptools 66 and wheel")
 class Package(InFolder):
     def build(self, what, source):
         """Builds a wheel or a source distribution, and returns its path."""
@@ -123,13 +137,15 @@ class Package(InFolder):
         self.assertEqual((files["py.typed"], files["LICENSE"]), (b"", (C.parent / "LICENSE").read_bytes()))
         self.assertRegex(files["METADATA"].decode(), r"(?ms)^License: MIT$.*^Requires-Python: >=3.9$.*^\n.* >>> from peltzivar import Syntax, languages$")
         self.assertRegex(wheel.name, f"-py3-none-linux_{os.uname().machine}.whl$")
-        self.run_in(PACKAGER, "-m", "venv", "--system-site-packages", "--without-pip", "environment")
-        install = ["environment/bin/python", "-m", "pip", "install", "--no-build-isolation", "--no-index", "--no-deps", "--quiet"]
-        for package, folder in (([wheel], ".*/site-packages"), (["--editable", checkout], checkout)):
-            self.run_in(*install, *package)
-            self.assertRegex(self.run_in("environment/bin/python", *IMPORT[1:]), f"^{WORD} {folder}/peltzivar/__init__.py$")
+        # Without a network, pip gets from the system what it would fetch.
+        paths = f"{checkout.parent}/environment/bin:{os.environ['PATH']}"
+        self.environment |= {"PIP_NO_INDEX": "1", "PIP_NO_BUILD_ISOLATION": "0", "PATH": paths}
+        for command in dict.fromkeys([PACKAGES, *re.findall("`(pip install .*?)`", README + PAGE)]):
+            self.run_in("bash", "-ec", f"python3() {{ '{PACKAGER}' \"$@\"; }}; {command}", cwd=checkout.parent)
+            folder = checkout if "install -e" in command else ".*/site-packages"
+            self.assertRegex(self.run_in("python", *IMPORT[1:]), f"^{WORD} {folder}/peltzivar/__init__.py$")
             modules = "import pkgutil, peltzivar; print([*pkgutil.iter_modules(peltzivar.__path__)])"
-            self.assertEqual(self.run_in("environment/bin/python", "-B", "-c", modules), "[]\n")
+            self.assertEqual(self.run_in("python", "-B", "-c", modules), "[]\n")
 
 
 if __name__ == "__main__":

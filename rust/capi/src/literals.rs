@@ -125,7 +125,7 @@ impl Forms {
 #[repr(C)]
 pub struct Stop {
     valid_up_to: usize,
-    form: usize,
+    form: u8,
 }
 
 /// Where reading stopped, and why.
@@ -292,7 +292,7 @@ unsafe fn read_by<'a>(
         },
     };
     let valid_up_to = if let Refusal::Library(error) = &refusal { error.valid_up_to() } else { 0 };
-    error.write(Made::new(Stop { valid_up_to, form }, refusal));
+    error.write(Made::new(Stop { valid_up_to, form: form as u8 }, refusal));
     false
 }
 

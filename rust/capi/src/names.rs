@@ -41,7 +41,7 @@ texts! {
         None => b"",
     };
     CONDITIONS: [96; 17] = |number| if number == 0 { b"" } else { Rule::ALL[number - 1].condition().as_bytes() };
-    ROLE_NAMES: [16; 8] = |number| if number == 0 { b"" } else { ROLES[number - 1].name().as_bytes() };
+    ROLE_NAMES: [16; 8] = |number| if number == 0 { b"none" } else { ROLES[number - 1].name().as_bytes() };
     PART_NAMES: [16; 3] = |number| PARTS[number].name().as_bytes();
 }
 

@@ -129,8 +129,13 @@ calls! {
         reader: Option<&Reader>, value: f64, style: Option<&Style>, text: *mut u8, len: usize, needed: Out<usize>
     ) -> WriteStatus {
         let format = |digits: Shortest| write((reader, style), (text, len, needed), |syntax, style| {
-            let literal = FLOATS.read(&digits.bytes[..digits.len]);
-            syntax.format_literal(&literal.map_err(|_| WriteError::Special)?, style)
+            let literal = FLOATS.read(&digits.bytes[..digits.len]).map_err(|_| WriteError::Special)?;
+            match syntax.point() {
+                // No float type has a value of a literal with these digits and another exponent base.
+                _ if syntax.format().exponent_base() != 10 => Err(WriteError::Radix),
+                None => Err(WriteError::Fraction),
+                Some(_) => syntax.format_literal(&literal, style),
+            }
         });
         // A float that is very large or very small has an exponent, if the syntax has one.
         match format(Shortest::of(format_args!("{value:?}"))) {
