@@ -1,6 +1,7 @@
 //! The calls of `lexical-util`. A call that it has only for a word that is known at compile time, or not at all, is
 //! written over the calls that it has.
 
+use crate::inputs::calls_of;
 use upstream::ascii::*;
 use upstream::checks;
 use upstream::digit::*;
@@ -55,4 +56,34 @@ fn strict(builder: &NumberFormatBuilder) -> (u128, u128) {
 
 fn panicking(builder: &NumberFormatBuilder) -> (u128, u128) {
     strict(builder)
+}
+
+pub fn edits(word: u128, calls: &[SetterCall]) -> Results<3> {
+    let word = builder(Some(word), calls).build_unchecked();
+    results! { edit_word: word, apply_all: word, apply: word, }
+}
+
+/// The fields of a word as they stand, for both lists of edits.
+pub fn listed(word: u128) -> [Results<FIELDS>; 2] {
+    [builder_fields(None, &calls_of(word)); 2]
+}
+
+pub fn normal_form(word: u128) -> u128 {
+    NumberFormatBuilder::rebuild(word).build_unchecked()
+}
+
+pub fn forms(word: u128, other: u128) -> Results<6> {
+    let (normal, error) = (normal_form(word), checks::format_error(normal_form(word)));
+    let [own, new] = [calls_of(word), vec![]].map(|calls| builder(None, &calls));
+    let changed = fields(&own).values.into_iter().zip(fields(&new).values).filter(|(own, new)| own != new);
+    results! {
+        normal_form: normal, migrate: if error.is_success() { normal } else { 0 }, migrate_error: position(error),
+        edits_of_count: changed.count(), is_built: own.build_unchecked() == word,
+        same_format: normal == normal_form(other),
+    }
+}
+
+pub fn digits(word: u128, byte: u8) -> Results<2> {
+    let [mantissa, exponent] = [flags::mantissa_radix(word), flags::exponent_radix(word)];
+    results! { mantissa_digit: char_to_digit(byte, mantissa), exponent_digit: char_to_digit(byte, exponent), }
 }
