@@ -45,14 +45,6 @@ pub fn single_calls(values: u16) -> impl Iterator<Item = SetterCall> {
     (0..SETTERS).flat_map(move |setter| (0..values).map(move |value| SetterCall { setter, value: value as u8 }))
 }
 
-/// Returns the calls that give a new builder the fields of a word as they stand.
-pub fn calls_of(word: u128) -> Vec<SetterCall> {
-    let flags = (0..128).filter(|bit| FLAG_MASK >> bit & 1 == 1).map(|bit| (word >> bit) as u8 & 1).zip(0..);
-    let bytes = [(64, 0), (88, 1), (96, 2), (104, 3), (112, 5), (120, 6)];
-    let bytes = bytes.map(|(shift, index)| ((word >> shift) as u8, OF_FLAGS + index));
-    flags.chain(bytes).map(|(value, setter)| SetterCall { setter, value }).collect()
-}
-
 impl Random {
     /// A byte for separator, prefix or suffix: often none, a letter of either case, or a sign, and sometimes any byte.
     pub fn punctuation(&mut self) -> u8 {
@@ -108,7 +100,7 @@ impl Random {
         (0..count).map(|_| self.call()).collect()
     }
 
-    fn call(&mut self) -> SetterCall {
+    pub fn call(&mut self) -> SetterCall {
         let setter = self.below(SETTERS as u64) as usize;
         let value = match setter.checked_sub(OF_FLAGS) {
             None => self.one_in(3) as u8,

@@ -59,14 +59,12 @@ fn panicking(builder: &NumberFormatBuilder) -> (u128, u128) {
     word_or_panic(|| builder.build_or_panic())
 }
 
-/// The word after setter calls, which are read as settings.
-pub fn edits(word: u128, calls: &[SetterCall]) -> Results<3> {
+/// The words of `edit_word`, `apply_all` and `apply` after setter calls, which are read as settings.
+pub fn edits(word: u128, calls: &[SetterCall]) -> [u128; 3] {
     let edits: Vec<Edit> = calls.iter().map(|call| format!("{call:?}").parse().expect("a setting")).collect();
     let start = NumberFormatBuilder::rebuild(word);
-    results! {
-        edit_word: edit_word(word, &edits), apply_all: apply_all(start, &edits).build_unchecked(),
-        apply: edits.iter().fold(start, |builder, edit| apply(builder, *edit)).build_unchecked(),
-    }
+    let builders = [apply_all(start, &edits), edits.iter().fold(start, |builder, edit| apply(builder, *edit))];
+    [edit_word(word, &edits), builders[0].build_unchecked(), builders[1].build_unchecked()]
 }
 
 /// The fields of a new builder after all edits of `edits_of`, and after those that it counts.

@@ -129,8 +129,8 @@ fn whole_word(tally: &mut Tally, word: u128, other: u128) {
     same!(tally, rebuild(word));
     let theirs = theirs::forms(word, other);
     tally.expect(("words", word, other), [ours::forms(word, other), rules::strict(theirs), theirs]);
-    for (ours, theirs) in ours::listed(word).into_iter().zip(theirs::listed(word)) {
-        tally.same(("edits_of", word), ours, theirs);
+    for listed in ours::listed(word) {
+        tally.same(("edits_of", word), listed, theirs::fields(&theirs::raw(word)));
     }
 }
 
@@ -200,7 +200,9 @@ fn builders(tally: &mut Tally, random: &mut Random) {
         for (ours, theirs) in ours::built(start, calls).into_iter().zip(theirs::built(start, calls)) {
             tally.expect(input, [ours, rules::strict(theirs), theirs]);
         }
-        same!(tally, edits(start.unwrap_or(BASES[2]), calls));
+        let word = start.unwrap_or(BASES[2]);
+        let edited = theirs::builder(Some(word), calls).build_unchecked();
+        tally.equal(("edit_word, apply_all, apply", word, calls), ours::edits(word, calls), [edited; 3]);
     };
     for call in single_calls(256) {
         compare(None, &[call]);

@@ -1,7 +1,6 @@
 //! The calls of `lexical-util`. A call that it has only for a word that is known at compile time, or not at all, is
 //! written over the calls that it has.
 
-use crate::inputs::calls_of;
 use upstream::ascii::*;
 use upstream::checks;
 use upstream::digit::*;
@@ -58,14 +57,10 @@ fn panicking(builder: &NumberFormatBuilder) -> (u128, u128) {
     strict(builder)
 }
 
-pub fn edits(word: u128, calls: &[SetterCall]) -> Results<3> {
-    let word = builder(Some(word), calls).build_unchecked();
-    results! { edit_word: word, apply_all: word, apply: word, }
-}
-
-/// The fields of a word as they stand, for both lists of edits.
-pub fn listed(word: u128) -> [Results<FIELDS>; 2] {
-    [builder_fields(None, &calls_of(word)); 2]
+/// The fields of a word as they stand, where `rebuild` fills the exponent bytes.
+pub fn raw(word: u128) -> NumberFormatBuilder {
+    let [base, radix] = [112, 120].map(|shift| NonZeroU8::new((word >> shift) as u8));
+    NumberFormatBuilder::rebuild(word).exponent_base(base).exponent_radix(radix)
 }
 
 pub fn normal_form(word: u128) -> u128 {
@@ -74,12 +69,11 @@ pub fn normal_form(word: u128) -> u128 {
 
 pub fn forms(word: u128, other: u128) -> Results<6> {
     let (normal, error) = (normal_form(word), checks::format_error(normal_form(word)));
-    let [own, new] = [calls_of(word), vec![]].map(|calls| builder(None, &calls));
-    let changed = fields(&own).values.into_iter().zip(fields(&new).values).filter(|(own, new)| own != new);
+    let [own, new] = [raw(word), NumberFormatBuilder::new()].map(|builder| fields(&builder).values);
     results! {
         normal_form: normal, migrate: if error.is_success() { normal } else { 0 }, migrate_error: position(error),
-        edits_of_count: changed.count(), is_built: own.build_unchecked() == word,
-        same_format: normal == normal_form(other),
+        edits_of_count: own.iter().zip(new).filter(|(own, new)| *own != new).count(),
+        is_built: raw(word).build_unchecked() == word, same_format: normal == normal_form(other),
     }
 }
 
