@@ -42,7 +42,7 @@ features=(format power-of-two radix parse-integers parse-floats write-integers w
     printf 'default = ['; printf '"%s", ' "${features[@]}"; printf ']\n'
 } > "$work/upstream/Cargo.toml"
 
-# driver TREE FOLDER NAME PROCESSOR: builds the driver in a folder of a tree over the tree's library, as $work/NAME. Each
+# driver TREE FOLDER NAME PROCESSOR [FLAGS]: builds the driver in a folder of a tree over the tree's library, as $work/NAME. Each
 # tree is copied to the same place, because paths decide the order of functions. No jump crosses a 32-byte boundary.
 # Otherwise, times would depend on the addresses of code.
 driver() {
@@ -56,7 +56,7 @@ driver() {
         manifest driver "peltzivar=$work/tree/rust" "upstream=$work/upstream"
         printf '\n[[bin]]\nname = "driver"\npath = "%s/rust/src/main.rs"\n' "$work/tree/$2"
     } > "$work/driver/Cargo.toml"
-    local flags="-C target-cpu=$4 -C llvm-args=-x86-branches-within-32B-boundaries"
+    local flags="-C target-cpu=$4 -C llvm-args=-x86-branches-within-32B-boundaries --check-cfg=cfg(old) ${5:-}"
     (cd "$work/driver" && RUSTFLAGS=$flags CARGO_TARGET_DIR=$work/target-$4 cargo build --release --offline --quiet)
     cp "$work/target-$4/release/driver" "$work/$3"
 }

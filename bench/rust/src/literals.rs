@@ -1,17 +1,18 @@
 //! The rows of literals: the reader and the writer of the library beside other calls over the same texts or numbers. A
 //! loop counts the texts that a call accepts, or in one loop those that it refuses.
 
+use crate::calls::*;
 use crate::list;
 use crate::measure::Row;
 use crate::random::Random;
-use peltzivar::literal::{Language, Reader, Style};
+use peltzivar::literal::Language;
 use std::fmt::Write;
 use std::hint::black_box;
 
 /// Texts of a form of a language.
-struct Group {
-    language: Language,
-    reader: &'static Reader,
+pub struct Group {
+    pub language: Language,
+    pub form: usize,
     texts: Vec<String>,
 }
 
@@ -23,11 +24,11 @@ impl Group {
         (language, form): (Language, usize),
         count: usize,
         text: impl FnMut() -> String,
-        is_kept: impl Fn(&Reader, &str) -> bool,
+        is_kept: impl Fn(&Group, &str) -> bool,
     ) -> Group {
-        let reader = &language.readers().as_slice()[form];
-        let texts = std::iter::repeat_with(text).filter(|text| is_kept(reader, text)).take(count).collect();
-        Group { language, reader, texts }
+        let group = Group { language, form, texts: vec![] };
+        let texts = std::iter::repeat_with(text).filter(|text| is_kept(&group, text)).take(count).collect();
+        Group { texts, ..group }
     }
 }
 
@@ -40,7 +41,7 @@ fn of_form(language: Language, form: usize, text: impl FnMut() -> String) -> Tex
 fn texts(
     random: &mut Random,
     text: fn(&mut Random, Language) -> String,
-    is_kept: impl Fn(&Reader, &str) -> bool,
+    is_kept: impl Fn(&Group, &str) -> bool,
 ) -> Texts {
     let languages = [Language::JSON, Language::TOML, Language::C];
     let groups = languages.map(|it| Group::new((it, 0), 100_000, || text(random, it), &is_kept));
@@ -117,27 +118,14 @@ fn of_c(random: &mut Random, form: usize) -> String {
 /// Calls of a group, each with a text.
 macro_rules! calls {
     ($($name:ident: |$group:ident| $call:expr;)*) => {
-        $(fn $name($group: &Group) -> impl Fn(&str) -> bool + use<> { $call })*
+        $(pub fn $name($group: &crate::literals::Group) -> impl Fn(&str) -> bool + use<> { $call })*
     };
 }
+pub(crate) use calls;
 
 calls! {
     parse: |_group| |text| black_box(text.parse::<f64>()).is_ok();
     parse_integer: |_group| |text| black_box(text.parse::<i64>()).is_ok();
-    reader: |group| { let it = group.reader; move |text| black_box(it.read(text.as_bytes())).is_ok() };
-    refuses: |group| { let it = group.reader; move |text| black_box(it.read(text.as_bytes())).is_err() };
-    listed: |group| { let it = group.language.readers(); move |text| black_box(it.read(text.as_bytes())).is_ok() };
-    value: |group| { let it = group.reader; move |text| black_box(it.parse::<i64>(text)).is_ok() };
-    float: |group| { let it = group.reader; move |text| black_box(it.parse::<f64>(text)).is_ok() };
-    prints: |group| {
-        let it = group.reader;
-        move |text| it.read(text.as_bytes()).is_err_and(|error| !black_box(error.text()).as_str().is_empty())
-    };
-    // Makes a reader, which reads no text.
-    new: |group| {
-        let it = Reader::new(black_box(group.reader.syntax()));
-        move |_| black_box(&it).syntax().point().is_some()
-    };
 }
 
 /// Returns how many texts a call returns `true` for.
@@ -153,15 +141,11 @@ fn count<F: Fn(&str) -> bool>(texts: Texts, call_of: impl Fn(&Group) -> F) -> u6
 fn written(random: &mut Random) -> Row {
     // Integers of which each number of bits is as frequent.
     let values: &[i64] = list(random, 100_000, |random| (random.next() as i64) >> random.below(64));
-    let syntax = Language::JSON.forms()[0].syntax;
-    let ours = move |value| {
-        let written = syntax.format_integer(value, Style::PLAIN).expect("an integer");
-        black_box(&written).as_str().map_or(0, str::len) as u64
-    };
+    let write = writer();
     Row {
         name: "Syntax::format_integer, i64, over Display",
         calls: values.len(),
-        ours: Box::new(move || values.iter().map(|value| ours(*black_box(value))).sum()),
+        ours: Box::new(move || values.iter().map(|value| write(*black_box(value)) as u64).sum()),
         theirs: Box::new(move || {
             let mut text = String::new();
             let sizes = values.iter().map(|value| {
@@ -179,12 +163,16 @@ pub fn rows() -> Vec<Row> {
     let random = &mut Random::new(20_261_126);
     let mixed = texts(random, literal, |_, text| text.parse::<f64>().is_ok());
     let shape = texts(random, |it, _| format!("{}.{}", 100 + it.below(900), fixed(it, 6)), |_, _| true);
-    let is_refused = |reader: &Reader, text: &str| reader.read(text.as_bytes()).is_err();
+    let is_refused = |group: &Group, text: &str| refuses(group)(text);
     let (inserted, appended) = (texts(random, inserted, is_refused), texts(random, appended, is_refused));
     let accepted = texts(random, literal, |_, _| true);
     let integers = texts(random, |it, _| integer(it, None), |_, _| true);
     let grouped = of_form(Language::TOML, 0, || integer(random, Some('_')));
     let prefixed = of_form(Language::RUST, 2, || format!("0x{:X}", random.below(1 << 36)));
+    let money = of_form(Language::JSON, 0, || {
+        let limit = random.pick(&[10, 100, 1000, 10_000]);
+        format!("{}.{}", random.below(limit), fixed(random, 2))
+    });
     let exponents = of_form(Language::JSON, 0, || format!("1.{}e{}", fixed(random, 16), random.below(600) as i64 - 300));
     let fractions = of_form(Language::JSON, 0, || format!("0.{}", fixed(random, 17)));
     let hexadecimal = of_form(Language::C, 4, || format!("0x1.{}p{}", fixed(random, 13), random.below(100)));
@@ -208,6 +196,7 @@ pub fn rows() -> Vec<Row> {
     let mut rows = rows! {
         "Reader::read, mixed, over parse", mixed.reader, mixed.parse;
         "Reader::read, one shape, over parse", shape.reader, shape.parse;
+        "Reader::read, money, over parse", money.reader, money.parse;
         "Reader::new, over 100 Reader::read", hundred.new, hundred.reader;
         "Readers::read, 5 forms of C, over Reader::read", forms.listed, forms.reader;
         "Reader::read, byte inserted, over accepted", inserted.refuses, accepted.reader;
@@ -218,6 +207,7 @@ pub fn rows() -> Vec<Row> {
         "Reader::parse, prefixed, over Reader::read", prefixed.value, prefixed.reader;
         "Reader::parse::<f64>, mixed, over parse", mixed.float, mixed.parse;
         "Reader::parse::<f64>, one shape, over parse", shape.float, shape.parse;
+        "Reader::parse::<f64>, money, over parse", money.float, money.parse;
         "Reader::parse::<f64>, 17 digits, over parse", exponents.float, exponents.parse;
         "Reader::parse::<f64>, fractions, over parse", fractions.float, fractions.parse;
         "Reader::parse::<f64>, hexadecimal, over Reader::read", hexadecimal.float, hexadecimal.reader;

@@ -1,4 +1,4 @@
-// The loops, over the library and over `lexical-util`. `main.rs` includes them twice, each under its imports.
+// The loops, over the library and over `lexical-util`. `ours.rs` and `theirs.rs` include them, each under its imports.
 
 use crate::measure::Fold;
 use crate::Case;
@@ -12,9 +12,9 @@ pub fn digit_read(bytes: &[u8], radix: u32) -> u64 {
 }
 
 /// Reads numbers that end at each byte that is not a digit or a separator, in a format that is known when this is
-/// compiled: hexadecimal, with a base prefix and a base suffix, and with separators between digits.
+/// compiled.
 pub fn constant_read(bytes: &[u8]) -> u64 {
-    const WORD: u128 = 0x10 << 104 | 0x68_78 << 88 | 0x5F << 64 | 1 << 32 | 0xC;
+    const WORD: u128 = crate::HEXADECIMAL;
     let format = NumberFormat::<WORD>::new();
     let (mut fold, mut number) = (Fold::new(), 0u64);
     for c in bytes {
@@ -43,16 +43,16 @@ counts! {
     short_slices: |bytes| bytes.chunks_exact(64), |block: &[u8]| is_valid_ascii_slice(&block[..(block[0] % 64) as usize]);
 }
 
-/// Loops that fold the results of a call for each case.
-macro_rules! over_cases {
-    ($($name:ident: |$item:pat_param| $number:expr;)*) => {$(
-        pub fn $name(items: &[Case]) -> u64 {
+/// Loops that fold the results of a call for each item.
+macro_rules! over {
+    ($Item:ty, $($name:ident: |$item:pat_param| $number:expr;)*) => {$(
+        pub fn $name(items: &[$Item]) -> u64 {
             items.iter().fold(Fold::new(), |fold, $item| fold.with_word($number as u128)).sum
         }
     )*};
 }
 
-over_cases! {
+over! { Case,
     format_errors: |(word, _)| black_box(format_error(*word)).is_success();
     options: |(word, bits)| is_valid_options_punctuation(*word, *bits as u8, (bits >> 8) as u8);
     new_builders: |(_, bits)| NumberFormatBuilder::new()
@@ -67,6 +67,16 @@ over_cases! {
         .digit_separator(NonZeroU8::new((bits >> 16) as u8))
         .mantissa_radix((bits >> 24) as u8)
         .build_unchecked();
+    descriptions: |(word, _)| {
+        let error = format_error(*word);
+        (0..256).map(|_| black_box(&error).description().len()).sum::<usize>()
+    };
+    formats: |(word, _)| format_of(*word).unwrap_or(0);
+    reasons: |(word, _)| reasons_of(*word);
     build_strict: |(word, _)| strict(NumberFormatBuilder::rebuild(*word));
     normal_forms: |(word, _)| normal_form(*word);
 }
+
+over! { (u128, [Edit; 3]), edits: |(word, edits)| edit_word(*word, edits); }
+over! { Vec<String>, files: |lines| read(lines).unwrap_or(0); }
+over! { u8, roles: |byte| role(crate::HEXADECIMAL, *byte); }

@@ -4,6 +4,7 @@
 //!
 //!     driver [--rounds N] [--only TEXT]
 
+mod calls;
 #[allow(dead_code)]
 #[path = "../../../compare/rust/src/inputs.rs"]
 mod inputs;
@@ -11,18 +12,24 @@ mod literals;
 mod measure;
 #[path = "../../../compare/rust/src/options.rs"]
 mod options;
+mod ours;
 #[path = "../../../compare/rust/src/random.rs"]
 mod random;
 #[allow(dead_code, unused_imports, unused_macros)]
 #[path = "../../../compare/rust/src/rows.rs"]
 mod rows;
+mod theirs;
 
 use measure::Row;
+use peltzivar::FormatView;
 use random::Random;
 use std::hint::black_box;
 
 /// A word, and the bits of an exponent character and a decimal point, with others above them.
 type Case = (u128, u64);
+
+/// Hexadecimal, with a base prefix and a base suffix, and with separators between digits.
+const HEXADECIMAL: u128 = 0x10 << 104 | 0x68_78 << 88 | 0x5F << 64 | 1 << 32 | 0xC;
 
 /// Returns items for the whole program.
 fn list<T>(random: &mut Random, len: usize, item: impl Fn(&mut Random) -> T) -> &'static [T] {
@@ -35,48 +42,10 @@ fn case(random: &mut Random, is_lawful: bool) -> Case {
         let options = random.pick(b"ep^@") as u64 | (random.pick(b".;|") as u64) << 8;
         let case = [(random.word(), options | random.next() << 16)];
         let is_alike = ours::format_errors(&case) == theirs::format_errors(&case);
-        let is_wanted = peltzivar::FormatView::new(case[0].0).is_valid() == is_lawful;
+        let is_wanted = FormatView::new(case[0].0).is_valid() == is_lawful;
         if is_wanted && is_alike && ours::options(&case) == theirs::options(&case) {
             return case[0];
         }
-    }
-}
-
-/// The loops over the library, the crate in `rust/`.
-mod ours {
-    use peltzivar::ascii::{is_valid_ascii_slice, is_valid_letter_slice};
-    use peltzivar::digit::{char_is_digit, char_to_digit};
-    use peltzivar::edits::normal_form;
-    use peltzivar::format::NumberFormat;
-    use peltzivar::format_builder::NumberFormatBuilder;
-    use peltzivar::format_flags::is_valid_options_punctuation;
-    use peltzivar::word::format_error;
-
-    include!("loops.rs");
-
-    /// The word that a lawful builder packs.
-    fn strict(builder: NumberFormatBuilder) -> u128 {
-        builder.build_strict().unwrap_or(0)
-    }
-}
-
-/// The loops over `lexical-util`.
-mod theirs {
-    use upstream::ascii::{is_valid_ascii_slice, is_valid_letter_slice};
-    use upstream::checks::format_error;
-    use upstream::digit::{char_is_digit, char_to_digit};
-    use upstream::feature_format::NumberFormat;
-    use upstream::format_builder::NumberFormatBuilder;
-    use upstream::format_flags::is_valid_options_punctuation;
-
-    include!("loops.rs");
-
-    fn strict(builder: NumberFormatBuilder) -> u128 {
-        builder.build_strict()
-    }
-
-    fn normal_form(word: u128) -> u128 {
-        NumberFormatBuilder::rebuild(word).build_unchecked()
     }
 }
 
@@ -113,17 +82,27 @@ fn rows() -> Vec<Row> {
     let letters = list(random, SIZE, |it| it.pick(&alphanumeric[10..]));
     let [lawful, broken] = [true, false].map(|is_lawful| list(random, 4096, |it| case(it, is_lawful)));
     let any = list(random, 4096, |it| (it.bits(), it.next()));
+    let of_one = broken.iter().filter(|case| FormatView::new(case.0).reasons().count() == 1);
+    let of_one: &[Case] = of_one.copied().collect::<Vec<_>>().leak();
+    // The settings of which each word is built.
+    let lines = |case: &Case| FormatView::new(case.0).edits().map(|edit| edit.to_string()).collect();
+    let files: &[Vec<String>] = lawful.iter().map(lines).collect::<Vec<_>>().leak();
+    let edit = |it: &mut Random| format!("{:?}", it.call()).parse().expect("a setting");
+    let edited = list(random, 4096, |it| (it.bits(), [(); 3].map(|()| edit(it))));
+    let numbers = list(random, SIZE, |it| it.pick(b"0123456789ABCDEFabcdef0123456789__x..pP+- ,h"));
     rows! {
         "char_to_digit, read, radix 10", 1.0, digit_read(decimal, 10);
         "char_to_digit, read, radix 16", 1.0, digit_read(hexadecimal, 16);
         "char_to_digit, read, radix 36", 1.0, digit_read(in_36, 36);
         "char_is_digit, any bytes, radix 16", 1.0, is_digit(any_bytes, 16);
         "constant format in a reader's loop", 1.0, constant_read(hexadecimal);
+        "role_of, over a text", 1.0, roles(numbers);
         "is_valid_ascii_slice, 16 B", 1.0 / 16.0, ascii_slices(&text[..1 << 14], 16);
         "is_valid_letter_slice, 16 B", 1.0 / 16.0, letter_slices(&letters[..1 << 14], 16);
         "is_valid_ascii_slice, 1 KiB", 1.0 / 1024.0, ascii_slices(&text[..1 << 14], 1 << 10);
         "is_valid_letter_slice, 1 KiB", 1.0 / 1024.0, letter_slices(&letters[..1 << 14], 1 << 10);
         "is_valid_ascii_slice, 0 to 63 B, spoiled", 1.0 / 64.0, short_slices(spoiled);
+        "description", 256.0, descriptions(broken);
         "format_error, lawful", 1.0, format_errors(lawful);
         "format_error, unlawful", 1.0, format_errors(broken);
         "is_valid_options_punctuation, lawful", 1.0, options(lawful);
@@ -132,6 +111,11 @@ fn rows() -> Vec<Row> {
         "rebuild, 3 setters, build", 1.0, setters(any);
         "rebuild, build_strict, lawful", 1.0, build_strict(lawful);
         "normal_form", 1.0, normal_forms(any);
+        "edit_word, 3 edits", 1.0, edits(edited);
+        "Format::new, lawful", 1.0, formats(lawful);
+        "Format::new, unlawful", 1.0, formats(broken);
+        "reasons, one cause, over format_error", 1.0, reasons(of_one);
+        "Settings::read, over Edit::from_text", 1.0, files(files);
     }
 }
 

@@ -151,7 +151,7 @@ macro_rules! builders {
             &[$(NumberFormatBuilder::$flag,)* $(NumberFormatBuilder::$group,)*];
 
         /// The getters of a builder; an absent byte is 0.
-        fn fields(builder: &NumberFormatBuilder) -> Results<FIELDS> {
+        pub fn fields(builder: &NumberFormatBuilder) -> Results<FIELDS> {
             results! {
                 $($flag: builder.$get(),)* mantissa_radix: builder.get_mantissa_radix(),
                 digit_separator: builder.get_digit_separator(), base_prefix: builder.get_base_prefix(),

@@ -100,7 +100,7 @@ impl Random {
         (0..count).map(|_| self.call()).collect()
     }
 
-    fn call(&mut self) -> SetterCall {
+    pub fn call(&mut self) -> SetterCall {
         let setter = self.below(SETTERS as u64) as usize;
         let value = match setter.checked_sub(OF_FLAGS) {
             None => self.one_in(3) as u8,

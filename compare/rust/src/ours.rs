@@ -2,6 +2,7 @@
 
 use peltzivar::ascii::*;
 use peltzivar::digit::*;
+use peltzivar::edits::{apply, apply_all, edit_word, edits_of, is_built, migrate, normal_form, same_format, Edit};
 use peltzivar::error::Error;
 use peltzivar::format::{NumberFormat, STANDARD};
 use peltzivar::format_builder::NumberFormatBuilder;
@@ -56,4 +57,31 @@ fn strict(builder: &NumberFormatBuilder) -> (u128, u128) {
 
 fn panicking(builder: &NumberFormatBuilder) -> (u128, u128) {
     word_or_panic(|| builder.build_or_panic())
+}
+
+/// The words of `edit_word`, `apply_all` and `apply` after setter calls, which are read as settings.
+pub fn edits(word: u128, calls: &[SetterCall]) -> [u128; 3] {
+    let edits: Vec<Edit> = calls.iter().map(|call| format!("{call:?}").parse().expect("a setting")).collect();
+    let start = NumberFormatBuilder::rebuild(word);
+    let builders = [apply_all(start, &edits), edits.iter().fold(start, |builder, edit| apply(builder, *edit))];
+    [edit_word(word, &edits), builders[0].build_unchecked(), builders[1].build_unchecked()]
+}
+
+/// The fields of a new builder after all edits of `edits_of`, and after those that it counts.
+pub fn listed(word: u128) -> [Results<FIELDS>; 2] {
+    let (edits, count) = edits_of(word);
+    [&edits[..], &edits[..count]].map(|edits| fields(&apply_all(NumberFormatBuilder::new(), edits)))
+}
+
+pub fn forms(word: u128, other: u128) -> Results<6> {
+    let (migrated, error) = word_or_error(migrate(word));
+    results! {
+        normal_form: normal_form(word), migrate: migrated, migrate_error: error, edits_of_count: edits_of(word).1,
+        is_built: is_built(word), same_format: same_format(word, other),
+    }
+}
+
+pub fn digits(word: u128, byte: u8) -> Results<2> {
+    let view = FormatView::new(word);
+    results! { mantissa_digit: view.mantissa_digit(byte), exponent_digit: view.exponent_digit(byte), }
 }

@@ -21,7 +21,7 @@ const RANDOM: [(&str, Section, u64); 6] = [
     ("random words", random_words, 200),
     ("masked radixes", masked, 300),
     ("options", options, 400),
-    ("builders", builders, 500),
+    ("builders and edits", builders, 500),
 ];
 
 /// All tasks.
@@ -32,7 +32,7 @@ pub fn tasks(seed: u64) -> Vec<Task> {
     add("outcomes", Box::new(outcomes));
     add("constants and standard formats", Box::new(constants));
     for base in BASES {
-        let run = move |tally: &mut Tally| bits_turned(base).for_each(|word| whole_word(tally, word));
+        let run = move |tally: &mut Tally| bits_turned(base).for_each(|word| whole_word(tally, word, base));
         add("single bits and pairs of bits", Box::new(run));
     }
     for radix in [2, 10, 11, 16, 24, 36] {
@@ -122,11 +122,16 @@ fn rules_of(tally: &mut Tally, word: u128) {
     tally.expect(("word", word), [ours::word(word), rules::word(word, theirs), theirs]);
 }
 
-/// All calls on a word.
-fn whole_word(tally: &mut Tally, word: u128) {
+/// All calls on a word, and on two.
+fn whole_word(tally: &mut Tally, word: u128, other: u128) {
     rules_of(tally, word);
     same!(tally, view(word));
     same!(tally, rebuild(word));
+    let theirs = theirs::forms(word, other);
+    tally.expect(("words", word, other), [ours::forms(word, other), rules::strict(theirs), theirs]);
+    for listed in ours::listed(word) {
+        tally.same(("edits_of", word), listed, theirs::fields(&theirs::raw(word)));
+    }
 }
 
 fn reserved_bits(tally: &mut Tally, random: &mut Random) {
@@ -136,11 +141,11 @@ fn reserved_bits(tally: &mut Tally, random: &mut Random) {
         let word = random.word() & !rules::RESERVED;
         for one in &reserved {
             for other in &reserved {
-                whole_word(tally, word | 1 << one | 1 << other);
+                whole_word(tally, word | 1 << one | 1 << other, word);
             }
         }
         for _ in 0..1000 {
-            whole_word(tally, word | random.bits() & rules::RESERVED);
+            whole_word(tally, word | random.bits() & rules::RESERVED, word);
         }
     }
 }
@@ -156,7 +161,11 @@ fn punctuation(tally: &mut Tally, radix: u8) {
 }
 
 fn random_words(tally: &mut Tally, random: &mut Random) {
-    (0..250_000).for_each(|_| whole_word(tally, random.word()));
+    for _ in 0..250_000 {
+        let word = random.word();
+        let others = [random.word(), theirs::normal_form(word), word ^ 1 << random.below(128)];
+        whole_word(tally, word, random.pick(&others));
+    }
 }
 
 fn masked(tally: &mut Tally, random: &mut Random) {
@@ -174,6 +183,7 @@ fn masked(tally: &mut Tally, random: &mut Random) {
 fn options(tally: &mut Tally, random: &mut Random) {
     let bases: Vec<u128> = BASES.iter().map(|base| base ^ (random.below(8) as u128) << 15).collect();
     for word in bases.into_iter().chain((0..8).map(|_| random.word())) {
+        (0..=255).for_each(|byte| same!(tally, digits(word, byte)));
         for (exponent, point) in (0..=255).flat_map(|exponent| (0..=255).map(move |point| (exponent, point))) {
             let theirs = theirs::options(word, exponent, point);
             let sides = [ours::options(word, exponent, point), rules::options(word, exponent, point, theirs), theirs];
@@ -190,6 +200,9 @@ fn builders(tally: &mut Tally, random: &mut Random) {
         for (ours, theirs) in ours::built(start, calls).into_iter().zip(theirs::built(start, calls)) {
             tally.expect(input, [ours, rules::strict(theirs), theirs]);
         }
+        let word = start.unwrap_or(BASES[2]);
+        let edited = theirs::builder(Some(word), calls).build_unchecked();
+        tally.equal(("edit_word, apply_all, apply", word, calls), ours::edits(word, calls), [edited; 3]);
     };
     for call in single_calls(256) {
         compare(None, &[call]);

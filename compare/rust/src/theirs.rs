@@ -56,3 +56,28 @@ fn strict(builder: &NumberFormatBuilder) -> (u128, u128) {
 fn panicking(builder: &NumberFormatBuilder) -> (u128, u128) {
     strict(builder)
 }
+
+/// The fields of a word as they stand, where `rebuild` fills the exponent bytes.
+pub fn raw(word: u128) -> NumberFormatBuilder {
+    let [base, radix] = [112, 120].map(|shift| NonZeroU8::new((word >> shift) as u8));
+    NumberFormatBuilder::rebuild(word).exponent_base(base).exponent_radix(radix)
+}
+
+pub fn normal_form(word: u128) -> u128 {
+    NumberFormatBuilder::rebuild(word).build_unchecked()
+}
+
+pub fn forms(word: u128, other: u128) -> Results<6> {
+    let (normal, error) = (normal_form(word), checks::format_error(normal_form(word)));
+    let [own, new] = [raw(word), NumberFormatBuilder::new()].map(|builder| fields(&builder).values);
+    results! {
+        normal_form: normal, migrate: if error.is_success() { normal } else { 0 }, migrate_error: position(error),
+        edits_of_count: own.iter().zip(new).filter(|(own, new)| *own != new).count(),
+        is_built: raw(word).build_unchecked() == word, same_format: normal == normal_form(other),
+    }
+}
+
+pub fn digits(word: u128, byte: u8) -> Results<2> {
+    let [mantissa, exponent] = [flags::mantissa_radix(word), flags::exponent_radix(word)];
+    results! { mantissa_digit: char_to_digit(byte, mantissa), exponent_digit: char_to_digit(byte, exponent), }
+}

@@ -1,0 +1,36 @@
+//! The calls of the library that the rows of literals make, so that `bench/run --against` goes on working when they change.
+//! It builds the library of a commit with the commit's own file, and that of a commit without one, up to f0062148, with
+//! this file and `cfg(old)`. If a call changes, write it for both.
+
+use crate::literals::{calls, Group};
+use peltzivar::literal::{Language, Reader, Style};
+use std::hint::black_box;
+
+fn of(group: &Group) -> &'static Reader {
+    &group.language.readers().as_slice()[group.form]
+}
+
+calls! {
+    reader: |group| { let it = of(group); move |text| black_box(it.read(text.as_bytes())).is_ok() };
+    refuses: |group| { let it = of(group); move |text| black_box(it.read(text.as_bytes())).is_err() };
+    listed: |group| { let it = group.language.readers(); move |text| black_box(it.read(text.as_bytes())).is_ok() };
+    value: |group| { let it = of(group); move |text| black_box(it.parse::<i64>(text)).is_ok() };
+    float: |group| { let it = of(group); move |text| black_box(it.parse::<f64>(text)).is_ok() };
+    prints: |group| {
+        let it = of(group);
+        move |text| it.read(text.as_bytes()).is_err_and(|error| !black_box(error.text()).as_str().is_empty())
+    };
+    // Makes a reader, which reads no text.
+    new: |group| {
+        let it = Reader::new(black_box(of(group).syntax()));
+        move |_| black_box(&it).syntax().point().is_some()
+    };
+}
+
+/// Writes an integer of JSON, and returns the number of bytes.
+pub fn writer() -> impl Fn(i64) -> usize {
+    let syntax = Language::JSON.forms()[0].syntax;
+    move |value| {
+        black_box(&syntax.format_integer(value, Style::PLAIN).expect("an integer")).as_str().map_or(0, str::len)
+    }
+}
