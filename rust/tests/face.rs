@@ -3,10 +3,9 @@
 
 use peltzivar::edits::edits_of;
 use peltzivar::format::{NumberFormatBuilder, BASE_PREFIX_SHIFT, BASE_SUFFIX_SHIFT, STANDARD};
-use peltzivar::literal::Syntax;
-use peltzivar::{Error, FlagSetter, Format, FormatView};
-use std::num::NonZeroU8;
-use std::panic;
+use peltzivar::literal::{ConditionsError, Language, Syntax, WriteError};
+use peltzivar::{Edit, Error, FlagSetter, Format, FormatView, Settings};
+use std::{iter, num::NonZeroU8, panic};
 
 /// Random words, random words with lawful radixes, and words near the standard format.
 fn words() -> impl Iterator<Item = u128> {
@@ -32,9 +31,13 @@ fn a_format_is_made_of_a_word_a_text_a_view_or_a_builder() {
         let text = view.to_string();
         assert_eq!((Format::try_from(word), text.parse()), (format, format), "{text}");
         assert_eq!(view.check(), format.map_err(Error::from), "{text}");
+        assert!(format.err().is_none_or(|error| error.reasons().eq(view.reasons())), "{text}");
         if let Ok(format) = format {
             assert_eq!((format.to_string(), FormatView::from(format), u128::from(format)), (text, view, word));
-            assert_eq!(NumberFormatBuilder::from(format), NumberFormatBuilder::from_word(word));
+            let builder = NumberFormatBuilder::from(format);
+            assert_eq!(builder, NumberFormatBuilder::from_word(word));
+            assert!(format.notes().eq(view.notes()) && builder.notes().eq(view.notes()), "{format}");
+            assert!(format.edits().eq(view.edits()), "{format}");
         }
     }
     const HEXADECIMAL: u128 = 0x00001000_00000000_00000000_0000000C;
@@ -106,6 +109,34 @@ fn an_error_states_its_cause() {
     let error = Format::new(view.word()).unwrap_err();
     assert!(error.reasons().eq(view.reasons()) && error == Format::new(view.word()).unwrap_err());
     assert_ne!(error, Format::new(0).unwrap_err());
+}
+
+/// Returns the name of a type, and an error that has it.
+fn named<T: std::error::Error + 'static>(error: T) -> (&'static str, Box<dyn std::error::Error>) {
+    (std::any::type_name::<T>().rsplit("::").next().unwrap(), Box::new(error))
+}
+
+/// Each type of errors, by the list of public items, prints a sentence that its sources do not print again.
+#[test]
+fn a_chain_of_errors_has_each_sentence_once() {
+    let settings = Settings::read(["radix=37"]).unwrap();
+    let read = Language::JSON.read(b"").unwrap_err();
+    let [missing, large] = ["", "256"].map(|text| Language::JSON.parse::<u8>(text).unwrap_err());
+    #[rustfmt::skip]
+    let errors = [
+        named(Error::Empty(1)), named(Format::new(0).unwrap_err()), named(FormatView::new(0).reasons().next().unwrap()),
+        named("".parse::<Edit>().unwrap_err()), named(Settings::new().add("x").unwrap_err()), named(WriteError::Radix),
+        named(settings.reasons().next().unwrap()), named(ConditionsError::GroupSize), named(read), named(read.error),
+        named(missing), named(large), named(i8::try_from(Language::JSON.read(b"1.5").unwrap()).unwrap_err()),
+    ];
+    let listed = include_str!("surface.rs").lines().filter_map(|line| line.strip_suffix(": std::error::Error {} };"));
+    let mut listed = listed.filter_map(|line| line.split(' ').next_back());
+    assert_eq!(listed.find(|name| errors.iter().all(|(it, _)| it != name)), None);
+    for (name, error) in &errors {
+        let chain = Vec::from_iter(iter::successors(Some(&**error), |it| it.source()).map(ToString::to_string));
+        let is_new = |index: usize| chain[..index].iter().all(|it| !it.contains(&chain[index]));
+        assert!((1..chain.len()).all(is_new), "{name}: {chain:?}");
+    }
 }
 
 #[test]
