@@ -192,7 +192,7 @@ fn a_syntax_is_written_as_its_normal_form_and_its_options() {
 
 #[test]
 fn syntaxes_are_parsed() {
-    const OPTION: &str = "options are two bytes, such as 'e' or 101";
+    const OPTION: &str = "each of the two options is a character such as 'e', a number from 0 to 255, or `none`";
     const INTEGERS: &str = "0x0A0A0A0000000000000000000000000C";
     const NUMBERS: &str = "0x0A0A0A0000000000000000000000000C 101 46";
     const CONDITIONS: &str = "0x101010687800005F000000070000000C required_base_prefix=true required_base_suffix=true \
@@ -224,9 +224,18 @@ fn syntaxes_are_parsed() {
         ("0x00000A0000000000000000000000000C none '.'", Err((Error::InvalidExponentSymbol,
             "only one of the exponent character and the decimal point is absent: for numbers without an exponent, keep \
              both, and set no_exponent_notation"))),
+        // Only what quotes have may be white space.
+        ("0x00000A0000000000000000000000000C 101  46", Err((Error::InvalidDigit(39), OPTION))),
+        ("0x00000A0000000000000000000000000C 101\t 46", Err((Error::InvalidDigit(35), OPTION))),
         ("0x0 101", Err((Error::InvalidMantissaRadix, "the mantissa radix 0 is not between 2 and 36"))),
         ("0x00000A0000000000000000000000000C ' ' '.' required_base_prefix=true", Err((Error::InvalidBasePrefix,
             "required_base_prefix is set, and the format has no base prefix"))),
+        ("0x00000A0000000000000000000000000C required_base_suffix=true", Err((Error::InvalidBaseSuffix,
+            "required_base_suffix is set, and the format has no base suffix"))),
+        ("0x00000A0000000000000000000000000C integer_group_size=2", Err((Error::InvalidDigitSeparator,
+            "integer_group_size is set, and the format has no integer_internal_digit_separator"))),
+        ("0x0A0A0A0078000000000000000000000C required_base_prefix=1",
+            Err((Error::InvalidDigit(35), "required_base_prefix takes `true` or `false`"))),
         ("0x1g 101 46", Err((Error::InvalidDigit(3), "lexical parse error: 'invalid digit found' at index 3"))),
         (" 0xC", Err((Error::Empty(0), "a format word begins with `0x`"))),
     ];
@@ -235,6 +244,16 @@ fn syntaxes_are_parsed() {
         let wanted = wanted.map_err(|(code, printed)| (code, printed.to_string()));
         let found = syntax.as_deref().map_err(|error| (error.code(), error.to_string()));
         assert_eq!(found, wanted, "{text}");
+    }
+    let refused = |text: &str| text.parse::<Syntax>().err().map(|error| (error.code(), error.to_string()));
+    for setting in CONDITIONS.split(' ').skip(1) {
+        let wanted = (Error::InvalidDigit(35), format!("{} is set twice", setting.split('=').next().unwrap()));
+        assert_eq!(refused(&CONDITIONS.replacen(' ', &format!(" {setting} "), 1)), Some(wanted));
+    }
+    for size in 0..1000 {
+        let sentence = "integer_group_size takes a number from 2 to 8, or `none`".to_string();
+        let wanted = (!matches!(size, 0 | 2..=8)).then_some((Error::InvalidDigit(35), sentence));
+        assert_eq!(refused(&format!("{} integer_group_size={size}", &CONDITIONS[..34])), wanted, "{size}");
     }
     let [integers, numbers] = [INTEGERS, NUMBERS].map(|text| text.parse::<Syntax>().expect(text));
     assert!(integers < numbers);
