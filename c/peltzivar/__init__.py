@@ -1724,7 +1724,8 @@ class Language(_Named):
         `1m`. Forms: decimal; hexadecimal; binary.
 
     FORTRAN: Fortran's signed integers and reals (ISO/IEC 1539-1:2018, 7.4.3). A format cannot accept a kind, as in
-        `1.0_8`, or binary, octal and hexadecimal constants, such as `Z'FF'`. Forms: decimal; double precision.
+        `1.0_8`, or binary, octal and hexadecimal constants, such as `Z'FF'`. Fortran rounds `0.1`, but not `0.1d0`, to
+        single precision. Forms: decimal; double precision.
 
     GO: Go's integer and floating-point literals (Language Specification). A format cannot accept `1i`. Forms: decimal;
         octal; hexadecimal; octal, 0o; binary; hexadecimal float.
@@ -1732,10 +1733,12 @@ class Language(_Named):
     HASKELL: Haskell's integers and floats (Haskell 2010 Report, 2.5). Forms: decimal; hexadecimal; octal.
 
     JAVA: Java's integer and floating-point literals (Language Specification 21, 3.10.1 and 3.10.2). A format cannot
-        accept `1L`, `1f` and `1d`. Forms: decimal; octal; hexadecimal; binary; hexadecimal float.
+        accept `1L`, `1f` and `1d`. In Java, a hexadecimal, octal or binary integer from 2^31 on is negative:
+        `0xffffffff` is -1. Forms: decimal; octal; hexadecimal; binary; hexadecimal float.
 
     JAVASCRIPT: JavaScript's numeric literals in strict code (ECMA-262, Numeric Literals). A format cannot accept `1n`.
-        Forms: decimal; hexadecimal; octal; binary.
+        JavaScript rounds integers to doubles: `9007199254740993` is 9007199254740992 there. Forms: decimal;
+        hexadecimal; octal; binary.
 
     JSON: JSON's numbers (RFC 8259, 6. Numbers). Forms: decimal.
 
@@ -1746,12 +1749,14 @@ class Language(_Named):
         `1L`, `1f` and `1u`. Forms: decimal; hexadecimal; binary.
 
     NASM: NASM's numeric constants (NASM manual, Numeric Constants and Floating-Point Constants). A format cannot
-        accept `$0c8`, or reject `ffh`, which is a name. Forms: decimal; decimal, d; decimal, t; hexadecimal, h;
-        hexadecimal, x; octal, o; octal, q; binary, b; binary, y; decimal, 0d; decimal, 0t; hexadecimal, 0h;
-        hexadecimal, 0x; octal, 0o; octal, 0q; binary, 0b; binary, 0y.
+        accept `$0c8`, or reject `ffh`, which is a name. NASM keeps the last 64 bits of an integer:
+        `0x10000000000000000` is 0 there. Forms: decimal; decimal, d; decimal, t; hexadecimal, h; hexadecimal, x;
+        octal, o; octal, q; binary, b; binary, y; decimal, 0d; decimal, 0t; hexadecimal, 0h; hexadecimal, 0x; octal,
+        0o; octal, 0q; binary, 0b; binary, 0y.
 
     OCAML: OCaml's integers and floats (Manual 5.2, 11.1 Lexical conventions). A format cannot accept `1._`, whose
-        fraction has a separator alone, or `1l`, `1L` and `1n`. Forms: decimal; hexadecimal; octal; binary.
+        fraction has a separator alone, or `1l`, `1L` and `1n`. In OCaml, an integer has 63 bits, and
+        `0x7fffffffffffffff` is -1. Forms: decimal; hexadecimal; octal; binary.
 
     PYTHON: Python's integers and floats (Language Reference 3.12, 2.4.5 and 2.4.6). A format cannot accept `00` and
         reject `01`, or accept `1j`. Forms: decimal; hexadecimal; octal; binary.
@@ -1770,7 +1775,8 @@ class Language(_Named):
     TOML: TOML's integers and floats (TOML 1.0.0, Integer and Float). Forms: decimal; hexadecimal; octal; binary.
 
     YAML: YAML's integers and floats (YAML 1.2.2, 10.3.2 Tag Resolution). A format cannot accept `.inf` and `.INF` but
-        reject `.iNF`, or accept `-.inf` but reject `-.nan`. Forms: decimal; octal; hexadecimal.
+        reject `.iNF`, or accept `-.inf` but reject `-.nan`. Tools for YAML 1.1, such as PyYAML, differ: there, `010`
+        is 8, and `1e3` is a string. Forms: decimal; octal; hexadecimal.
     """
 
     ADA = "ADA"

@@ -54,7 +54,10 @@ impl FormatError {
             (_, Rejected::Options(_, 0, 1..) | Rejected::Options(_, 1.., 0), _) => ShortText::of(ONE_OPTION),
             (Some(reason), ..) => reason.text(),
             (_, Rejected::Conditions(error), _) => error.text(),
-            (None, Rejected::Bytes, _) => ShortText::of("options are two bytes, such as 'e' or 101"),
+            (_, Rejected::Setting(name, fault), _) => ShortText::of(name).and(fault),
+            (None, Rejected::Bytes, _) => {
+                ShortText::of("each of the two options is a character such as 'e', a number from 0 to 255, or `none`")
+            }
             (None, _, Some(0 | 1)) => ShortText::of("a format word begins with `0x`"),
             (None, ..) => self.code().text(),
         }
@@ -64,7 +67,7 @@ impl FormatError {
 impl core::error::Error for FormatError {}
 
 /// Prints the first of the [`reasons`][FormatError::reasons]. If there are none, prints that a word begins with `0x` if the
-/// text does not, or what options are, and otherwise the [`code`][FormatError::code].
+/// text does not, what options or conditions are, and otherwise the [`code`][FormatError::code].
 ///
 /// ```
 /// use core::num::NonZeroU8;

@@ -3,10 +3,9 @@
 
 use peltzivar::edits::edits_of;
 use peltzivar::format::{NumberFormatBuilder, BASE_PREFIX_SHIFT, BASE_SUFFIX_SHIFT, STANDARD};
-use peltzivar::literal::Syntax;
-use peltzivar::{Error, FlagSetter, Format, FormatView};
-use std::num::NonZeroU8;
-use std::panic;
+use peltzivar::literal::{ConditionsError, Language, Syntax, WriteError};
+use peltzivar::{Edit, Error, FlagSetter, Format, FormatView, Settings};
+use std::{iter, num::NonZeroU8, panic};
 
 /// Random words, random words with lawful radixes, and words near the standard format.
 fn words() -> impl Iterator<Item = u128> {
@@ -32,9 +31,13 @@ fn a_format_is_made_of_a_word_a_text_a_view_or_a_builder() {
         let text = view.to_string();
         assert_eq!((Format::try_from(word), text.parse()), (format, format), "{text}");
         assert_eq!(view.check(), format.map_err(Error::from), "{text}");
+        assert!(format.err().is_none_or(|error| error.reasons().eq(view.reasons())), "{text}");
         if let Ok(format) = format {
             assert_eq!((format.to_string(), FormatView::from(format), u128::from(format)), (text, view, word));
-            assert_eq!(NumberFormatBuilder::from(format), NumberFormatBuilder::from_word(word));
+            let builder = NumberFormatBuilder::from(format);
+            assert_eq!(builder, NumberFormatBuilder::from_word(word));
+            assert!(format.notes().eq(view.notes()) && builder.notes().eq(view.notes()), "{format}");
+            assert!(format.edits().eq(view.edits()), "{format}");
         }
     }
     const HEXADECIMAL: u128 = 0x00001000_00000000_00000000_0000000C;
@@ -108,6 +111,34 @@ fn an_error_states_its_cause() {
     assert_ne!(error, Format::new(0).unwrap_err());
 }
 
+/// Returns the name of a type, and an error that has it.
+fn named<T: std::error::Error + 'static>(error: T) -> (&'static str, Box<dyn std::error::Error>) {
+    (std::any::type_name::<T>().rsplit("::").next().unwrap(), Box::new(error))
+}
+
+/// Each type of errors, by the list of public items, prints a sentence that its sources do not print again.
+#[test]
+fn a_chain_of_errors_has_each_sentence_once() {
+    let settings = Settings::read(["radix=37"]).unwrap();
+    let read = Language::JSON.read(b"").unwrap_err();
+    let [missing, large] = ["", "256"].map(|text| Language::JSON.parse::<u8>(text).unwrap_err());
+    #[rustfmt::skip]
+    let errors = [
+        named(Error::Empty(1)), named(Format::new(0).unwrap_err()), named(FormatView::new(0).reasons().next().unwrap()),
+        named("".parse::<Edit>().unwrap_err()), named(Settings::new().add("x").unwrap_err()), named(WriteError::Radix),
+        named(settings.reasons().next().unwrap()), named(ConditionsError::GroupSize), named(read), named(read.error),
+        named(missing), named(large), named(i8::try_from(Language::JSON.read(b"1.5").unwrap()).unwrap_err()),
+    ];
+    let listed = include_str!("surface.rs").lines().filter_map(|line| line.strip_suffix(": std::error::Error {} };"));
+    let mut listed = listed.filter_map(|line| line.split(' ').next_back());
+    assert_eq!(listed.find(|name| errors.iter().all(|(it, _)| it != name)), None);
+    for (name, error) in &errors {
+        let chain = Vec::from_iter(iter::successors(Some(&**error), |it| it.source()).map(ToString::to_string));
+        let is_new = |index: usize| chain[..index].iter().all(|it| !it.contains(&chain[index]));
+        assert!((1..chain.len()).all(is_new), "{name}: {chain:?}");
+    }
+}
+
 #[test]
 fn words_are_parsed_and_printed() {
     for (text, word) in [
@@ -161,7 +192,7 @@ fn a_syntax_is_written_as_its_normal_form_and_its_options() {
 
 #[test]
 fn syntaxes_are_parsed() {
-    const OPTION: &str = "options are two bytes, such as 'e' or 101";
+    const OPTION: &str = "each of the two options is a character such as 'e', a number from 0 to 255, or `none`";
     const INTEGERS: &str = "0x0A0A0A0000000000000000000000000C";
     const NUMBERS: &str = "0x0A0A0A0000000000000000000000000C 101 46";
     const CONDITIONS: &str = "0x101010687800005F000000070000000C required_base_prefix=true required_base_suffix=true \
@@ -193,9 +224,18 @@ fn syntaxes_are_parsed() {
         ("0x00000A0000000000000000000000000C none '.'", Err((Error::InvalidExponentSymbol,
             "only one of the exponent character and the decimal point is absent: for numbers without an exponent, keep \
              both, and set no_exponent_notation"))),
+        // Only what quotes have may be white space.
+        ("0x00000A0000000000000000000000000C 101  46", Err((Error::InvalidDigit(39), OPTION))),
+        ("0x00000A0000000000000000000000000C 101\t 46", Err((Error::InvalidDigit(35), OPTION))),
         ("0x0 101", Err((Error::InvalidMantissaRadix, "the mantissa radix 0 is not between 2 and 36"))),
         ("0x00000A0000000000000000000000000C ' ' '.' required_base_prefix=true", Err((Error::InvalidBasePrefix,
             "required_base_prefix is set, and the format has no base prefix"))),
+        ("0x00000A0000000000000000000000000C required_base_suffix=true", Err((Error::InvalidBaseSuffix,
+            "required_base_suffix is set, and the format has no base suffix"))),
+        ("0x00000A0000000000000000000000000C integer_group_size=2", Err((Error::InvalidDigitSeparator,
+            "integer_group_size is set, and the format has no integer_internal_digit_separator"))),
+        ("0x0A0A0A0078000000000000000000000C required_base_prefix=1",
+            Err((Error::InvalidDigit(35), "required_base_prefix takes `true` or `false`"))),
         ("0x1g 101 46", Err((Error::InvalidDigit(3), "lexical parse error: 'invalid digit found' at index 3"))),
         (" 0xC", Err((Error::Empty(0), "a format word begins with `0x`"))),
     ];
@@ -204,6 +244,16 @@ fn syntaxes_are_parsed() {
         let wanted = wanted.map_err(|(code, printed)| (code, printed.to_string()));
         let found = syntax.as_deref().map_err(|error| (error.code(), error.to_string()));
         assert_eq!(found, wanted, "{text}");
+    }
+    let refused = |text: &str| text.parse::<Syntax>().err().map(|error| (error.code(), error.to_string()));
+    for setting in CONDITIONS.split(' ').skip(1) {
+        let wanted = (Error::InvalidDigit(35), format!("{} is set twice", setting.split('=').next().unwrap()));
+        assert_eq!(refused(&CONDITIONS.replacen(' ', &format!(" {setting} "), 1)), Some(wanted));
+    }
+    for size in 0..1000 {
+        let sentence = "integer_group_size takes a number from 2 to 8, or `none`".to_string();
+        let wanted = (!matches!(size, 0 | 2..=8)).then_some((Error::InvalidDigit(35), sentence));
+        assert_eq!(refused(&format!("{} integer_group_size={size}", &CONDITIONS[..34])), wanted, "{size}");
     }
     let [integers, numbers] = [INTEGERS, NUMBERS].map(|text| text.parse::<Syntax>().expect(text));
     assert!(integers < numbers);

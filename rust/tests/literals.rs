@@ -2,7 +2,8 @@
 
 use peltzivar::format::{CASE_SENSITIVE_SPECIAL, DIGIT_SEPARATOR_FLAG_MASK, NO_SPECIAL};
 use peltzivar::literal::{Language, Literal, ReadError, ReadErrorKind, Reader, Specials, Syntax};
-use peltzivar::{Edit, FlagSetter, NumberFormatBuilder, Part, Settings};
+use peltzivar::{Edit, FlagSetter, Format, NumberFormatBuilder, Part, Settings};
+use std::collections::HashSet;
 
 const FORMAT: &str = include_str!("../../docs/FORMAT.md");
 const EXPLANATIONS: &str = include_str!("../../docs/EXPLANATIONS.md");
@@ -36,11 +37,13 @@ fn present<'a>(literal: Literal<'a>) -> Vec<&'a [u8]> {
 }
 
 /// The parts of a literal are its bytes, and its digits have the values that `char::to_digit` of std has.
-fn has_parts(literal: Literal<'_>) {
+fn has_parts(literal: Literal<'_>, format: Format) {
     assert_eq!(present(literal).concat(), literal.as_bytes());
-    let parts = [(Part::Integer, literal.integer()), (Part::Fraction, literal.fraction())];
-    for (part, bytes) in parts.into_iter().chain([(Part::Exponent, literal.exponent())]) {
-        let values = bytes.iter().filter_map(|&byte| char::from(byte).to_digit(literal.radix(part)));
+    let [mantissa, exponent] = [format.mantissa_radix(), format.exponent_radix()];
+    let parts = [(Part::Integer, literal.integer(), mantissa), (Part::Fraction, literal.fraction(), mantissa)];
+    for (part, bytes, radix) in parts.into_iter().chain([(Part::Exponent, literal.exponent(), exponent)]) {
+        assert_eq!(literal.radix(part), radix, "{literal:?}");
+        let values = bytes.iter().filter_map(|&byte| char::from(byte).to_digit(radix));
         let (wanted, digits) = (Vec::from_iter(values), literal.digits(part).map(u32::from));
         let (least, most) = digits.size_hint();
         assert!(least <= wanted.len() && Some(wanted.len()) <= most);
@@ -55,7 +58,7 @@ fn read<'a>(reader: &Reader, text: &'a [u8]) -> Result<Literal<'a>, ReadError> {
     let longest = prefix.map_or(0, |(literal, _)| literal.as_bytes().len());
     if let Ok((literal, rest)) = prefix {
         assert_eq!((literal.as_bytes(), rest), text.split_at(longest), "{text:?}");
-        has_parts(literal);
+        has_parts(literal, reader.syntax().format());
     }
     match result {
         Ok(literal) => assert_eq!(prefix, Ok((literal, &[][..]))),
@@ -63,10 +66,26 @@ fn read<'a>(reader: &Reader, text: &'a [u8]) -> Result<Literal<'a>, ReadError> {
             assert!(longest <= error.valid_up_to() && error.valid_up_to() <= text.len(), "{text:?}");
             assert_eq!(error.is_incomplete(), error.valid_up_to() == text.len(), "{text:?}");
             assert!(text.get(error.span()).is_some(), "{text:?}: {error:?}");
+            std::str::from_utf8(text).iter().for_each(|text| characters_are_whole(error, reader, text));
             settings_end_the_cause(error, reader.syntax(), text);
         }
     }
     result
+}
+
+/// A character of several bytes behind the wrong byte changes nothing. Where the text is right, it is what cannot follow.
+/// All spans have whole characters.
+fn characters_are_whole(error: ReadError, reader: &Reader, text: &str) {
+    let answers = |it: ReadError| (it.valid_up_to(), it.kind(), it.span());
+    for at in (0..=text.len()).filter(|at| text.is_char_boundary(*at)) {
+        for character in ["\u{e9}", "\u{20ac}", "\u{1f600}"] {
+            let longer = [&text[..at], character, &text[at..]].concat();
+            let found = reader.read(longer.as_bytes()).unwrap_err();
+            assert!(longer.get(found.span()).is_some(), "{longer}: {found:?}");
+            let wrong = (at, ReadErrorKind::Byte, at..at + character.len());
+            assert_eq!(answers(found), if at > error.valid_up_to() { answers(error) } else { wrong }, "{longer}");
+        }
+    }
 }
 
 /// The settings of an error edit the flags to blame. Each edit of a separator flag ends the cause, and other edits do
@@ -190,7 +209,7 @@ fn sentences_name_what_is_seen() {
         ("base_prefix='x' required_base_prefix=true required_mantissa_sign=true", "1", "expected a sign, which required_mantissa_sign requires", ""),
     ];
     for (settings, text, sentence, shown) in rows {
-        let error = reader(settings).read(text.as_bytes()).unwrap_err();
+        let error = read(&reader(settings), text.as_bytes()).unwrap_err();
         assert_eq!((error.to_string().as_str(), &text[error.span()]), (sentence, shown), "{text}");
         assert_eq!(Some(&*format!("{error:#}")), sentence.split(", which").next(), "{text}");
     }
@@ -205,6 +224,7 @@ fn parts_are_known() {
         ("no_exponent_notation=true", "-12.5e3", "- 12 . 5"),
         ("digit_separator=95 special_digit_separator=true", "12_3.4", "12"),
         ("base_prefix=120", "0x", "0"),
+        ("base_prefix='x' radix=16 exponent_radix=10 exponent='p'", "0xF.8p-12", "0x F . 8 p - 12"),
         ("base_suffix='h' required_base_suffix=true", "1h2", "1 h"),
     ];
     for (settings, text, wanted) in rows {
@@ -228,10 +248,12 @@ fn each_byte_between_two_digits_is_read_or_refused() {
     }
 }
 
-/// Each text of literals.txt, and of what the tools of languages answered, with its value if the tool printed one.
+/// Each text of literals.txt, and of what the tools of languages answered, with its value if the tool printed one. Each form
+/// gives one of the numbers, and of one of the refused texts, it reads as much as any form, but not all.
 #[test]
 fn languages_answer_as_their_grammars_and_tools_do() {
     assert!(Language::ALL.is_sorted_by_key(Language::name));
+    let mut seen = HashSet::new();
     let tables = [include_str!("literals.txt"), include_str!("known/languages.txt")];
     for row in tables.into_iter().flat_map(str::lines).filter(|row| !row.is_empty() && !row.starts_with('#')) {
         let cells = Vec::from_iter(row.split_whitespace());
@@ -241,12 +263,22 @@ fn languages_answer_as_their_grammars_and_tools_do() {
             _ => panic!("{row}"),
         };
         let language = Language::ALL.iter().find(|it| it.name() == cells[0]).expect(row);
-        let result = language.read(cells[2].as_bytes());
+        let text = cells[2].as_bytes();
+        let result = language.read(text);
         assert_eq!(result.is_ok(), is_accepted, "{row}: {result:?}");
+        for (form, reader) in language.readers().as_slice().iter().enumerate() {
+            let is_furthest = |size: usize| size > 1 && result.is_err_and(|it| it.error.valid_up_to() == size);
+            let is_refused = reader.read(text).is_err_and(|it| is_furthest(it.valid_up_to()));
+            let is_given = result.is_ok_and(|it| it.form() == Some(form));
+            seen.extend((is_refused || is_given).then_some((language, form, is_given)));
+        }
         let value = cells.get(3).filter(|_| cells[1] == "+").and_then(|value| value.parse::<f64>().ok());
         if let (Ok(number), Some(value)) = (result, value) {
             let found = number.to_f64();
             assert!(found == value || found.is_nan() && value.is_nan(), "{row}: not {found}");
         }
     }
+    let forms = Language::ALL.iter().flat_map(|it| (0..it.forms().len()).map(move |form| (it, form)));
+    let mut wanted = forms.flat_map(|(it, form)| [(it, form, true), (it, form, false)]);
+    assert_eq!(wanted.find(|it| !seen.contains(it)), None, "a form without a row");
 }

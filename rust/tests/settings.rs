@@ -26,7 +26,7 @@ fn files_give_a_syntax_and_what_is_found() {
         (b"required_base_suffix='h'", "", &["line 1: required_base_suffix takes `true` or `false`, not `'h'`"]),
         (b"digit_separator=','\ninternal_digit_separator=true\ninteger_group_size=3", "0x0A0A0A000000002C000000070000000C 101 46 integer_group_size=3", &[]),
         (b"integer_group_size=3", "", &["line 1: integer_group_size is set, and the format has no integer_internal_digit_separator"]),
-        (b"integer_group_size=9\ndigit_separator=','\ninternal_digit_separator=true", "", &["lines 1, 3: integer_group_size is not from 2 to 8"]),
+        (b"integer_group_size=9\ndigit_separator=','\ninternal_digit_separator=true", "", &["line 1: integer_group_size takes a number from 2 to 8, or `none`, not `9`"]),
         (b"integer_group_size=true", "", &["line 1: integer_group_size takes a number from 2 to 8, or `none`, not `true`"]),
         // Ends of lines, as Windows writes them.
         (b"radix=2\r\nbase_prefix='b'\r\n", "0x0202020062000000000000000000000C 101 46", &[]),

@@ -146,22 +146,36 @@ fn flags_add_what_they_require() {
 }
 
 #[test]
-fn texts_are_printed_and_written() {
+fn texts_are_printed() {
     let toml = Language::TOML.forms()[0].syntax;
     let text = toml.format_integer(-1_234_567, Style::PLAIN.group(3)).unwrap();
-    assert_eq!(text.as_str(), Some("-1_234_567"));
     let printed = format!("{text:>12}|{text:*^14.2}|{text:11}|{text:?}");
     assert_eq!(printed, "  -1_234_567|**-1_234_567**|-1_234_567 |\"-1_234_567\"");
-    let mut buffer = [0; 10];
-    assert_eq!(text.write_into(&mut buffer[..9]), Err(WriteError::Buffer(10)));
-    assert_eq!(text.write_into(&mut buffer), Ok("-1_234_567"));
+}
 
-    let digits = "123".repeat(30);
-    let number = Language::TOML.read(digits.as_bytes()).unwrap();
-    let text = toml.format_literal(&number.literal().unwrap(), Style::PLAIN.group(3)).unwrap();
-    assert_eq!((text.as_str(), text.to_string()), (None, ["123"; 30].join("_")));
-    assert_eq!(format!("{text:>120}").trim_start(), text.to_string());
-    assert_eq!(text.write_into(&mut [0; 119]).map(str::len), Ok(119));
+/// Integers of each number of binary digits, in groups and without, and the literals that are read from them. Each byte
+/// that can be a suffix is the suffix of two texts, of which one is long.
+#[test]
+fn texts_of_each_length_are_printed_and_written() {
+    let builder = NumberFormatBuilder::new().mantissa_radix(2).digit_separator(NonZeroU8::new(b'_'));
+    let suffixed = |byte| builder.internal_digit_separator(true).base_suffix(NonZeroU8::new(byte)).build_format();
+    for (size, group, byte) in (1..=128).flat_map(|size| [(size, size, size), (size, 3, 128 - size)]) {
+        let format = suffixed(byte as u8).or(suffixed(0)).unwrap();
+        let (syntax, style) = (Syntax::integers(format), Style::PLAIN.group(group));
+        let value = 0xDEAD_BEEF_CAFE_BABE_0123_4567_89AB_CDEF_u128 >> (128 - size);
+        let digits = format!("{value:b}");
+        let groups = digits.as_bytes().rchunks(group).rev().map(|it| std::str::from_utf8(it).unwrap());
+        let suffix = format.base_suffix().map(|byte| char::from(byte.get()));
+        let wanted = &*(Vec::from_iter(groups).join("_") + &String::from_iter(suffix));
+        let (length, reader) = (wanted.len(), Reader::new(syntax));
+        let literal = reader.read(wanted.as_bytes()).unwrap();
+        for text in [syntax.format_integer(value, style), syntax.format_literal(&literal, style)].map(Result::unwrap) {
+            assert_eq!((text.as_str(), &*text.to_string()), ((length <= 64).then_some(wanted), wanted));
+            assert_eq!(format!("{text:?} {text:>200}"), format!("{wanted:?} {wanted:>200}"));
+            assert_eq!(text.write_into(&mut [0; 256][..length]), Ok(wanted));
+            assert_eq!(text.write_into(&mut [0; 256][..length - 1]), Err(WriteError::Buffer(length)));
+        }
+    }
 }
 
 #[test]

@@ -112,7 +112,8 @@ DEPRECATED = '#[deprecated = "Use `build_strict` or `build_unchecked` instead."]
 REPLACED += [
     ("syntax.rt", "Default)]\npub struct Conditions", "Default)]\n#[non_exhaustive]\npub struct Conditions"),
     ("syntax.rt", "Hash)]\npub enum ConditionsError", "Hash)]\n#[non_exhaustive]\npub enum ConditionsError"),
-    ("lawful.rt", "    Word(u128),", "    Word(u128),\n    Conditions(crate::literal::ConditionsError),"),
+    ("lawful.rt", "    Word(u128),", "    Word(u128),\n    Conditions(crate::literal::ConditionsError),\n    "
+     "// The setting of a condition, by its name and what is wrong with it.\n    Setting(&'static str, &'static str),"),
     ("error.rt", "#[derive(Clone, Copy, Debug)]", f"#[derive({COMPARED}, Debug)]"),
     ("format_builder.rt", "#[derive(Drop)]", "#[derive(Clone, Copy, PartialEq, Eq, Hash)] #[must_use]"),
     ("format_builder.rt", "pub const fn build(&self)", f"{DEPRECATED} pub const fn build(&self)"),

@@ -2,7 +2,7 @@
 
 use core::fmt;
 
-use crate::edits::{Edit, EditError, FlagSetter, Setter};
+use crate::edits::{Edit, EditError, Fault, FlagSetter, Setter};
 use crate::lawful::Rejected;
 use crate::literal::{Conditions, ConditionsError, Syntax};
 use crate::short_text::ShortText;
@@ -12,6 +12,12 @@ impl Conditions {
     /// The names, in the order in which they are printed.
     pub(crate) const NAMES: [&str; 4] =
         ["required_base_prefix", "required_base_suffix", "no_negative_mantissa_sign", Self::GROUP_SIZE];
+
+    /// What they take, in the same order.
+    pub(crate) const TAKEN: [&str; 4] = {
+        let flag = " takes `true` or `false`";
+        [flag, flag, flag, " takes a number from 2 to 8, or `none`"]
+    };
 
     /// The name of the condition that is not a flag.
     pub(crate) const GROUP_SIZE: &str = "integer_group_size";
@@ -64,18 +70,20 @@ impl Conditions {
 
     /// Returns an edit with the value that `text` has for one of the [`NAMES`][Self::NAMES].
     pub(crate) fn parse(index: usize, text: &str) -> Result<Edit, EditError> {
-        let setter = match Self::NAMES[index] {
-            Self::GROUP_SIZE => Setter::ExponentBase,
-            _ => Setter::Flag(FlagSetter::RequiredIntegerDigits),
-        };
-        setter.parse(text)
+        if Self::NAMES[index] != Self::GROUP_SIZE {
+            return Setter::Flag(FlagSetter::RequiredIntegerDigits).parse(text);
+        }
+        match Setter::ExponentBase.parse(text)? {
+            edit if matches!(edit.argument_byte(), 0 | 2..=8) => Ok(edit),
+            edit => Err(EditError(Fault::BadValue(edit.setter()))),
+        }
     }
 
-    /// Returns the conditions with the setting `text`, such as `required_base_prefix=true`, if it is one.
-    pub(crate) fn with_setting(self, text: &str) -> Option<Self> {
+    /// Returns the index in [`NAMES`][Self::NAMES] and the value of the setting `text`, such as
+    /// `required_base_prefix=true`, if it is one.
+    pub(crate) fn split(text: &str) -> Option<(usize, &str)> {
         let (name, value) = text.split_once('=')?;
-        let index = Self::NAMES.iter().position(|it| *it == name)?;
-        Some(self.edited(index, Self::parse(index, value).ok()?.argument_byte()))
+        Some((Self::NAMES.iter().position(|it| *it == name)?, value))
     }
 
     /// Appends the settings of the conditions, with a space before each.

@@ -3,7 +3,7 @@
 use crate::literal::{Conditions, Syntax};
 use crate::{edits::Setter, lawful::Rejected, short_text::ShortText, word_text::word_text};
 use crate::{Error, Format, FormatError};
-use core::{fmt, str::FromStr};
+use core::{fmt, mem, str::FromStr};
 
 impl Syntax {
     /// Returns the syntax that [`new`][Self::new] returns, for constants.
@@ -37,18 +37,29 @@ impl fmt::Display for Syntax {
 
 /// Parses a lawful word, as [`Format`] does, alone or with two options, with a space before each. An option is what the
 /// setter `digit_separator` [takes][crate::Setter::parse], such as `'e'` or 101. If both are `none`, literals are
-/// integers. For an option that is missing or not a byte, the error's [`code`][FormatError::code] has the index at which
-/// it begins. Conditions may follow, with a space before each, as `Display` prints them.
+/// integers. Conditions may follow, with a space before each, as `Display` prints them, each at most once. For an option
+/// that is missing or not a byte, and for a condition with a wrong value or that is set again, the error's
+/// [`code`][FormatError::code] has the index at which it begins.
 impl FromStr for Syntax {
     type Err = FormatError;
 
     fn from_str(text: &str) -> Result<Self, FormatError> {
-        let (mut front, mut conditions) = (text, Conditions::NONE);
+        let (mut front, mut conditions, mut is_set) = (text, Ok(Conditions::NONE), [false; Conditions::NAMES.len()]);
         while let Some((rest, setting)) = front.rsplit_once(' ') {
-            let Some(more) = conditions.with_setting(setting) else { break };
-            (front, conditions) = (rest, more);
+            let Some((index, value)) = Conditions::split(setting) else { break };
+            let refuse = |fault| {
+                let rejected = Rejected::Setting(Conditions::NAMES[index], fault);
+                Err(FormatError::new(Error::InvalidDigit(rest.len() + 1), rejected))
+            };
+            conditions = match Conditions::parse(index, value) {
+                _ if mem::replace(&mut is_set[index], true) => refuse(" is set twice"),
+                Ok(edit) if value.trim_ascii() == value => conditions.map(|it| it.edited(index, edit.argument_byte())),
+                _ => refuse(Conditions::TAKEN[index]),
+            };
+            front = rest;
         }
-        Ok(unconditional(front)?.with(conditions)?)
+        let syntax = unconditional(front)?;
+        Ok(syntax.with(conditions?)?)
     }
 }
 
@@ -63,8 +74,8 @@ fn unconditional(text: &str) -> Result<Syntax, FormatError> {
         None => options.split_once(' ').unwrap_or((options, "")),
     };
     let byte = |option: &str, rest: &str| match Setter::DigitSeparator.parse(option) {
-        Ok(edit) => Ok(edit.argument_byte()),
-        Err(_) => Err(FormatError::new(Error::InvalidDigit(text.len() - rest.len()), Rejected::Bytes)),
+        Ok(edit) if option.trim_ascii() == option => Ok(edit.argument_byte()),
+        _ => Err(FormatError::new(Error::InvalidDigit(text.len() - rest.len()), Rejected::Bytes)),
     };
     match (byte(exponent, options)?, byte(point, point)?) {
         (0, 0) => Ok(Syntax::integers(format)),

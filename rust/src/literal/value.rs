@@ -196,14 +196,8 @@ impl fmt::Display for ParseError {
     }
 }
 
-impl core::error::Error for ParseError {
-    fn source(&self) -> Option<&(dyn core::error::Error + 'static)> {
-        match self {
-            ParseError::Read(error) => Some(error),
-            ParseError::Value(error) => Some(error),
-        }
-    }
-}
+/// It prints the error that it holds, so that error is not its source.
+impl core::error::Error for ParseError {}
 
 fn integer_of<T: Integer>(literal: Literal<'_>, parts: &Parts<'_>) -> Result<T, ValueErrorKind> {
     to_integer(literal.view, parts)

@@ -162,10 +162,24 @@ impl fmt::Display for Written<'_> {
     }
 }
 
-/// Prints the text in quotes.
+/// Prints the text in quotes, with the escapes of a `str`.
 impl fmt::Debug for Written<'_> {
     fn fmt(&self, f: &mut fmt::Formatter<'_>) -> fmt::Result {
-        write!(f, "\"{self}\"")
+        f.write_char('"')?;
+        write!(Escaper(f), "{self}")?;
+        f.write_char('"')
+    }
+}
+
+/// A formatter that takes a text and escapes it as `Debug` of a `str` does.
+struct Escaper<'a, 'b>(&'a mut fmt::Formatter<'b>);
+
+impl Write for Escaper<'_, '_> {
+    fn write_str(&mut self, text: &str) -> fmt::Result {
+        text.chars().try_for_each(|it| match it {
+            '\'' => self.0.write_char(it),
+            _ => write!(self.0, "{}", it.escape_debug()),
+        })
     }
 }
 

@@ -157,7 +157,7 @@ languages! {
     };
 
     /// Fortran's signed integers and reals (ISO/IEC 1539-1:2018, 7.4.3). A format cannot accept a kind, as in `1.0_8`, or
-    /// binary, octal and hexadecimal constants, such as `Z'FF'`.
+    /// binary, octal and hexadecimal constants, such as `Z'FF'`. Fortran rounds `0.1`, but not `0.1d0`, to single precision.
     FORTRAN = {
         "decimal": numbers(b'e', b'.', NumberFormatBuilder::new().no_special(true)), // rejects `NaN` and `inf`
         "double precision": numbers(b'd', b'.', NumberFormatBuilder::new().no_special(true)),
@@ -181,7 +181,7 @@ languages! {
     };
 
     /// Java's integer and floating-point literals (Language Specification 21, 3.10.1 and 3.10.2). A format cannot accept
-    /// `1L`, `1f` and `1d`.
+    /// `1L`, `1f` and `1d`. In Java, a hexadecimal, octal or binary integer from 2^31 on is negative: `0xffffffff` is -1.
     JAVA = {
         "decimal": decimal(JAVA.no_integer_leading_zeros(true)), // rejects `08`, not `08.5`
         "octal": integers(8, JAVA),
@@ -190,7 +190,8 @@ languages! {
         "hexadecimal float": binary_floats(b'x', 16, JAVA.required_exponent_notation(true)), // rejects `0x1.8`
     };
 
-    /// JavaScript's numeric literals in strict code (ECMA-262, Numeric Literals). A format cannot accept `1n`.
+    /// JavaScript's numeric literals in strict code (ECMA-262, Numeric Literals). A format cannot accept `1n`. JavaScript
+    /// rounds integers to doubles: `9007199254740993` is 9007199254740992 there.
     JAVASCRIPT = {
         "decimal": decimal(without_zeros(separated(b'_'))),
         "hexadecimal": prefixed(b'x', 16, separated(b'_')),
@@ -226,7 +227,7 @@ languages! {
     };
 
     /// NASM's numeric constants (NASM manual, Numeric Constants and Floating-Point Constants). A format cannot accept `$0c8`,
-    /// or reject `ffh`, which is a name.
+    /// or reject `ffh`, which is a name. NASM keeps the last 64 bits of an integer: `0x10000000000000000` is 0 there.
     NASM = {
         "decimal": decimal(NASM
             .required_integer_digits(true) // rejects `.5`, not `1.`
@@ -257,7 +258,7 @@ languages! {
     };
 
     /// OCaml's integers and floats (Manual 5.2, 11.1 Lexical conventions). A format cannot accept `1._`, whose fraction has a
-    /// separator alone, or `1l`, `1L` and `1n`.
+    /// separator alone, or `1l`, `1L` and `1n`. In OCaml, an integer has 63 bits, and `0x7fffffffffffffff` is -1.
     OCAML = {
         "decimal": decimal(RUST
             .required_integer_digits(true) // rejects `.5`, not `1.`
@@ -338,7 +339,8 @@ languages! {
     }, Specials { nan: Some(b"nan"), inf: Some(b"inf"), infinity: None };
 
     /// YAML's integers and floats (YAML 1.2.2, 10.3.2 Tag Resolution). A format cannot accept `.inf` and `.INF` but reject
-    /// `.iNF`, or accept `-.inf` but reject `-.nan`.
+    /// `.iNF`, or accept `-.inf` but reject `-.nan`. Tools for YAML 1.1, such as PyYAML, differ: there, `010` is 8, and
+    /// `1e3` is a string.
     YAML = {
         "decimal": numbers(b'e', b'.', NumberFormatBuilder::new()),
         "octal": prefixed(b'o', 8, TOKENS.case_sensitive_base_prefix(true)), // rejects `0O17`
