@@ -42,9 +42,9 @@ features=(format power-of-two radix parse-integers parse-floats write-integers w
     printf 'default = ['; printf '"%s", ' "${features[@]}"; printf ']\n'
 } > "$work/upstream/Cargo.toml"
 
-# driver TREE FOLDER NAME PROCESSOR [FLAGS]: builds the driver in a folder of a tree over the tree's library, as $work/NAME. Each
-# tree is copied to the same place, because paths decide the order of functions. No jump crosses a 32-byte boundary.
-# Otherwise, times would depend on the addresses of code.
+# driver TREE FOLDER NAME PROCESSOR [FLAGS]: builds the driver in a folder of a tree over the tree's library, as
+# $work/NAME. Each tree is copied to the same place, because paths decide the order of functions. No jump crosses a
+# 32-byte boundary. Otherwise, times would depend on the addresses of code.
 driver() {
     rm -rf "$work/tree"
     mkdir -p "$work/tree" "$work/driver"

@@ -1,6 +1,6 @@
-//! The calls of the library that the rows of literals make, so that `bench/run --against` goes on working when they change.
-//! It builds the library of a commit with the commit's own file, and that of a commit without one, up to f0062148, with
-//! this file and `cfg(old)`. If a call changes, write it for both.
+//! The calls of the library that the rows of literals make. `bench/run --against` builds the library of a commit with
+//! the commit's own copy of this file, or, if it has none, up to f0062148, with this file and `cfg(old)`. So if a call
+//! changes, write it for both.
 
 use crate::literals::{calls, Group};
 use peltzivar::literal::{Language, Reader, Style};

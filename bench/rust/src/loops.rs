@@ -71,6 +71,7 @@ over! { Case,
         let error = format_error(*word);
         (0..256).map(|_| black_box(&error).description().len()).sum::<usize>()
     };
+    roles: |(word, byte)| role(*word, *byte as u8);
     formats: |(word, _)| format_of(*word).unwrap_or(0);
     reasons: |(word, _)| reasons_of(*word);
     build_strict: |(word, _)| strict(NumberFormatBuilder::rebuild(*word));
@@ -79,4 +80,3 @@ over! { Case,
 
 over! { (u128, [Edit; 3]), edits: |(word, edits)| edit_word(*word, edits); }
 over! { Vec<String>, files: |lines| read(lines).unwrap_or(0); }
-over! { u8, roles: |byte| role(crate::HEXADECIMAL, *byte); }

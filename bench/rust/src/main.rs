@@ -89,14 +89,15 @@ fn rows() -> Vec<Row> {
     let files: &[Vec<String>] = lawful.iter().map(lines).collect::<Vec<_>>().leak();
     let edit = |it: &mut Random| format!("{:?}", it.call()).parse().expect("a setting");
     let edited = list(random, 4096, |it| (it.bits(), [(); 3].map(|()| edit(it))));
-    let numbers = list(random, SIZE, |it| it.pick(b"0123456789ABCDEFabcdef0123456789__x..pP+- ,h"));
+    let byte = |it: &mut Random| it.pick(b"0123456789ABCDEFabcdef0123456789__x..pP+- ,h");
+    let numbers = list(random, SIZE / 4, |it| (HEXADECIMAL, byte(it).into()));
     rows! {
         "char_to_digit, read, radix 10", 1.0, digit_read(decimal, 10);
         "char_to_digit, read, radix 16", 1.0, digit_read(hexadecimal, 16);
         "char_to_digit, read, radix 36", 1.0, digit_read(in_36, 36);
         "char_is_digit, any bytes, radix 16", 1.0, is_digit(any_bytes, 16);
         "constant format in a reader's loop", 1.0, constant_read(hexadecimal);
-        "role_of, over a text", 1.0, roles(numbers);
+        "role_of, bytes of a text", 1.0, roles(numbers);
         "is_valid_ascii_slice, 16 B", 1.0 / 16.0, ascii_slices(&text[..1 << 14], 16);
         "is_valid_letter_slice, 16 B", 1.0 / 16.0, letter_slices(&letters[..1 << 14], 16);
         "is_valid_ascii_slice, 1 KiB", 1.0 / 1024.0, ascii_slices(&text[..1 << 14], 1 << 10);
