@@ -127,18 +127,19 @@ typedef struct {
 
 /* Reads the settings of a text of len bytes, and writes the syntax that they build to *out. Returns the number of
  * problems: first the lines that are refused, and then the reasons why the others do not build a lawful word or, if
- * they do, why the options or conditions do not fit it. Reasons and notes on a field or option are left out if its
- * last line is refused. If there is a problem, leaves *out unchanged. */
+ * they do, why the options do not fit it, and each condition that does not. Reasons and notes on a field, an option or
+ * a condition are left out if the last line that sets it is refused. If there is a problem, leaves *out unchanged. */
 PELTZIVAR_MUST_USE size_t peltzivar_read_settings(const char *text, size_t len, peltzivar_syntax *out);
 
 /* Writes a problem as a sentence, such as "unknown setting `base_suffx`; did you mean `base_suffix`?". The problems
- * have the indices from 0 on. Behind them are the notes: on the first 32 settings that later ones override completely,
- * and then on fields that have no effect. Each call reads the whole text. The buffer `to` has to_len bytes. */
+ * have the indices from 0 on. Behind them are the notes: on the first 32 settings of which later ones set each field
+ * anew, in the order of the lines that complete this, and then on fields that have no effect. Each call reads the whole
+ * text. The buffer `to` has to_len bytes. */
 size_t peltzivar_settings_text(const char *text, size_t len, size_t index, char *to, size_t to_len);
 
 /* Returns the number of lines that cause the problem or note with an index. Writes their indices, in ascending
  * order, to the array `to` of to_len elements, as far as they fit. The first line has the index 0, and a default
- * has no line. */
+ * has no line. An overridden setting has its own line and the one that completes this. */
 size_t peltzivar_settings_lines(const char *text, size_t len, size_t index, size_t *to, size_t to_len);
 
 /* READERS
@@ -504,11 +505,12 @@ peltzivar_word peltzivar_pack(const peltzivar_fields *fields);
 
 /* Parses a setting: a string NAME=VALUE of len bytes, which need not be null-terminated. If it is valid, writes its
  * edit to *out and returns true. Otherwise, returns false and leaves *out unchanged. SETTINGS.md has a table of them.
- * The name radix is read as mantissa_radix. Only peltzivar_read_settings takes `exponent` and `point`, which are not
- * fields. */
+ * White space around the name and the value is skipped. The name radix is read as mantissa_radix. Only
+ * peltzivar_read_settings takes `exponent` and `point`, which are not fields. */
 PELTZIVAR_MUST_USE bool peltzivar_parse_edit(const char *text, size_t len, peltzivar_edit *out);
 
-/* Does the same for the value of base_prefix alone, such as `'p'`, `0x70`, `112` or `none`, which is 0. */
+/* Does the same for the value of base_prefix alone, such as `'p'`, `0x70`, `112` or `none`, which is 0. White space at
+ * both ends is skipped. */
 PELTZIVAR_MUST_USE bool peltzivar_parse_byte(const char *text, size_t len, uint8_t *out);
 
 /* Writes the reason why peltzivar_parse_edit rejects a string, such as "no_special takes `true` or `false`", or

@@ -573,8 +573,9 @@ def _encoded(name: str, text: object, wanted: str = "a str or bytes") -> bytes:
 
 def _refusal(setting: str) -> str:
     """Returns the reason why a setting is refused."""
-    text = _encoded("a setting", setting)
-    return _text(_library.setting_error_text, text, len(text))
+    text, name = _encoded("a setting", setting), reprlib.repr(setting.partition("=")[0].strip(" \t\n\f\r"))
+    sentence = _text(_library.setting_error_text, text, len(text))
+    return sentence.replace("unknown setting name", f"unknown setting `{name[1:-1]}`")
 
 
 def _takes_fields(call: Call) -> Call:

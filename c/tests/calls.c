@@ -102,6 +102,7 @@ static void test_words(void) {
     /* The longest source: all flags differ from their defaults, radixes have three digits, and other bytes are '!'. */
     CHECK(peltzivar_source(longest, source, sizeof source) == strlen(source) && strlen(source) < sizeof source - 1);
     CHECK(peltzivar_parse_byte("'p'", 3, &byte) && byte == 'p' && !peltzivar_parse_byte("256", 3, &byte) && byte == 'p');
+    CHECK(peltzivar_parse_byte("\t2 ", 3, &byte) && byte == 2 && !peltzivar_parse_byte("\v2", 2, &byte) && byte == 2);
     CHECK(peltzivar_parse_byte("none", 4, &byte) && byte == 0 && peltzivar_parse_byte("0x2e", 4, &byte) && byte == '.');
     CHECK(peltzivar_role_of(RESERVED, 'e', '.', 255) == PELTZIVAR_ROLE_NONE && !peltzivar_separators_of(RESERVED, 255).internal);
 }
@@ -272,8 +273,10 @@ static void test_null(void) {
     peltzivar_word word = {1, 2};
     peltzivar_edit edit = {104, 16};
     size_t to[] = {7, 7};
-    char longest[64] = "digit_separator=";
-    memset(longest + 16, 0xFF, 48);
+    char longest[80] = "fraction_consecutive_digit_separator=";
+    memset(longest + 37, 0xFF, 43);
+    CHECK(peltzivar_settings_text(longest + 21, sizeof longest - 21, 0, NULL, 0) < PELTZIVAR_TEXT_SIZE);
+    memcpy(longest + 78, " #", 2);
     CHECK(peltzivar_settings_text(longest, sizeof longest, 0, NULL, 0) < PELTZIVAR_TEXT_SIZE);
     CHECK(peltzivar_read_settings("radix", SIZE_MAX, &syntax) == 1 && syntax.exponent == 3);
     CHECK(!peltzivar_read_settings(NULL, 0, NULL) && !peltzivar_read_settings(NULL, 0, &syntax) && syntax.exponent == 'e');

@@ -269,6 +269,10 @@ class Literals(unittest.TestCase):
                 syntax.read(text)
             error = pickle.loads(pickle.dumps(caught.exception))
             self.assertEqual((error.kind, error.conditions, error.mask, error.edits), (ReadErrorKind.REQUIREMENT, (name,), 0, ()))
+        with self.assertRaises(SettingsError) as caught:
+            Syntax.of(required_base_prefix=True, required_base_suffix=True, integer_group_size=3)
+        self.assertEqual([it.indexes for it in caught.exception.reasons], [(0,), (1,), (2,)])
+        self.assertRaisesRegex(SettingsError, "^integer_group_size takes a number from 2 to 8, or `none`, not `9`$", Syntax.of, integer_group_size=9)
         for error, call in ((OptionsError, lambda: Syntax(Format(), required_base_prefix=True)), (SettingsError, lambda: Syntax.of("required_base_prefix=true"))):
             self.assertRaisesRegex(error, "^required_base_prefix is set, and the format has no base prefix$", call)
 
@@ -394,7 +398,7 @@ class Literals(unittest.TestCase):
 
 
 BYTE = "one ASCII character or a number from 0 to 255"
-SUGGESTION = "unknown setting name; did you mean `digit_separator`?"
+SUGGESTION = "unknown setting `digit_seperator`; did you mean `digit_separator`?"
 ONE_OPTION = "only one of the exponent character and the decimal point is absent: for numbers without an exponent, keep both, and set no_exponent_notation"
 WRONG = [
     ("Format(-1)", ValueError, "a format word is a number of at most 128 bits: -0x1"),
@@ -402,11 +406,11 @@ WRONG = [
     ("FormatView.of(mantissa_radix='8')", TypeError, "mantissa_radix is a number from 0 to 255, not str"),
     ("Format().edit(mantissa_radix=None)", TypeError, "mantissa_radix is a number from 0 to 255, not NoneType"),
     ("Format.of(base_prefix='\u00e9')", ValueError, f"base_prefix is {BYTE}: '\u00e9'"),
-    ("Format().edit(colour=7)", TypeError, "edit() got an unexpected keyword argument 'colour': unknown setting name"),
-    ("Format.of(thousands=',')", TypeError, "of() got an unexpected keyword argument 'thousands': " + SUGGESTION),
+    ("Format().edit(colour=7)", TypeError, "edit() got an unexpected keyword argument 'colour': unknown setting `colour`"),
+    ("Format.of(thousands=',')", TypeError, "of() got an unexpected keyword argument 'thousands': unknown setting `thousands`; did you mean `digit_separator`?"),
     ("Syntax.of(digit_seperator='_')", TypeError, "of() got an unexpected keyword argument 'digit_seperator': unknown setting `digit_seperator`; did you mean `digit_separator`?"),
     ("Syntax.of(exponnt='_')", TypeError, "of() got an unexpected keyword argument 'exponnt': unknown setting `exponnt`; did you mean `exponent`?"),
-    ("Format.of(exponent='p')", TypeError, "of() got an unexpected keyword argument 'exponent': unknown setting name"),
+    ("Format.of(exponent='p')", TypeError, "of() got an unexpected keyword argument 'exponent': unknown setting `exponent`"),
     ("Syntax.of(required_base_prefix=1)", TypeError, "required_base_prefix is a bool, not int"),
     ("Syntax(Format()).format_number('1')", TypeError, "value is a number or a Literal, not str"),
     ("Syntax(Format()).format_number(True)", TypeError, "value is a number or a Literal, not bool"),
@@ -414,6 +418,7 @@ WRONG = [
     ("Syntax.of(point='')", ValueError, f"point is {BYTE}: ''"),
     ("Edit.of('digit_seperator', '_')", ValueError, f"setter 'digit_seperator': {SUGGESTION}"),
     ("Format.of(\"digit_seperator='_'\")", ValueError, f"digit_seperator='_': {SUGGESTION}"),
+    ("Edit(' colour\\t=7')", ValueError, " colour\t=7: unknown setting `colour`"),
     ("Edit(\"radix='x'\")", ValueError, "radix='x': radix takes a number, 2 to 36 in a lawful format"),
     ("Syntax(Format(), exponent=None)", ValueError, ONE_OPTION),
     ("Format().check_options('e', b'')", ValueError, f"point is {BYTE}: b''"),

@@ -4,7 +4,7 @@ use core::array;
 use core::fmt::{self, Write};
 use core::str::from_utf8;
 
-use crate::edits::{apply, likeness, Edit, EditError, EditErrorKind, Fault, Setter, FIELD_COUNT};
+use crate::edits::{apply, likeness, ArgumentKind, Edit, EditError, EditErrorKind, Fault, Setter, FIELD_COUNT};
 use crate::format::{
     NumberFormatBuilder, BASE_PREFIX, BASE_SUFFIX, EXPONENT_BASE, EXPONENT_RADIX, INTEGER_INTERNAL_DIGIT_SEPARATOR,
     MANTISSA_RADIX,
@@ -228,19 +228,22 @@ impl Settings {
     }
 
     /// Returns the reasons why the settings do not build a syntax: why the format is not lawful or, if it is, why the
-    /// exponent character and the decimal point do not fit it or, if they do, the first condition that contradicts it.
+    /// exponent character and the decimal point do not fit it, and then each condition that contradicts it.
     pub fn reasons(&self) -> impl Iterator<Item = Finding> + Clone + '_ {
-        let error = self.build_syntax().err().into_iter();
-        let contradiction = error.clone().find_map(|error| match error.rejected {
-            Rejected::Conditions(error) => self.finding(FindingKind::Conditions(error), mask_of(error)),
-            _ => None,
-        });
-        let reasons = error.flat_map(|error| error.reasons());
+        let reasons = self.build_syntax().err().into_iter().flat_map(|error| error.reasons());
         let reasons = reasons.filter_map(|reason| {
             let mask = Mask { word: reason.mask(), options: options_of(reason.cause()) };
             self.finding(FindingKind::Reason(reason), mask)
         });
-        reasons.chain(contradiction)
+        reasons.chain(self.contradictions())
+    }
+
+    /// Returns each condition that contradicts the format, if that is lawful.
+    fn contradictions(&self) -> impl Iterator<Item = Finding> + Clone + '_ {
+        let syntax = self.build_format().ok().map(Syntax::integers);
+        let values = self.conditions.values().into_iter().enumerate();
+        let errors = values.filter_map(move |(index, value)| syntax?.with(Conditions::NONE.edited(index, value)).err());
+        errors.filter_map(|error| self.finding(FindingKind::Conditions(error), mask_of(error)))
     }
 
     /// Returns notes on the first 32 settings that later ones override completely, and then on fields that are set but
@@ -270,7 +273,8 @@ impl Settings {
 fn parse(index: usize, text: &[u8]) -> Result<(Option<usize>, Edit), LineError> {
     let refuse = |error, option, refused: &[u8]| {
         let piece = array::from_fn(|at| refused.get(at).copied().unwrap_or_default());
-        LineError { index, error, option, piece, length: refused.len() }
+        let has_comment = text.windows(2).any(|it| it[0].is_ascii_whitespace() && it[1] == b'#');
+        LineError { index, error, option, piece, length: refused.len(), has_comment }
     };
     let equals = text.iter().position(|byte| *byte == b'=');
     let equals = equals.ok_or_else(|| refuse(EditError(Fault::NoEquals), None, text))?;
@@ -390,6 +394,8 @@ pub struct LineError {
     /// The first bytes of what is refused, and its length.
     piece: [u8; SHOWN],
     length: usize,
+    /// Whether a `#` follows white space in the text.
+    has_comment: bool,
 }
 
 impl LineError {
@@ -409,11 +415,20 @@ impl LineError {
     fn suggestion(&self, name: &[u8]) -> Option<&'static str> {
         let Fault::UnknownName(nearest) = self.error.0 else { return None };
         let (nearest, alike) = (nearest.map(Setter::name), |other: &&str| likeness(name, other));
-        let names = nearest.into_iter().chain(OPTIONS).filter(|it| alike(it) >= 50);
+        // Of equals, the last counts.
+        let names = OPTIONS.into_iter().chain(nearest).filter(|it| alike(it) >= 50);
         match name {
-            [b'd', b'e', b'c', b'i', b'm', b'a', b'l', ..] => Some("point"),
+            _ if name.starts_with(b"decimal") => Some("point"),
+            _ if name.starts_with(b"group") => Some(Conditions::GROUP_SIZE),
             _ => names.max_by_key(alike).or(nearest),
         }
+    }
+
+    /// Returns the character that stands alone or in double quotes where one in single quotes is taken.
+    fn character(&self, value: &[u8]) -> Option<char> {
+        let ([byte @ b' '..=b'~'] | [b'"', byte @ b' '..=b'~', b'"']) = value else { return None };
+        let takes_one = |setter: Setter| setter.kind() == ArgumentKind::OptionalCharacter;
+        matches!(self.error.0, Fault::BadValue(setter) if takes_one(setter)).then_some(char::from(*byte))
     }
 }
 
@@ -421,16 +436,16 @@ impl core::error::Error for LineError {}
 
 impl fmt::Display for LineError {
     fn fmt(&self, f: &mut fmt::Formatter<'_>) -> fmt::Result {
+        let name = self.option.map_or(self.error.name(), |it| Some(OPTIONS[it])).unwrap_or_default();
         match (self.kind(), self.option) {
             (EditErrorKind::UnknownName, _) => f.write_str("unknown setting `")?,
-            (_, None) => write!(f, "{}, not `", self.error)?,
-            (_, Some(option @ 2..)) if OPTIONS[option] == Conditions::GROUP_SIZE => {
-                write!(f, "{} takes a number from 2 to 8, or `none`, not `", OPTIONS[option])?;
+            (EditErrorKind::BadValue, _) if self.has_comment => {
+                write!(f, "a comment has a line of its own, so {name} does not take `")?;
             }
-            (_, Some(option @ 2..)) => write!(f, "{} takes `true` or `false`, not `", OPTIONS[option])?,
+            (_, None) => write!(f, "{}, not `", self.error)?,
+            (_, Some(option @ 2..)) => write!(f, "{name}{}, not `", Conditions::TAKEN[option - 2])?,
             (_, Some(option)) => {
-                let (name, default) = (OPTIONS[option], char::from(DEFAULTS[option]));
-                write!(f, "{name} takes a character such as '{default}', ")?;
+                write!(f, "{name} takes a character such as '{}', ", char::from(DEFAULTS[option]))?;
                 f.write_str("a number from 0 to 255, or `none`, not `")?;
             }
         }
@@ -442,9 +457,13 @@ impl fmt::Display for LineError {
             }
         }
         f.write_str(if self.length > SHOWN { "..`" } else { "`" })?;
-        match self.suggestion(shown) {
-            Some(name) => write!(f, "; did you mean `{name}`?"),
-            None => Ok(()),
+        match (self.suggestion(shown), self.character(shown)) {
+            (Some(name), _) => write!(f, "; did you mean `{name}`?"),
+            (None, Some(character)) => write!(f, "; did you mean `'{character}'`?"),
+            _ if self.has_comment && self.kind() != EditErrorKind::BadValue => {
+                f.write_str("; a comment has a line of its own")
+            }
+            _ => Ok(()),
         }
     }
 }

@@ -146,8 +146,8 @@ texts! {
     }
 }
 
-/// Parses `NAME=VALUE`, split at the first `=`. The name and the value are parsed as in [`Edit::from_setting`], without
-/// the white space at both ends of each. Parsing the text that `Display` prints gives the same edit.
+/// Parses `NAME=VALUE`, split at the first `=`. The name and the value are parsed as in [`Edit::from_setting`]. Parsing
+/// the text that `Display` prints gives the same edit.
 impl FromStr for Edit {
     type Err = EditError;
 

@@ -12,7 +12,7 @@ use settings::load;
 #[test]
 fn files_give_a_syntax_and_what_is_found() {
     #[rustfmt::skip]
-    let rows: [(&[u8], &str, &[&str]); 44] = [
+    let rows: [(&[u8], &str, &[&str]); 47] = [
         (include_bytes!("../examples/settings.txt"), "0x100A10007800005F000000010000000C 112 46", &[]),
         // Nothing is set.
         (b"\n \t\r\n\r\n", "0x0A0A0A0000000000000000000000000C 101 46", &[]),
@@ -26,8 +26,16 @@ fn files_give_a_syntax_and_what_is_found() {
         (b"required_base_suffix='h'", "", &["line 1: required_base_suffix takes `true` or `false`, not `'h'`"]),
         (b"digit_separator=','\ninternal_digit_separator=true\ninteger_group_size=3", "0x0A0A0A000000002C000000070000000C 101 46 integer_group_size=3", &[]),
         (b"integer_group_size=3", "", &["line 1: integer_group_size is set, and the format has no integer_internal_digit_separator"]),
-        (b"integer_group_size=9\ndigit_separator=','\ninternal_digit_separator=true", "", &["line 1: integer_group_size takes a number from 2 to 8, or `none`, not `9`"]),
-        (b"integer_group_size=true", "", &["line 1: integer_group_size takes a number from 2 to 8, or `none`, not `true`"]),
+        (b"integer_group_size=true\ninteger_group_size=1", "", &[
+            "line 1: integer_group_size takes a number from 2 to 8, or `none`, not `true`",
+            "line 2: integer_group_size takes a number from 2 to 8, or `none`, not `1`"]),
+        (b"integer_group_size=9", "", &["line 1: integer_group_size takes a number from 2 to 8, or `none`, not `9`"]),
+        // Each condition that contradicts the format is told, also beside an option.
+        (b"required_base_prefix=true\nradix=16\nrequired_base_suffix=true\ninteger_group_size=8", "", &[
+            "line 2: the exponent character 'e' is a digit in radix 16",
+            "line 1: required_base_prefix is set, and the format has no base prefix",
+            "line 3: required_base_suffix is set, and the format has no base suffix",
+            "line 4: integer_group_size is set, and the format has no integer_internal_digit_separator"]),
         // Ends of lines, as Windows writes them.
         (b"radix=2\r\nbase_prefix='b'\r\n", "0x0202020062000000000000000000000C 101 46", &[]),
         // Blanks are read over at both ends and around the first `=`, but not in quotes.
@@ -35,7 +43,13 @@ fn files_give_a_syntax_and_what_is_found() {
         (b"base_suffix = '='", "0x0A0A0A3D00000000000000000000000C 101 46", &[]),
         (b"no_special=\xC2\xA0true", "", &[r"line 1: no_special takes `true` or `false`, not `\xc2\xa0true`"]),
         // A comment is a line of its own.
-        (b"# caf\xC3\xA9 = 1\n  # no = yes\nno_special=true # no", "", &["line 3: no_special takes `true` or `false`, not `true # no`"]),
+        (b"# caf\xC3\xA9 = 1\n  # no = yes\nno_special=true # no", "", &["line 3: a comment has a line of its own, so no_special does not take `true # no`"]),
+        (b"x = 3 # comment\nexponent='p'\t#", "", &["line 1: unknown setting `x`; a comment has a line of its own",
+            "line 2: a comment has a line of its own, so exponent does not take `'p'\\x09#`"]),
+        // A character is in single quotes.
+        (b"digit_separator=\"_\"\npoint=,", "", &[
+            "line 1: digit_separator takes a character such as '_', a number from 0 to 255, or `none`, not `\"_\"`; did you mean `'_'`?",
+            "line 2: point takes a character such as '.', a number from 0 to 255, or `none`, not `,`; did you mean `','`?"]),
         (b"base_suffix='#'", "0x0A0A0A2300000000000000000000000C 101 46", &[]),
         // Radixes are numbers.
         (b"radix='\x10'", "", &[r"line 1: radix takes a number, 2 to 36 in a lawful format, not `'\x10'`"]),
@@ -50,7 +64,7 @@ fn files_give_a_syntax_and_what_is_found() {
         (b"point=','\nexponent='x'\npoint='.'\nexponent=94", "0x0A0A0A0000000000000000000000000C 94 46",
             &["lines 1, 3: a later setting overrides point", "lines 2, 4: a later setting overrides exponent"]),
         // No such name, and none that is near.
-        (b"base_suffx='h'\nradx=8\nprefix=120\ndecimal_point=46\ncolour=7\n=8\nthousands=','\ndecimal=','\nexponent_char='p'", "", &[
+        (b"base_suffx='h'\nradx=8\nprefix=120\ndecimal_point=46\ncolour=7\n=8\nthousands=','\ndecimal=','\nexponent_char='p'\nno_exponent=true\ngrouping=3\nbase=16", "", &[
             "line 1: unknown setting `base_suffx`; did you mean `base_suffix`?",
             "line 2: unknown setting `radx`; did you mean `radix`?",
             "line 3: unknown setting `prefix`; did you mean `base_prefix`?",
@@ -59,7 +73,10 @@ fn files_give_a_syntax_and_what_is_found() {
             "line 6: unknown setting ``",
             "line 7: unknown setting `thousands`; did you mean `digit_separator`?",
             "line 8: unknown setting `decimal`; did you mean `point`?",
-            "line 9: unknown setting `exponent_char`; did you mean `exponent`?"]),
+            "line 9: unknown setting `exponent_char`; did you mean `exponent`?",
+            "line 10: unknown setting `no_exponent`; did you mean `no_exponent_notation`?",
+            "line 11: unknown setting `grouping`; did you mean `integer_group_size`?",
+            "line 12: unknown setting `base`; did you mean `radix`?"]),
         // No `=`.
         (b"radix 16\n\xFF\0\x1B\x7F`\n-----------------------------------------", "", &[
             "line 1: expected NAME=VALUE, not `radix 16`",
@@ -96,8 +113,8 @@ fn files_give_a_syntax_and_what_is_found() {
         (b"point=none\nexponent=0\nradix=16", "0x1010100000000000000000000000000C", &[]),
         (b"point=none\nexponent='e'\npoint='.'", "0x0A0A0A0000000000000000000000000C 101 46", &["lines 1, 3: a later setting overrides point"]),
         // What blames a field or option of a refused text is left out, until a later text sets it.
-        (b"radix=16\nexponent = p", "", &["line 2: exponent takes a character such as 'e', a number from 0 to 255, or `none`, not `p`"]),
-        (b"exponent=none\npoint=.", "", &["line 2: point takes a character such as '.', a number from 0 to 255, or `none`, not `.`"]),
+        (b"radix=16\nexponent = p", "", &["line 2: exponent takes a character such as 'e', a number from 0 to 255, or `none`, not `p`; did you mean `'p'`?"]),
+        (b"exponent=none\npoint=.", "", &["line 2: point takes a character such as '.', a number from 0 to 255, or `none`, not `.`; did you mean `'.'`?"]),
         (b"digit_separator='_'\ninternal_digit_separator=on\nradix=x\nradix=40\nexponent_base=x", "", &[
             "line 2: internal_digit_separator takes `true` or `false`, not `on`",
             "line 3: radix takes a number, 2 to 36 in a lawful format, not `x`",

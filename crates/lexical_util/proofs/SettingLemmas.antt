@@ -1,12 +1,13 @@
--- Lemmas on the names of setters.
+-- Lemmas on the names of setters, and on white space.
 use Rattle.std.proofs.Common.{ℕ, ◌≡◌, ◌∙◌, List, Option, Some, refl, sym, ap}
+use Rattle.std.proofs.lemmas.Str.Ascii.{trim_ascii_is}
 use Rattle.std.specs.List.{AllByRecursion, find}
-use Rattle.std.specs.Str.{bytes_eq}
+use Rattle.std.specs.Str.{IsTrimAscii, bytes_eq}
 use Rattle.lexical_util.specs.declared.edits.setters.FlagSetter.TheVariants as flags
 use Rattle.lexical_util.specs.declared.edits.setters.Setter.{Setter}
 use Rattle.lexical_util.specs.declared.edits.setters.Setter.TheVariants as setters
 use Rattle.lexical_util.specs.declared.edits.setters.TheConstants.{ALL_SETTERS}
-use Rattle.lexical_util.specs.Additions.Settings.{name_of}
+use Rattle.lexical_util.specs.Additions.Settings.{name_of, trimmed, unindented}
 
 -- `named text` is the first setter with the name `text`.
 named : List ℕ → Option Setter
@@ -29,3 +30,7 @@ pub every : (P : Setter → Type 0) → AllByRecursion P ALL_SETTERS → (setter
 every P all (setters.Flag flags.RequiredIntegerDigits) = assumption all
 every P all (setters.Flag _) = assumption all
 every P all _ = assumption all
+
+-- The trimmed text is what std's `trim_ascii` returns.
+pub trimmed_is : (text own : List ℕ) → IsTrimAscii text own → trimmed text ≡ own
+trimmed_is text own is = sym (trim_ascii_is text own (unindented text) refl is)

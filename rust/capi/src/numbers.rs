@@ -100,7 +100,8 @@ pub struct NumberedEdit {
 impl NumberedEdit {
     /// Returns the edit, or `None` if the setter is unknown.
     pub fn edit(self) -> Option<Edit> {
-        Some(setter_of(self.setter)?.with_byte(self.value))
+        let setter = setter_of(self.setter)?;
+        setter.with_flag(self.value != 0).or_else(|| setter.with_byte(self.value))
     }
 }
 

@@ -101,13 +101,15 @@ fn parse_byte(text: &String) -> Result<u8, Refusal> {
     byte_from_decimal(text.as_str()).ok_or(Refusal::BadByte)
 }
 
-// Parses NAME=VALUE. A byte has only its decimal form here, and no blank is skipped, unlike in a setting of the library.
+// Parses NAME=VALUE. A byte has only its decimal form here, and no white space is skipped, unlike in a setting of the
+// library.
 fn parse_edit(text: &String) -> Result<Edit, Refusal> {
     let Some((name, value)) = text.as_str().split_once('=') else {
         return Err(Refusal::BadEdit);
     };
+    let is_bare = |text: &str| text.bytes().all(|it| matches!(it, b'0'..=b'9' | b'a'..=b'z' | b'_'));
     match Edit::from_setting(name, value) {
-        Ok(edit) if !value.starts_with('\'') && !value.starts_with("0x") => Ok(edit),
+        Ok(edit) if is_bare(name) && is_bare(value) && !value.starts_with("0x") => Ok(edit),
         _ => Err(Refusal::BadEdit),
     }
 }

@@ -352,13 +352,31 @@ impl Setter {
     /// Returns the mask of the bits that the setter writes in a format word.
     #[must_use]
     pub const fn mask(self) -> u128 {
-        self.with_byte(0).mask()
+        self.with_argument(0).mask()
     }
 
-    /// Returns the edit that calls the setter with the argument that `byte` represents. For a flag, any byte except 0
-    /// means `true`. For a byte that may be absent, 0 means absent.
+    /// Returns the edit that calls the setter with `flag`, or `None` if the setter takes a byte.
     #[must_use]
-    pub const fn with_byte(self, byte: u8) -> Edit {
+    pub const fn with_flag(self, flag: bool) -> Option<Edit> {
+        match self {
+            Setter::Flag(setter) => Some(Edit::Flag(setter, flag)),
+            _ => None,
+        }
+    }
+
+    /// Returns the edit that calls the setter with `byte`, or `None` if the setter takes a flag. If the byte may be
+    /// absent, 0 means absent.
+    #[must_use]
+    pub const fn with_byte(self, byte: u8) -> Option<Edit> {
+        match self {
+            Setter::Flag(_) => None,
+            _ => Some(self.with_argument(byte)),
+        }
+    }
+
+    // Returns the edit that calls the setter with the argument that `byte` represents. For a flag, any byte except 0
+    // means `true`.
+    pub(crate) const fn with_argument(self, byte: u8) -> Edit {
         match self {
             Setter::Flag(setter) => Edit::Flag(setter, byte != 0),
             Setter::DigitSeparator => Edit::DigitSeparator(NonZeroU8::new(byte)),

@@ -85,12 +85,19 @@ impl Setter {
     /// - Every byte setter takes a number from 0 to 255: one to three decimal digits, or `0x` followed by one or two
     ///   hexadecimal digits. All except `mantissa_radix` and `radix` also take `none`, which is the same as 0.
     /// - `digit_separator`, `base_prefix` and `base_suffix` also take a character in single quotes, such as `'_'`, that
-    ///   is ASCII and not a control character. White space is not skipped.
+    ///   is ASCII and not a control character.
+    ///
+    /// White space at both ends is skipped, as by [`trim_ascii`][str::trim_ascii].
     ///
     /// # Errors
     ///
     /// Returns an [`EditError`] if the setter does not take the value.
     pub fn parse(self, value: &str) -> Result<Edit, EditError> {
+        self.parse_exact(value.trim_ascii())
+    }
+
+    // Parses `value` as [`Setter::parse`] does, but skips nothing.
+    fn parse_exact(self, value: &str) -> Result<Edit, EditError> {
         let byte = match (self.kind(), value) {
             (ArgumentKind::Flag, "true") => Some(1),
             (ArgumentKind::Flag, "false") => Some(0),
@@ -100,20 +107,22 @@ impl Setter {
             (_, value) => byte_from_number(value),
         };
         match byte {
-            Some(byte) => Ok(self.with_byte(byte)),
+            Some(byte) => Ok(self.with_argument(byte)),
             None => Err(EditError(Fault::BadValue(self))),
         }
     }
 }
 
 // Returns the setter whose name is most like `name`, if they have at least half of their pairs of letters in common. A
-// separator of thousands is the digit separator. The decimal point and the exponent character have no setter.
+// separator of thousands is the digit separator, and the base is the radix. The decimal point and the exponent
+// character have no setter.
 pub(crate) fn nearest(name: &str) -> Option<Setter> {
     let alike = |setter: &Setter| likeness(name.as_bytes(), setter.name());
     let setters = ALL_SETTERS.into_iter().filter(|it| alike(it) >= 50);
     match name {
         _ if name.starts_with("thousand") => Some(Setter::DigitSeparator),
         _ if name.starts_with("decimal") || name == "exponent" => None,
+        "base" => Some(Setter::Radix),
         _ => setters.max_by_key(alike),
     }
 }
@@ -127,12 +136,14 @@ pub(crate) fn likeness(name: &[u8], other: &str) -> usize {
 }
 
 impl Edit {
-    /// Parses `value` as the argument of the setter `name`, as [`Setter::parse`] does.
+    /// Parses `value` as the argument of the setter `name`, as [`Setter::parse`] does. White space at both ends of the
+    /// name is skipped, too.
     ///
     /// # Errors
     ///
     /// Returns an [`EditError`] if no setter has the name, or if the setter does not take the value.
     pub fn from_setting(name: &str, value: &str) -> Result<Edit, EditError> {
+        let name = name.trim_ascii();
         match Setter::from_name(name) {
             Some(setter) => setter.parse(value),
             None => Err(EditError(Fault::UnknownName(nearest(name)))),
@@ -140,7 +151,7 @@ impl Edit {
     }
 
     /// Parses `text` as `NAME=VALUE`, split at the first `=`. The name and the value are parsed as in
-    /// [`Edit::from_setting`], without the white space at both ends of each.
+    /// [`Edit::from_setting`].
     ///
     /// # Errors
     ///
@@ -149,7 +160,7 @@ impl Edit {
     #[doc(hidden)]
     pub fn from_text(text: &str) -> Result<Edit, EditError> {
         match text.split_once('=') {
-            Some((name, value)) => Edit::from_setting(name.trim_ascii(), value.trim_ascii()),
+            Some((name, value)) => Edit::from_setting(name, value),
             None => Err(EditError(Fault::NoEquals)),
         }
     }

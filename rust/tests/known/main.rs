@@ -8,6 +8,7 @@ mod bytes;
 mod edits;
 mod errors;
 mod reasons;
+mod roles;
 mod rules;
 mod settings;
 mod slices;

@@ -9,14 +9,15 @@ fn edits_are_read_back() {
     for (setter, name) in Setter::ALL.iter().zip(Edit::NAMES) {
         let is_flag = setter.kind() == ArgumentKind::Flag;
         for byte in 0..=if is_flag { 1 } else { 255 } {
-            let edit = setter.with_byte(byte);
+            let edit = setter.with_flag(byte == 1).or(setter.with_byte(byte)).unwrap();
+            assert_eq!([setter.with_flag(true).is_some(), setter.with_byte(byte).is_none()], [is_flag; 2], "{name}");
             let value = match (setter.kind(), byte) {
                 (ArgumentKind::Flag, _) => (byte == 1).to_string(),
                 (ArgumentKind::OptionalCharacter | ArgumentKind::OptionalNumber, 0) => "none".to_string(),
                 _ => byte.to_string(),
             };
             assert_eq!(edit.to_string(), format!("{name}={value}"));
-            assert_eq!(Edit::from_setting(name, &value), Ok(edit));
+            assert_eq!((Edit::from_setting(name, &value), setter.parse(&value)), (Ok(edit), Ok(edit)));
             assert_eq!((edit.to_string().parse(), edit.mask()), (Ok(edit), setter.mask()));
         }
     }
@@ -39,23 +40,26 @@ fn each_byte_setter_reads_numbers_and_some_read_characters() {
         "0x100", "0x05F", "256", "0016", "99999999999999999999", "0xFFFFFFFFFFFFFFFFFFFFFFFFFFFFFFFFF",
     ];
     for setter in Setter::ALL.iter().filter(|setter| setter.kind() != ArgumentKind::Flag) {
-        let read = |value| format!("{}={value}", setter.name()).parse();
+        // Each call that takes a value skips white space at both ends.
+        let read = |value: &str| -> Option<Edit> {
+            let edit = setter.parse(value).ok();
+            assert_eq!(Edit::from_setting(&format!("\t{}\r ", setter.name()), value).ok(), edit, "{setter:?} {value}");
+            assert_eq!(format!("\n{} ={value}", setter.name()).parse().ok(), edit, "{setter:?} {value}");
+            edit
+        };
         for (value, byte) in numbers {
-            assert_eq!(read(value), Ok(setter.with_byte(byte)), "{setter:?} {value}");
+            assert_eq!(read(value), setter.with_byte(byte), "{setter:?} {value}");
         }
         let takes_characters = setter.kind() == ArgumentKind::OptionalCharacter;
         for (value, byte) in characters {
-            assert_eq!(read(value).ok(), takes_characters.then_some(setter.with_byte(byte)), "{setter:?} {value}");
+            assert_eq!(read(value), setter.with_byte(byte).filter(|_| takes_characters), "{setter:?} {value}");
         }
         for value in refused {
-            assert!(read(value).is_err(), "{setter:?} {value}");
+            assert_eq!(read(value), None, "{setter:?} {value}");
         }
         let is_optional = setter.kind() != ArgumentKind::Number;
-        assert_eq!(read("none").ok(), is_optional.then_some(setter.with_byte(0)), "{setter:?}");
+        assert_eq!(read("none"), setter.with_byte(0).filter(|_| is_optional), "{setter:?}");
     }
-    // Calls that take a name and a value skip nothing.
-    assert!(Setter::Radix.parse(" 16").is_err() && Edit::from_setting("radix ", "16").is_err());
-    assert_eq!(" radix =\t16\r\n".parse(), Ok(Edit::Radix(16)));
 }
 
 /// The sentence of a refused setting, which names the setter and what it takes.
@@ -87,6 +91,8 @@ fn a_refused_setting_has_a_sentence() {
         ("decimal_separator=','", None, "unknown setting name"),
         ("exponent='p'", None, "unknown setting name"),
         ("colour=7", None, "unknown setting name"),
+        ("no_exponent=true", None, "unknown setting name; did you mean `no_exponent_notation`?"),
+        ("base=16", None, "unknown setting name; did you mean `radix`?"),
     ];
     for (text, name, sentence) in rows {
         let error = text.parse::<Edit>().unwrap_err();

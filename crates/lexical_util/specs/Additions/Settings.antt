@@ -1,8 +1,9 @@
 -- The names of setters, and the settings that call them, for `Setter`, `Edit` and `EditError`.
-use Rattle.std.specs.Prelude.{ℕ, ◌≡◌, ◌≢◌, ◌==◌, ◌&&◌, Bool, true, false, nat_lt, if◌then◌else◌, Option, Some, None}
-use Rattle.std.specs.Prelude.{Result, Ok, Err, MatchResult, List, [], ◌∷◌, codes, take, drop, slice_index, bytes_eq}
+use Rattle.std.specs.Prelude.{ℕ, ◌≡◌, ◌≢◌, ◌==◌, ◌&&◌, ◌-◌, Bool, true, false, nat_lt, if◌then◌else◌, Option, Some, None}
+use Rattle.std.specs.Prelude.{Result, Ok, Err, MatchResult, List, [], ◌∷◌, codes, length, take, drop, slice_index, bytes_eq}
 use Rattle.std.specs.Bool.{then_some}
-use Rattle.std.specs.Str.{IsTrimAscii}
+use Rattle.std.specs.Char.{is_ascii_whitespace}
+use Rattle.std.specs.List.{prefix_len, suffix_len}
 use Rattle.lexical_base.specs.Ascii.{ByteSet, between}
 use Rattle.lexical_base.specs.Digits.{numeral}
 use Rattle.lexical_util.specs.Additions.EditMasks.{argument_byte}
@@ -87,6 +88,10 @@ kind_of setters.ExponentBase = kinds.OptionalNumber
 kind_of setters.ExponentRadix = kinds.OptionalNumber
 kind_of _ = kinds.OptionalCharacter
 
+-- `IsCall setter byte edit` holds if `edit` calls `setter` with the argument that `byte` represents.
+abbrev pub IsCall : Setter → ℕ → Edit → Type 0
+IsCall setter byte edit = (setter_of edit ≡ setter) × (argument_byte edit ≡ byte)
+
 -- `takes_flag setter` is true if `setter` takes a flag.
 abbrev pub takes_flag : Setter → Bool
 takes_flag (setters.Flag setter) = true
@@ -118,6 +123,14 @@ byte_of_value kinds.Flag value =
 byte_of_value kinds.OptionalCharacter value = if bytes_eq value (codes "none") then Some 0 else byte_of_character value
 byte_of_value kinds.Number value = byte_of_number value
 byte_of_value kinds.OptionalNumber value = if bytes_eq value (codes "none") then Some 0 else byte_of_number value
+
+-- `unindented text` is `text` without the white space at its start, and `trimmed text` is `text` without that at both ends.
+-- White space is the bytes 9, 10, 12, 13 and 32.
+abbrev pub unindented : List ℕ → List ℕ
+unindented text = drop (prefix_len is_ascii_whitespace text) text
+
+abbrev pub trimmed : List ℕ → List ℕ
+trimmed text = take (length (unindented text) - suffix_len is_ascii_whitespace (unindented text)) (unindented text)
 
 -- `is_equals` is the set that contains only the byte of the character `=`.
 abbrev pub is_equals : ByteSet
@@ -151,9 +164,3 @@ pub record IsSetting (name value : List ℕ) (result : Result Edit EditError) : 
   pub unknown : IsNoName name
       → MatchResult result (λ edit. ⊥) (λ error. (nearest : Option Setter) × (error ≡ unknown_name nearest))
   pub known : (setter : Setter) → name_of setter ≡ name → IsParsed setter value result
-
--- `IsPadded name value result` holds if `result` is what the setting makes of `name` and `value` without the white space
--- at both ends of each.
-abbrev pub IsPadded : List ℕ → List ℕ → Result Edit EditError → Type 0
-IsPadded name value result = (own argument : List ℕ) × IsTrimAscii name own × IsTrimAscii value argument
-    × IsSetting own argument result

@@ -1,13 +1,14 @@
 //! Setters and their calls as values.
 
-ghost use Rattle.std.specs.Prelude.{◌≡◌, ◌↔◌, Bool, MatchOption, min, if◌then◌else◌};
+ghost use Rattle.std.specs.Prelude.{◌≡◌, ◌↔◌, Bool, Some, None, MatchOption, IsTrue, min, if◌then◌else◌};
+ghost use Rattle.std.specs.Bool.{IsFalse};
 ghost use Rattle.lexical_flags.specs.Record.{raw};
 ghost use Rattle.lexical_builder.specs.Writes.{flags_with};
 ghost use Rattle.lexical_util.specs.Edits.{flags_of, writes_of};
 ghost use Rattle.lexical_util.specs.Groups.{any_flag};
 ghost use Rattle.lexical_util.specs.Additions.EditMasks.{argument_byte, mask_of_setter, mask_of_edit};
 ghost use Rattle.lexical_util.specs.Additions.FieldEdits.{field_edits};
-ghost use Rattle.lexical_util.specs.Additions.Settings.{name_of, setter_of, kind_of, takes_flag, IsNoName};
+ghost use Rattle.lexical_util.specs.Additions.Settings.{name_of, setter_of, kind_of, takes_flag, IsCall, IsNoName};
 ghost use Rattle.lexical_util.specs.declared.edits.setters.Edit.TheVariants as edits;
 
 use crate::feature_format::NumberFormat;
@@ -378,13 +379,40 @@ impl Setter {
     pub const fn mask(self) -> u128
         ensures { (edit : Edit) → setter_of edit ≡ self → mask_of_edit edit ≡ result }
     {
-        self.with_byte(0).mask()
+        self.with_argument(0).mask()
     }
 
-    /// Returns the edit that calls the setter with the argument that `byte` represents. For a flag, any byte except 0
-    /// means `true`. For a byte that may be absent, 0 means absent.
+    /// Returns the edit that calls the setter with `flag`, or `None` if the setter takes a byte.
     #[must_use]
-    pub const fn with_byte(self, byte: u8) -> Edit
+    pub const fn with_flag(self, flag: bool) -> Option<Edit>
+        ensures flag { (setter : FlagSetter) → self ≡ Setter.Flag setter → result ≡ Some (edits.Flag setter flag) }
+        ensures byte { IsFalse (takes_flag self) → result ≡ None }
+    {
+        match self {
+            Setter::Flag(setter) => Some(Edit::Flag(setter, flag)),
+            _ => None,
+        }
+    }
+
+    /// Returns the edit that calls the setter with `byte`, or `None` if the setter takes a flag. If the byte may be
+    /// absent, 0 means absent.
+    #[must_use]
+    pub const fn with_byte(self, byte: u8) -> Option<Edit>
+        ensures byte { IsFalse (takes_flag self) → MatchOption result ⊥ (IsCall self byte) }
+        ensures flag { IsTrue (takes_flag self) → result ≡ None }
+
+        // Edits that call the same setter with the same argument make the same writes.
+        ensures writes { (edit made : Edit) → result ≡ Some made → IsCall self byte edit → writes_of edit ≡ writes_of made }
+    {
+        match self {
+            Setter::Flag(_) => None,
+            _ => Some(self.with_argument(byte)),
+        }
+    }
+
+    // Returns the edit that calls the setter with the argument that `byte` represents. For a flag, any byte except 0
+    // means `true`.
+    pub(crate) const fn with_argument(self, byte: u8) -> Edit
         ensures setter { setter_of result ≡ self }
         ensures argument { argument_byte result ≡ (if takes_flag self then min byte 1 else byte) }
 

@@ -4,7 +4,7 @@ ghost use Rattle.std.specs.Prelude.{◌≡◌, ◌≢◌, ◌≤◌, ◌<◌, le
 ghost use Rattle.std.specs.List.{position_or_len, before_first, after_first};
 ghost use Rattle.lexical_util.specs.Additions.Settings.{name_of, byte_of_digits, byte_of_number, byte_of_character};
 ghost use Rattle.lexical_util.specs.Additions.Settings.{no_equals, unknown_name, bad_value};
-ghost use Rattle.lexical_util.specs.Additions.Settings.{is_equals, IsParsed, IsSetting, IsPadded};
+ghost use Rattle.lexical_util.specs.Additions.Settings.{is_equals, trimmed, IsParsed, IsSetting};
 
 use crate::edits::{ALL_SETTERS, ArgumentKind, Edit, Setter};
 use crate::numeral::read_numeral;
@@ -101,12 +101,21 @@ impl Setter {
     /// - Every byte setter takes a number from 0 to 255: one to three decimal digits, or `0x` followed by one or two
     ///   hexadecimal digits. All except `mantissa_radix` and `radix` also take `none`, which is the same as 0.
     /// - `digit_separator`, `base_prefix` and `base_suffix` also take a character in single quotes, such as `'_'`, that
-    ///   is ASCII and not a control character. White space is not skipped.
+    ///   is ASCII and not a control character.
+    ///
+    /// White space at both ends is skipped, as by [`trim_ascii`][str::trim_ascii].
     ///
     /// # Errors
     ///
     /// Returns an [`EditError`] if the setter does not take the value.
     pub fn parse(self, value: &str) -> Result<Edit, EditError>
+        ensures { IsParsed self (trimmed value.now) result }
+    {
+        self.parse_exact(value.trim_ascii())
+    }
+
+    // Parses `value` as [`Setter::parse`] does, but skips nothing.
+    fn parse_exact(self, value: &str) -> Result<Edit, EditError>
         ensures { IsParsed self value.now result }
     {
         let byte = match (self.kind(), value) {
@@ -118,20 +127,22 @@ impl Setter {
             (_, value) => byte_from_number(value),
         };
         match byte {
-            Some(byte) => Ok(self.with_byte(byte)),
+            Some(byte) => Ok(self.with_argument(byte)),
             None => Err(EditError(Fault::BadValue(self))),
         }
     }
 }
 
 // Returns the setter whose name is most like `name`, if they have at least half of their pairs of letters in common. A
-// separator of thousands is the digit separator. The decimal point and the exponent character have no setter.
+// separator of thousands is the digit separator, and the base is the radix. The decimal point and the exponent
+// character have no setter.
 pub(crate) fn nearest(name: &str) -> Option<Setter> {
     let alike = |setter: &Setter| likeness(name.as_bytes(), setter.name());
     let setters = ALL_SETTERS.into_iter().filter(|it| alike(it) >= 50);
     match name {
         _ if name.starts_with("thousand") => Some(Setter::DigitSeparator),
         _ if name.starts_with("decimal") || name == "exponent" => None,
+        "base" => Some(Setter::Radix),
         _ => setters.max_by_key(alike),
     }
 }
@@ -145,14 +156,16 @@ pub(crate) fn likeness(name: &[u8], other: &str) -> usize {
 }
 
 impl Edit {
-    /// Parses `value` as the argument of the setter `name`, as [`Setter::parse`] does.
+    /// Parses `value` as the argument of the setter `name`, as [`Setter::parse`] does. White space at both ends of the
+    /// name is skipped, too.
     ///
     /// # Errors
     ///
     /// Returns an [`EditError`] if no setter has the name, or if the setter does not take the value.
     pub fn from_setting(name: &str, value: &str) -> Result<Edit, EditError>
-        ensures { IsSetting name.now value.now result }
+        ensures { IsSetting (trimmed name.now) (trimmed value.now) result }
     {
+        let name = name.trim_ascii();
         match Setter::from_name(name) {
             Some(setter) => setter.parse(value),
             None => Err(EditError(Fault::UnknownName(nearest(name)))),
@@ -160,7 +173,7 @@ impl Edit {
     }
 
     /// Parses `text` as `NAME=VALUE`, split at the first `=`. The name and the value are parsed as in
-    /// [`Edit::from_setting`], without the white space at both ends of each.
+    /// [`Edit::from_setting`].
     ///
     /// # Errors
     ///
@@ -169,11 +182,11 @@ impl Edit {
     #[doc(hidden)]
     pub fn from_text(text: &str) -> Result<Edit, EditError>
         ensures setting { position_or_len is_equals text.now < length text.now
-            → IsPadded (before_first is_equals text.now) (after_first is_equals text.now) result }
+            → IsSetting (trimmed (before_first is_equals text.now)) (trimmed (after_first is_equals text.now)) result }
         ensures no_equals { position_or_len is_equals text.now ≡ length text.now → result ≡ Err no_equals }
     {
         match text.split_once('=') {
-            Some((name, value)) => Edit::from_setting(name.trim_ascii(), value.trim_ascii()),
+            Some((name, value)) => Edit::from_setting(name, value),
             None => Err(EditError(Fault::NoEquals)),
         }
     }

@@ -21,7 +21,7 @@ exponent_base 255
 exponent_radix 255
 ";
 
-const ONE_TO_SIX: &str = "flags 0x0000000000000000000010000000000C
+const ONE_TO_SIX: &str = "flags 0x0000000000000000000000000000000C
 digit_separator 1
 base_prefix 2
 base_suffix 3
@@ -85,7 +85,7 @@ pub const ANSWERS: [(&[&str], &str, u8); 33] = [
     (&["show", "0x00000A0000000000000000000000000C"], STANDARD_FIELDS, 0),
     (&["show", "0xa0000000000000000000000000c"], STANDARD_FIELDS, 0),
     (&["show", "0xFFFFFFFFFFFFFFFFFFFFFFFFFFFFFFFF"], LARGEST_FIELDS, 0),
-    (&["show", "0x0605040302ABCD0100001000fed0000c"], ONE_TO_SIX, 0),
+    (&["show", "0x0605040302000001000000000000000C"], ONE_TO_SIX, 0),
     (&["edit", "0xc", "radix=16", "digit_separator=95", "integer_digit_separator_flags=true"], "0x000010000000005F000002490000000C\n", 0),
     (&["edit", "0xFFFFFFFFFFFFFFFFFFFFFFFFFFFFFFFF"], "0xFFFFFFFFFF0000FF00001FFF0003FFFF\n", 0),
     (&["edit", "0x00000A0000000000000000000000000C"], "0x0A0A0A0000000000000000000000000C\n", 0),
@@ -118,7 +118,7 @@ pub const ANSWERS: [(&[&str], &str, u8); 33] = [
 
 /// Lists of arguments that are refused, the text that states why, and the exit status.
 #[rustfmt::skip]
-pub const REFUSALS: [(&[&str], &str, u8); 44] = [
+pub const REFUSALS: [(&[&str], &str, u8); 47] = [
     (&[""], "numfmt: unknown command\n", 2),
     (&["show 0xC"], "numfmt: unknown command\n", 2),
     (&["show"], "numfmt: wrong number of arguments\n", 2),
@@ -157,6 +157,9 @@ pub const REFUSALS: [(&[&str], &str, u8); 44] = [
     (&["edit", "0x00000A0000000000000000000000000C", "base_prefix='x'"], "numfmt: bad edit\n", 2),
     (&["edit", "0x00000A0000000000000000000000000C", "base_prefix=0x78"], "numfmt: bad edit\n", 2),
     (&["edit", "0xC", "radix = 16"], "numfmt: bad edit\n", 2),
+    (&["edit", "0xC", "radix= 16"], "numfmt: bad edit\n", 2),
+    (&["edit", "0xC", "radix =16"], "numfmt: bad edit\n", 2),
+    (&["edit", "0x00000A0000000000000000000000000C", "digit_separator=\"_\""], "numfmt: bad edit\n", 2),
     (&["edit", "0xC", "radix=16 radix=10"], "numfmt: bad edit\n", 2),
     (&["options", "0x00000A0000000000000000000000000C", "256", "46"], "numfmt: bad byte\n", 2),
     (&["options", "0x00000A0000000000000000000000000C", "e", "46"], "numfmt: bad byte\n", 2),
