@@ -4,10 +4,12 @@
 
 use peltzivar::word::{FormatView, Part, Role};
 
+type Values = [Option<u32>; 2];
+
 // A word, a byte, its values as a digit of the mantissa and of the exponent, and whether it is the digit separator, the
 // base prefix, the base suffix, and the exponent character `e`.
 #[rustfmt::skip]
-const BYTES: [(u128, u8, [Option<u32>; 2], [bool; 4]); 9] = [
+const BYTES: [(u128, u8, Values, [bool; 4]); 9] = [
     (0x0A020200_00000000_00000000_0000000C, b'9', [None, Some(9)], [false; 4]),
     (0x0A0A1000_00000000_00000000_0000000C, b'f', [Some(15), None], [false; 4]),
     (0xFFFFFFFF_FFFFFFFF_FFFFFFFF_FFFFFFFF, b'z', [Some(35), Some(35)], [false; 4]),
