@@ -30,14 +30,20 @@ fn the_error_is_that_of_the_form_that_goes_furthest() {
         is_refused(language, "0b102z", "binary", 4, "unexpected character '2'");
         is_refused(language, "1fz", "decimal", 1, "unexpected character 'f'");
         is_refused(language, "-1", "decimal", 0, "unexpected minus sign");
-        is_refused(language, "ff", "decimal", 0, "unexpected character 'f'");
         is_refused(language, "0xfg", "hexadecimal", 3, "unexpected character 'g'");
+        // Of forms that go as far, it is the first whose cause is not a wrong byte, or the first.
+        is_refused(language, "ff", "hexadecimal", 0, "expected the prefix 0x");
+        is_refused(language, "z", "decimal", 0, "unexpected character 'z'");
+    }
+    for language in [Language::RUST, Language::TOML] {
+        is_refused(language, "0XF", "hexadecimal", 1, "unexpected case of the base prefix");
+        is_refused(language, "0O7", "octal", 1, "unexpected case of the base prefix");
+        is_refused(language, "0Z", "decimal", 1, "unexpected character 'Z'");
     }
     for language in [Language::C, Language::PYTHON] {
         is_refused(language, "09", "decimal", 2, "unexpected leading zero");
     }
     is(Language::RUST, "09", "decimal", 9.0);
-    is_refused(Language::RUST, "0X1F", "decimal", 1, "unexpected character 'X'");
     is_refused(Language::NASM, "0FF", "hexadecimal, h", 3, "expected the suffix h");
 }
 

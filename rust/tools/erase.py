@@ -88,7 +88,7 @@ REPLACED = [
 ]
 
 # Files in which each function is const in plain Rust. Rattle's `split_at` is not, nor is what calls it.
-CONST = ("read.rt", "list.rt")
+CONST = ("read.rt", "list.rt", "span.rt")
 
 # Texts that plain Rust replaces in every file, wherever they occur.
 EVERYWHERE = [

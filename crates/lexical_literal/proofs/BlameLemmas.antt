@@ -12,7 +12,7 @@ use Rattle.lexical_util.specs.Roles.{other_case}
 use Rattle.lexical_literal.specs.Notation.{Notation, has, notation_of}
 use Rattle.lexical_literal.specs.Cause.{Allows, IsCaseFlag, IsCause, IsRefusal, IsRequirement, IsUnmet, Permits, RefusesAlone, adding, all_conditions}
 use Rattle.lexical_literal.specs.Cause.{bare, binds, case_set, error_of, first_unmet, is_at, is_one_of, is_same, lowest, marks_of, number_separator_flags}
-use Rattle.lexical_literal.specs.Cause.{requirement_flags, requiring, span_of, with_rules}
+use Rattle.lexical_literal.specs.Cause.{requirement_flags, requiring, span_of, tail_of, with_rules}
 use Rattle.lexical_literal.specs.Front.{IsValidUpTo}
 use Rattle.lexical_literal.specs.Additions.Causes.{IsReadOf, IsWeaker, class_of_next, is_at_gap, lets, place_of}
 use Rattle.lexical_literal.specs.Additions.Explained.{alone, blame, cases, conditions_of, mask_of, otherwise, refusal_of, requirements, separators}
@@ -293,9 +293,9 @@ module _ (g : Grammar) (text : List ℕ) (row : ℕ) (tail : List ℕ) (k : Mark
   spot next = record { grammar = g; row = row; byte = next; tail = tail; marks = k; is_ungrouped = false }
 
   pub refusal_at : IsValidUpTo n text size → IsReadOf n s (take size text) → lets n s (slice_get text size) ≡ false
-      → (next : Option ℕ) → next ≡ slice_get text size → k ≡ marks_of n (take size text)
+      → (next : Option ℕ) → next ≡ slice_get text size → tail ≡ tail_of text size → k ≡ marks_of n (take size text)
       → IsRefusal n text (refusal_of n (spot next))
-  refusal_at valid read refused next is_next is_marks =
+  refusal_at valid read refused next is_next is_tail is_marks =
       let b = blame n s next in
       let C = unmet n s next in
       let c = first_unmet b.mask (conditions_of C) in
@@ -305,6 +305,7 @@ module _ (g : Grammar) (text : List ℕ) (row : ℕ) (tail : List ℕ) (k : Mark
       record {
         valid_up_to = subst (IsValidUpTo n text) is_size valid;
         byte = byte;
+        tail = is_tail ∙ ap (tail_of text) is_size;
         cause = subst (λ next. IsCause n (take k.size text) next b.kind (raw b.mask).flag) byte
             (subst (λ size. IsCause n (take size text) next b.kind (raw b.mask).flag) is_size
             (is_blamed n s (take size text) read next (ap (lets n s) is_next ∙ refused)));

@@ -1,24 +1,29 @@
 -- Several forms: what has been found in the first of them, and what one form more adds.
-use Rattle.std.proofs.Common.{ℕ, ◌≡◌, ◌<◌, ◌≤◌, ◌+◌, inl, inr, List, append-nil, Option, Some, None, All, IsSomeAnd, length, take, get_or, slice_get}
+use Rattle.std.proofs.Common.{ℕ, ◌≡◌, ◌*◌, Bool, true, false, if◌then◌else◌, ◌<◌, ◌≤◌, ◌+◌, inl, inr, List, append-nil, Option, Some, None, All, IsSomeAnd, length, take, get_or, slice_get}
 use Rattle.std.specs.Option.{ForSome}
 use Rattle.std.proofs.Common.{[], IsNone, refl, sym, ap, subst, ◌∙◌, arith}
 use Rattle.std.proofs.lemmas.Bool.Decides.{nat_tests}
 use Rattle.std.proofs.lemmas.Bool.{cases_lt}
 use Rattle.std.proofs.lemmas.List.{take_all}
 use Rattle.std.proofs.lemmas.List.Elements.{All-more}
-use Rattle.std.proofs.lemmas.Option.{slice_get-get_or, slice_get_within}
-use Rattle.lexical_literal.specs.Additions.Forms.{IsFurthestForm, IsLongestForm, greater, longer}
+use Rattle.std.proofs.lemmas.Option.{slice_get-get_or, slice_get_past, slice_get_within}
+use Rattle.lexical_util.specs.Layout.{Flag}
+use Rattle.lexical_util.specs.Record.{raw}
+use Rattle.lexical_literal.specs.Additions.Forms.{GoesTo, IsFurthestForm, IsLongestForm, greater, longer}
 use Rattle.lexical_literal.specs.Additions.Longest.{IsCountedFront, IsStopped}
-use Rattle.lexical_literal.specs.Cause.{IsRefusal}
-use Rattle.lexical_literal.specs.Takes.{IsError, NoFront, Refuses}
+use Rattle.lexical_literal.specs.Cause.{Explained, IsCause, IsRefusal}
+use Rattle.lexical_literal.specs.Takes.{IsError, IsUngrouped, NoFront, Refuses}
+use Rattle.lexical_literal.specs.declared.cause.ReadErrorKind.{ReadErrorKind}
+use Rattle.lexical_literal.specs.declared.cause.ReadErrorKind.TheVariants as causes
 use Rattle.lexical_literal.specs.declared.cause.Refusal.{Refusal}
-use Rattle.lexical_literal.specs.Forms.{GoesTo, HasFront, IsGreatest}
+use Rattle.lexical_literal.specs.Forms.{HasFront, IsFormError, IsGreatest, Reaches, is_byte, reach}
 use Rattle.lexical_literal.specs.Front.{IsValidUpTo, ReadsFront}
 use Rattle.lexical_literal.specs.Literal.{Literal, Reads}
 use Rattle.lexical_literal.specs.Notation.{Notation, no_conditions, notation_of}
 use Rattle.lexical_literal.specs.declared.read.Found.{Found}
 use Rattle.lexical_literal.specs.declared.read.Stop.{Stop}
 use Rattle.lexical_literal.specs.declared.syntax.Grammar.{Grammar}
+use Rattle.lexical_literal.proofs.OneCauseLemmas.{one_refusal}
 
 -- What holds of some value of an option holds of the value that it is.
 some_of : {X : Type 0} (P : X → Type 0) (o : Option X) → IsSomeAnd o P → (x : X) × (o ≡ Some x) × P x
@@ -74,6 +79,55 @@ error_up_to g text error (inr is) = subst (IsValidUpTo (notation_of g) text) (sy
   };
   no_longer = λ more longer within _. absurd (omega (arith, longer, within));
 })
+
+-- An error of the form that goes furthest says how far this is.
+pub error_is : (g : Grammar) (text : List ℕ) (size : ℕ) (error : Refusal) → IsValidUpTo (notation_of g) text size → IsError g text error
+    → size ≡ error.valid_up_to
+error_is g text size error valid is =
+    let reached = error_up_to g text error is in
+    let up = one_size (notation_of g) text size error.valid_up_to valid reached in
+    let down = one_size (notation_of g) text error.valid_up_to size reached valid in omega (arith, up, down)
+
+-- What is missing is not a wrong byte.
+no_byte : (m : Notation) (front : List ℕ) (kind : ReadErrorKind) (blamed : Flag → Bool) → IsCause m front None kind blamed → is_byte kind ≡ false
+no_byte m front causes.Byte blamed is = absurd is
+no_byte m front _ blamed is = refl
+
+module _ (g : Grammar) (text : List ℕ) where
+  -- The error of a literal that is not in groups has the reach of one at the end.
+  at_end : (a b : Refusal) → IsRefusal (notation_of g) text a → IsUngrouped g text b → reach a ≡ reach b
+  at_end a b one two =
+      let up = one_size (notation_of g) text b.valid_up_to a.valid_up_to (error_up_to g text b (inr two)) one.valid_up_to in
+      let end = slice_get_past text a.valid_up_to (omega (arith, up, two.valid_up_to)) in
+      let cause = subst (λ next. IsCause (notation_of g) (take a.valid_up_to text) next a.kind (raw a.mask).flag) end one.cause in
+      let none = no_byte _ _ _ _ cause in let within = one.valid_up_to.within in
+      let size : a.valid_up_to ≡ b.valid_up_to = omega (arith, up, within, two.valid_up_to) in rw (none, two.kind, size) refl
+
+  -- All errors of a text have the same reach.
+  one_reach : (a b : Refusal) → IsError g text a → IsError g text b → reach a ≡ reach b
+  one_reach a b (inl one) (inl two) = ap reach (one_refusal (notation_of g) text a b one two)
+  one_reach a b (inl one) (inr two) = at_end a b one two
+  one_reach a b (inr one) (inl two) = sym (at_end b a two one)
+  one_reach a b (inr one) (inr two) = rw (one.kind, two.kind, one.valid_up_to, two.valid_up_to) refl
+
+  reach_within : (error : Refusal) → reach error ≤ 2 * error.valid_up_to + 1
+  reach_within error = go (is_byte error.kind) where
+    go : (b : Bool) → 2 * error.valid_up_to + (if b then 0 else 1) ≤ 2 * error.valid_up_to + 1
+    go true = omega arith
+    go false = omega arith
+
+  -- The reach of a form that goes up to `size`, or less far.
+  pub reach_up_to : (size : ℕ) → ((other : ℕ) → GoesTo text g other → other ≤ size) → (n : ℕ) → Reaches text g n → n ≤ 2 * size + 1
+  reach_up_to size up n is = omega (arith, up is.0.valid_up_to (error_up_to g text is.0 is.1), reach_within is.0, is.2)
+
+  pub reach_below : (size : ℕ) → ((other : ℕ) → GoesTo text g other → other < size) → (n : ℕ) → Reaches text g n → n < 2 * size
+  reach_below size up n is = omega (arith, up is.0.valid_up_to (error_up_to g text is.0 is.1), reach_within is.0, is.2)
+
+  -- Its reach is that of its error.
+  pub reach_of : (error : Refusal) (size : ℕ) (b : Bool) → IsError g text error → IsValidUpTo (notation_of g) text size → is_byte error.kind ≡ b
+      → (n : ℕ) → Reaches text g n → n ≡ 2 * size + (if b then 0 else 1)
+  reach_of error size b is valid byte n other =
+      sym other.2 ∙ one_reach other.0 error other.1 is ∙ rw (byte, ← error_is g text size error valid is) refl
 
 -- `Measure X` has what is compared: values with a size. It tells which sizes and values a form has, and whether it has none.
 pub record Measure (X : Type 0) : Type 1 where
@@ -184,10 +238,58 @@ module _ (forms : List Grammar) (text : List ℕ) (i : ℕ) (end : length forms 
   pub all_tried : (P : Grammar → Type 0) → All P (take i forms) → All P forms
   all_tried P all = subst (All P) (take_all i forms end) all
 
--- An error of the form that goes furthest says how far this is.
-pub error_is : (g : Grammar) (text : List ℕ) (size : ℕ) (error : Refusal) → IsValidUpTo (notation_of g) text size → IsError g text error
-    → size ≡ error.valid_up_to
-error_is g text size error valid is =
-    let reached = error_up_to g text error is in
-    let up = one_size (notation_of g) text size error.valid_up_to valid reached in
-    let down = one_size (notation_of g) text error.valid_up_to size reached valid in omega (arith, up, down)
+-- The form that goes furthest, where a list of readers has the reader `g`.
+pub furthest_at : (forms readers : List Grammar) (text : List ℕ) (furthest : Option (ℕ × Stop)) (first : ℕ) (stop : Stop) → readers ≡ forms
+    → furthest ≡ Some (first, stop) → IsFurthestForm forms text furthest → (g : Grammar) → g ≡ get_or readers first g
+    → IsGreatest (GoesTo text) readers first stop.size × (slice_get readers first ≡ Some g) × IsStopped (notation_of g) text stop
+furthest_at forms readers text furthest first stop same is best g at =
+    let b = subst (IsFurthestForm readers text) is (subst (λ l. IsFurthestForm l text furthest) (sym same) best) in
+    let form = form_at (λ g. IsStopped (notation_of g) text stop) readers readers g first refl at b.1 in
+    (b.0, form.0, form.1)
+
+-- The forms that go up to `size`, of which `first` is the first.
+module _ (forms : List Grammar) (text : List ℕ) (first size : ℕ) (furthest : IsGreatest (GoesTo text) forms first size) where
+  -- `IsNoBetter g` holds if no error of the form `g` goes further than one that goes up to `size` and whose cause is a wrong byte.
+  abbrev pub IsNoBetter : Grammar → Type 0
+  IsNoBetter g = (n : ℕ) → Reaches text g n → n ≤ 2 * size
+
+  pub none_before : All IsNoBetter (take first forms)
+  none_before k d below n reaches = let less = reach_below _ text size (furthest.before k d below) n reaches in omega (arith, less)
+
+  pub at_byte : (g : Grammar) (error : Refusal) → IsError g text error → IsValidUpTo (notation_of g) text size → is_byte error.kind ≡ true → IsNoBetter g
+  at_byte g error is valid byte n reaches = omega (arith, reach_of g text error size true is valid byte n reaches)
+
+  pub elsewhere : (form : ℕ) (g : Grammar) (other : ℕ) → slice_get forms form ≡ Some g → IsValidUpTo (notation_of g) text other → (other ≡ size → ⊥)
+      → IsNoBetter g
+  elsewhere form g other at valid apart n reaches =
+      let up = all_at (λ g. (other : ℕ) → GoesTo text g other → other ≤ size) forms form g at furthest.others other valid in
+      let other_is : other < size = grind (arith, nat_tests) in
+      let less = reach_below g text size (λ k goes. let most = one_size (notation_of g) text k other goes valid in omega (arith, most, other_is)) n reaches in
+      omega (arith, less)
+
+  -- The error of a form that goes up to `size`.
+  module _ (form : ℕ) (g : Grammar) (error : Explained) (at : slice_get forms form ≡ Some g) (is : IsError g text error.refusal)
+      (valid : IsValidUpTo (notation_of g) text size) where
+    error_from : All (λ g. (n : ℕ) → Reaches text g n → n < reach error.refusal) (take form forms)
+        → All (λ g. (n : ℕ) → Reaches text g n → n ≤ reach error.refusal) forms → IsFormError forms text (record { form = form; error = error })
+    error_from before others = record {
+      furthest = record {
+        here = subst (λ o. IsSomeAnd o (λ g. Reaches text g (reach error.refusal))) (sym at) (error.refusal, is, refl);
+        before = before;
+        others = others;
+      };
+      refusal = subst (λ o. IsSomeAnd o (λ g. IsError g text error.refusal)) (sym at) is;
+    }
+
+    pub other_error : is_byte error.refusal.kind ≡ false → All IsNoBetter (take form forms) → IsFormError forms text (record { form = form; error = error })
+    other_error right before =
+        let size_is = reach_of g text error.refusal size false is valid right (reach error.refusal) (error.refusal, is, refl) in error_from
+        (λ k d below n reaches. let less = before k d below n reaches in omega (arith, less, size_is))
+        (λ k d below n reaches. let less = reach_up_to _ text size (furthest.others k d below) n reaches in omega (arith, less, size_is))
+
+    pub first_error : form ≡ first → is_byte error.refusal.kind ≡ true → All IsNoBetter forms → IsFormError forms text (record { form = form; error = error })
+    first_error same byte others =
+        let size_is = reach_of g text error.refusal size true is valid byte (reach error.refusal) (error.refusal, is, refl) in error_from
+        (subst (λ k. All (λ g. (n : ℕ) → Reaches text g n → n < reach error.refusal) (take k forms)) (sym same)
+        (λ k d below n reaches. let less = reach_below _ text size (furthest.before k d below) n reaches in omega (arith, less, size_is)))
+        (λ k d below n reaches. let less = others k d below n reaches in omega (arith, less, size_is))

@@ -22,3 +22,4 @@ mod PartOfLemmas
 mod OneCauseLemmas
 mod FormLemmas
 mod GroupLemmas
+mod SpanLemmas

@@ -11,7 +11,7 @@ use Rattle.lexical_util.specs.Record.{raw}
 use Rattle.lexical_util.specs.declared.format_flags.Part.{Part}
 use Rattle.lexical_literal.specs.Notation.{Notation, has}
 use Rattle.lexical_literal.specs.Cause.{IsCause, IsRefusal, IsSeparator, IsUnmet, SameBlame, error_of, first_unmet, is_at, lowest, marks_of}
-use Rattle.lexical_literal.specs.Cause.{span_of}
+use Rattle.lexical_literal.specs.Cause.{span_of, tail_of}
 use Rattle.lexical_literal.specs.Front.{IsValidUpTo}
 use Rattle.lexical_literal.specs.declared.cause.ReadErrorKind.{ReadErrorKind}
 use Rattle.lexical_literal.specs.declared.cause.ReadErrorKind.TheVariants as causes
@@ -95,6 +95,7 @@ module _ (m : Notation) (text : List ℕ) where
       λ j. record {
         valid_up_to = size j;
         byte = byte j;
+        tail = (one.tail ∙ ap (tail_of text) size ∙ sym two.tail) j;
         kind = same.kind j;
         mask = mask j;
         conditions = unmet j;

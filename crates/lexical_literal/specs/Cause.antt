@@ -1,5 +1,5 @@
 -- Why a text is not a literal: the cause, the flags and conditions that are to blame, and the bytes to show.
-use Rattle.std.specs.Prelude.{ℕ, ◌≡◌, ◌+◌, ◌==◌, ◌&&◌, ◌↔◌, ◌⊎◌, ◌||◌, not, Bool, true, false, if◌then◌else◌, IsTrue, List, [], ◌∷◌, ◌++◌, length, take}
+use Rattle.std.specs.Prelude.{ℕ, ◌≡◌, ◌+◌, ◌==◌, ◌&&◌, ◌↔◌, ◌⊎◌, ◌||◌, not, Bool, true, false, if◌then◌else◌, IsTrue, List, [], ◌∷◌, ◌++◌, drop, length, nat_lt, take}
 use Rattle.std.specs.Prelude.{slice_get, Option, Some, None}
 use Rattle.std.specs.Int.{w128, trailing_zeros}
 use Rattle.std.specs.List.{find, list_any}
@@ -217,12 +217,13 @@ abbrev pub lowest : ℕ → Flag
 lowest mask = flag_at (trailing_zeros w128 mask)
 
 -- `marks_of m front` has what spans and errors are made of: the length of `front`, the index behind the last byte that is
--- neither a separator nor a sign, the index of the first digit, and the index behind the last byte that is no separator.
+-- neither a separator nor a sign, the index of the first digit, and the index behind the last byte that is no separator,
+-- which is also the third if there is no digit.
 abbrev pub marks_of : Notation → List ℕ → Marks
 marks_of m front = record {
   size = length front;
   exponent = behind (λ byte. not (m.separator byte || signs byte)) front;
-  first = first_in (m.digit parts.Integer) front;
+  first = first_in (m.digit parts.Integer) (take (behind (λ byte. not (m.separator byte)) front) front);
   run = behind (λ byte. not (m.separator byte)) front;
 }
 
@@ -231,24 +232,29 @@ abbrev pub is_in : ByteSet → Option ℕ → Bool
 is_in A None = false
 is_in A (Some byte) = A byte
 
+-- `wrong_end k next` is the index behind the wrong byte `next`, or the end of the text if bytes are missing.
+abbrev pub wrong_end : Marks → Option ℕ → ℕ
+wrong_end k None = k.size
+wrong_end k (Some byte) = k.size + 1
+
 -- `requirement_span f m k next` has the first index and the end of the bytes to show for the flag `f`: what follows the
 -- exponent character, the integer digits, the sign or the exponent character, or none.
 abbrev pub requirement_span : Flag → Notation → Marks → Option ℕ → ℕ × ℕ
 requirement_span layout.required_exponent_digits m k next = (k.exponent, k.size)
-requirement_span layout.no_integer_leading_zeros m k next = (k.first, if is_in (m.digit parts.Integer) next then k.size + 1 else k.run)
-requirement_span layout.no_float_leading_zeros m k next = (k.first, if is_in (m.digit parts.Integer) next then k.size + 1 else k.run)
-requirement_span layout.no_positive_mantissa_sign m k next = (k.size, k.size + 1)
-requirement_span layout.no_exponent_notation m k next = (k.size, k.size + 1)
-requirement_span layout.no_positive_exponent_sign m k next = (k.size, k.size + 1)
-requirement_span layout.no_exponent_without_fraction m k next = (k.size, k.size + 1)
+requirement_span layout.no_integer_leading_zeros m k next = (k.first, if is_in (m.digit parts.Integer) next then wrong_end k next else k.run)
+requirement_span layout.no_float_leading_zeros m k next = (k.first, if is_in (m.digit parts.Integer) next then wrong_end k next else k.run)
+requirement_span layout.no_positive_mantissa_sign m k next = (k.size, wrong_end k next)
+requirement_span layout.no_exponent_notation m k next = (k.size, wrong_end k next)
+requirement_span layout.no_positive_exponent_sign m k next = (k.size, wrong_end k next)
+requirement_span layout.no_exponent_without_fraction m k next = (k.size, wrong_end k next)
 requirement_span _ m k next = (k.size, k.size)
 
--- `condition_span c k` has the first index and the end of the bytes to show for the condition `c`: none, where the prefix
+-- `condition_span c k next` has the first index and the end of the bytes to show for the condition `c`: none, where the prefix
 -- belongs or at the end, or the sign.
-abbrev pub condition_span : Condition → Marks → ℕ × ℕ
-condition_span conditions.BasePrefix k = (k.first, k.first)
-condition_span conditions.BaseSuffix k = (k.size, k.size)
-condition_span conditions.NegativeSign k = (k.size, k.size + 1)
+abbrev pub condition_span : Condition → Marks → Option ℕ → ℕ × ℕ
+condition_span conditions.BasePrefix k next = (k.first, k.first)
+condition_span conditions.BaseSuffix k next = (k.size, k.size)
+condition_span conditions.NegativeSign k next = (k.size, wrong_end k next)
 
 -- `first_unmet mask unmet` is the first of the conditions `unmet` if no flag of `mask` is to blame, and `None` otherwise.
 abbrev pub first_unmet : ℕ → Conditions → Option Condition
@@ -258,11 +264,11 @@ first_unmet mask unmet = if mask == 0 then find (has unmet) all_conditions else 
 -- its first condition `c` if no flag is to blame.
 abbrev pub span_of : Notation → Marks → Option ℕ → ReadErrorKind → Flag → Option Condition → ℕ × ℕ
 span_of m k next causes.Requirement f None = requirement_span f m k next
-span_of m k next causes.Requirement f (Some c) = condition_span c k
-span_of m k next (causes.Separator part places.Consecutive) f c = (k.size, k.size + 1)
-span_of m k next (causes.Separator part place) f c = (k.run, if is_in m.separator next then k.size + 1 else k.size)
+span_of m k next causes.Requirement f (Some c) = condition_span c k next
+span_of m k next (causes.Separator part places.Consecutive) f c = (k.size, wrong_end k next)
+span_of m k next (causes.Separator part place) f c = (k.run, if is_in m.separator next then wrong_end k next else k.size)
 span_of m k next (causes.Missing part) f c = (k.size, k.size)
-span_of m k next _ f c = (k.size, k.size + 1)
+span_of m k next _ f c = (k.size, wrong_end k next)
 
 -- `requirement_error f m start size` is the error for the flag `f`.
 abbrev pub requirement_error : Flag → Notation → ℕ → ℕ → Error
@@ -288,16 +294,31 @@ error_of m k causes.Requirement f (Some conditions.NegativeSign) start = errors.
 error_of m k (causes.Missing parts.Integer) f c start = if k.run == k.size then errors.Empty start else errors.InvalidDigit start
 error_of m k _ f c start = errors.InvalidDigit start
 
+-- `tail_size byte` is the number of bytes that follow `byte` in its character, if it begins one in UTF-8.
+abbrev pub tail_size : Option ℕ → ℕ
+tail_size None = 0
+tail_size (Some byte) =
+    if nat_lt byte 0xC2 then 0
+    else if nat_lt byte 0xE0 then 1
+    else if nat_lt byte 0xF0 then 2
+    else if nat_lt byte 0xF5 then 3
+    else 0
+
+-- `tail_of text index` has three numbers: the bytes of `text` that follow the one at `index` in its character, and then zeros.
+abbrev pub tail_of : List ℕ → ℕ → List ℕ
+tail_of text index = take 3 (take (tail_size (slice_get text index)) (drop (index + 1) text) ++ 0 ∷ 0 ∷ 0 ∷ [])
+
 -- `Explained` is an error as contracts see it: its answers, and where reading stopped, of which they are made.
 pub record Explained : Type 0 where
   pub refusal : Refusal
   pub spot : Spot
 
--- `IsRefusal m text error` holds if `error` says how far `text` is right, which byte cannot follow, why `text` is not a
--- literal, which bytes to show, and which error `lexical-util` has for this.
+-- `IsRefusal m text error` holds if `error` says how far `text` is right, which byte cannot follow, and the rest of its
+-- character, why `text` is not a literal, which bytes to show, and which error `lexical-util` has for this.
 pub record IsRefusal (m : Notation) (text : List ℕ) (error : Refusal) : Type 0 where
   pub valid_up_to : IsValidUpTo m text error.valid_up_to
   pub byte : error.byte ≡ slice_get text error.valid_up_to
+  pub tail : error.tail ≡ tail_of text error.valid_up_to
   pub cause : IsCause m (take error.valid_up_to text) (slice_get text error.valid_up_to) error.kind (raw error.mask).flag
   pub groups : error.conditions.integer_group_size ≡ None
   pub conditions : (c : Condition) → IsTrue (has error.conditions c) ↔ IsUnmet m (take error.valid_up_to text) (slice_get text error.valid_up_to) c

@@ -1,10 +1,13 @@
 -- Several forms of one language: which form has a text, and which error a text has that is of no form.
-use Rattle.std.specs.Prelude.{ℕ, ◌<◌, ◌≤◌, ◌⊎◌, IfErr, IfOk, IsErr, IsSomeAnd, List, Result, All, slice_get, take}
-use Rattle.lexical_literal.specs.Front.{IsValidUpTo, ReadsFront}
+use Rattle.std.specs.Prelude.{ℕ, ◌≡◌, ◌+◌, ◌*◌, ◌<◌, ◌≤◌, ◌⊎◌, Bool, true, false, if◌then◌else◌, IfErr, IfOk, IsErr, IsSomeAnd, List, Result, All, slice_get, take}
+use Rattle.lexical_literal.specs.Front.{ReadsFront}
 use Rattle.lexical_literal.specs.Literal.{Literal}
 use Rattle.lexical_literal.specs.Notation.{notation_of}
 use Rattle.lexical_literal.specs.Parts.{literal_of}
 use Rattle.lexical_literal.specs.Takes.{AreGroups, IsError, IsUngroupedFront, NoFront, Refuses, Takes}
+use Rattle.lexical_literal.specs.declared.cause.ReadErrorKind.{ReadErrorKind}
+use Rattle.lexical_literal.specs.declared.cause.ReadErrorKind.TheVariants as causes
+use Rattle.lexical_literal.specs.declared.cause.Refusal.{Refusal}
 use Rattle.lexical_literal.specs.declared.list.FormError.{FormError}
 use Rattle.lexical_literal.specs.declared.number.FormFront.{FormFront}
 use Rattle.lexical_literal.specs.declared.number.FormParts.{FormParts}
@@ -23,19 +26,28 @@ pub record IsGreatest (P : Grammar → ℕ → Type 0) (forms : List Grammar) (f
   pub before : All (λ g. (other : ℕ) → P g other → other < size) (take form forms)
   pub others : All (λ g. (other : ℕ) → P g other → other ≤ size) forms
 
--- `GoesTo text g size` holds if some literal of the form `g`, apart from its groups, begins with the first `size` bytes of
--- `text`, and none with more.
-abbrev pub GoesTo : List ℕ → Grammar → ℕ → Type 0
-GoesTo text g size = IsValidUpTo (notation_of g) text size
+-- `is_byte kind` is true if the cause is a wrong byte.
+abbrev pub is_byte : ReadErrorKind → Bool
+is_byte causes.Byte = true
+is_byte _ = false
+
+-- `reach error` is twice the number of bytes that are right, and 1 more unless the cause is a wrong byte.
+abbrev pub reach : Refusal → ℕ
+reach error = 2 * error.valid_up_to + (if is_byte error.kind then 0 else 1)
+
+-- `Reaches text g n` holds if an error of `text` in the form `g` has the reach `n`.
+abbrev pub Reaches : List ℕ → Grammar → ℕ → Type 0
+Reaches text g n = (error : Refusal) × IsError g text error × (reach error ≡ n)
 
 -- `HasFront text g size` holds if the longest front of `text` that is a literal of the form `g`, apart from its
 -- groups, has `size` bytes.
 abbrev pub HasFront : List ℕ → Grammar → ℕ → Type 0
 HasFront text g size = (l : Literal) × ReadsFront (notation_of g) l text size
 
--- `IsFormError forms text error` holds if `error` is that of the form that goes furthest in `text`, the first of equals.
+-- `IsFormError forms text error` holds if `error` is that of the form that goes furthest in `text`. Of several, it is the first
+-- whose cause is not a wrong byte, or the first if the cause of each is one.
 pub record IsFormError (forms : List Grammar) (text : List ℕ) (error : FormError) : Type 0 where
-  pub furthest : IsGreatest (GoesTo text) forms error.form error.error.refusal.valid_up_to
+  pub furthest : IsGreatest (Reaches text) forms error.form (reach error.error.refusal)
   pub refusal : IsSomeAnd (slice_get forms error.form) (λ g. IsError g text error.error.refusal)
 
 -- `IsReadByForms forms text result` holds if `result` has the first form that takes `text`, with the parts, or the error of a

@@ -1,6 +1,6 @@
 -- What a syntax takes: the literals of its notation whose integers are in groups, if it requires this, and why another text is
 -- refused.
-use Rattle.std.specs.Prelude.{ℕ, ◌≡◌, ◌≤◌, ◌+◌, ◌⊎◌, IsTrue, List, Some, None, false, length, take}
+use Rattle.std.specs.Prelude.{ℕ, ◌≡◌, ◌≤◌, ◌+◌, ◌⊎◌, IsTrue, List, [], ◌∷◌, Some, None, false, length, take}
 use Rattle.lexical_util.specs.declared.error.Error.TheVariants as errors
 use Rattle.lexical_literal.specs.Cause.{IsRefusal}
 use Rattle.lexical_literal.specs.Front.{NoLiteral, ReadsFront}
@@ -37,6 +37,7 @@ pub record IsUngrouped (g : Grammar) (text : List ℕ) (error : Refusal) : Type 
   pub group : IsFirstWrongGroup (notation_of g).separator size literal.integer start end
   pub valid_up_to : error.valid_up_to ≡ length text
   pub byte : error.byte ≡ None
+  pub tail : error.tail ≡ 0 ∷ 0 ∷ 0 ∷ []
   pub kind : error.kind ≡ causes.Requirement
   pub mask : error.mask ≡ 0
   pub conditions : error.conditions ≡ record no_conditions { integer_group_size = Some size }

@@ -9,6 +9,7 @@ ghost use Rattle.lexical_literal.specs.Additions.Explained.{alone, blame, cases,
 ghost use Rattle.lexical_literal.specs.Additions.Explained.{ungrouped_of, unmet, zeros};
 ghost use Rattle.lexical_literal.specs.Additions.Summary.{byte_class, in_part};
 ghost use Rattle.lexical_literal.specs.Cause.{adding, bare, binds, case_set, first_unmet, is_same, with_rules};
+ghost use Rattle.lexical_literal.specs.Forms.{is_byte};
 ghost use Rattle.lexical_literal.specs.Notation.{has, notation_of};
 ghost use Rattle.lexical_literal.specs.declared.tables.TheConstants.{ROWS};
 
@@ -73,11 +74,12 @@ pub struct Spot {
     pub(crate) is_ungrouped: bool,
 }
 
-// What an error answers.
+// What an error answers. `tail` has the bytes that follow `byte` in its character, or 0 for each that does not.
 #[derive(Clone, Copy)]
 pub struct Refusal {
     pub(crate) valid_up_to: usize,
     pub(crate) byte: Option<u8>,
+    pub(crate) tail: [u8; 3],
     pub(crate) kind: ReadErrorKind,
     pub(crate) mask: u128,
     pub(crate) conditions: Conditions,
@@ -176,6 +178,13 @@ impl ReadError {
         self.explain().code
     }
 
+    // Returns whether the cause is a wrong byte.
+    pub(crate) const fn is_byte(&self) -> bool
+        ensures { result ≡ is_byte self.now.refusal.kind }
+    {
+        !self.spot.is_ungrouped && self.spot.is_byte()
+    }
+
     // Returns all answers. It finds the cause once.
     pub(crate) const fn explain(&self) -> Refusal
         ensures { result ≡ self.now.refusal }
@@ -189,6 +198,19 @@ impl ReadError {
 }
 
 impl Spot {
+    // Returns whether the cause is a wrong byte where no literal goes on. It takes less time than all answers.
+    const fn is_byte(self) -> bool
+        requires { self.row < ROWS }
+        ensures { result ≡ is_byte (refusal_of (notation_of self.grammar) self).kind }
+    {
+        let stop = Stop {
+            grammar: self.grammar,
+            read: summary_at(self.row),
+            byte: self.byte,
+        };
+        matches!(stop.blame().kind, ReadErrorKind::Byte)
+    }
+
     // Returns the answers of a text whose integer is not in groups.
     const fn ungrouped(self) -> Refusal
         ensures { result ≡ ungrouped_of self }
@@ -199,9 +221,11 @@ impl Spot {
             run,
             ..
         } = self.marks;
+        let tail = self.tail;
         Refusal {
             valid_up_to: size,
             byte: self.byte,
+            tail,
             kind: ReadErrorKind::Requirement,
             mask: 0,
             conditions: Conditions {
@@ -225,6 +249,7 @@ impl Spot {
         let Spot {
             grammar,
             byte,
+            tail,
             marks,
             ..
         } = self;
@@ -241,6 +266,7 @@ impl Spot {
         Refusal {
             valid_up_to: marks.size,
             byte,
+            tail,
             kind,
             mask,
             conditions,

@@ -1,6 +1,6 @@
 //! Theorems on literals. Each is a clause of a function with an empty body.
 
-ghost use Rattle.std.specs.Prelude.{◌≡◌, ◌≢◌, ◌↔◌, ◌&&◌, ◌||◌, ◌∷◌, ℕ, Bool, IsFalse, IsTrue, List, Option, not};
+ghost use Rattle.std.specs.Prelude.{◌≡◌, ◌≢◌, ◌≤◌, ◌↔◌, ◌⊎◌, ◌&&◌, ◌||◌, ◌∷◌, ℕ, Bool, IsFalse, IsTrue, List, Option, length, not};
 ghost use Rattle.lexical_util.specs.Layout as layout;
 ghost use Rattle.lexical_util.specs.Layout.{Flag};
 ghost use Rattle.lexical_util.specs.NormalForm.{normal_form_of};
@@ -10,6 +10,7 @@ ghost use Rattle.lexical_literal.specs.Literal.{Literal, Reads, condition, requi
 ghost use Rattle.lexical_literal.specs.Notation.{Notation, has, notation_of};
 ghost use Rattle.lexical_literal.specs.Readings.{AllIn, PartsHaveRoles};
 ghost use Rattle.lexical_literal.specs.Syntax.{IsSyntax};
+ghost use Rattle.lexical_literal.specs.Takes.{IsError, IsFrontError};
 ghost use Rattle.lexical_literal.specs.declared.cause.ReadErrorKind.{ReadErrorKind};
 ghost use Rattle.lexical_literal.specs.declared.cause.Refusal.{Refusal};
 ghost use Rattle.lexical_literal.specs.declared.syntax.Condition.{Condition};
@@ -46,6 +47,10 @@ pub fn literal_facts()
 
     // A text has one refusal: each answer of its error is determined.
     ensures one_refusal { (m : Notation) → (text : List ℕ) → (a b : Refusal) → IsRefusal m text a → IsRefusal m text b → a ≡ b }
+
+    // The bytes to show for a text that is refused are bytes of the text.
+    ensures span { (g : Grammar) → (text : List ℕ) → (error : Refusal) → IsError g text error ⊎ IsFrontError g text error
+        → (error.start ≤ error.end) × (error.end ≤ length text) }
 
     // A literal is as each flag that is set requires.
     ensures requirements { (g : Grammar) → (l : Literal) → (text : List ℕ) → Reads (notation_of g) l text

@@ -26,7 +26,8 @@ impl<'a> Model for ReaderList<'a> {
     ghost invariant = { λ list. 0 < length list.readers.now };
 }
 
-/// Why a text is not a number of any form: the error of the form that goes furthest in the text, the first of equals.
+/// Why a text is not a number of any form: the error of the form that goes furthest in the text. Of several, it is the
+/// first whose cause is not a wrong byte, or the first if the cause of each is one.
 #[derive(Debug, Clone, Copy, PartialEq, Eq, Hash)]
 pub struct FormError {
     /// The index of the form.
@@ -107,17 +108,32 @@ impl<'a> ReaderList<'a> {
         }
     }
 
-    // Returns why `text` is not a literal of the form that goes furthest.
+    // Returns why `text` is not a literal of the form that goes furthest, or, if the cause is a wrong byte, of the first that
+    // goes as far and has another cause.
+    #[cold]
     fn refuse(&self, text: &[u8], furthest: Option<(usize, Stop)>) -> FormError
         requires furthest { IsFurthestForm self.now text.now furthest }
         requires none { All (λ g. Refuses g text.now) self.now }
         ensures { IsFormError self.now text.now result }
     {
-        let Some((form, stop)) = furthest else {
+        let Some((first, stop)) = furthest else {
             unreachable!()
         };
-        let error = self.readers()[form].refuse(text, stop);
-        FormError { form, error }
+        let readers = self.readers();
+        let error = readers[first].refuse(text, stop);
+        let mut form = first + 1;
+        while form < readers.len() {
+            let reader = &readers[form];
+            let reached = reader.scan(text, false).stop;
+            if reached.size == stop.size {
+                let other = reader.refuse(text, reached);
+                if !other.is_byte() && error.is_byte() {
+                    return FormError { form, error: other };
+                }
+            }
+            form += 1;
+        }
+        FormError { form: first, error }
     }
 }
 

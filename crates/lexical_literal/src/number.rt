@@ -83,8 +83,8 @@ impl<'r> ReaderList<'r> {
     ///
     /// # Errors
     ///
-    /// If `text` is not a literal of any form, returns the error of the form for which most of it is right, the first of
-    /// equals.
+    /// If `text` is not a literal of any form, returns the error of the form for which most of it is right. Of several, it is
+    /// the first whose cause is not a wrong byte, or the first if the cause of each is one.
     pub fn read<'a>(&self, text: &'a [u8]) -> Result<FormParts<'a>, FormError>
         ensures { IsReadByForms self.now text.now result }
     {

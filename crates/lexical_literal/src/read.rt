@@ -1,12 +1,12 @@
 //! How literals are found, and the lengths of their parts.
 
 ghost use Rattle.std.specs.Prelude.{◌≡◌, ◌++◌, ◌∷◌, ◌<◌, ◌≤◌, Bool, ℕ, List, [], false, length, slice_get, take};
-ghost use Rattle.lexical_literal.specs.Additions.Explained.{tail_byte, tail_size};
+ghost use Rattle.lexical_literal.specs.Additions.Explained.{tail_byte};
 ghost use Rattle.lexical_literal.specs.Additions.Longest.{IsCountedFront, IsFronted, IsGrouped, IsMeasured, IsScanned, IsStopped};
 ghost use Rattle.lexical_literal.specs.Additions.Summary.{HasLengths, is_complete};
 ghost use Rattle.lexical_literal.specs.Additions.Causes.{lets};
 ghost use Rattle.lexical_literal.specs.Additions.Tables.{cuts_of, summary_at};
-ghost use Rattle.lexical_literal.specs.Cause.{IsRefusal};
+ghost use Rattle.lexical_literal.specs.Cause.{IsRefusal, tail_of, tail_size};
 ghost use Rattle.lexical_literal.specs.Literal.{Literal, Reads, text_of};
 ghost use Rattle.lexical_literal.specs.Notation.{notation_of};
 ghost use Rattle.lexical_literal.specs.Parts.{literal_of};
@@ -313,9 +313,9 @@ const fn tail_size(byte: Option<u8>) -> usize
 
 // Returns the bytes that follow `byte`, the one behind the first `size`, in its character, and 0 for each that does not.
 const fn tail_at(text: &[u8], size: usize, byte: Option<u8>) -> [u8; 3]
-    requires { size ≤ length text.now }
-    ensures { let tail = tail_size byte in
-        result ≡ tail_byte text.now size tail 1 ∷ tail_byte text.now size tail 2 ∷ tail_byte text.now size tail 3 ∷ [] }
+    requires size { size ≤ length text.now }
+    requires byte { byte ≡ slice_get text.now size }
+    ensures { result ≡ tail_of text.now size }
 {
     let tail = tail_size(byte);
     [

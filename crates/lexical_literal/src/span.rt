@@ -3,10 +3,11 @@
 ghost use Rattle.std.specs.Prelude.{◌≡◌, ◌<◌, ◌^◌};
 ghost use Rattle.lexical_literal.specs.Additions.Causes.{kind_set};
 ghost use Rattle.lexical_literal.specs.Cause.{behind, condition_span, error_of, first_in, flag_at, is_in, marks_of, requirement_error};
-ghost use Rattle.lexical_literal.specs.Cause.{requirement_span, span_of};
+ghost use Rattle.lexical_literal.specs.Cause.{requirement_span, span_of, wrong_end};
 ghost use Rattle.lexical_literal.specs.Notation.{notation_of};
 
 use crate::cause::{Marks, Place, ReadErrorKind};
+use crate::read::front_of;
 use crate::steps::is_digit;
 use crate::syntax::{Condition, Grammar};
 use lexical_util::error::Error;
@@ -66,14 +67,26 @@ const fn first(grammar: Grammar, kind: Kind, text: &[u8]) -> usize
 
 // Returns what spans and errors of a text are made of, the right bytes of which are `front`.
 #[inline(always)]
-pub(crate) const fn marks(grammar: Grammar, front: &[u8]) -> Marks
+pub(crate) fn marks(grammar: Grammar, front: &[u8]) -> Marks
     ensures { result ≡ marks_of (notation_of grammar) front.now }
 {
+    let run = behind(grammar, Kind::NotSeparator, front);
     Marks {
         size: front.len(),
         exponent: behind(grammar, Kind::Body, front),
-        first: first(grammar, Kind::Digit, front),
-        run: behind(grammar, Kind::NotSeparator, front),
+        first: first(grammar, Kind::Digit, front_of(front, run)),
+        run,
+    }
+}
+
+// Returns the index behind the byte that cannot follow, or the end of the text if bytes are missing.
+const fn wrong_end(marks: Marks, next: Option<u8>) -> usize
+    requires { marks.size < 2 ^ 63 }
+    ensures { result ≡ wrong_end marks next }
+{
+    match next {
+        None => marks.size,
+        Some(_) => marks.size + 1,
     }
 }
 
@@ -107,25 +120,25 @@ const fn requirement_span(
     requires { marks.size < 2 ^ 63 }
     ensures { result ≡ requirement_span (flag_at number) (notation_of grammar) marks next }
 {
-    let size = marks.size;
+    let (size, end) = (marks.size, wrong_end(marks, next));
     match number {
         2 => (marks.exponent, size),
-        12 | 13 if is_digit_next(grammar, next) => (marks.first, size + 1),
+        12 | 13 if is_digit_next(grammar, next) => (marks.first, end),
         12 | 13 => (marks.first, marks.run),
-        4 | 6 | 7 | 9 => (size, size + 1),
+        4 | 6 | 7 | 9 => (size, end),
         _ => (size, size),
     }
 }
 
 // Returns the first index and the end of the bytes to show for a condition.
-const fn condition_span(marks: Marks, condition: Condition) -> (usize, usize)
+const fn condition_span(marks: Marks, next: Option<u8>, condition: Condition) -> (usize, usize)
     requires { marks.size < 2 ^ 63 }
-    ensures { result ≡ condition_span condition marks }
+    ensures { result ≡ condition_span condition marks next }
 {
     match condition {
         Condition::BasePrefix => (marks.first, marks.first),
         Condition::BaseSuffix => (marks.size, marks.size),
-        Condition::NegativeSign => (marks.size, marks.size + 1),
+        Condition::NegativeSign => (marks.size, wrong_end(marks, next)),
     }
 }
 
@@ -142,16 +155,16 @@ pub(crate) const fn span(
     requires { marks.size < 2 ^ 63 }
     ensures { result ≡ span_of (notation_of grammar) marks next kind (flag_at number) unmet }
 {
-    let size = marks.size;
+    let (size, end) = (marks.size, wrong_end(marks, next));
     match kind {
         ReadErrorKind::Requirement => match unmet {
             None => requirement_span(grammar, marks, next, number),
-            Some(condition) => condition_span(marks, condition),
+            Some(condition) => condition_span(marks, next, condition),
         },
         ReadErrorKind::Separator(_, Place::Consecutive)
         | ReadErrorKind::Case
-        | ReadErrorKind::Byte => (size, size + 1),
-        ReadErrorKind::Separator(_, _) if is_separator_next(grammar, next) => (marks.run, size + 1),
+        | ReadErrorKind::Byte => (size, end),
+        ReadErrorKind::Separator(_, _) if is_separator_next(grammar, next) => (marks.run, end),
         ReadErrorKind::Separator(_, _) => (marks.run, size),
         ReadErrorKind::Missing(_) => (size, size),
     }

@@ -2,6 +2,7 @@
 //! The tests of plain Rust compare more values, with std.
 
 use callers::formats::read_decimal;
+use lexical_literal::list::{FormError, ReaderList};
 use lexical_literal::read::Reader;
 use lexical_literal::syntax::Syntax;
 use lexical_number::integer::Integer;
@@ -25,6 +26,9 @@ const HEXADECIMAL: u128 = 0x0A021000_0000005F_00000201_0000000C;
 const BASE_4: u128 = 0x0A041000_0000005F_00000201_0000000C;
 
 const TERNARY: u128 = 0x03030300_0000005F_00000201_0000000C;
+
+// Hexadecimal, with the prefix `0x` in lower case.
+const PREFIXED: u128 = 0x00001000_78000000_00000000_0001000C;
 
 // Returns the value of an integer.
 fn integer<T: Integer>(word: u128, text: &str) -> Option<Result<T, ParseError>> {
@@ -63,6 +67,22 @@ fn integers_have_values(rt: HostRuntime) {
     );
     assert!(rt; matches!(read_decimal(b"1_000"), Ok(1000)));
     assert!(rt; matches!(read_decimal(b"1.5"), Err(ParseError::Read(_))));
+}
+
+#[test]
+fn an_error_is_that_of_the_form_that_goes_furthest(rt: HostRuntime) -> Result<(), Fail> {
+    let decimal = Format::new(STANDARD).ok().ok_or("a format")?;
+    let prefixed = Format::new(PREFIXED).ok().ok_or("a format")?;
+    let readers = [
+        Reader::new(Syntax::integers(decimal)),
+        Reader::new(Syntax::integers(prefixed)),
+    ];
+    let list = ReaderList::new(&readers).ok_or("readers")?;
+    assert!(rt; matches!(list.read(b"0xZ"), Err(FormError { form: 1, .. })));
+    // Both go as far. The cause is a wrong byte, and the case of the prefix.
+    assert!(rt; matches!(list.read(b"0XF"), Err(FormError { form: 1, .. })));
+    assert!(rt; matches!(list.read(b"0ZF"), Err(FormError { form: 0, .. })));
+    Ok(())
 }
 
 // Returns the bits of both floats of `text`, whose exponent character is `^`.

@@ -21,9 +21,9 @@ IsParsed range g text (Err (errors.Value kind)) =
     (l : Literal) × Takes g l text × IsNoInteger range.least range.largest (raw g.word) l kind
 
 -- `IsParsedFloat f value g text result` holds if `result` is the float of `f` that is nearest to the literal `text`, why
--- `text` is not a literal, or that no literal has a float.
+-- `text` is not a literal, or that it is one, and that no literal has a float.
 abbrev pub IsParsedFloat : {T : Type 0} → Format → (T → Float) → Grammar → List ℕ → Result T ParseError → Type 0
 IsParsedFloat f value g text (Ok x) = (l : Literal) × Takes g l text × (value x ≡ nearest f (raw g.word) l)
 IsParsedFloat f value g text (Err (errors.Read error)) = IsError g text error.refusal
 IsParsedFloat f value g text (Err (errors.Value kind)) =
-    IsFalse (is_decimal (raw g.word) || is_binary (raw g.word)) × (kind ≡ kinds.UnsupportedRadix)
+    (l : Literal) × Takes g l text × IsFalse (is_decimal (raw g.word) || is_binary (raw g.word)) × (kind ≡ kinds.UnsupportedRadix)

@@ -62,11 +62,12 @@ pub struct Spot {
     pub(crate) is_ungrouped: bool,
 }
 
-// What an error answers.
+// What an error answers. `tail` has the bytes that follow `byte` in its character, or 0 for each that does not.
 #[derive(Clone, Copy)]
 pub struct Refusal {
     pub(crate) valid_up_to: usize,
     pub(crate) byte: Option<u8>,
+    pub(crate) tail: [u8; 3],
     pub(crate) kind: ReadErrorKind,
     pub(crate) mask: u128,
     pub(crate) conditions: Conditions,
@@ -136,6 +137,11 @@ impl ReadError {
         self.explain().code
     }
 
+    // Returns whether the cause is a wrong byte.
+    pub(crate) const fn is_byte(&self) -> bool {
+        !self.spot.is_ungrouped && self.spot.is_byte()
+    }
+
     // Returns all answers. It finds the cause once.
     pub(crate) const fn explain(&self) -> Refusal {
         if self.spot.is_ungrouped {
@@ -147,12 +153,20 @@ impl ReadError {
 }
 
 impl Spot {
+    // Returns whether the cause is a wrong byte where no literal goes on. It takes less time than all answers.
+    const fn is_byte(self) -> bool {
+        let stop = Stop { grammar: self.grammar, read: summary_at(self.row), byte: self.byte };
+        matches!(stop.blame().kind, ReadErrorKind::Byte)
+    }
+
     // Returns the answers of a text whose integer is not in groups.
     const fn ungrouped(self) -> Refusal {
         let Marks { size, first, run, .. } = self.marks;
+        let tail = self.tail;
         Refusal {
             valid_up_to: size,
             byte: self.byte,
+            tail,
             kind: ReadErrorKind::Requirement,
             mask: 0,
             conditions: Conditions {
@@ -169,7 +183,7 @@ impl Spot {
 
     // Returns the answers of a text with which no literal goes on.
     const fn refusal(self) -> Refusal {
-        let Spot { grammar, byte, marks, .. } = self;
+        let Spot { grammar, byte, tail, marks, .. } = self;
         let stop = Stop { grammar, read: summary_at(self.row), byte };
         let Blame { kind, mask } = stop.blame();
         let conditions = stop.unmet();
@@ -179,6 +193,7 @@ impl Spot {
         Refusal {
             valid_up_to: marks.size,
             byte,
+            tail,
             kind,
             mask,
             conditions,

@@ -22,17 +22,12 @@ impl ReadError {
     /// so `&text[span]` does not panic for the `str` that was read.
     #[must_use]
     pub const fn span(&self) -> Range<usize> {
-        let Refusal { kind, start, end, .. } = self.explain();
+        let refusal = self.explain();
+        let Refusal { kind, start, end, .. } = refusal;
         match kind {
-            ReadErrorKind::Byte => start..start + first_character(&self.wrong()).len(),
+            ReadErrorKind::Byte => start..start + first_character(&refusal.wrong()).len(),
             _ => start..end,
         }
-    }
-
-    /// Returns the byte that cannot follow, and what may follow it in its character. Other bytes are 0.
-    const fn wrong(&self) -> [u8; 4] {
-        let [second, third, fourth] = self.spot.tail;
-        [if let Some(byte) = self.spot.byte { byte } else { 0 }, second, third, fourth]
     }
 
     /// Returns the edits that end the cause, one for each flag to blame. Each edit that sets a separator flag ends it
@@ -75,7 +70,8 @@ impl ReadError {
     /// ```
     #[must_use]
     pub const fn text(&self) -> ShortText {
-        let Refusal { kind, mask, conditions, .. } = self.explain();
+        let refusal = self.explain();
+        let Refusal { kind, mask, conditions, .. } = refusal;
         if let Some(condition) = first_unmet(mask, conditions) {
             return self.unmet(condition);
         }
@@ -90,8 +86,16 @@ impl ReadError {
                 names(text.and(behind(place)).and(", which requires"), mask, " or ")
             }
             ReadErrorKind::Missing(part) => ShortText::of("expected a digit of the ").and(part.name()),
-            ReadErrorKind::Byte => unexpected(first_character(&self.wrong())),
+            ReadErrorKind::Byte => unexpected(first_character(&refusal.wrong())),
         }
+    }
+}
+
+impl Refusal {
+    /// Returns the byte that cannot follow, and what may follow it in its character. Other bytes are 0.
+    const fn wrong(&self) -> [u8; 4] {
+        let [second, third, fourth] = self.tail;
+        [if let Some(byte) = self.byte { byte } else { 0 }, second, third, fourth]
     }
 }
 

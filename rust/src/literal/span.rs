@@ -4,6 +4,7 @@
 
 use crate::error::Error;
 use crate::literal::cause::{Marks, Place, ReadErrorKind};
+use crate::literal::read::front_of;
 use crate::literal::steps::is_digit;
 use crate::literal::syntax::{Condition, Grammar};
 use crate::word::Part;
@@ -57,11 +58,20 @@ const fn first(grammar: Grammar, kind: Kind, text: &[u8]) -> usize {
 // Returns what spans and errors of a text are made of, the right bytes of which are `front`.
 #[inline(always)]
 pub(crate) const fn marks(grammar: Grammar, front: &[u8]) -> Marks {
+    let run = behind(grammar, Kind::NotSeparator, front);
     Marks {
         size: front.len(),
         exponent: behind(grammar, Kind::Body, front),
-        first: first(grammar, Kind::Digit, front),
-        run: behind(grammar, Kind::NotSeparator, front),
+        first: first(grammar, Kind::Digit, front_of(front, run)),
+        run,
+    }
+}
+
+// Returns the index behind the byte that cannot follow, or the end of the text if bytes are missing.
+const fn wrong_end(marks: Marks, next: Option<u8>) -> usize {
+    match next {
+        None => marks.size,
+        Some(_) => marks.size + 1,
     }
 }
 
@@ -83,22 +93,22 @@ const fn is_separator_next(grammar: Grammar, next: Option<u8>) -> bool {
 
 // Returns the first index and the end of the bytes to show for the flag with the number `number`.
 const fn requirement_span(grammar: Grammar, marks: Marks, next: Option<u8>, number: u32) -> (usize, usize) {
-    let size = marks.size;
+    let (size, end) = (marks.size, wrong_end(marks, next));
     match number {
         2 => (marks.exponent, size),
-        12 | 13 if is_digit_next(grammar, next) => (marks.first, size + 1),
+        12 | 13 if is_digit_next(grammar, next) => (marks.first, end),
         12 | 13 => (marks.first, marks.run),
-        4 | 6 | 7 | 9 => (size, size + 1),
+        4 | 6 | 7 | 9 => (size, end),
         _ => (size, size),
     }
 }
 
 // Returns the first index and the end of the bytes to show for a condition.
-const fn condition_span(marks: Marks, condition: Condition) -> (usize, usize) {
+const fn condition_span(marks: Marks, next: Option<u8>, condition: Condition) -> (usize, usize) {
     match condition {
         Condition::BasePrefix => (marks.first, marks.first),
         Condition::BaseSuffix => (marks.size, marks.size),
-        Condition::NegativeSign => (marks.size, marks.size + 1),
+        Condition::NegativeSign => (marks.size, wrong_end(marks, next)),
     }
 }
 
@@ -112,14 +122,14 @@ pub(crate) const fn span(
     number: u32,
     unmet: Option<Condition>,
 ) -> (usize, usize) {
-    let size = marks.size;
+    let (size, end) = (marks.size, wrong_end(marks, next));
     match kind {
         ReadErrorKind::Requirement => match unmet {
             None => requirement_span(grammar, marks, next, number),
-            Some(condition) => condition_span(marks, condition),
+            Some(condition) => condition_span(marks, next, condition),
         },
-        ReadErrorKind::Separator(_, Place::Consecutive) | ReadErrorKind::Case | ReadErrorKind::Byte => (size, size + 1),
-        ReadErrorKind::Separator(_, _) if is_separator_next(grammar, next) => (marks.run, size + 1),
+        ReadErrorKind::Separator(_, Place::Consecutive) | ReadErrorKind::Case | ReadErrorKind::Byte => (size, end),
+        ReadErrorKind::Separator(_, _) if is_separator_next(grammar, next) => (marks.run, end),
         ReadErrorKind::Separator(_, _) => (marks.run, size),
         ReadErrorKind::Missing(_) => (size, size),
     }

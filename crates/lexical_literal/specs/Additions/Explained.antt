@@ -81,6 +81,7 @@ abbrev pub ungrouped_of : Spot → Refusal
 ungrouped_of spot = record {
   valid_up_to = spot.marks.size;
   byte = spot.byte;
+  tail = spot.tail;
   kind = causes.Requirement;
   mask = 0;
   conditions = record no_conditions { integer_group_size = spot.grammar.conditions.integer_group_size };
@@ -99,6 +100,7 @@ refusal_of m spot =
     let span = span_of m spot.marks spot.byte b.kind f c in record {
       valid_up_to = spot.marks.size;
       byte = spot.byte;
+      tail = spot.tail;
       kind = b.kind;
       mask = b.mask;
       conditions = unmet;
@@ -113,16 +115,6 @@ answers_of spot = if spot.is_ungrouped then ungrouped_of spot else refusal_of (n
 
 abbrev pub explained : Spot → Explained
 explained spot = record { refusal = record (answers_of spot) { valid_up_to = spot.marks.size; byte = spot.byte }; spot = spot }
-
--- `tail_size byte` is the number of bytes that follow `byte` in its character, if it begins one in UTF-8.
-abbrev pub tail_size : Option ℕ → ℕ
-tail_size None = 0
-tail_size (Some byte) =
-    if nat_lt byte 0xC2 then 0
-    else if nat_lt byte 0xE0 then 1
-    else if nat_lt byte 0xF0 then 2
-    else if nat_lt byte 0xF5 then 3
-    else 0
 
 -- `tail_byte text size tail place` is the byte of `text` behind the first `size + place` if `place` is at most `tail`, and 0
 -- where there is none.

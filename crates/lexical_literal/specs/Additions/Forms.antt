@@ -3,7 +3,8 @@ use Rattle.std.specs.Prelude.{ℕ, if◌then◌else◌, nat_lt, IfErr, IfOk, IsE
 use Rattle.lexical_literal.specs.Additions.Longest.{IsCountedFront, IsGroupedFront, IsStopped}
 use Rattle.lexical_literal.specs.Additions.Summary.{HasLengths}
 use Rattle.lexical_literal.specs.Additions.Tables.{cuts_of}
-use Rattle.lexical_literal.specs.Forms.{GoesTo, HasFront, IsFirst, IsFormError, IsFormFrontError, IsGreatest}
+use Rattle.lexical_literal.specs.Forms.{HasFront, IsFirst, IsFormError, IsFormFrontError, IsGreatest}
+use Rattle.lexical_literal.specs.Front.{IsValidUpTo}
 use Rattle.lexical_literal.specs.Literal.{Literal}
 use Rattle.lexical_literal.specs.Notation.{notation_of}
 use Rattle.lexical_literal.specs.Takes.{Refuses}
@@ -45,6 +46,11 @@ pub record IsFoundFrontForm (forms : List Grammar) (text : List ℕ) (result : R
 pub record IsLongestForm (forms : List Grammar) (text : List ℕ) (form : ℕ) (found : Found) : Type 0 where
   pub greatest : IsGreatest (HasFront text) forms form found.size
   pub here : IsSomeAnd (slice_get forms form) (λ g. IsCountedFront (notation_of g) text found)
+
+-- `GoesTo text g size` holds if some literal of the form `g`, apart from its groups, begins with the first `size` bytes of
+-- `text`, and none with more.
+abbrev pub GoesTo : List ℕ → Grammar → ℕ → Type 0
+GoesTo text g size = IsValidUpTo (notation_of g) text size
 
 -- `IsFurthestForm forms text furthest` holds if `furthest` has the index of the form that goes furthest in `text`, the first of
 -- equals, and where it stops.

@@ -5,6 +5,7 @@ use Rattle.lexical_literal.proofs.OneCauseLemmas.{one_cause, one_refusal}
 use Rattle.lexical_literal.proofs.PartLemmas.{parts_have_roles}
 use Rattle.lexical_literal.proofs.RoleLemmas.{ready}
 use Rattle.lexical_literal.proofs.SameLemmas.{same_notation}
+use Rattle.lexical_literal.proofs.SpanLemmas.{span_within}
 use Rattle.lexical_literal.proofs.WriterLemmas.{digits_read, negative_read}
 use Rattle.lexical_literal.proofs.laws.literal_facts.Goals as goal
 
@@ -24,6 +25,9 @@ returns-clause-one_cause c m front next cause other a b = one_cause m front a b 
 
 pub returns-clause-one_refusal : goal.returns-clause-one_refusal
 returns-clause-one_refusal c = one_refusal
+
+pub returns-clause-span : goal.returns-clause-span
+returns-clause-span c = span_within
 
 pub returns-clause-requirements : goal.returns-clause-requirements
 returns-clause-requirements c g l text reads = reads.literal.spelled.requirements

@@ -25,7 +25,8 @@ pub returns-in-Err-to_float-clause-value : goal.returns-in-Err-to_float-clause-v
 returns-in-Err-to_float-clause-value g c =
     let word = c.view.ensures.word ∙ c.format.ensures.word ∙ ap (λ s. s.word) c.syntax-syntax.ensures in
     let supported = c.in-Err-to_float.ensures.supported in
-    (subst (λ w. (is_decimal (raw w) || is_binary (raw w)) ≡ false) word (not_true _ supported.0), c.in-Err-to_float.ensures.error)
+    let unsupported = subst (λ w. (is_decimal (raw w) || is_binary (raw w)) ≡ false) word (not_true _ supported.0) in
+    (literal_of c.in-Ok.parts, c.in-Ok.ensures.found, unsupported, c.in-Err-to_float.ensures.error)
 
 pub returns-in-Some-clause-no_nan : goal.returns-in-Some-clause-no_nan
 returns-in-Some-clause-no_nan g c = not_nan _ _ _ _ _ c.in-Some.ensures.2

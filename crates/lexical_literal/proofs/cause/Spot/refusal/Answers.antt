@@ -21,6 +21,7 @@ returns c =
     λ j. record {
       valid_up_to = spot.marks.size;
       byte = spot.byte;
+      tail = spot.tail;
       kind = kind j;
       mask = mask j;
       conditions = conditions j;

@@ -44,4 +44,4 @@ returns c =
     subst (λ now. IsRefusal (notation_of now) c.args.text.now (refusal_of (notation_of h) (spot h))) c.self.view_is
     (subst (λ h. IsRefusal m c.args.text.now (refusal_of (notation_of h) (spot h))) (sym same)
     (refusal_at g c.args.text.now c.args.stop.row c.tail_at.result c.marks.result size stopped.valid.within stopped.valid is_read refused
-    c.byte_at-byte.result c.byte_at-byte.ensures is_marks))
+    c.byte_at-byte.result c.byte_at-byte.ensures c.tail_at.ensures is_marks))

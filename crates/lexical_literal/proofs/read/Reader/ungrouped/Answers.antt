@@ -63,6 +63,7 @@ returns c =
           c.wrong_group-start.ensures;
       valid_up_to = refl;
       byte = refl;
+      tail = refl;
       kind = refl;
       mask = refl;
       conditions = ap (λ size. record no_conditions { integer_group_size = size }) c.in-Some.is;

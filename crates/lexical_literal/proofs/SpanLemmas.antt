@@ -1,0 +1,96 @@
+-- The bytes to show for a text that is refused are of the text.
+use Rattle.std.proofs.Common.{ℕ, ◌≡◌, ◌≤◌, ◌⊎◌, Bool, not, inl, inr, List, [], ◌∷◌, length, length-append, take, Option, None, Some}
+use Rattle.std.proofs.Common.{if◌then◌else◌, sym, ap, subst, arith}
+use Rattle.std.proofs.lemmas.List.{length-take-le}
+use Rattle.std.proofs.lemmas.Option.{slice_get_within}
+use Rattle.std.specs.Prelude.{slice_get}
+use Rattle.lexical_util.specs.Ascii.{ByteSet}
+use Rattle.lexical_util.specs.Layout as layout
+use Rattle.lexical_util.specs.Layout.{Flag}
+use Rattle.lexical_util.specs.declared.format_flags.Part.TheVariants as parts
+use Rattle.lexical_literal.specs.Cause.{IsRefusal, behind, condition_span, first_in, marks_of, requirement_span, span_of, wrong_end}
+use Rattle.lexical_literal.specs.Notation.{Notation, notation_of}
+use Rattle.lexical_literal.specs.Takes.{IsError, IsFrontError, IsUngrouped}
+use Rattle.lexical_literal.specs.declared.cause.Marks.{Marks}
+use Rattle.lexical_literal.specs.declared.cause.Place.TheVariants as places
+use Rattle.lexical_literal.specs.declared.cause.ReadErrorKind.{ReadErrorKind}
+use Rattle.lexical_literal.specs.declared.cause.ReadErrorKind.TheVariants as causes
+use Rattle.lexical_literal.specs.declared.cause.Refusal.{Refusal}
+use Rattle.lexical_literal.specs.declared.syntax.Condition.{Condition}
+use Rattle.lexical_literal.specs.declared.syntax.Condition.TheVariants as conditions
+use Rattle.lexical_literal.specs.declared.syntax.Grammar.{Grammar}
+
+module _ (A : ByteSet) where
+  pub behind_within : (text : List ℕ) → behind A text ≤ length text
+  behind_within [] = omega arith
+  behind_within (b ∷ text) = let more = behind_within text in grind arith
+
+  first_within : (text : List ℕ) → first_in A text ≤ length text
+  first_within [] = omega arith
+  first_within (b ∷ text) = let more = first_within text in grind arith
+
+-- `AreMarks k` holds if the indexes of `k` are of its text, and the first digit is before the last byte that is no separator.
+record AreMarks (k : Marks) : Type 0 where
+  exponent : k.exponent ≤ k.size
+  first : k.first ≤ k.run
+  run : k.run ≤ k.size
+
+are_marks : (m : Notation) (front : List ℕ) → AreMarks (marks_of m front)
+are_marks m front = let run = behind_within (λ byte. not (m.separator byte)) front in record {
+  exponent = behind_within _ front;
+  first = let first = first_within (m.digit parts.Integer) (take (marks_of m front).run front) in omega (arith, first, length-take-le (marks_of m front).run front run);
+  run = run;
+}
+
+-- `IsIn size span` holds if `span` does not end before it begins, and ends in a text of `size` bytes.
+abbrev IsIn : ℕ → ℕ × ℕ → Type 0
+IsIn size span = (span.0 ≤ span.1) × (span.1 ≤ size)
+
+module _ (m : Notation) (k : Marks) (are : AreMarks k) (next : Option ℕ) where
+  either : (t : Bool) (a b : ℕ) → a ≤ b → b ≤ k.size → IsIn (wrong_end k next) (a, if t then wrong_end k next else b)
+  either t a b below within = grind arith
+
+  here : IsIn (wrong_end k next) (k.size, wrong_end k next)
+  here = grind arith
+
+  by_flag : (f : Flag) → IsIn (wrong_end k next) (requirement_span f m k next)
+  by_flag layout.required_exponent_digits = let exponent = are.exponent in grind arith
+  by_flag layout.no_integer_leading_zeros = either _ k.first k.run are.first are.run
+  by_flag layout.no_float_leading_zeros = either _ k.first k.run are.first are.run
+  by_flag _ = grind arith
+
+  by_condition : (c : Condition) → IsIn (wrong_end k next) (condition_span c k next)
+  by_condition conditions.BasePrefix = let first = are.first in let run = are.run in grind arith
+  by_condition _ = grind arith
+
+  by_kind : (kind : ReadErrorKind) (f : Flag) (c : Option Condition) → IsIn (wrong_end k next) (span_of m k next kind f c)
+  by_kind causes.Requirement f None = by_flag f
+  by_kind causes.Requirement f (Some c) = by_condition c
+  by_kind (causes.Separator part places.Consecutive) f c = here
+  by_kind (causes.Separator part _) f c = either _ k.run k.size are.run (omega arith)
+  by_kind _ f c = grind arith
+
+refused_span : (m : Notation) (text : List ℕ) (error : Refusal) → IsRefusal m text error → IsIn (length text) (error.start, error.end)
+refused_span m text error is =
+    let k = marks_of m (take error.valid_up_to text) in
+    let span = subst (IsIn (wrong_end k error.byte)) (sym is.span) (by_kind m k (are_marks m (take error.valid_up_to text)) error.byte error.kind _ _) in
+    let end = within error.byte is.byte in (span.0, omega (arith, span.1, end)) where
+      within : (next : Option ℕ) → next ≡ slice_get text error.valid_up_to → wrong_end (marks_of m (take error.valid_up_to text)) next ≤ length text
+      within None same = omega (arith, length-take-le error.valid_up_to text is.valid_up_to.within, is.valid_up_to.within)
+      within (Some byte) same = omega (arith, length-take-le error.valid_up_to text is.valid_up_to.within, slice_get_within text error.valid_up_to byte (sym same))
+
+ungrouped_span : (g : Grammar) (text : List ℕ) (error : Refusal) → IsUngrouped g text error → IsIn (length text) (error.start, error.end)
+ungrouped_span g text error is = (
+  omega (arith, is.error_start, is.error_end, is.group.ends),
+  omega (arith, is.error_end, is.group.within, length-append {A = ℕ}, ap length is.reads.whole),
+)
+
+-- The bytes to show for an error of a text, or of its fronts.
+pub span_within : (g : Grammar) (text : List ℕ) (error : Refusal) → IsError g text error ⊎ IsFrontError g text error
+    → IsIn (length text) (error.start, error.end)
+span_within g text error (inl (inl is)) = refused_span (notation_of g) text error is
+span_within g text error (inl (inr is)) = ungrouped_span g text error is
+span_within g text error (inr (inl is)) = refused_span (notation_of g) text error is.1
+span_within g text error (inr (inr is)) =
+    let span = ungrouped_span g (take is.0 text) error is.1.ungrouped in
+    (span.0, omega (arith, span.1, length-take-le is.0 text is.1.front.within))
