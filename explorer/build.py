@@ -120,19 +120,18 @@ def conditions():
         yield {"name": name, "meaning": does, "refuses": refused, "isNumber": kind != "bool"}
 
 
-def numbers(name, has_specials):
-    """Returns the numbers of a language, one a line: those that it rejects behind a `!`. Spellings of NaN are no field."""
+def numbers(name):
+    """Returns the numbers of a language, one a line: those that it rejects behind a `!`."""
     rows = re.findall(rf"^{name} +([+-]) +(\S+)", (TOP / "rust/tests/literals.txt").read_text(), re.M)
-    rows = [row for row in rows if not (has_specials and re.search("nan|inf", row[1], re.I))]
     return "\n".join(text if mark == "+" else f"!{text}" for mark, text in rows)
 
 
 def languages(forms):
     """Returns the languages: name, comment, numbers and forms."""
     text = (TOP / "rust/src/literal/language/tables.rs").read_text()
-    for comment, name, end in re.findall(r"((?:^    ///[^\n]*\n)+)^    (\w+) = \{.*?\}(,| *;)", text, re.M | re.S):
+    for comment, name in re.findall(r"((?:^    ///[^\n]*\n)+)^    (\w+) = \{", text, re.M):
         about = " ".join(comment.replace("///", "").split())
-        yield {"name": name, "about": about, "numbers": numbers(name, end == ","), "forms": forms[name]}
+        yield {"name": name, "about": about, "numbers": numbers(name), "forms": forms[name]}
 
 
 def rules():
@@ -203,8 +202,8 @@ def compiled():
         output(rustc[0], "--edition=2024", f"-L{host}", "--extern=peltzivar", "-o", program, HERE / "languages.rs")
         forms = {}
         for line in output(program).splitlines():
-            language, name, syntax = line.split("\t")
-            forms.setdefault(language, []).append({"name": name, "syntax": syntax})
+            language, name, syntax, specials = line.split("\t")
+            forms.setdefault(language, []).append({"name": name, "syntax": syntax, "specials": specials.split(" ")})
         return base64.b64encode(gzip.compress(wasm.read_bytes(), mtime=0)).decode(), forms
 
 

@@ -1,4 +1,4 @@
-/* The code that makes a reader of a state, to be copied. If there is no reader, it has the word alone, and says why. */
+/* The code of a state, with its spellings of special values in quotes. Without a reader, it is the word, and says why. */
 
 /* Returns a byte as a character of Rust or C. */
 function character(byte, prefix) {
@@ -19,8 +19,8 @@ class Code {
     }
 
     /* Returns why a state has no reader: the first reason, or an empty text. */
-    problem({ reasons, options }) {
-        const [first] = [...reasons, ...options];
+    problem({ reasons, options, conditions }) {
+        const [first] = [...reasons, ...options, ...conditions];
         return first ? `There is no reader: ${first.text}.` : "";
     }
 
@@ -41,7 +41,8 @@ class Code {
         const conditions = set.map(({ name, isNumber, value }) => `.${name}(${isNumber ? `Some(${value})` : "true"})`);
         const hasBytes = shown.isBuilt && calls.some((call) => call.includes("NonZeroU8"));
         const syntax = isFloat ? `Syntax::new_or_panic(FORMAT, ${options})` : "Syntax::integers(FORMAT)";
-        const names = `${conditions.length ? "Conditions, " : ""}ParseError, Reader, Syntax`;
+        const [nan, inf, infinity] = state.specials.map((it) => (it === '""' ? "None" : `Some(b${it})`));
+        const names = `${conditions.length ? "Conditions, " : ""}FormError, Number, Reader, Readers, ${nan ? "Specials, " : ""}Syntax`;
         return [
             ...(hasBytes ? ["use core::num::NonZeroU8;"] : []),
             `use peltzivar::literal::{${names}};`,
@@ -51,10 +52,12 @@ class Code {
             `pub const FORMAT: Format = ${shown.isBuilt ? build : `Format::of::<${wordText(word)}>()`};`,
             `pub const SYNTAX: Syntax = ${syntax}${conditions.length ? "" : ";"}`,
             ...(conditions.length ? [`    .with_or_panic(Conditions::NONE${conditions.join("")});`] : []),
-            "pub static READER: Reader = Reader::new(SYNTAX);",
+            `pub static READERS: Readers<'static> = Readers::new_or_panic(&[Reader::new(SYNTAX)])${nan ? "" : ";"}`,
+            ...(nan ? [`    .with_specials(Specials { nan: ${nan}, inf: ${inf}, infinity: ${infinity} });`] : []),
             "",
-            `pub fn read(text: &str) -> Result<${isFloat ? "f64" : "i64"}, ParseError> {`,
-            "    READER.parse(text)",
+            `/// Returns a number, whose value is ${isFloat ? "`f64::try_from(number)` or, of an integer, " : ""}\`i128::try_from(number)\`.`,
+            "pub fn read(text: &str) -> Result<Number<'_>, FormError> {",
+            "    READERS.read(text.as_bytes())",
             "}",
             "",
         ].join("\n");
@@ -66,12 +69,14 @@ class Code {
         const start = `#include "peltzivar.h"\n`;
         if (problem) return `${start}\n/* ${problem} */\nstatic const peltzivar_word WORD = {${halves.join(", ")}};\n`;
         const lines = this.lines(state).map((line) => `    ${JSON.stringify(`${line}\n`)}`).join("\n");
-        const [type, call] = state.exponent ? ["double", "peltzivar_to_f64"] : ["int64_t", "peltzivar_to_i64"];
+        const specials = state.specials.join(", ");
+        const spelled = specials && `\nstatic const peltzivar_specials SPECIALS = {${specials}};`;
+        const special = specials && "\n        || peltzivar_read_special(reader, &SPECIALS, text, strlen(text), special)";
         return `${start}#include <string.h>
 
 /* ${wordText(state.word)} */
 static const char SETTINGS[] =
-${lines || '    ""'};
+${lines || '    ""'};${spelled}
 
 /* Makes the reader. Call this once, before the first text is read. */
 bool make_reader(peltzivar_reader *reader) {
@@ -80,12 +85,13 @@ bool make_reader(peltzivar_reader *reader) {
         && peltzivar_reader_init(reader, &syntax) == PELTZIVAR_SUCCESS;
 }
 
-/* Writes the value of a number, and returns false if the text has none. */
-bool read_number(const peltzivar_reader *reader, const char *text, ${type} *value) {
-    peltzivar_literal literal;
+/* Returns whether the text is a number. If special->spelling is 0, it is a literal, and
+ * peltzivar_to_i128 or, of a float, peltzivar_to_f64 makes its value. Otherwise, it is NaN or infinity. */
+bool read_number(
+    const peltzivar_reader *reader, const char *text, peltzivar_literal *literal, peltzivar_special *special) {
     peltzivar_read_error error;
-    return peltzivar_read(reader, text, strlen(text), &literal, &error)
-        && ${call}(&literal, value) == PELTZIVAR_VALUE_OK;
+    special->spelling = 0;
+    return peltzivar_read(reader, text, strlen(text), literal, &error)${special};
 }
 `;
     }
@@ -95,14 +101,18 @@ bool read_number(const peltzivar_reader *reader, const char *text, ${type} *valu
         const word = wordText(state.word);
         if (problem) return `from peltzivar import FormatView\n\n# ${problem}\nview = FormatView(${word})\n`;
         const lines = this.lines(state).map((line) => `    ${JSON.stringify(line)},\n`).join("");
-        return `from peltzivar import Syntax
+        const specials = state.specials.join(", ");
+        const special = "if special := specials.read(syntax, text):\n            return special\n        raise";
+        const read = "return syntax.read(text)";
+        return `from peltzivar import ${specials && "LiteralError, Specials, "}Syntax
 
 # ${word}
 syntax = Syntax.of(${lines && `\n${lines}`})
-
+${specials && `specials = Specials(${specials})\n`}
 
 def read(text):
-    return syntax.read(text).value
+    """Returns a literal${specials && ", NaN or infinity"}, which has a \`value\`."""
+    ${specials ? `try:\n        ${read}\n    except LiteralError:\n        ${special}` : read}
 `;
     }
 

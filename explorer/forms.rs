@@ -2,26 +2,31 @@
 
 use core::str::FromStr;
 
-use peltzivar::literal::{Number, Reader, Readers, ValueError};
+use peltzivar::literal::{Number, Reader, Readers, Specials, ValueError};
 
-use crate::suggest::{State, SPECIALS};
+use crate::suggest::State;
 
 /// How many forms a language has.
 const MOST: usize = 24;
 
-/// The states of forms, and their readers.
+/// The states of forms, their readers, and the spellings of special values.
 pub struct Forms {
     states: [State; MOST],
     readers: [Reader; MOST],
     size: usize,
+    specials: Specials<'static>,
 }
 
 impl Forms {
-    /// Returns the forms of states, or `None` if a word is not lawful.
-    pub fn new(mut all: impl Iterator<Item = State>) -> Option<Self> {
+    /// Reads states and, behind tabs, the spellings of special values. Returns `None` if a word is not lawful.
+    pub fn new(line: &'static str) -> Option<Self> {
+        let mut spellings = line.split('\t').skip(1).map(str::as_bytes);
+        let [nan, inf, infinity] = [(); 3].map(|()| spellings.next());
+        let mut all = states_of(line);
         let first = all.next()?;
         let reader = first.syntax().map(Reader::new)?;
-        let mut forms = Self { states: [first; MOST], readers: core::array::from_fn(|_| reader.clone()), size: 1 };
+        let (readers, specials) = (core::array::from_fn(|_| reader.clone()), Specials { nan, inf, infinity });
+        let mut forms = Self { states: [first; MOST], readers, size: 1, specials };
         for state in all.take(MOST - 1) {
             forms.readers[forms.size] = Reader::new(state.syntax()?);
             forms.states[forms.size] = state;
@@ -35,14 +40,14 @@ impl Forms {
     }
 
     pub fn readers(&self) -> Readers<'_> {
-        Readers::new_or_panic(&self.readers[..self.size]).with_specials(SPECIALS)
+        Readers::new_or_panic(&self.readers[..self.size]).with_specials(self.specials)
     }
 }
 
 /// Reads the states of a line. Each is its word and, behind a colon, a number of three bytes: the exponent character, above
 /// it the decimal point, and then the conditions.
 pub fn states_of(line: &str) -> impl Iterator<Item = State> {
-    line.split(' ').map(|state| {
+    line.split('\t').take(1).flat_map(|it| it.split(' ')).map(|state| {
         let (word, options) = state.split_once(':').unwrap_or((state, ""));
         let [exponent, point, conditions, _] = u32::from_str(options).unwrap_or(0).to_le_bytes();
         State { word: u128::from_str(word).unwrap_or(0), exponent, point, conditions }
@@ -67,7 +72,8 @@ pub fn value_of(number: Number<'_>) -> Value {
         true => literal.to_f64().map(|it| Value::Float(it.to_bits())),
         false => match literal.to_i128() {
             Ok(value) => Ok(Value::Integer(value < 0, value.unsigned_abs())),
-            Err(error) => literal.to_u128().map(|it| Value::Integer(false, it)).map_err(|_| error),
+            Err(error) if literal.is_negative() => Err(error),
+            Err(_) => literal.to_u128().map(|it| Value::Integer(false, it)),
         },
     };
     value.unwrap_or_else(Value::Unknown)

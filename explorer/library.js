@@ -7,10 +7,12 @@ const MOST_WORD = (1n << 128n) - 1n;
 const MOST_TEXT = 60000;
 /* The options of a parser, which are not in the word. If both are 0, numbers are integers alone. */
 const OPTIONS = [
-    { name: "exponent", isByte: true, title: "exponent character", meaning: "an option of the parser, such as the `e` in `1e5`" },
+    { name: "exponent", part: "exponent", isByte: true, title: "exponent character", meaning: "an option of the parser, such as the `e` in `1e5`" },
     { name: "point", isByte: true, title: "decimal point", meaning: "an option of the parser, such as the `.` in `1.5`" },
 ];
 const STANDARD_OPTIONS = { exponent: 101, point: 46, conditions: 0 };
+/* The spellings of special values, unless a form has those of its language. */
+const SPECIALS = ["NaN", "inf", "infinity"];
 
 class Library {
     constructor(calls, { flags, groups, bytes, conditions }) {
@@ -54,8 +56,8 @@ class Library {
         return answer.error ? answer : { ...answer, word: BigInt(answer.word) };
     }
 
-    /* Returns all about a state: whether the word is built, its error, normal form, reasons and notes, and why the options
-     * do not fit. Reasons and notes have their text, the fields that they blame, the broken rules, and repaired states. */
+    /* Returns all about a state: whether the word is built, its error, normal form, reasons and notes, and why options or
+     * conditions do not fit. All have their text, the fields that they blame, the broken rules, and repaired states. */
     explain(state) {
         const answer = this.call("explain", passed([state]));
         const named = ({ mask, options: own = [], repairs = [], ...it }) => {
@@ -63,12 +65,16 @@ class Library {
             return { ...it, mask: BigInt(mask), fields, repairs: repairs.map(withWord) };
         };
         const [reasons, options, notes] = ["reasons", "options", "notes"].map((name) => answer[name].map(named));
-        if (answer.contradiction) {
-            const { name, mask } = this.conditions.find(({ name }) => answer.contradiction.startsWith(name));
-            const repairs = [{ ...state, conditions: state.conditions & ~mask }];
-            options.push({ text: answer.contradiction, fields: [name], rules: [], repairs });
-        }
-        return { ...answer, normal: BigInt(answer.normal), reasons, options, notes };
+        const conditions = answer.conditions.map(({ text, bits }) => {
+            const flags = this.flags.filter(({ name }) => text.endsWith(name)).map(({ name }) => name);
+            const fitted = this.put(state.word, "digit_separator", this.get(state.word, "digit_separator") || 95);
+            const repairs = flags.map((name) => ({ ...state, word: this.put(fitted, name, 1) }));
+            repairs.unshift({ ...state, conditions: state.conditions & ~bits });
+            return { text, fields: [text.split(" ")[0], ...flags], rules: [], repairs };
+        });
+        const taken = "numfmt options and is_valid_options_punctuation refuse this, but a reader takes it: no flag allows it as a separator";
+        if (answer.fits) notes.push(...options.splice(0).map((it) => ({ ...it, text: `${it.text}: ${taken}` })));
+        return { ...answer, normal: BigInt(answer.normal), reasons, options, conditions, notes };
     }
 
     /* Returns an object for each line of a text, as `numbers` of library.rs describes: none if a word is not lawful. */
@@ -187,10 +193,11 @@ class Library {
     }
 }
 
-/* Returns the line by which states are passed to the library. */
+/* Returns the line by which states are passed to the library, with the spellings of the first. */
 function passed(states) {
+    const [{ specials = SPECIALS }] = states;
     const options = ({ exponent, point, conditions }) => exponent | (point << 8) | (conditions << 16);
-    return states.map((state) => `${state.word}:${options(state)}`).join(" ");
+    return [states.map((state) => `${state.word}:${options(state)}`).join(" "), ...specials].join("\t");
 }
 
 /* Returns the state of a form, without its name. */

@@ -11,7 +11,7 @@ use peltzivar::literal::{FormError, Number, Reader, Readers};
 use peltzivar::{Edit, Error, FormatView, NumberFormatBuilder, Reason, Rule};
 use examples::{Refused, other_values, refused};
 use forms::{Forms, Value, states_of, value_of};
-use suggest::{Found, Line, State, blamed_options, conditions_of, lines_of, offers, repairs};
+use suggest::{Found, Line, SPECIALS, State, blamed_options, lines_of, offers, repairs};
 
 mod examples;
 mod forms;
@@ -66,17 +66,16 @@ pub extern "C" fn build(length: usize) -> usize {
 #[unsafe(no_mangle)]
 pub extern "C" fn explain(length: usize) -> usize {
     let Some(state) = states_of(text_of(length).0).next() else { return 0 };
-    let State { word, exponent, point, conditions } = state;
-    let view = FormatView::new(word);
+    let (word, view) = (state.word, FormatView::new(state.word));
     answer(|out| {
         write!(out, r#"{{"normal":{},"isBuilt":{}"#, Word(normal_form(word)), is_built(word))?;
         write!(out, r#","error":{},"reasons":"#, Quoted(Failure(view.error())))?;
         list(out, view.reasons(), |out, reason| put_reason(out, state, reason))?;
-        out.write_str(r#","options":"#)?;
-        list(out, view.options_reasons(exponent, point), |out, reason| put_reason(out, state, reason))?;
-        let fitting = State { conditions: 0, ..state }.exact();
-        let contradiction = fitting.and_then(|syntax| syntax.with(conditions_of(conditions)).err());
-        contradiction.map_or(Ok(()), |it| write!(out, r#","contradiction":{}"#, Quoted(it)))?;
+        write!(out, r#","fits":{},"options":"#, State { conditions: 0, ..state }.exact().is_some())?;
+        let options = view.options_reasons(state.exponent, state.point).filter(|_| !state.is_integers());
+        list(out, options, |out, reason| put_reason(out, state, reason))?;
+        out.write_str(r#","conditions":"#)?;
+        list(out, state.misfits(), |out, (bits, error)| write!(out, r#"{{"text":{},"bits":{bits}}}"#, Quoted(error)))?;
         out.write_str(r#","notes":"#)?;
         list(out, view.notes(), |out, note| {
             write!(out, r#"{{"text":{},"mask":{}}}"#, Quoted(note), Word(note.mask()))
@@ -115,7 +114,7 @@ fn put_state(out: &mut Answer, State { word, exponent, point, conditions }: Stat
 #[unsafe(no_mangle)]
 pub extern "C" fn numbers(length: usize) -> usize {
     let (states, lines) = text_of(length);
-    answer(|out| match Forms::new(states_of(states)) {
+    answer(|out| match Forms::new(states) {
         Some(forms) => list(out, lines_of(lines), |out, line| put_line(out, &forms, lines, line)),
         None => out.write_str("[]"),
     })
@@ -131,7 +130,8 @@ fn put_line(out: &mut Answer, forms: &Forms, lines: &[u8], line: Line<'_>) -> fm
     list(out, found.best(), |out, (state, expected)| {
         put_state(out, state)?;
         write!(out, r#","expected":{expected},"#)?;
-        Forms::new([state].into_iter()).map_or(Ok(()), |it| put_reading(out, it.readers(), line.text))?;
+        let reader = state.syntax().map(Reader::new);
+        Readers::new(reader.as_slice()).map_or(Ok(()), |it| put_reading(out, it.with_specials(SPECIALS), line.text))?;
         out.write_str("}")
     })?;
     out.write_str("}")
@@ -173,7 +173,7 @@ fn put_reading(out: &mut Answer, readers: Readers<'_>, text: &[u8]) -> fmt::Resu
 pub extern "C" fn differ(length: usize) -> usize {
     let (first, second) = text_of(length);
     let lines = [first, core::str::from_utf8(second).unwrap_or("")];
-    let [Some(first), Some(second)] = lines.map(|it| Forms::new(states_of(it))) else {
+    let [Some(first), Some(second)] = lines.map(Forms::new) else {
         return answer(|out| out.write_str("[]"));
     };
     answer(|out| {

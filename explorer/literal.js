@@ -77,7 +77,7 @@ class Trial {
 
     row(answer) {
         const { text, place, isRefused, isExpected, mask = 0 } = answer;
-        const nothing = isRefused ? "No flag alone refuses it." : "No format that differs in a few fields accepts it.";
+        const nothing = isRefused ? "No flag alone refuses it." : "No change of a few fields was found that accepts it.";
         const offers = answer.offers.map((offer, index) => this.offer(place, offer, index));
         if (!isExpected && !offers.length && this.forms.length === 1) offers.push(element("li", {}, nothing));
         const attributes = { change: () => this.turn(place), id: `refuse-${place}`, "aria-label": `${text} must be refused` };

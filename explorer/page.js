@@ -286,10 +286,8 @@ class Page {
     }
 
     showAll() {
-        const { word, exponent, point } = this.state;
+        const { word } = this.state;
         this.shown = this.library.explain(this.state);
-        const { options, contradiction } = this.shown;
-        if (!exponent && !point) this.shown.options = options.filter(({ text }) => text === contradiction);
         const isKept = isRefused(find("word")) && this.told === word;
         if (document.activeElement !== find("word") && !isKept) this.showWord();
         find("undo").disabled = !this.past.length;
@@ -322,7 +320,9 @@ class Page {
     showCode() {
         const name = find("language").value;
         const all = name && COMMENTS[this.language](name);
-        setText(find("code"), all + this.code[this.language](this.state, this.shown));
+        const { specials = SPECIALS } = this.trial.forms[0];
+        const quoted = this.library.get(this.state.word, "no_special") ? [] : specials.map((it) => JSON.stringify(it));
+        setText(find("code"), all + this.code[this.language]({ ...this.state, specials: quoted }, this.shown));
     }
 
     /* Marks each element with the same field as this one. Beside this one, a hint describes the field, unless it does. */

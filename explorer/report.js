@@ -53,8 +53,8 @@ class Report {
     choose(name) {
         const isKnown = [...find("compare").options].some(({ value }) => value === name);
         find("compare").value = isKnown ? name : "another";
-        const { word, exponent, point } = this.state;
-        find("other").value = isKnown ? `${wordText(word)} exponent=${exponent} point=${point}` : name;
+        const options = this.library.differences({ ...this.state, word: this.library.standard }).map(({ text }) => text);
+        find("other").value = isKnown ? [wordText(this.state.word), ...options].join(" ") : name;
         this.compare();
     }
 
@@ -119,11 +119,11 @@ class Report {
     }
 
     /* Shows all of this for a state and what explains it, and returns the reasons. */
-    show(state, { error, reasons, options, notes, normal, contradiction }, forms) {
+    show(state, { error, reasons, options, conditions, notes, normal }, forms) {
         this.state = state;
         this.forms = forms;
-        const all = [...reasons, ...options];
-        const lawful = options.length ? `${contradiction ? "A condition" : "An option"} does not fit` : "Lawful";
+        const all = [...reasons, ...options, ...conditions];
+        const lawful = all.length ? `${options.length ? "An option" : "A condition"} does not fit` : "Lawful";
         setText(find("verdict"), error ? `Not lawful: ${all.length} reason${all.length > 1 ? "s" : ""}` : lawful);
         find("verdict").className = all.length ? "bad" : "good";
         find("report").hidden = !all.length && !notes.length;

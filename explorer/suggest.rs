@@ -6,11 +6,11 @@ use peltzivar::format::{
     BASE_PREFIX, BASE_SUFFIX, CONSECUTIVE_DIGIT_SEPARATOR, DIGIT_SEPARATOR, DIGIT_SEPARATOR_FLAG_MASK, EXPONENT_BASE,
     EXPONENT_RADIX, FLAG_MASK, MANTISSA_RADIX, SPECIAL_DIGIT_SEPARATOR,
 };
-use peltzivar::literal::{Conditions, ReadError, ReadErrorKind, Reader, Specials, Syntax};
+use peltzivar::literal::{Conditions, ConditionsError, ReadError, ReadErrorKind, Reader, Specials, Syntax};
 use peltzivar::reasons::Byte;
 use peltzivar::{Cause, Format, FormatView, Reason, Rule};
 
-/// The spellings of special values that are read.
+/// The spellings of special values that are read unless a language has its own.
 pub const SPECIALS: Specials = Specials { nan: Some(b"NaN"), inf: Some(b"inf"), infinity: Some(b"infinity") };
 
 /// How many states are offered for a number.
@@ -43,7 +43,7 @@ pub struct State {
 }
 
 impl State {
-    fn is_integers(self) -> bool {
+    pub fn is_integers(self) -> bool {
         self.exponent == 0 && self.point == 0
     }
 
@@ -57,20 +57,30 @@ impl State {
         syntax.with(conditions_of(self.conditions)).ok()
     }
 
-    /// Returns the syntax if the word is lawful. No byte matches an option that does not fit, and there are no conditions if
-    /// one does not fit.
+    /// Returns the bits of each condition that does not fit a lawful word, and why.
+    pub fn misfits(self) -> impl Iterator<Item = (u8, ConditionsError)> {
+        let syntax = Format::new(self.word).ok().map(Syntax::integers);
+        let error = move |bits| syntax?.with(conditions_of(self.conditions & bits)).err().map(|error| (bits, error));
+        [1, 2, 4, 0xF0].into_iter().filter_map(error)
+    }
+
+    /// Returns the syntax without the conditions that do not fit, if the word is lawful and the options fit.
+    fn fit(self) -> Option<Syntax> {
+        self.misfits().fold(self, |it, (bits, _)| Self { conditions: it.conditions & !bits, ..it }).exact()
+    }
+
+    /// Returns the same, if the word is lawful. No byte matches an option that does not fit.
     pub fn syntax(self) -> Option<Syntax> {
         let others = [(NO_EXPONENT, self.point), (self.exponent, NO_POINT), (NO_EXPONENT, NO_POINT)];
-        let all = [(self.exponent, self.point)].into_iter().chain(others);
-        let mut others = all.map(|(exponent, point)| Self { exponent, point, conditions: 0, ..self });
-        self.exact().or_else(|| others.find_map(Self::exact))
+        let mut all = [(self.exponent, self.point)].into_iter().chain(others);
+        all.find_map(|(exponent, point)| Self { exponent, point, ..self }.fit())
     }
 
     /// Returns the state with an exponent character and a decimal point that fit, if the word is lawful.
     fn fitting(self) -> Option<Self> {
         let of_point = |point| [self.exponent].into_iter().chain(EXPONENTS).map(move |it| (it, point));
         let mut options = [self.point, b'.', b','].into_iter().flat_map(of_point);
-        options.find_map(|(exponent, point)| Some(Self { exponent, point, ..self }).filter(|it| it.exact().is_some()))
+        options.find_map(|(exponent, point)| Some(Self { exponent, point, ..self }).filter(|it| it.fit().is_some()))
     }
 
     /// Returns the state with a byte in a field of the word. The reserved bits are cleared, as by any edit.
@@ -213,22 +223,17 @@ pub fn offers<'a>(state: State, lines: &'a [u8], line: Line<'_>) -> Found<'a> {
 }
 
 fn refusing(state: State, text: &[u8], found: &mut Found<'_>) {
-    for flag in bits_of(FLAG_MASK) {
+    let flags = bits_of(FLAG_MASK).map(|flag| {
         let other = State { word: state.word ^ flag, ..state };
         // Consecutive separators need another flag of their part.
         let single = State { word: other.word & !CONSECUTIVE_DIGIT_SEPARATOR, ..other };
-        let other = other.syntax().map_or(single, |_| other);
-        let is_refused = other.syntax().is_some_and(|it| read(&Reader::new(it), text).is_err());
-        if is_refused && problems(other).count() <= problems(state).count() {
-            found.push(other);
-        }
-    }
-    for bits in [1, 2, 4, 3 << 4] {
-        let other = State { conditions: state.conditions | bits, ..state };
-        if other.exact().is_some_and(|it| read(&Reader::new(it), text).is_err()) {
-            found.push(other);
-        }
-    }
+        other.syntax().map_or(single, |_| other)
+    });
+    let conditions = [1, 2, 4, 3 << 4].map(|bits| State { conditions: state.conditions | bits, ..state });
+    let count = |it: State| problems(it).count() + it.misfits().count();
+    let is_refused = |it: &State| it.syntax().is_some_and(|it| read(&Reader::new(it), text).is_err());
+    let all = flags.chain(conditions).filter(|it| is_refused(it) && count(*it) <= count(state));
+    all.for_each(|it| found.push(it));
 }
 
 /// Finds states with up to this many new roles that accept the text.
@@ -250,7 +255,7 @@ fn settled(mut state: State, text: &[u8]) -> Result<State, usize> {
     if FormatView::new(allowed).digit_separator().is_some_and(|it| text.contains(&it.get())) {
         state.word |= SEPARATORS;
     }
-    let read_in = |state: State| match state.exact() {
+    let read_in = |state: State| match state.fit() {
         Some(syntax) => read(&Reader::new(syntax), text).map_err(Some),
         None => Err(None),
     };
@@ -366,8 +371,8 @@ fn suffixes(state: State, text: &[u8], at: usize) -> [Option<State>; 3] {
 /// Returns why the word is not lawful, and why its options do not fit.
 pub fn problems(state: State) -> impl Iterator<Item = Reason> {
     let view = FormatView::new(state.word);
-    let options = view.options_reasons(state.exponent, state.point).filter(move |_| !state.is_integers());
-    view.reasons().chain(options)
+    let is_refused = move |_: &Reason| !state.is_integers() && state.fit().is_none();
+    view.reasons().chain(view.options_reasons(state.exponent, state.point).filter(is_refused))
 }
 
 /// Returns whether a reason blames the exponent character, and whether it blames the decimal point.

@@ -65,6 +65,8 @@ fn numbers_of_many_forms_lead_to_their_formats() {
     assert_eq!(offered(separators, "!1_0\n10").first(), Some(&none));
     let unfit = State { word: 0x0A0A_1000_0000_005F_0000_0007_0000_000C, exponent: b'e', point: b'.', conditions: 0 };
     assert!(offered(unfit, "!2").contains(&State { word: unfit.word | REQUIRED_MANTISSA_SIGN, ..unfit }));
+    let conditions = State { conditions: 0x3B, ..state("", b'e', b'.') };
+    assert!(["0x1F", "1_000", "1_0", "!1"].iter().all(|text| !offered(conditions, text).is_empty()));
 }
 
 /// Returns the state to which the first offers lead from the standard format.
