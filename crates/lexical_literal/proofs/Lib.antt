@@ -12,7 +12,10 @@ mod SameLemmas
 mod PartLemmas
 mod WriterLemmas
 mod ExampleLemmas
-mod TableLemmas
+mod CountLemmas
+mod PlainLemmas
+mod SumLemmas
+mod JoinLemmas
 mod SpecialLemmas
 mod CauseLemmas
 mod RefusalLemmas

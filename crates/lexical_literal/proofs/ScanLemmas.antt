@@ -3,25 +3,19 @@ use Rattle.std.proofs.Common.{ℕ, ◌≡◌, Bool, true, false, not, IsTrue, �
 use Rattle.std.proofs.Common.{refl, sym, ap, subst, ◌∙◌, arith}
 use Rattle.std.proofs.lemmas.Bool.{false≢true, false_from_ne_true, or_left}
 use Rattle.lexical_util.specs.Layout as layout
+use Rattle.lexical_util.specs.Roles.{signs}
 use Rattle.lexical_util.specs.declared.feature_format.roles.Role.{Role}
 use Rattle.lexical_util.specs.declared.feature_format.roles.Role.TheVariants as roles
 use Rattle.lexical_util.specs.declared.format_flags.Part.{Part}
 use Rattle.lexical_util.specs.declared.format_flags.Part.TheVariants as parts
 use Rattle.lexical_literal.specs.Notation.{Notation, set_of_role, IsOnlyRole}
+use Rattle.lexical_literal.specs.Additions.Plain.{HasRoles}
 use Rattle.lexical_literal.specs.Additions.Summary.{Cuts, add, admits, byte_class, role_of, in_part, is_plus_class, is_zero, takes, after}
 use Rattle.lexical_literal.specs.Additions.Summary.{move_by, scan_by, step_by, accepted_by, count, no_condition, tally_by}
 use Rattle.lexical_literal.specs.declared.steps.Piece.{Piece}
 use Rattle.lexical_literal.specs.declared.steps.Summary.{Summary}
 use Rattle.lexical_literal.specs.declared.syntax.Condition.{Condition}
 use Rattle.lexical_literal.specs.declared.syntax.Condition.TheVariants as conditions
-
--- `HasRoles m` holds if no byte plays two roles, 0 is a digit, the mantissa has one radix, and integers have neither a
--- decimal point nor an exponent.
-pub record HasRoles (m : Notation) : Type 0 where
-  pub one : (a b : Role) (byte : ℕ) → IsTrue (set_of_role m a byte) → IsTrue (set_of_role m b byte) → a ≡ b
-  pub zero_is_digit : (part : Part) → m.digit part 48 ≡ true
-  pub one_mantissa : (byte : ℕ) → m.digit parts.Fraction byte ≡ m.digit parts.Integer byte
-  pub integers : m.integers_only ≡ true → (byte : ℕ) → (m.point byte ≡ false) × (m.exponent_character byte ≡ false)
 
 -- `IsReady m` holds if `m` is the notation of a syntax.
 pub record IsReady (m : Notation) : Type 0 where
@@ -121,6 +115,13 @@ module _ (m : Notation) (h : HasRoles m) where
 
   pub is_role : (part : Part) (r : Role) (b : ℕ) → (roles.Digit ≡ r → ⊥) → set_of_role m r b ≡ true → role_in m part b ≡ Some r
   is_role part r b other is = let only = (only_role b r).0 is in grind arith
+
+  -- A byte without a role.
+  pub no_role : (part : Part) (b : ℕ) → m.digit part b ≡ false → m.separator b ≡ false → m.point b ≡ false → m.exponent_character b ≡ false
+      → m.suffix b ≡ false → signs b ≡ false → m.prefix b ≡ false → role_in m part b ≡ None
+  no_role parts.Integer b digit separator point mark suffix sign prefix = grind arith
+  no_role parts.Fraction b digit separator point mark suffix sign prefix = let same = h.one_mantissa b in grind arith
+  no_role parts.Exponent b digit separator point mark suffix sign prefix = grind arith
 
 module _ (C : Condition → Bool) (m : Notation) (h : HasRoles m) where
   -- What a byte makes of a summary.

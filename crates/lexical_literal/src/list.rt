@@ -6,7 +6,8 @@ ghost use Rattle.lexical_literal.specs.Forms.{IsFormError};
 ghost use Rattle.lexical_literal.specs.Takes.{Refuses};
 
 use crate::cause::ReadError;
-use crate::read::{Found, Reader, Stop};
+use crate::plain::At;
+use crate::read::{Found, Reader};
 use std::marker::Model;
 
 /// The readers of the forms of numbers, at least one. The first form that takes a text decides what number it is.
@@ -66,12 +67,16 @@ impl<'a> ReaderList<'a> {
         let mut form = 0;
         while form < self.readers.len() {
             let reader = &self.readers[form];
-            let scanned = reader.scan(text, false);
-            if reader.takes(text, scanned) {
-                let counts = scanned.counts;
+            let counted = reader.begin(text);
+            if reader.is_whole(text, counted) {
+                let counts = counted.counts;
                 return Ok((form, counts));
             }
-            furthest = further(furthest, form, scanned.stop);
+            let stop = reader.stop(text, counted.at);
+            match reader.lengths(text, stop) {
+                Some(counts) => return Ok((form, counts)),
+                None => furthest = further(furthest, form, stop),
+            }
             form += 1;
         }
         Err(self.refuse(text, furthest))
@@ -111,7 +116,7 @@ impl<'a> ReaderList<'a> {
     // Returns why `text` is not a literal of the form that goes furthest, or, if the cause is a wrong byte, of the first that
     // goes as far and has another cause.
     #[cold]
-    fn refuse(&self, text: &[u8], furthest: Option<(usize, Stop)>) -> FormError
+    fn refuse(&self, text: &[u8], furthest: Option<(usize, At)>) -> FormError
         requires furthest { IsFurthestForm self.now text.now furthest }
         requires none { All (λ g. Refuses g text.now) self.now }
         ensures { IsFormError self.now text.now result }
@@ -124,7 +129,7 @@ impl<'a> ReaderList<'a> {
         let mut form = first + 1;
         while form < readers.len() {
             let reader = &readers[form];
-            let reached = reader.scan(text, false).stop;
+            let reached = reader.stop(text, reader.begin(text).at);
             if reached.size == stop.size {
                 let other = reader.refuse(text, reached);
                 if !other.is_byte() && error.is_byte() {
@@ -155,7 +160,7 @@ const fn longer(
 
 // Returns which of two forms goes further, the first of equals.
 #[inline(always)]
-const fn further(furthest: Option<(usize, Stop)>, form: usize, stop: Stop) -> Option<(usize, Stop)>
+const fn further(furthest: Option<(usize, At)>, form: usize, stop: At) -> Option<(usize, At)>
     ensures { result ≡ further furthest form stop }
 {
     match furthest {

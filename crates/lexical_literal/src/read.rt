@@ -1,23 +1,23 @@
 //! How literals are found, and the lengths of their parts.
 
-ghost use Rattle.std.specs.Prelude.{◌≡◌, ◌++◌, ◌∷◌, ◌<◌, ◌≤◌, Bool, ℕ, List, [], false, length, slice_get, take};
+ghost use Rattle.std.specs.Prelude.{◌≡◌, ◌+◌, ◌++◌, ◌∷◌, ◌<◌, ◌≤◌, Bool, IfSome, IsNone, IsTrue, None, ℕ, List, [], false, true, length, slice_get, take};
 ghost use Rattle.lexical_literal.specs.Additions.Explained.{tail_byte};
-ghost use Rattle.lexical_literal.specs.Additions.Longest.{IsCountedFront, IsFronted, IsGrouped, IsMeasured, IsScanned, IsStopped};
-ghost use Rattle.lexical_literal.specs.Additions.Summary.{HasLengths, is_complete};
+ghost use Rattle.lexical_literal.specs.Additions.Longest.{HasFound, IsCountedFront, IsFronted, IsGrouped, IsLongest, IsMeasured, IsScanned, IsStopped};
+ghost use Rattle.lexical_literal.specs.Additions.Plain.{IsBegun};
+ghost use Rattle.lexical_literal.specs.Additions.Summary.{HasLengths, cuts_of, is_complete};
 ghost use Rattle.lexical_literal.specs.Additions.Causes.{lets};
-ghost use Rattle.lexical_literal.specs.Additions.Tables.{cuts_of, summary_at};
 ghost use Rattle.lexical_literal.specs.Cause.{IsRefusal, tail_of, tail_size};
 ghost use Rattle.lexical_literal.specs.Literal.{Literal, Reads, text_of};
 ghost use Rattle.lexical_literal.specs.Notation.{notation_of};
 ghost use Rattle.lexical_literal.specs.Parts.{literal_of};
 ghost use Rattle.lexical_literal.specs.Takes.{IsError, IsUngrouped, Refuses};
-ghost use Rattle.lexical_literal.specs.declared.tables.TheConstants.{ROWS};
 
 use crate::cause::{Marks, ReadError, Spot};
 use crate::groups::{is_grouped, wrong_group};
 use crate::span::marks;
+use crate::plain::{At, BEGIN, Counted, plain};
+use crate::steps::{Summary, byte_class, is_complete, piece_number, step, step_at};
 use crate::syntax::Syntax;
-use crate::tables::{START, Tables, piece_number};
 use lexical_util::laws::flags::role_facts;
 use std::marker::Model;
 
@@ -51,12 +51,10 @@ pub(crate) struct Found {
     pub(crate) counts: [usize; 9],
 }
 
-/// A syntax with tables of all its steps, which reads literals. To make one takes as long as to read some 400 texts
-/// with it. For a `static`, as in the first example of this module, the compiler makes it.
+/// A syntax that reads literals.
 #[derive(Drop)]
 pub struct Reader {
     pub(crate) syntax: Syntax,
-    pub(crate) tables: Tables,
 }
 
 impl Model for Reader {
@@ -64,13 +62,11 @@ impl Model for Reader {
 
     ghost Value = { Grammar };
 
-    ghost use Rattle.lexical_literal.specs.Notation.{notation_of};
     ghost use Rattle.lexical_literal.specs.Syntax.{IsSyntax};
-    ghost use Rattle.lexical_literal.specs.Additions.Tables.{HasTables};
 
     ghost view = { λ reader. reader.syntax };
 
-    ghost invariant = { λ reader. IsSyntax reader.syntax × HasTables (notation_of reader.syntax) reader.tables };
+    ghost invariant = { λ reader. IsSyntax reader.syntax };
 }
 
 impl Reader {
@@ -79,10 +75,7 @@ impl Reader {
     pub const fn new(syntax: Syntax) -> Reader
         ensures { result ≡ syntax }
     {
-        Reader {
-            syntax,
-            tables: Tables::new(syntax.grammar()),
-        }
+        Reader { syntax }
     }
 
     /// Returns the syntax.
@@ -91,19 +84,6 @@ impl Reader {
         ensures { result ≡ self.now }
     {
         self.syntax
-    }
-
-    // Returns whether `text` is a literal, of which a pass has found `scanned`.
-    #[inline(always)]
-    pub(crate) fn takes(&self, text: &[u8], scanned: Scanned) -> bool
-        requires { IsScanned (notation_of self.now) false text.now scanned }
-        ensures { IsMeasured self.now text.now scanned.counts result }
-    {
-        if scanned.stop.size == text.len() && self.is_complete(scanned.stop.row) {
-            self.has_groups(text, scanned.counts)
-        } else {
-            false
-        }
     }
 
     // Returns whether the integer of the literal `text` is in groups, if the syntax requires it.
@@ -125,19 +105,19 @@ impl Reader {
 
     // Returns where reading `text` stops, and the longest front that is a literal, apart from its groups, if there is one.
     #[inline(always)]
-    pub(crate) fn front(&self, text: &[u8]) -> (Stop, Option<Found>)
+    pub(crate) fn front(&self, text: &[u8]) -> (At, Option<Found>)
         ensures { IsFronted self.now text.now result.0 result.1 }
     {
-        let Scanned {
-            stop,
-            literal,
-            counts,
-        } = self.scan(text, true);
-        match literal {
+        let Counted { at, counts, complete } = self.begin(text);
+        let stop = self.stop(text, at);
+        if complete && stop.size == at.size {
+            let size = stop.size;
+            return (stop, Some(Found { size, counts }));
+        }
+        match self.seek(text) {
             None => (stop, None),
-            Some(size) if size == stop.size => (stop, Some(Found { size, counts })),
             Some(size) => {
-                let counts = self.scan(front_of(text, size), false).counts;
+                let counts = self.count(front_of(text, size));
                 (stop, Some(Found { size, counts }))
             }
         }
@@ -157,35 +137,135 @@ impl Reader {
         }
     }
 
-    // Reads `text` until no literal begins with what has been read. Seeks the longest front that is a literal if `seeks`
-    // is true.
+    // Reads a front of `text` with which some literal begins.
     #[inline(always)]
-    pub(crate) const fn scan(&self, text: &[u8], seeks: bool) -> Scanned
+    pub(crate) const fn begin(&self, text: &[u8]) -> Counted
+        ensures { HasFound (notation_of self.now) text.now result }
+    {
+        role_facts();
+        plain(self.syntax.grammar(), text)
+    }
+
+    // Returns whether all of `text` is a literal that has been read.
+    #[inline(always)]
+    pub(crate) fn is_whole(&self, text: &[u8], counted: Counted) -> bool
+        requires { HasFound (notation_of self.now) text.now counted }
+        ensures { IsTrue result → IsMeasured self.now text.now counted.counts true }
+    {
+        if counted.complete && counted.at.size == text.len() {
+            self.has_groups(text, counted.counts)
+        } else {
+            false
+        }
+    }
+
+    // Returns the lengths of the parts of `text`, of which reading stops at `stop`, if it is a literal.
+    #[inline(always)]
+    pub(crate) fn lengths(&self, text: &[u8], stop: At) -> Option<[usize; 9]>
+        requires { IsStopped (notation_of self.now) text.now stop }
+        ensures some { IfSome result (λ counts. IsMeasured self.now text.now counts true) }
+        ensures none { IsNone result → Refuses self.now text.now }
+    {
+        if stop.size == text.len() && self.is_complete(stop.read) {
+            let counts = self.count(text);
+            if self.has_groups(text, counts) {
+                return Some(counts);
+            }
+        }
+        None
+    }
+
+    // Returns where reading `text` stops, if it goes on at `at`.
+    #[inline(always)]
+    pub(crate) const fn stop(&self, text: &[u8], at: At) -> At
+        requires { IsBegun (notation_of self.now) text.now at }
+        ensures { IsStopped (notation_of self.now) text.now result }
+    {
+        match self.step(text, at) {
+            None => at,
+            Some(next) => self.walk(text, next),
+        }
+    }
+
+    // Returns what has been read with one more byte, or `None` if reading stops at `at`.
+    #[inline(always)]
+    const fn step(&self, text: &[u8], at: At) -> Option<At>
+        requires { IsBegun (notation_of self.now) text.now at }
+        ensures next { IfSome result (λ next. IsBegun (notation_of self.now) text.now next × (next.size ≡ at.size + 1)) }
+        ensures stop { IsNone result → IsStopped (notation_of self.now) text.now at }
+    {
+        role_facts();
+        let grammar = self.syntax.grammar();
+        let At { size, read } = at;
+        if size == text.len() {
+            return None;
+        }
+        match step_at(grammar, read, text[size]) {
+            None => None,
+            Some(read) => Some(At {
+                size: size + 1,
+                read,
+            }),
+        }
+    }
+
+    // Returns where reading stops, step by step.
+    #[cold]
+    const fn walk(&self, text: &[u8], at: At) -> At
+        requires { IsBegun (notation_of self.now) text.now at }
+        ensures { IsStopped (notation_of self.now) text.now result }
+    {
+        let mut stop = at;
+        while let Some(next) = self.step(text, stop) {
+            stop = next;
+        }
+        stop
+    }
+
+    // Returns the lengths of the parts of the literal `text`.
+    #[cold]
+    const fn count(&self, text: &[u8]) -> [usize; 9]
+        ensures { (l : Literal) → Reads (notation_of self.now) l text.now → HasLengths l (cuts_of result) }
+    {
+        self.read_on(text, false).counts
+    }
+
+    // Returns the length of the longest front of `text` that is a literal, if there is one.
+    #[cold]
+    const fn seek(&self, text: &[u8]) -> Option<usize>
+        ensures { IsLongest (notation_of self.now) text.now (length text.now) result }
+    {
+        self.read_on(text, true).literal
+    }
+
+    // Reads `text` until no literal begins with what has been read, and counts the bytes of each part. Seeks the longest front
+    // that is a literal if `seeks` is true.
+    #[cold]
+    const fn read_on(&self, text: &[u8], seeks: bool) -> Scanned
         ensures { IsScanned (notation_of self.now) seeks text.now result }
     {
         role_facts();
-        let tables = &self.tables;
-        let mut row = START;
+        let grammar = self.syntax.grammar();
+        let At { mut size, mut read } = BEGIN;
         let mut counts = [0; 9];
         let mut literal = None;
-        let mut index = 0;
-        while index < text.len() {
-            let Some(next) = tables.step(row, text[index]) else {
-                let stop = Stop { size: index, row };
+        while size < text.len() {
+            let Some(next) = step(grammar, read, byte_class(grammar, text[size])) else {
+                let stop = At { size, read };
                 return Scanned {
                     stop,
                     literal,
                     counts,
                 };
             };
-            row = next.row;
+            read = next.summary;
             counts[piece_number(next.piece)] += 1;
-            if seeks && self.is_complete(row) {
-                literal = Some(index + 1);
+            size += 1;
+            if seeks && is_complete(grammar, read) {
+                literal = Some(size);
             }
-            index += 1;
         }
-        let stop = Stop { size: index, row };
+        let stop = At { size, read };
         Scanned {
             stop,
             literal,
@@ -193,23 +273,22 @@ impl Reader {
         }
     }
 
-    // Returns whether a row is that of a literal.
+    // Returns whether what has been read is a literal.
     #[inline(always)]
-    const fn is_complete(&self, row: u8) -> bool
-        requires { row < ROWS }
-        ensures { result ≡ is_complete (notation_of self.now) (summary_at row) }
+    const fn is_complete(&self, read: Summary) -> bool
+        ensures { result ≡ is_complete (notation_of self.now) read }
     {
-        self.tables.is_complete(row)
+        is_complete(self.syntax.grammar(), read)
     }
 
     // Returns why `text`, of which reading stopped at `stop`, is not a literal.
-    #[cold]
-    pub(crate) fn refuse(&self, text: &[u8], stop: Stop) -> ReadError
+    #[inline(always)]
+    pub(crate) fn refuse(&self, text: &[u8], stop: At) -> ReadError
         requires stopped { IsStopped (notation_of self.now) text.now stop }
         requires refuses { Refuses self.now text.now }
         ensures { IsError self.now text.now result.refusal }
     {
-        if stop.size == text.len() && self.is_complete(stop.row) {
+        if stop.size == text.len() && self.is_complete(stop.read) {
             self.ungrouped(text)
         } else {
             self.refuse_byte(text, stop)
@@ -223,7 +302,7 @@ impl Reader {
         requires refuses { Refuses self.now text.now }
         ensures { IsUngrouped self.now text.now result.refusal }
     {
-        let counts = self.scan(text, false).counts;
+        let counts = self.count(text);
         let grammar = self.syntax.grammar();
         let Some(size) = grammar.conditions.integer_group_size else {
             unreachable!()
@@ -234,7 +313,7 @@ impl Reader {
         ReadError {
             spot: Spot {
                 grammar,
-                row: START,
+                read: BEGIN.read,
                 byte: None,
                 tail: [0; 3],
                 marks: Marks {
@@ -250,9 +329,9 @@ impl Reader {
 
     // Returns why the byte that follows is not allowed, or what is missing.
     #[cold]
-    fn refuse_byte(&self, text: &[u8], stop: Stop) -> ReadError
+    fn refuse_byte(&self, text: &[u8], stop: At) -> ReadError
         requires stopped { IsStopped (notation_of self.now) text.now stop }
-        requires refused { lets (notation_of self.now) (summary_at stop.row) (slice_get text.now stop.size) ≡ false }
+        requires refused { lets (notation_of self.now) stop.read (slice_get text.now stop.size) ≡ false }
         ensures { IsRefusal (notation_of self.now) text.now result.refusal }
     {
         role_facts();
@@ -262,7 +341,7 @@ impl Reader {
         ReadError {
             spot: Spot {
                 grammar,
-                row: stop.row,
+                read: stop.read,
                 byte,
                 tail: tail_at(text, size, byte),
                 marks: marks(grammar, front_of(text, size)),
@@ -272,20 +351,13 @@ impl Reader {
     }
 }
 
-// Where reading a text stops: the length of its longest front that some literal begins with, and the row of this front.
-#[derive(Clone, Copy)]
-pub(crate) struct Stop {
-    pub(crate) size: usize,
-    row: u8,
-}
-
 // What a pass over a text finds: where it stops, the length of the longest front that is a literal, if it was sought, and
 // the lengths of the parts of what has been read.
 #[derive(Clone, Copy)]
 pub(crate) struct Scanned {
-    pub(crate) stop: Stop,
+    stop: At,
     literal: Option<usize>,
-    pub(crate) counts: [usize; 9],
+    counts: [usize; 9],
 }
 
 // Returns the byte behind the first `size`, if there is one.

@@ -1,16 +1,20 @@
 //! The steps of a reader: what has been read of a number, changed by the class of one byte.
 
-ghost use Rattle.std.specs.Prelude.{◌≡◌, nat_lt};
-ghost use Rattle.lexical_util.specs.Digits.{byte_value};
+ghost use Rattle.std.specs.Prelude.{◌≡◌, ◌<◌, ◌&&◌, false, not, nat_lt};
+ghost use Rattle.lexical_util.specs.Digits.{byte_value, digit_of};
 ghost use Rattle.lexical_util.specs.Record.{raw};
+ghost use Rattle.lexical_util.specs.Roles.{signs};
 ghost use Rattle.lexical_literal.specs.Notation.{has, notation_of, radix_of, point_of, exponent_character_of};
 ghost use Rattle.lexical_literal.specs.Run.{is_place};
-ghost use Rattle.lexical_literal.specs.Additions.Summary.{byte_class, role_of, in_part, piece_of, has_digit, may_follow};
-ghost use Rattle.lexical_literal.specs.Additions.Summary.{admits, finishes, gap_fits, is_negative, is_signed, lacks_prefix, leads_to_prefix, needs_exponent};
-ghost use Rattle.lexical_literal.specs.Additions.Summary.{continues, ends, is_complete, takes, after, IsMove};
+ghost use Rattle.lexical_literal.specs.Additions.Plain.{HasRoles};
+ghost use Rattle.lexical_literal.specs.declared.syntax.Condition.TheVariants as conditions;
+ghost use Rattle.lexical_literal.specs.Additions.Summary.{byte_class, role_of, in_part, piece_number, piece_of, has_digit, may_follow};
+ghost use Rattle.lexical_literal.specs.Additions.Summary.{admits, finishes, forbids_plus, gap_fits, is_begun, is_negative, is_signed, lacks_prefix, leads_to_prefix, needs_exponent};
+ghost use Rattle.lexical_literal.specs.Additions.Summary.{continues, ends, is_complete, step, takes, after, IsMove};
 
 use crate::syntax::{Conditions, Grammar};
 use lexical_util::format::{Part, Role};
+use lexical_util::format_flags::digit_separator;
 
 // A class of bytes: bytes of one class mean the same in a number.
 #[derive(Clone, Copy)]
@@ -44,8 +48,8 @@ pub(crate) enum Piece {
 }
 
 // The digits of a part that have been read.
-#[derive(Clone, Copy)]
-pub(crate) enum Stage {
+#[derive(Debug, Clone, Copy, PartialEq, Eq, Hash)]
+pub enum Stage {
     Start, // Nothing of the number.
     Empty, // No digits of the integer.
     Bare, // The digit 0, and no separators.
@@ -58,13 +62,21 @@ pub(crate) enum Stage {
 }
 
 // What has been read of a number.
-#[derive(Clone, Copy)]
-pub(crate) struct Summary {
+#[derive(Debug, Clone, Copy, PartialEq, Eq, Hash)]
+pub struct Summary {
     pub(crate) part: Part, // The part that a digit belongs to.
     pub(crate) stage: Stage,
     pub(crate) gap: bool, // Whether the last byte is a separator.
     pub(crate) ended: bool, // Whether the suffix has been read.
 }
+
+// The summary before any byte.
+pub(crate) const START: Summary = Summary {
+    part: Part::Integer,
+    stage: Stage::Start,
+    gap: false,
+    ended: false,
+};
 
 // What one byte makes of what has been read.
 #[derive(Clone, Copy)]
@@ -74,6 +86,7 @@ pub(crate) struct Move {
 }
 
 // Returns whether `byte` is a digit of `part`.
+#[inline(always)]
 pub(crate) const fn is_digit(grammar: Grammar, part: Part, byte: u8) -> bool
     ensures { result ≡ nat_lt (byte_value byte) (radix_of (raw grammar.word) part) }
 {
@@ -83,8 +96,59 @@ pub(crate) const fn is_digit(grammar: Grammar, part: Part, byte: u8) -> bool
     }
 }
 
+// Returns the value of `byte` as a digit of `part`, or `None` if it is none.
+#[inline(always)]
+pub(crate) const fn digit_value(grammar: Grammar, part: Part, byte: u8) -> Option<u32>
+    ensures { result ≡ digit_of byte (radix_of (raw grammar.word) part) }
+{
+    match part {
+        Part::Exponent => grammar.view().exponent_digit(byte),
+        _ => grammar.view().mantissa_digit(byte),
+    }
+}
+
+// Returns the radix of the digits of `part`.
+#[inline(always)]
+pub(crate) const fn radix_of(grammar: Grammar, part: Part) -> u64
+    ensures { result ≡ radix_of (raw grammar.word) part }
+{
+    match part {
+        Part::Exponent => grammar.view().exponent_radix() as u64,
+        _ => grammar.view().mantissa_radix() as u64,
+    }
+}
+
+// Returns whether `byte` is the separator, and some flag allows one. Most bytes are another one than it.
+#[tactic(auto, unfolding(lexical_util::specs::Unfoldable::cased))]
+#[inline(always)]
+pub(crate) const fn is_separator(grammar: Grammar, byte: u8) -> bool
+    ensures { result ≡ (notation_of grammar).separator byte }
+{
+    byte == digit_separator(grammar.word) && grammar.view().is_separator(byte)
+}
+
+// Returns whether a plus sign may be before the digits of `part`.
+#[inline(always)]
+pub(crate) const fn allows_plus(grammar: Grammar, part: Part) -> bool
+    ensures { result ≡ not (forbids_plus (notation_of grammar) part) }
+{
+    match part {
+        Part::Exponent => !grammar.view().no_positive_exponent_sign(),
+        _ => !grammar.view().no_positive_mantissa_sign(),
+    }
+}
+
+// Returns whether a minus sign may be before the digits of `part`.
+#[inline(always)]
+pub(crate) const fn allows_minus(grammar: Grammar, part: Part) -> bool
+    ensures { result ≡ not (has grammar.conditions conditions.NegativeSign && is_negative part false Role.Sign) }
+{
+    matches!(part, Part::Exponent) || !grammar.conditions.no_negative_mantissa_sign
+}
+
 // Returns whether `byte` is the decimal point.
 #[tactic(auto, unfolding(lexical_util::specs::Unfoldable::cased))]
+#[inline(always)]
 pub(crate) const fn is_point(grammar: Grammar, byte: u8) -> bool
     ensures { result ≡ point_of grammar.options byte }
 {
@@ -95,6 +159,7 @@ pub(crate) const fn is_point(grammar: Grammar, byte: u8) -> bool
 }
 
 // Returns whether `byte` is the exponent character.
+#[inline(always)]
 pub(crate) const fn is_exponent_character(grammar: Grammar, byte: u8) -> bool
     ensures { result ≡ exponent_character_of (raw grammar.word) grammar.options byte }
 {
@@ -155,7 +220,8 @@ pub(crate) const fn in_part(part: Part, class: Class) -> Option<Role>
 }
 
 // Returns the piece that a byte with the role `role` belongs to, after a front that ends in `part`.
-const fn piece_of(part: Part, role: Role) -> Piece
+#[inline(always)]
+pub(crate) const fn piece_of(part: Part, role: Role) -> Piece
     ensures { result ≡ piece_of part role }
 {
     match (role, part) {
@@ -171,7 +237,25 @@ const fn piece_of(part: Part, role: Role) -> Piece
     }
 }
 
+// Returns the place of a piece in a list of lengths.
+#[inline(always)]
+pub(crate) const fn piece_number(piece: Piece) -> usize
+    ensures value { result ≡ piece_number piece }
+    ensures small { result < 9 }
+{
+    piece as usize
+}
+
+// Returns whether the integer has no digits, and a zero is a leading one.
+#[inline(always)]
+pub(crate) const fn is_begun(stage: Stage) -> bool
+    ensures { result ≡ is_begun stage }
+{
+    matches!(stage, Stage::Start | Stage::Empty)
+}
+
 // Returns whether the part has a digit.
+#[inline(always)]
 pub(crate) const fn has_digit(stage: Stage) -> bool
     ensures { result ≡ has_digit stage }
 {
@@ -182,6 +266,7 @@ pub(crate) const fn has_digit(stage: Stage) -> bool
 }
 
 // Returns whether a separator may be at a place in `part` with digits before it, or not, and after it, or not.
+#[inline(always)]
 const fn is_place(grammar: Grammar, part: Part, before: bool, after: bool) -> bool
     ensures { result ≡ is_place (notation_of grammar) part before after }
 {
@@ -195,6 +280,7 @@ const fn is_place(grammar: Grammar, part: Part, before: bool, after: bool) -> bo
 }
 
 // Returns whether an exponent is required.
+#[inline(always)]
 pub(crate) const fn needs_exponent(grammar: Grammar) -> bool
     ensures { result ≡ needs_exponent (notation_of grammar) }
 {
@@ -202,7 +288,8 @@ pub(crate) const fn needs_exponent(grammar: Grammar) -> bool
 }
 
 // Returns whether another digit may follow: after a zero, only if some literal has a leading zero.
-const fn may_follow(grammar: Grammar, stage: Stage) -> bool
+#[inline(always)]
+pub(crate) const fn may_follow(grammar: Grammar, stage: Stage) -> bool
     ensures { result ≡ may_follow (notation_of grammar) stage }
 {
     !matches!(stage, Stage::Bare | Stage::Zero)
@@ -211,6 +298,7 @@ const fn may_follow(grammar: Grammar, stage: Stage) -> bool
 }
 
 // Returns whether there is no gap, or one that fits where a digit follows, or not.
+#[inline(always)]
 const fn gap_fits(grammar: Grammar, read: Summary, next: bool) -> bool
     ensures { result ≡ gap_fits (notation_of grammar) read.part (has_digit read.stage) read.gap next }
 {
@@ -218,7 +306,8 @@ const fn gap_fits(grammar: Grammar, read: Summary, next: bool) -> bool
 }
 
 // Returns whether `part` has a sign, or needs none.
-const fn is_signed(grammar: Grammar, part: Part, stage: Stage) -> bool
+#[inline(always)]
+pub(crate) const fn is_signed(grammar: Grammar, part: Part, stage: Stage) -> bool
     ensures { result ≡ is_signed (notation_of grammar) part stage }
 {
     let needs_sign = match part {
@@ -229,6 +318,7 @@ const fn is_signed(grammar: Grammar, part: Part, stage: Stage) -> bool
 }
 
 // Returns whether the part that is read may end.
+#[inline(always)]
 const fn ends(grammar: Grammar, read: Summary) -> bool
     ensures { result ≡ ends (notation_of grammar) read }
 {
@@ -245,6 +335,7 @@ const fn ends(grammar: Grammar, read: Summary) -> bool
 }
 
 // Returns whether a byte with the role `role` may follow a part that may end.
+#[inline(always)]
 const fn continues(grammar: Grammar, part: Part, stage: Stage, role: Role) -> bool
     ensures { result ≡ continues (notation_of grammar) part stage role }
 {
@@ -271,6 +362,7 @@ const fn continues(grammar: Grammar, part: Part, stage: Stage, role: Role) -> bo
 }
 
 // Returns whether what has been read is a literal.
+#[inline(always)]
 pub(crate) const fn is_complete(grammar: Grammar, read: Summary) -> bool
     ensures { result ≡ is_complete (notation_of grammar) read }
 {
@@ -279,6 +371,7 @@ pub(crate) const fn is_complete(grammar: Grammar, read: Summary) -> bool
 }
 
 // Returns whether the base prefix may still follow, or what is left of it.
+#[inline(always)]
 const fn lacks_prefix(stage: Stage) -> bool
     ensures { result ≡ lacks_prefix stage }
 {
@@ -287,6 +380,7 @@ const fn lacks_prefix(stage: Stage) -> bool
 
 // Returns whether a byte with the role `role`, the digit 0 if `zero` is true, is the sign before a base prefix, or one of its
 // own bytes.
+#[inline(always)]
 const fn leads_to_prefix(stage: Stage, zero: bool, role: Role) -> bool
     ensures { result ≡ leads_to_prefix stage zero role }
 {
@@ -299,6 +393,7 @@ const fn leads_to_prefix(stage: Stage, zero: bool, role: Role) -> bool
 }
 
 // Returns whether a byte with the role `role`, which is a plus sign if `plus` is true, is a minus sign of the mantissa.
+#[inline(always)]
 const fn is_negative(part: Part, plus: bool, role: Role) -> bool
     ensures { result ≡ is_negative part plus role }
 {
@@ -307,7 +402,7 @@ const fn is_negative(part: Part, plus: bool, role: Role) -> bool
 
 // Returns whether the conditions let a byte with the role `role` follow.
 #[inline(always)]
-const fn admits(conditions: Conditions, read: Summary, plus: bool, zero: bool, role: Role) -> bool
+pub(crate) const fn admits(conditions: Conditions, read: Summary, plus: bool, zero: bool, role: Role) -> bool
     ensures { result ≡ admits (has conditions) read plus zero role }
 {
     if conditions.are_free() {
@@ -333,6 +428,7 @@ const fn some_admit(
 }
 
 // Returns whether the conditions let a literal end.
+#[inline(always)]
 const fn finishes(conditions: Conditions, read: Summary) -> bool
     ensures { result ≡ finishes (has conditions) read }
 {
@@ -341,7 +437,8 @@ const fn finishes(conditions: Conditions, read: Summary) -> bool
 }
 
 // Returns whether some literal goes on with a byte that has the role `role`, and is a plus sign if `plus` is true.
-const fn takes(grammar: Grammar, read: Summary, plus: bool, role: Role) -> bool
+#[inline(always)]
+pub(crate) const fn takes(grammar: Grammar, read: Summary, plus: bool, role: Role) -> bool
     ensures { result ≡ takes (notation_of grammar) read plus role }
 {
     let format = grammar.view();
@@ -360,11 +457,7 @@ const fn takes(grammar: Grammar, read: Summary, plus: bool, role: Role) -> bool
                     || is_place(grammar, part, digit, false))
         }
         Role::Sign => {
-            let forbids_plus = match part {
-                Part::Exponent => format.no_positive_exponent_sign(),
-                _ => format.no_positive_mantissa_sign(),
-            };
-            matches!(stage, Stage::Start | Stage::Mark) && (!forbids_plus || !plus)
+            matches!(stage, Stage::Start | Stage::Mark) && (!plus || allows_plus(grammar, part))
         }
         Role::Prefix => matches!(stage, Stage::Bare),
         _ => ends(grammar, read) && continues(grammar, part, stage, role),
@@ -372,7 +465,8 @@ const fn takes(grammar: Grammar, read: Summary, plus: bool, role: Role) -> bool
 }
 
 // Returns the summary after a byte that has the role `role`, and is the digit 0 if `zero` is true.
-const fn after(read: Summary, zero: bool, role: Role) -> Summary
+#[inline(always)]
+pub(crate) const fn after(read: Summary, zero: bool, role: Role) -> Summary
     ensures { result ≡ after read zero role }
 {
     let part = read.part;
@@ -400,6 +494,58 @@ const fn after(read: Summary, zero: bool, role: Role) -> Summary
         stage,
         gap,
         ended: read.ended || matches!(role, Role::Suffix),
+    }
+}
+
+// Returns whether `byte` is a sign.
+#[inline(always)]
+const fn is_sign(byte: u8) -> bool
+    ensures { result ≡ signs byte }
+{
+    matches!(byte, b'+' | b'-')
+}
+
+// Returns the role of `byte` after a front that ends in `part`, if no byte plays two roles.
+#[inline(always)]
+const fn role_at(grammar: Grammar, part: Part, byte: u8) -> Option<Role>
+    requires { HasRoles (notation_of grammar) }
+    ensures { result ≡ in_part part (byte_class (notation_of grammar) byte) }
+{
+    if is_digit(grammar, part, byte) {
+        Some(Role::Digit)
+    } else if is_separator(grammar, byte) {
+        Some(Role::Separator)
+    } else if is_point(grammar, byte) {
+        Some(Role::Point)
+    } else if is_exponent_character(grammar, byte) {
+        Some(Role::Exponent)
+    } else if grammar.view().is_base_suffix(byte) {
+        Some(Role::Suffix)
+    } else if is_sign(byte) {
+        Some(Role::Sign)
+    } else if grammar.view().is_base_prefix(byte) {
+        Some(Role::Prefix)
+    } else {
+        None
+    }
+}
+
+// Returns what `byte` makes of what has been read, or `None` if no literal begins so, if no byte plays two roles.
+#[inline(always)]
+pub(crate) const fn step_at(grammar: Grammar, read: Summary, byte: u8) -> Option<Summary>
+    requires { HasRoles (notation_of grammar) }
+    ensures { result ≡ step (notation_of grammar) read (byte_class (notation_of grammar) byte) }
+{
+    let plus = byte == b'+';
+    let zero = byte == b'0';
+    match role_at(grammar, read.part, byte) {
+        Some(role)
+            if !read.ended
+                && takes(grammar, read, plus, role)
+                && admits(grammar.conditions, read, plus, zero, role) => {
+            Some(after(read, zero, role))
+        }
+        _ => None,
     }
 }
 

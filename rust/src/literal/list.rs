@@ -3,7 +3,8 @@
 //! Lists of readers: the numbers of a language that has several forms, such as `10`, `0x1F` and `0b1`.
 
 use crate::literal::cause::ReadError;
-use crate::literal::read::{Found, Reader, Stop};
+use crate::literal::plain::At;
+use crate::literal::read::{Found, Reader};
 
 /// The readers of the forms of numbers, at least one. The first form that takes a text decides what number it is.
 #[derive(Debug, Clone, Copy, PartialEq, Eq)]
@@ -45,12 +46,16 @@ impl<'a> ReaderList<'a> {
         let mut form = 0;
         while form < self.readers.len() {
             let reader = &self.readers[form];
-            let scanned = reader.scan(text, false);
-            if reader.takes(text, scanned) {
-                let counts = scanned.counts;
+            let counted = reader.begin(text);
+            if reader.is_whole(text, counted) {
+                let counts = counted.counts;
                 return Ok((form, counts));
             }
-            furthest = further(furthest, form, scanned.stop);
+            let stop = reader.stop(text, counted.at);
+            match reader.lengths(text, stop) {
+                Some(counts) => return Ok((form, counts)),
+                None => furthest = further(furthest, form, stop),
+            }
             form += 1;
         }
         Err(self.refuse(text, furthest))
@@ -85,14 +90,14 @@ impl<'a> ReaderList<'a> {
     // Returns why `text` is not a literal of the form that goes furthest, or, if the cause is a wrong byte, of the first that
     // goes as far and has another cause.
     #[cold]
-    const fn refuse(&self, text: &[u8], furthest: Option<(usize, Stop)>) -> FormError {
+    const fn refuse(&self, text: &[u8], furthest: Option<(usize, At)>) -> FormError {
         let Some((first, stop)) = furthest else { unreachable!() };
         let readers = self.readers();
         let error = readers[first].refuse(text, stop);
         let mut form = first + 1;
         while form < readers.len() {
             let reader = &readers[form];
-            let reached = reader.scan(text, false).stop;
+            let reached = reader.stop(text, reader.begin(text).at);
             if reached.size == stop.size {
                 let other = reader.refuse(text, reached);
                 if !other.is_byte() && error.is_byte() {
@@ -117,7 +122,7 @@ const fn longer(longest: Option<(usize, Found)>, form: usize, found: Option<Foun
 
 // Returns which of two forms goes further, the first of equals.
 #[inline(always)]
-const fn further(furthest: Option<(usize, Stop)>, form: usize, stop: Stop) -> Option<(usize, Stop)> {
+const fn further(furthest: Option<(usize, At)>, form: usize, stop: At) -> Option<(usize, At)> {
     match furthest {
         Some((_, best)) if best.size >= stop.size => furthest,
         _ => Some((form, stop)),

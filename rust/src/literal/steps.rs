@@ -2,6 +2,7 @@
 
 //! The steps of a reader: what has been read of a number, changed by the class of one byte.
 
+use crate::format_flags::digit_separator;
 use crate::literal::syntax::{Conditions, Grammar};
 use crate::word::{Part, Role};
 
@@ -37,8 +38,8 @@ pub(crate) enum Piece {
 }
 
 // The digits of a part that have been read.
-#[derive(Clone, Copy)]
-pub(crate) enum Stage {
+#[derive(Debug, Clone, Copy, PartialEq, Eq, Hash)]
+pub enum Stage {
     Start,  // Nothing of the number.
     Empty,  // No digits of the integer.
     Bare,   // The digit 0, and no separators.
@@ -51,13 +52,16 @@ pub(crate) enum Stage {
 }
 
 // What has been read of a number.
-#[derive(Clone, Copy)]
-pub(crate) struct Summary {
+#[derive(Debug, Clone, Copy, PartialEq, Eq, Hash)]
+pub struct Summary {
     pub(crate) part: Part, // The part that a digit belongs to.
     pub(crate) stage: Stage,
     pub(crate) gap: bool,   // Whether the last byte is a separator.
     pub(crate) ended: bool, // Whether the suffix has been read.
 }
+
+// The summary before any byte.
+pub(crate) const START: Summary = Summary { part: Part::Integer, stage: Stage::Start, gap: false, ended: false };
 
 // What one byte makes of what has been read.
 #[derive(Clone, Copy)]
@@ -67,6 +71,7 @@ pub(crate) struct Move {
 }
 
 // Returns whether `byte` is a digit of `part`.
+#[inline(always)]
 pub(crate) const fn is_digit(grammar: Grammar, part: Part, byte: u8) -> bool {
     match part {
         Part::Exponent => matches!(grammar.view().exponent_digit(byte), Some(_)),
@@ -74,7 +79,47 @@ pub(crate) const fn is_digit(grammar: Grammar, part: Part, byte: u8) -> bool {
     }
 }
 
+// Returns the value of `byte` as a digit of `part`, or `None` if it is none.
+#[inline(always)]
+pub(crate) const fn digit_value(grammar: Grammar, part: Part, byte: u8) -> Option<u32> {
+    match part {
+        Part::Exponent => grammar.view().exponent_digit(byte),
+        _ => grammar.view().mantissa_digit(byte),
+    }
+}
+
+// Returns the radix of the digits of `part`.
+#[inline(always)]
+pub(crate) const fn radix_of(grammar: Grammar, part: Part) -> u64 {
+    match part {
+        Part::Exponent => grammar.view().exponent_radix() as u64,
+        _ => grammar.view().mantissa_radix() as u64,
+    }
+}
+
+// Returns whether `byte` is the separator, and some flag allows one. Most bytes are another one than it.
+#[inline(always)]
+pub(crate) const fn is_separator(grammar: Grammar, byte: u8) -> bool {
+    byte == digit_separator(grammar.word) && grammar.view().is_separator(byte)
+}
+
+// Returns whether a plus sign may be before the digits of `part`.
+#[inline(always)]
+pub(crate) const fn allows_plus(grammar: Grammar, part: Part) -> bool {
+    match part {
+        Part::Exponent => !grammar.view().no_positive_exponent_sign(),
+        _ => !grammar.view().no_positive_mantissa_sign(),
+    }
+}
+
+// Returns whether a minus sign may be before the digits of `part`.
+#[inline(always)]
+pub(crate) const fn allows_minus(grammar: Grammar, part: Part) -> bool {
+    matches!(part, Part::Exponent) || !grammar.conditions.no_negative_mantissa_sign
+}
+
 // Returns whether `byte` is the decimal point.
+#[inline(always)]
 pub(crate) const fn is_point(grammar: Grammar, byte: u8) -> bool {
     match grammar.options {
         None => false,
@@ -83,6 +128,7 @@ pub(crate) const fn is_point(grammar: Grammar, byte: u8) -> bool {
 }
 
 // Returns whether `byte` is the exponent character.
+#[inline(always)]
 pub(crate) const fn is_exponent_character(grammar: Grammar, byte: u8) -> bool {
     match grammar.options {
         None => false,
@@ -135,7 +181,8 @@ pub(crate) const fn in_part(part: Part, class: Class) -> Option<Role> {
 }
 
 // Returns the piece that a byte with the role `role` belongs to, after a front that ends in `part`.
-const fn piece_of(part: Part, role: Role) -> Piece {
+#[inline(always)]
+pub(crate) const fn piece_of(part: Part, role: Role) -> Piece {
     match (role, part) {
         (Role::Digit | Role::Separator, Part::Integer) => Piece::Integer,
         (Role::Digit | Role::Separator, Part::Fraction) => Piece::Fraction,
@@ -149,12 +196,26 @@ const fn piece_of(part: Part, role: Role) -> Piece {
     }
 }
 
+// Returns the place of a piece in a list of lengths.
+#[inline(always)]
+pub(crate) const fn piece_number(piece: Piece) -> usize {
+    piece as usize
+}
+
+// Returns whether the integer has no digits, and a zero is a leading one.
+#[inline(always)]
+pub(crate) const fn is_begun(stage: Stage) -> bool {
+    matches!(stage, Stage::Start | Stage::Empty)
+}
+
 // Returns whether the part has a digit.
+#[inline(always)]
 pub(crate) const fn has_digit(stage: Stage) -> bool {
     matches!(stage, Stage::Bare | Stage::Zero | Stage::Led | Stage::Digits)
 }
 
 // Returns whether a separator may be at a place in `part` with digits before it, or not, and after it, or not.
+#[inline(always)]
 const fn is_place(grammar: Grammar, part: Part, before: bool, after: bool) -> bool {
     let allowed = grammar.view().separators(part);
     match (before, after) {
@@ -166,24 +227,28 @@ const fn is_place(grammar: Grammar, part: Part, before: bool, after: bool) -> bo
 }
 
 // Returns whether an exponent is required.
+#[inline(always)]
 pub(crate) const fn needs_exponent(grammar: Grammar) -> bool {
     grammar.view().required_exponent_notation() && matches!(grammar.options, Some(_))
 }
 
 // Returns whether another digit may follow: after a zero, only if some literal has a leading zero.
-const fn may_follow(grammar: Grammar, stage: Stage) -> bool {
+#[inline(always)]
+pub(crate) const fn may_follow(grammar: Grammar, stage: Stage) -> bool {
     !matches!(stage, Stage::Bare | Stage::Zero)
         || (matches!(grammar.options, Some(_)) && !grammar.view().no_float_leading_zeros())
         || (!grammar.view().no_integer_leading_zeros() && !needs_exponent(grammar))
 }
 
 // Returns whether there is no gap, or one that fits where a digit follows, or not.
+#[inline(always)]
 const fn gap_fits(grammar: Grammar, read: Summary, next: bool) -> bool {
     !read.gap || is_place(grammar, read.part, has_digit(read.stage), next)
 }
 
 // Returns whether `part` has a sign, or needs none.
-const fn is_signed(grammar: Grammar, part: Part, stage: Stage) -> bool {
+#[inline(always)]
+pub(crate) const fn is_signed(grammar: Grammar, part: Part, stage: Stage) -> bool {
     let needs_sign = match part {
         Part::Exponent => grammar.view().required_exponent_sign(),
         _ => grammar.view().required_mantissa_sign(),
@@ -192,6 +257,7 @@ const fn is_signed(grammar: Grammar, part: Part, stage: Stage) -> bool {
 }
 
 // Returns whether the part that is read may end.
+#[inline(always)]
 const fn ends(grammar: Grammar, read: Summary) -> bool {
     let format = grammar.view();
     let has_mantissa = !matches!(read.stage, Stage::Lone);
@@ -206,6 +272,7 @@ const fn ends(grammar: Grammar, read: Summary) -> bool {
 }
 
 // Returns whether a byte with the role `role` may follow a part that may end.
+#[inline(always)]
 const fn continues(grammar: Grammar, part: Part, stage: Stage, role: Role) -> bool {
     let format = grammar.view();
     let digit = has_digit(stage);
@@ -230,18 +297,21 @@ const fn continues(grammar: Grammar, part: Part, stage: Stage, role: Role) -> bo
 }
 
 // Returns whether what has been read is a literal.
+#[inline(always)]
 pub(crate) const fn is_complete(grammar: Grammar, read: Summary) -> bool {
     (read.ended || (ends(grammar, read) && continues(grammar, read.part, read.stage, Role::Suffix)))
         && finishes(grammar.conditions, read)
 }
 
 // Returns whether the base prefix may still follow, or what is left of it.
+#[inline(always)]
 const fn lacks_prefix(stage: Stage) -> bool {
     matches!(stage, Stage::Start | Stage::Empty | Stage::Bare)
 }
 
 // Returns whether a byte with the role `role`, the digit 0 if `zero` is true, is the sign before a base prefix, or one of its
 // own bytes.
+#[inline(always)]
 const fn leads_to_prefix(stage: Stage, zero: bool, role: Role) -> bool {
     match (stage, role) {
         (Stage::Bare, role) => matches!(role, Role::Prefix),
@@ -252,13 +322,14 @@ const fn leads_to_prefix(stage: Stage, zero: bool, role: Role) -> bool {
 }
 
 // Returns whether a byte with the role `role`, which is a plus sign if `plus` is true, is a minus sign of the mantissa.
+#[inline(always)]
 const fn is_negative(part: Part, plus: bool, role: Role) -> bool {
     matches!(role, Role::Sign) && !matches!(part, Part::Exponent) && !plus
 }
 
 // Returns whether the conditions let a byte with the role `role` follow.
 #[inline(always)]
-const fn admits(conditions: Conditions, read: Summary, plus: bool, zero: bool, role: Role) -> bool {
+pub(crate) const fn admits(conditions: Conditions, read: Summary, plus: bool, zero: bool, role: Role) -> bool {
     if conditions.are_free() {
         return true;
     }
@@ -274,12 +345,14 @@ const fn some_admit(conditions: Conditions, read: Summary, plus: bool, zero: boo
 }
 
 // Returns whether the conditions let a literal end.
+#[inline(always)]
 const fn finishes(conditions: Conditions, read: Summary) -> bool {
     !(conditions.required_base_prefix && lacks_prefix(read.stage)) && (!conditions.required_base_suffix || read.ended)
 }
 
 // Returns whether some literal goes on with a byte that has the role `role`, and is a plus sign if `plus` is true.
-const fn takes(grammar: Grammar, read: Summary, plus: bool, role: Role) -> bool {
+#[inline(always)]
+pub(crate) const fn takes(grammar: Grammar, read: Summary, plus: bool, role: Role) -> bool {
     let format = grammar.view();
     let Summary { part, stage, .. } = read;
     let digit = has_digit(stage);
@@ -291,20 +364,15 @@ const fn takes(grammar: Grammar, read: Summary, plus: bool, role: Role) -> bool 
                 && ((is_place(grammar, part, digit, true) && may_follow(grammar, stage))
                     || is_place(grammar, part, digit, false))
         }
-        Role::Sign => {
-            let forbids_plus = match part {
-                Part::Exponent => format.no_positive_exponent_sign(),
-                _ => format.no_positive_mantissa_sign(),
-            };
-            matches!(stage, Stage::Start | Stage::Mark) && (!forbids_plus || !plus)
-        }
+        Role::Sign => matches!(stage, Stage::Start | Stage::Mark) && (!plus || allows_plus(grammar, part)),
         Role::Prefix => matches!(stage, Stage::Bare),
         _ => ends(grammar, read) && continues(grammar, part, stage, role),
     }
 }
 
 // Returns the summary after a byte that has the role `role`, and is the digit 0 if `zero` is true.
-const fn after(read: Summary, zero: bool, role: Role) -> Summary {
+#[inline(always)]
+pub(crate) const fn after(read: Summary, zero: bool, role: Role) -> Summary {
     let part = read.part;
     let (part, stage) = match (role, read.stage) {
         (Role::Digit, Stage::Start | Stage::Empty) if zero && read.gap => (part, Stage::Zero),
@@ -326,6 +394,51 @@ const fn after(read: Summary, zero: bool, role: Role) -> Summary {
         _ => false,
     };
     Summary { part, stage, gap, ended: read.ended || matches!(role, Role::Suffix) }
+}
+
+// Returns whether `byte` is a sign.
+#[inline(always)]
+const fn is_sign(byte: u8) -> bool {
+    matches!(byte, b'+' | b'-')
+}
+
+// Returns the role of `byte` after a front that ends in `part`, if no byte plays two roles.
+#[inline(always)]
+const fn role_at(grammar: Grammar, part: Part, byte: u8) -> Option<Role> {
+    if is_digit(grammar, part, byte) {
+        Some(Role::Digit)
+    } else if is_separator(grammar, byte) {
+        Some(Role::Separator)
+    } else if is_point(grammar, byte) {
+        Some(Role::Point)
+    } else if is_exponent_character(grammar, byte) {
+        Some(Role::Exponent)
+    } else if grammar.view().is_base_suffix(byte) {
+        Some(Role::Suffix)
+    } else if is_sign(byte) {
+        Some(Role::Sign)
+    } else if grammar.view().is_base_prefix(byte) {
+        Some(Role::Prefix)
+    } else {
+        None
+    }
+}
+
+// Returns what `byte` makes of what has been read, or `None` if no literal begins so, if no byte plays two roles.
+#[inline(always)]
+pub(crate) const fn step_at(grammar: Grammar, read: Summary, byte: u8) -> Option<Summary> {
+    let plus = byte == b'+';
+    let zero = byte == b'0';
+    match role_at(grammar, read.part, byte) {
+        Some(role)
+            if !read.ended
+                && takes(grammar, read, plus, role)
+                && admits(grammar.conditions, read, plus, zero, role) =>
+        {
+            Some(after(read, zero, role))
+        }
+        _ => None,
+    }
 }
 
 // Returns what a byte of `class` makes of what has been read, or `None` if no literal begins so.

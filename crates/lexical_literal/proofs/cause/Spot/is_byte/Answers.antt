@@ -14,8 +14,8 @@ no_byte _ none = refl
 
 pub returns-in-Byte : goal.returns-in-Byte
 returns-in-Byte c = sym (ap is_byte c.in-Byte.is)
-    ∙ ap (λ (b : Blame). is_byte b.kind) (c.blame.ensures ∙ (λ j. blame (notation_of c.args.self.grammar) (c.summary_at.ensures j) c.args.self.byte))
+    ∙ ap (λ (b : Blame). is_byte b.kind) c.blame.ensures
 
 pub returns-in_default : goal.returns-in_default
 returns-in_default c = sym (no_byte _ c.in_default.not-Byte)
-    ∙ ap (λ (b : Blame). is_byte b.kind) (c.blame.ensures ∙ (λ j. blame (notation_of c.args.self.grammar) (c.summary_at.ensures j) c.args.self.byte))
+    ∙ ap (λ (b : Blame). is_byte b.kind) c.blame.ensures

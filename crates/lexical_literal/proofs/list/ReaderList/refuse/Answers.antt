@@ -44,7 +44,7 @@ loop-form-init c = λ byte.
     c.refuse-error.result.refusal c.refuse-error.ensures a.2.valid byte))
 
 pub refuse-other-requires-clause-stopped : goal.refuse-other-requires-clause-stopped
-refuse-other-requires-clause-stopped c = c.scan.ensures.stop
+refuse-other-requires-clause-stopped c = c.stop-reached.ensures
 
 pub returns-then-is_byte : goal.returns-then-is_byte
 returns-then-is_byte c =
@@ -61,7 +61,7 @@ returns-then-is_byte c =
     let byte : is_byte c.refuse-error.result.refusal.kind ≡ true = grind arith in
     subst (λ l. IsFormError l c.args.text.now (record { form = c.loop-form.form; error = c.refuse-other.result })) c.readers-readers.ensures.list
     (other_error forms c.args.text.now c.in-Some.first c.in-Some.stop.size a.0 c.loop-form.form g c.refuse-other.result at c.refuse-other.ensures
-    (subst (IsValidUpTo (notation_of g) c.args.text.now) c.if-reached-stop.true c.scan.ensures.stop.valid) right (c.loop-form.invariant byte))
+    (subst (IsValidUpTo (notation_of g) c.args.text.now) c.if-reached-stop.true c.stop-reached.ensures.valid) right (c.loop-form.invariant byte))
 
 pub loop-form-preserved : goal.loop-form-preserved
 loop-form-preserved c = λ byte.
@@ -82,10 +82,10 @@ loop-form-preserved c = λ byte.
             let other = v.if-not-is_byte.false in let other_is = w.is_byte.ensures in
             let wrong : is_byte w.refuse-other.result.refusal.kind ≡ true = grind arith in
             at_byte forms text c.in-Some.first c.in-Some.stop.size a.0 g w.refuse-other.result.refusal w.refuse-other.ensures
-            (subst (IsValidUpTo (notation_of g) text) w.if-reached-stop.true c.scan.ensures.stop.valid) wrong
+            (subst (IsValidUpTo (notation_of g) text) w.if-reached-stop.true c.stop-reached.ensures.valid) wrong
       ]
-      | else-reached-stop w ↦ elsewhere forms text c.in-Some.first c.in-Some.stop.size a.0 c.loop-form.form g c.scan.result.stop.size at
-          c.scan.ensures.stop.valid w.if-reached-stop.false
+      | else-reached-stop w ↦ elsewhere forms text c.in-Some.first c.in-Some.stop.size a.0 c.loop-form.form g c.stop-reached.result.size at
+          c.stop-reached.ensures.valid w.if-reached-stop.false
     ]))
 
 pub returns : goal.returns

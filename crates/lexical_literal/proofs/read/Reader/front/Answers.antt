@@ -1,34 +1,25 @@
 -- The longest front that is a literal, and the lengths of its parts.
-use Rattle.std.proofs.Common.{refl, sym, ◌∙◌, subst, take}
+use Rattle.std.proofs.Common.{sym, ◌∙◌, subst, take}
 use Rattle.lexical_literal.specs.Literal.{Reads}
-use Rattle.lexical_literal.specs.Notation.{notation_of}
-use Rattle.lexical_literal.proofs.LongestLemmas.{front_literal, fronted, whole_front}
+use Rattle.lexical_literal.proofs.LongestLemmas.{found_there, front_literal, fronted}
 use Rattle.lexical_literal.proofs.read.Reader.front.Goals as goal
+
+pub returns-then-stop-at : goal.returns-then-stop-at
+returns-then-stop-at c = fronted _ _ _ _ c.stop-stop.ensures
+    (found_there _ _ c.begin-complete.result c.begin-complete.ensures c.if-complete.true c.stop-stop.result c.stop-stop.ensures c.if-stop-at.true)
 
 pub returns-in-None : goal.returns-in-None
 returns-in-None c = record {
-  reached = c.scan-literal.ensures.stop;
+  reached = c.stop-stop.ensures;
   longest = λ found is. absurd (cc);
-  none = λ _ size below. (c.scan-literal.ensures.longest refl).no_longer size below
-      (λ other same. absurd (let clash = sym c.in-None.is ∙ same in cc));
+  none = λ _ size below. c.seek.ensures.no_longer size below (λ other same. absurd (let clash = sym c.in-None.is ∙ same in cc));
 }
 
 pub returns-in-Some : goal.returns-in-Some
 returns-in-Some c =
-    let is = c.scan-literal.ensures in
-    let l = front_literal _ _ _ (is.longest refl) c.in-Some.size c.in-Some.is in
-    fronted _ _ _ _ is.stop (record {
+    let l = front_literal _ _ _ c.seek.ensures c.in-Some.size c.in-Some.is in
+    fronted _ _ _ _ c.stop-stop.ensures (record {
       literal = l.0;
       reads = l.1;
-      counted = λ k reads. is.counted k (subst (λ n. Reads (notation_of c.args.self.now) k (take n c.args.text.now)) c.if-size-stop.true reads);
-    })
-
-pub returns-in-Some-2 : goal.returns-in-Some-2
-returns-in-Some-2 c =
-    let is = c.scan-literal.ensures in
-    let l = front_literal _ _ _ (is.longest refl) c.in-Some-2.size c.in-Some-2.is in
-    fronted _ _ _ _ is.stop (record {
-      literal = l.0;
-      reads = l.1;
-      counted = λ k reads. c.scan.ensures.counted k (whole_front _ _ _ c.scan.ensures.stop k (subst (Reads _ k) (sym c.front_of.ensures) reads));
+      counted = λ k reads. c.count-counts.ensures k (subst (Reads _ k) (sym c.front_of.ensures) reads);
     })
