@@ -29,6 +29,7 @@ mod languages;
 mod literals;
 mod names;
 mod numbers;
+mod reading;
 mod settings;
 mod values;
 mod words;

@@ -1,13 +1,13 @@
-//! Calls that make readers, that read literals, and that print why a text is not one.
+//! Calls that check syntaxes, that read literals, and that print why a text is not one.
 
 use crate::arguments::{input, write_text, Out};
 use crate::numbers::{error_number, ErrorNumber, Setter, Word, NO_PART, NO_SETTER};
+use crate::{languages::Forms, reading};
 use core::fmt::{self, Display, Formatter};
 use core::mem::ManuallyDrop;
 use core::num::NonZeroU8;
 use core::ops::Range;
-use core::slice;
-use peltzivar::literal::{self, Conditions, FormError, Language, Number, ReadErrorKind, Readers};
+use peltzivar::literal::{self, Conditions, FormError, Number, ReadErrorKind, Readers};
 use peltzivar::{Error, Format, FormatError};
 
 /// A word with an exponent character, a decimal point and conditions, which may be refused. If both are 0, literals are
@@ -25,50 +25,48 @@ pub struct Syntax {
 }
 
 impl Syntax {
-    /// Returns the checked syntax.
-    fn checked(&self) -> Result<literal::Syntax, Refusal<FormatError>> {
-        if self.reserved != [0; 10] {
-            return Err(Refusal::Argument("the reserved bytes of the syntax are not 0"));
-        }
-        let format = Format::new(self.format.number())?;
-        let syntax = match (self.exponent, self.decimal_point) {
-            (0, 0) => literal::Syntax::integers(format),
-            (exponent, point) => literal::Syntax::new(format, exponent, point)?,
-        };
-        let conditions = Conditions::NONE
+    /// Returns the conditions.
+    fn conditions(&self) -> Conditions {
+        Conditions::NONE
             .required_base_prefix(self.required_base_prefix != 0)
             .required_base_suffix(self.required_base_suffix != 0)
             .no_negative_mantissa_sign(self.no_negative_mantissa_sign != 0)
-            .integer_group_size(NonZeroU8::new(self.integer_group_size).map(NonZeroU8::get));
-        Ok(syntax.with(conditions)?)
+            .integer_group_size(NonZeroU8::new(self.integer_group_size).map(NonZeroU8::get))
     }
 
-    /// Returns the numbers of a syntax.
-    const fn of(syntax: literal::Syntax) -> Syntax {
-        let (exponent, decimal_point) = match (syntax.exponent(), syntax.point()) {
-            (Some(exponent), Some(point)) => (exponent, point),
-            _ => (0, 0),
-        };
-        let conditions = syntax.conditions();
-        Syntax {
-            format: Word::of(syntax.format().word()),
-            exponent,
-            decimal_point,
-            required_base_prefix: conditions.required_base_prefix as u8,
-            required_base_suffix: conditions.required_base_suffix as u8,
-            no_negative_mantissa_sign: conditions.no_negative_mantissa_sign as u8,
-            integer_group_size: match conditions.integer_group_size {
-                Some(size) => size,
-                None => 0,
-            },
-            reserved: [0; 10],
-        }
+    /// Returns the syntax, or `None` if it is refused.
+    pub fn given(syntax: Option<&Syntax>) -> Option<literal::Syntax> {
+        checked(syntax).ok()
     }
+}
+
+/// Returns the checked syntax.
+fn checked(syntax: Option<&Syntax>) -> Result<literal::Syntax, Refusal<FormatError>> {
+    let syntax = syntax.ok_or(Refusal::Argument("the syntax is a null pointer"))?;
+    if syntax.reserved != [0; 10] {
+        return Err(Refusal::Argument("the reserved bytes of the syntax are not 0"));
+    }
+    let format = Format::new(syntax.format.number())?;
+    let made = match (syntax.exponent, syntax.decimal_point) {
+        (0, 0) => literal::Syntax::integers(format),
+        (exponent, point) => literal::Syntax::new(format, exponent, point)?,
+    };
+    Ok(made.with(syntax.conditions())?)
 }
 
 impl From<literal::Syntax> for Syntax {
     fn from(syntax: literal::Syntax) -> Syntax {
-        Syntax::of(syntax)
+        let conditions = syntax.conditions();
+        Syntax {
+            format: Word::of(syntax.format().word()),
+            exponent: syntax.exponent().unwrap_or(0),
+            decimal_point: syntax.point().unwrap_or(0),
+            required_base_prefix: conditions.required_base_prefix.into(),
+            required_base_suffix: conditions.required_base_suffix.into(),
+            no_negative_mantissa_sign: conditions.no_negative_mantissa_sign.into(),
+            integer_group_size: conditions.integer_group_size.unwrap_or(0),
+            reserved: [0; 10],
+        }
     }
 }
 
@@ -90,7 +88,7 @@ union Words<T, const WORDS: usize> {
 impl<Shown, T, const WORDS: usize> Made<Shown, T, WORDS> {
     const MAGIC: u64 = u64::from_le_bytes(*b"\0\0zivar\xB6") + WORDS as u64;
 
-    const fn new(shown: Shown, value: T) -> Self {
+    fn new(shown: Shown, value: T) -> Self {
         Made { magic: Self::MAGIC, shown, words: Words { value: ManuallyDrop::new(value) } }
     }
 
@@ -98,26 +96,6 @@ impl<Shown, T, const WORDS: usize> Made<Shown, T, WORDS> {
     pub fn value(&self) -> Option<&T> {
         // SAFETY: with this number, `new` made the value, as the header requires.
         (self.magic == Self::MAGIC).then(|| unsafe { &*self.words.value })
-    }
-}
-
-/// A reader. It has no pointer to itself, so a copy is a reader, too.
-pub type Reader = Made<Syntax, Forms, 506>;
-
-/// What a reader reads: the literals of a syntax, or those of a language.
-#[allow(clippy::large_enum_variant, reason = "C has the memory of a reader, and nothing is allocated")]
-pub enum Forms {
-    Syntax(literal::Reader),
-    Language(Language),
-}
-
-impl Forms {
-    /// Returns the readers, at least one.
-    pub fn readers(&self) -> &[literal::Reader] {
-        match self {
-            Forms::Syntax(reader) => slice::from_ref(reader),
-            Forms::Language(language) => language.readers().as_slice(),
-        }
     }
 }
 
@@ -135,7 +113,7 @@ pub type ReadError = Made<Stop, Refusal<literal::ReadError>, 12>;
 pub type Literal<'a> = Made<Parts, literal::Literal<'a>, 14>;
 
 // The sizes and the alignment in the header.
-const _: () = assert!(size_of::<Reader>() == 4096 && align_of::<Reader>() <= 16);
+const _: () = assert!(size_of::<Syntax>() == 32);
 const _: () = assert!(size_of::<ReadError>() == 128 && align_of::<ReadError>() <= 16);
 const _: () = assert!(size_of::<Literal>() == 288 && align_of::<Literal>() <= 16);
 
@@ -158,11 +136,6 @@ impl<E: Into<FormatError>> From<E> for Refusal<FormatError> {
     fn from(error: E) -> Self {
         Refusal::Library(error.into())
     }
-}
-
-/// Returns the reader of a language.
-pub const fn reader_of(language: Language) -> Reader {
-    Made::new(Syntax::of(language.forms()[0].syntax), Forms::Language(language))
 }
 
 /// The range of a piece of a text.
@@ -252,74 +225,97 @@ impl From<literal::ReadError> for Explanation {
     }
 }
 
-/// Returns the readers of the forms, at least one, and the text, or why there are none.
+/// Why reading a text with a form refuses it.
+type Refused = (Refusal<literal::ReadError>, usize);
+
+/// Returns the syntax or the forms, and the text, or why there are none.
 ///
 /// # Safety
 ///
 /// As that of [`input`].
-pub unsafe fn given<'a>(
-    reader: Option<&Reader>,
-    text: *const u8,
-    len: usize,
-) -> Result<(&[literal::Reader], &'a [u8]), Refusal<literal::ReadError>> {
-    let forms = reader.and_then(Reader::value).ok_or(Refusal::Argument("no call has made this reader"))?;
-    Ok((forms.readers(), input(text, len).ok_or(Refusal::Argument("the text has more than PTRDIFF_MAX bytes"))?))
+unsafe fn given<'a, T>(by: Option<T>, null: &'static str, text: (*const u8, usize)) -> Result<(T, &'a [u8]), Refused> {
+    let by = by.ok_or((Refusal::Argument(null), 0))?;
+    Ok((by, input(text.0, text.1).ok_or((Refusal::Argument("the text has more than PTRDIFF_MAX bytes"), 0))?))
 }
 
-/// Writes what `read` or, of several forms, `read_forms` returns for a text, and returns whether it is a literal.
-unsafe fn read_by<'a>(
-    (reader, text, len): (Option<&Reader>, *const u8, usize),
+/// Returns what `read` returns for a text by a syntax.
+unsafe fn by_syntax<'a>(
+    syntax: Option<&Syntax>,
+    text: (*const u8, usize),
+    read: impl FnOnce(&literal::Syntax, &'a [u8]) -> Result<literal::Literal<'a>, literal::ReadError>,
+) -> Result<(literal::Literal<'a>, usize), Refused> {
+    let (syntax, text) = given(Syntax::given(syntax), "peltzivar_check_syntax refuses this syntax", text)?;
+    read(&syntax, text).map(|literal| (literal, 0)).map_err(|error| (Refusal::Library(error), 0))
+}
+
+/// Returns what `read` returns for a text by the forms of a language.
+unsafe fn by_forms<'a>(
+    forms: Option<&Forms>,
+    text: (*const u8, usize),
+    read: impl FnOnce(&Readers<'_>, &'a [u8]) -> Result<Number<'a>, FormError>,
+) -> Result<(literal::Literal<'a>, usize), Refused> {
+    let readers = forms.and_then(|forms| Readers::new(forms.readers().as_slice()));
+    let (readers, text) = given(readers, "the forms are a null pointer", text)?;
+    match read(&readers, text) {
+        Ok(Number::Literal { literal, form }) => Ok((literal, form)),
+        Ok(Number::Special(_)) => Err((Refusal::Argument("a special value"), 0)),
+        Err(FormError { form, error, .. }) => Err((Refusal::Library(error), form)),
+    }
+}
+
+/// Writes what was read, and returns whether it is a literal.
+fn write<'a>(
+    read: Result<(literal::Literal<'a>, usize), Refused>,
     (literal, error): (Out<Literal<'a>>, Out<ReadError>),
-    read: impl Fn(&literal::Reader, &'a [u8]) -> Result<literal::Literal<'a>, literal::ReadError>,
-    read_forms: impl Fn(&Readers<'_>, &'a [u8]) -> Result<Number<'a>, FormError>,
 ) -> bool {
-    let (form, refusal) = match given(reader, text, len) {
-        Err(refusal) => (0, refusal),
-        Ok(([reader], text)) => match read(reader, text) {
-            Ok(found) => {
-                literal.write(Literal::of(found, 0));
-                return true;
-            }
-            Err(error) => (0, Refusal::Library(error)),
-        },
-        Ok((readers, text)) => match Readers::new(readers).map(|readers| read_forms(&readers, text)) {
-            Some(Ok(Number::Literal { literal: found, form })) => {
-                literal.write(Literal::of(found, form));
-                return true;
-            }
-            Some(Err(FormError { form, error, .. })) => (form, Refusal::Library(error)),
-            _ => (0, Refusal::Argument("a number that is not a literal")),
-        },
-    };
-    let valid_up_to = if let Refusal::Library(error) = &refusal { error.valid_up_to() } else { 0 };
-    error.write(Made::new(Stop { valid_up_to, form: form as u8 }, refusal));
-    false
+    match read {
+        Ok((found, form)) => {
+            literal.write(Literal::of(found, form));
+            true
+        }
+        Err((refusal, form)) => {
+            let valid_up_to = if let Refusal::Library(error) = &refusal { error.valid_up_to() } else { 0 };
+            error.write(Made::new(Stop { valid_up_to, form: form as u8 }, refusal));
+            false
+        }
+    }
 }
 
 calls! {
-    fn peltzivar_reader_init(reader: Out<Reader>, syntax: &Syntax) -> ErrorNumber {
-        let made = |syntax| Reader::new(Syntax::of(syntax), Forms::Syntax(literal::Reader::new(syntax)));
-        reader.write_ok(syntax.checked().map(made).map_err(|refusal| match refusal {
-            Refusal::Argument(_) => Error::InvalidFlags,
-            Refusal::Library(error) => error.into(),
-        }))
+    fn peltzivar_check_syntax(syntax: Option<&Syntax>) -> ErrorNumber {
+        error_number(match checked(syntax) {
+            Ok(_) => Error::Success,
+            Err(Refusal::Argument(_)) => Error::InvalidFlags,
+            Err(Refusal::Library(error)) => error.into(),
+        })
     }
 
-    fn peltzivar_syntax_error_text(syntax: &Syntax, text: *mut u8, len: usize) -> usize {
-        write_text(text, len, syntax.checked().err())
+    fn peltzivar_syntax_error_text(syntax: Option<&Syntax>, text: *mut u8, len: usize) -> usize {
+        write_text(text, len, checked(syntax).err())
     }
 
     fn peltzivar_read(
-        reader: Option<&Reader>, text: *const u8, len: usize, literal: Out<Literal>, error: Out<ReadError>
+        syntax: Option<&Syntax>, text: *const u8, len: usize, literal: Out<Literal>, error: Out<ReadError>
     ) -> bool {
-        read_by((reader, text, len), (literal, error), |it, text| it.read(text), |it, text| it.read(text))
+        write(by_syntax(syntax, (text, len), |syntax, text| reading::read(syntax, text)), (literal, error))
     }
 
     fn peltzivar_read_prefix(
-        reader: Option<&Reader>, text: *const u8, len: usize, literal: Out<Literal>, error: Out<ReadError>
+        syntax: Option<&Syntax>, text: *const u8, len: usize, literal: Out<Literal>, error: Out<ReadError>
     ) -> bool {
-        let read = |reader: &literal::Reader, text| Ok(reader.read_prefix(text)?.0);
-        read_by((reader, text, len), (literal, error), read, |it, text| Ok(it.read_prefix(text)?.0))
+        write(by_syntax(syntax, (text, len), |syntax, text| reading::read_prefix(syntax, text)), (literal, error))
+    }
+
+    fn peltzivar_forms_read(
+        forms: Option<&Forms>, text: *const u8, len: usize, literal: Out<Literal>, error: Out<ReadError>
+    ) -> bool {
+        write(by_forms(forms, (text, len), |forms, text| forms.read(text)), (literal, error))
+    }
+
+    fn peltzivar_forms_read_prefix(
+        forms: Option<&Forms>, text: *const u8, len: usize, literal: Out<Literal>, error: Out<ReadError>
+    ) -> bool {
+        write(by_forms(forms, (text, len), |forms, text| Ok(forms.read_prefix(text)?.0)), (literal, error))
     }
 
     fn peltzivar_explain(error: &ReadError, out: Out<Explanation>) -> bool {

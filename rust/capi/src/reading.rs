@@ -1,0 +1,13 @@
+//! How texts are read by a syntax.
+
+use peltzivar::literal::{Literal, ReadError, Reader, Syntax};
+
+/// Returns a text as a literal.
+pub fn read<'a>(syntax: &Syntax, text: &'a [u8]) -> Result<Literal<'a>, ReadError> {
+    Reader::new(*syntax).read(text)
+}
+
+/// Returns the longest literal that a text begins with.
+pub fn read_prefix<'a>(syntax: &Syntax, text: &'a [u8]) -> Result<Literal<'a>, ReadError> {
+    Ok(Reader::new(*syntax).read_prefix(text)?.0)
+}
