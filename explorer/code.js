@@ -8,7 +8,7 @@ function character(byte, prefix) {
 /* Returns a comment with the reader of all forms of a language. */
 const COMMENTS = {
     rust: (name) => `// The reader of all forms is peltzivar::literal::Language::${name}.\n`,
-    c: (name) => `/* The reader of all forms is peltzivar_language("${name}", ${name.length}, NULL). */\n`,
+    c: (name) => `/* All forms are read by peltzivar_language("${name}", ${name.length}, NULL). */\n`,
     python: (name) => `# The reader of all forms is peltzivar.languages.${name}.\n`,
     settings: () => "",
 };
@@ -73,18 +73,16 @@ class Code {
 static const char SETTINGS[] =
 ${lines || '    ""'};
 
-/* Makes the reader. Call this once, before the first text is read. */
-bool make_reader(peltzivar_reader *reader) {
-    peltzivar_syntax syntax;
-    return !peltzivar_read_settings(SETTINGS, strlen(SETTINGS), &syntax)
-        && peltzivar_reader_init(reader, &syntax) == PELTZIVAR_SUCCESS;
+/* Writes the syntax, and returns whether the settings are right. Call this once, before the first text is read. */
+bool make_syntax(peltzivar_syntax *syntax) {
+    return !peltzivar_read_settings(SETTINGS, strlen(SETTINGS), syntax);
 }
 
 /* Writes the value of a number, and returns false if the text has none. */
-bool read_number(const peltzivar_reader *reader, const char *text, ${type} *value) {
+bool read_number(const peltzivar_syntax *syntax, const char *text, ${type} *value) {
     peltzivar_literal literal;
     peltzivar_read_error error;
-    return peltzivar_read(reader, text, strlen(text), &literal, &error)
+    return peltzivar_read(syntax, text, strlen(text), &literal, &error)
         && ${call}(&literal, value) == PELTZIVAR_VALUE_OK;
 }
 `;

@@ -176,16 +176,16 @@ class Walk(unittest.TestCase):
         self.assert_states(run(*command))
 
     @unittest.skipUnless(has("cargo", "cc"), "no cargo, or no C compiler")
-    def test_c_code_makes_the_reader(self):
+    def test_c_code_makes_the_syntax(self):
         codes, folder = self.code("c")
         run("make", "--silent", "-C", TOP / "c", f"BUILD={BUILD}")
         show = r'printf("0x%016llX%016llX ", (unsigned long long){0}.high, (unsigned long long){0}.low);'
-        options = "reader.syntax.exponent, reader.syntax.decimal_point, reader.syntax.required_base_prefix"
-        rest = rf'printf("%d %d %d\n", {options}); return read_number(&reader, "", 0);'
-        reader = f"peltzivar_reader reader; if (!make_reader(&reader)) return 1; {show.format('reader.syntax.format')} {rest}"
+        options = "syntax.exponent, syntax.decimal_point, syntax.required_base_prefix"
+        rest = rf'printf("%d %d %d\n", {options}); return read_number(&syntax, "", 0);'
+        made = f"peltzivar_syntax syntax; if (!make_syntax(&syntax)) return 1; {show.format('syntax.format')} {rest}"
         printed = ""
         for index, code in enumerate(codes):
-            body = show.format("WORD") + 'puts("");' if index == len(codes) - 1 else reader
+            body = show.format("WORD") + 'puts("");' if index == len(codes) - 1 else made
             (folder / "main.c").write_text(f"{code}\n#include <stdio.h>\nint main(void) {{ {body} }}\n")
             run("cc", "-Wall", "-Wextra", "-Werror", "-I", TOP / "c", "-o", folder / "main", folder / "main.c", BUILD / "release/libpeltzivar_c.a")
             printed += run(folder / "main")
