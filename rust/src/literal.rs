@@ -2,7 +2,7 @@
 //!
 //! A [`Syntax`] is a lawful format with an exponent character and a decimal point or, for integers alone, without both,
 //! and [`Conditions`].
-//! A [`Reader`] has tables of a syntax, and reads its literals. A [`Literal`] has the parts of a text and, if it is an
+//! A [`Reader`] reads the literals of a syntax. A [`Literal`] has the parts of a text and, if it is an
 //! integer, its value in any integer type of Rust. A [`ReadError`] finds the cause of a refusal, and the flags to blame.
 //! NaN and infinity are not literals: [`Specials`] reads them. [`Readers`] read numbers that have several forms, such as
 //! `10` and `0x1F`, and a [`Language`] has those of a language.
@@ -11,7 +11,7 @@
 //! use peltzivar::format::{Format, STANDARD};
 //! use peltzivar::literal::{Reader, Syntax};
 //!
-//! /// The numbers of the standard format. Its tables are made when this is compiled.
+//! /// The numbers of the standard format.
 //! static READER: Reader = Reader::new(Syntax::new_or_panic(Format::of::<STANDARD>(), b'e', b'.'));
 //! let literal = READER.read(b"-1.25e3").unwrap();
 //! assert!(literal.is_negative() && literal.is_float());
@@ -59,7 +59,13 @@ mod language;
 #[allow(clippy::len_zero, reason = "as it is proved")]
 mod list;
 mod number;
-#[allow(clippy::manual_unwrap_or, clippy::needless_lifetimes, reason = "as it is proved")]
+mod plain;
+#[allow(
+    clippy::manual_unwrap_or,
+    clippy::needless_lifetimes,
+    clippy::redundant_pattern_matching,
+    reason = "as it is proved"
+)]
 mod read;
 mod readers;
 mod sentence;
@@ -75,7 +81,6 @@ mod specials;
 mod steps;
 #[allow(clippy::redundant_pattern_matching, reason = "as it is proved")]
 mod syntax;
-mod tables;
 mod text;
 mod value;
 mod writer;

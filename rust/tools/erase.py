@@ -127,7 +127,6 @@ REPLACED += [
     ("short_text.rt", "#[derive(Drop)]\n#[doc(hidden)]", "#[derive(Clone,\nCopy)]"),
     ("list.rt", "#[derive(Drop)]", "#[derive(Debug, Clone, Copy, PartialEq, Eq)]"),
     ("read.rt", "#[derive(Drop)]", "#[derive(Clone)]"),
-    ("tables.rt", "#[derive(Drop)]", "#[derive(Clone)]"),
     ("sink.rt", "#[derive(Drop)]", "#[derive(Debug)]"),
     # `Debug` prints the answers.
     ("cause.rt", "#[derive(Debug, Clone, Copy, PartialEq, Eq, Hash)]\npub struct ReadError {", "#[derive(Clone, Copy, PartialEq, Eq, Hash)]\npub struct ReadError {"),

@@ -18,7 +18,6 @@ use Rattle.lexical_literal.specs.Additions.Causes.{IsReadOf, IsWeaker, class_of_
 use Rattle.lexical_literal.specs.Additions.Explained.{alone, blame, cases, conditions_of, mask_of, otherwise, refusal_of, requirements, separators}
 use Rattle.lexical_literal.specs.Additions.Explained.{some_unmet, unmet, zeros}
 use Rattle.lexical_literal.specs.Additions.Summary.{byte_class, in_part, no_condition}
-use Rattle.lexical_literal.specs.Additions.Tables.{summary_at}
 use Rattle.lexical_literal.specs.declared.cause.Blame.{Blame}
 use Rattle.lexical_literal.specs.declared.cause.Marks.{Marks}
 use Rattle.lexical_literal.specs.declared.cause.ReadErrorKind.{ReadErrorKind}
@@ -282,15 +281,12 @@ has_of C conditions.BasePrefix = refl
 has_of C conditions.BaseSuffix = refl
 has_of C conditions.NegativeSign = refl
 
-module _ (g : Grammar) (text : List ℕ) (row : ℕ) (tail : List ℕ) (k : Marks) (size : ℕ) (within : size ≤ length text) where
+module _ (g : Grammar) (text : List ℕ) (s : Summary) (tail : List ℕ) (k : Marks) (size : ℕ) (within : size ≤ length text) where
   abbrev n : Notation
   n = notation_of g
 
-  abbrev s : Summary
-  s = summary_at row
-
   abbrev spot : Option ℕ → Spot
-  spot next = record { grammar = g; row = row; byte = next; tail = tail; marks = k; is_ungrouped = false }
+  spot next = record { grammar = g; read = s; byte = next; tail = tail; marks = k; is_ungrouped = false }
 
   pub refusal_at : IsValidUpTo n text size → IsReadOf n s (take size text) → lets n s (slice_get text size) ≡ false
       → (next : Option ℕ) → next ≡ slice_get text size → k ≡ marks_of n (take size text)

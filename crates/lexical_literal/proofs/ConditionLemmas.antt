@@ -7,6 +7,7 @@ use Rattle.lexical_util.specs.Roles.{signs}
 use Rattle.lexical_util.specs.declared.feature_format.roles.Role.{Role}
 use Rattle.lexical_util.specs.declared.feature_format.roles.Role.TheVariants as roles
 use Rattle.lexical_util.specs.declared.format_flags.Part.TheVariants as parts
+use Rattle.lexical_literal.specs.Additions.Plain.{HasRoles}
 use Rattle.lexical_literal.specs.Notation.{Notation}
 use Rattle.lexical_literal.specs.Literal.{Literal, IsLiteral, IsSpelled, Reads, condition, is_absent, is_none_or_one, is_none_or_prefix, is_plus, is_present}
 use Rattle.lexical_literal.specs.Literal.{text_of}
@@ -20,7 +21,7 @@ use Rattle.lexical_literal.specs.declared.steps.Summary.{Summary}
 use Rattle.lexical_literal.specs.declared.syntax.Condition.{Condition}
 use Rattle.lexical_literal.specs.declared.syntax.Condition.TheVariants as conditions
 use Rattle.lexical_literal.proofs.LiteralLemmas.{all_cuts, is_tail, spelled_arrives, spelled_from}
-use Rattle.lexical_literal.proofs.ScanLemmas.{Accepts, Arrives, HasRoles, Took, add_all, arrives_byte, digit_role, is_role, moved, none_accepts, role_in, took}
+use Rattle.lexical_literal.proofs.ScanLemmas.{Accepts, Arrives, Took, add_all, arrives_byte, digit_role, is_role, moved, none_accepts, role_in, took}
 use Rattle.lexical_literal.proofs.StepLemmas.{begins, reading}
 
 -- LENGTHS

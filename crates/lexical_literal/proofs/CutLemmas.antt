@@ -7,6 +7,7 @@ use Rattle.lexical_util.specs.declared.feature_format.roles.Role.{Role}
 use Rattle.lexical_util.specs.declared.feature_format.roles.Role.TheVariants as roles
 use Rattle.lexical_util.specs.declared.format_flags.Part.{Part}
 use Rattle.lexical_util.specs.declared.format_flags.Part.TheVariants as parts
+use Rattle.lexical_literal.specs.Additions.Plain.{HasRoles}
 use Rattle.lexical_literal.specs.Notation.{Notation}
 use Rattle.lexical_literal.specs.Literal.{Literal, is_none_or_one}
 use Rattle.lexical_literal.specs.Additions.Summary.{implies, has_digit, is_fresh, is_bare, after_digit, after_mark, after_point, is_open, may_follow}
@@ -16,7 +17,7 @@ use Rattle.lexical_literal.specs.declared.steps.Stage.TheVariants as stages
 use Rattle.lexical_literal.specs.declared.steps.Summary.{Summary}
 use Rattle.lexical_literal.specs.declared.syntax.Condition.{Condition}
 use Rattle.lexical_literal.proofs.RunLemmas.{is_rest}
-use Rattle.lexical_literal.proofs.ScanLemmas.{HasRoles, Accepts, took, none_accepts, role_in, as_digit, no_digit, as_role}
+use Rattle.lexical_literal.proofs.ScanLemmas.{Accepts, took, none_accepts, role_in, as_digit, no_digit, as_role}
 use Rattle.lexical_literal.proofs.StepLemmas.{reading, begins, stage_after, after_byte, stage_at, gap_at, sign_fits, prefix_fits, ends_part, text_after}
 
 -- A sign, a prefix, digits, and the parts of `more` behind the digits of `part`.

@@ -17,7 +17,7 @@ use Rattle.lexical_literal.specs.Front.{IsValidUpTo, ReadsFront}
 use Rattle.lexical_literal.specs.Literal.{Literal, Reads}
 use Rattle.lexical_literal.specs.Notation.{Notation, no_conditions, notation_of}
 use Rattle.lexical_literal.specs.declared.read.Found.{Found}
-use Rattle.lexical_literal.specs.declared.read.Stop.{Stop}
+use Rattle.lexical_literal.specs.declared.plain.At.{At}
 use Rattle.lexical_literal.specs.declared.syntax.Grammar.{Grammar}
 
 -- What holds of some value of an option holds of the value that it is.
@@ -142,7 +142,7 @@ module _ {X : Type 0} (M : Measure X) (forms : List Grammar) where
   }
 
 -- How far each form goes, and the longest front that is a literal of each form.
-abbrev pub goes : List ℕ → Measure Stop
+abbrev pub goes : List ℕ → Measure At
 goes text = record {
   size = λ stop. stop.size;
   IsSize = GoesTo text;
@@ -174,7 +174,7 @@ fronts_more text forms i d inside longest old (Some found) has none = best_more 
 
 -- All forms have been tried.
 module _ (forms : List Grammar) (text : List ℕ) (i : ℕ) (end : length forms ≤ i) where
-  pub furthest_is : 0 < length forms → (furthest : Option (ℕ × Stop)) → IsBest (goes text) forms i furthest → IsFurthestForm forms text furthest
+  pub furthest_is : 0 < length forms → (furthest : Option (ℕ × At)) → IsBest (goes text) forms i furthest → IsFurthestForm forms text furthest
   furthest_is some None is = subst (All (λ g. ⊥)) (take_all i forms end) is 0 (record { word = 0; options = None; conditions = no_conditions }) some
   furthest_is some (Some best) is = (greatest (goes text) forms i end best.0 best.1 is, is.here)
 

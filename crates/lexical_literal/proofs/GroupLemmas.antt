@@ -15,8 +15,7 @@ use Rattle.lexical_literal.specs.Literal.{Literal, Reads}
 use Rattle.lexical_literal.specs.Notation.{notation_of}
 use Rattle.lexical_literal.specs.Takes.{Refuses}
 use Rattle.lexical_literal.specs.Additions.Longest.{IsMeasured}
-use Rattle.lexical_literal.specs.Additions.Summary.{HasLengths}
-use Rattle.lexical_literal.specs.Additions.Tables.{cuts_of}
+use Rattle.lexical_literal.specs.Additions.Summary.{cuts_of, HasLengths}
 use Rattle.lexical_literal.specs.declared.syntax.Grammar.{Grammar}
 
 module _ (S : ByteSet) (size : ℕ) where

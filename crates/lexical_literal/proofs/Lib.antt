@@ -12,7 +12,8 @@ mod SameLemmas
 mod PartLemmas
 mod WriterLemmas
 mod ExampleLemmas
-mod TableLemmas
+mod CountLemmas
+mod PlainLemmas
 mod SpecialLemmas
 mod CauseLemmas
 mod RefusalLemmas

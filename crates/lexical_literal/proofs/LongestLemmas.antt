@@ -7,17 +7,17 @@ use Rattle.std.proofs.lemmas.Option.{slice_get_past}
 use Rattle.std.proofs.lemmas.List.{take-take, take_more, take_all}
 use Rattle.lexical_literal.specs.Notation.{Notation, notation_of}
 use Rattle.lexical_literal.specs.Literal.{Literal, IsLiteral, Reads}
-use Rattle.lexical_literal.specs.Additions.Summary.{Cuts, byte_class, in_part, scan, step, is_accepted, is_complete}
+use Rattle.lexical_literal.specs.Additions.Summary.{Cuts, cuts_of, byte_class, in_part, scan, step, is_accepted, is_complete}
 use Rattle.lexical_literal.specs.Additions.Summary.{tally, count, start, no_cuts, HasLengths}
 use Rattle.lexical_literal.specs.Front.{IsFront, IsValidUpTo, NoLiteral, ReadsFront}
 use Rattle.lexical_literal.specs.Additions.Longest.{IsCountedFront, IsFronted, IsLongest, IsScanned, IsStopped}
 use Rattle.lexical_literal.specs.Additions.Causes.{lets}
-use Rattle.lexical_literal.specs.Additions.Tables as tables
+use Rattle.lexical_literal.specs.Additions.Plain.{IsCounted}
 use Rattle.lexical_literal.specs.declared.read.Found.{Found}
-use Rattle.lexical_literal.specs.declared.read.Stop.{Stop}
+use Rattle.lexical_literal.specs.declared.plain.At.{At}
+use Rattle.lexical_literal.specs.declared.plain.Counted.{Counted}
 use Rattle.lexical_literal.specs.declared.syntax.Grammar.{Grammar}
 use Rattle.lexical_literal.specs.declared.steps.Summary.{Summary}
-use Rattle.lexical_literal.specs.declared.tables.TheConstants.{ROWS}
 use Rattle.lexical_literal.proofs.ScanLemmas.{IsReady, scan_append, tally_append}
 use Rattle.lexical_literal.proofs.ConditionLemmas.{has_lengths, literal_from, literal_arrives}
 use Rattle.lexical_literal.proofs.LiteralLemmas.{all_cuts}
@@ -50,9 +50,9 @@ module _ (m : Notation) (text : List ℕ) where
       record { more = []; literal = l; reads = record { whole = append-nil (take more text) ∙ reads.whole; literal = reads.literal } } in
       let longer = λ (past : n < more). wrong.no_longer more past within front in grind arith
 
-  module _ (stop : Stop) (is : IsStopped m text stop) where
+  module _ (stop : At) (is : IsStopped m text stop) where
     -- If reading stopped at the end of the text and what was read is a literal, then the text is one.
-    pub whole_literal : stop.size ≡ length text → is_complete m (tables.summary_at stop.row) ≡ true → (l : Literal) × Reads m l text
+    pub whole_literal : stop.size ≡ length text → is_complete m stop.read ≡ true → (l : Literal) × Reads m l text
     whole_literal all complete = let l = is.complete complete in (l.0, subst (Reads m l.0) (take_all stop.size text (omega (arith, all))) l.1)
 
     -- If the text is a literal, then reading stopped at its end.
@@ -63,16 +63,24 @@ module _ (m : Notation) (text : List ℕ) where
     pub whole_front : (l : Literal) → Reads m l text → Reads m l (take stop.size text)
     whole_front l reads = subst (Reads m l) (sym (take_all stop.size text (all_right l reads))) reads
 
-    module _ (partial : stop.size ≡ length text → is_complete m (tables.summary_at stop.row) ≡ false) where
+    -- If what was read is a literal, then it is the longest front that is one.
+    pub stop_literal : (l : Literal) → Reads m l (take stop.size text) → ReadsFront m l text stop.size
+    stop_literal l reads = record {
+      within = is.valid.within;
+      reads = reads;
+      no_longer = λ more past below k other. absurd (let low = no_longer_than stop.size is.valid more below k other in omega (arith, past, low));
+    }
+
+    module _ (partial : stop.size ≡ length text → is_complete m stop.read ≡ false) where
       -- If what was read is not all of the text, or not a literal, then the text is not a literal.
       pub none_whole : NoLiteral m text
       none_whole l reads = let all = all_right l reads in is.incomplete (partial (omega (arith, all, is.valid.within))) l (whole_front l reads)
 
       -- It does not allow what follows.
-      pub refused_there : lets m (tables.summary_at stop.row) (slice_get text stop.size) ≡ false
+      pub refused_there : lets m stop.read (slice_get text stop.size) ≡ false
       refused_there = elim (cases_lt stop.size (length text)) [
         | inl short ↦ is.refused short
-        | inr long ↦ ap (lets m (tables.summary_at stop.row)) (slice_get_past text stop.size long) ∙ partial (omega (arith, is.valid.within))
+        | inr long ↦ ap (lets m stop.read) (slice_get_past text stop.size long) ∙ partial (omega (arith, is.valid.within))
       ]
 
   -- The longest front that is a literal.
@@ -88,7 +96,7 @@ module _ (m : Notation) (text : List ℕ) where
   )
 
 -- What a pass finds that seeks the longest front.
-pub fronted : (g : Grammar) (text : List ℕ) (stop : Stop) (found : Found) → IsStopped (notation_of g) text stop
+pub fronted : (g : Grammar) (text : List ℕ) (stop : At) (found : Found) → IsStopped (notation_of g) text stop
     → IsCountedFront (notation_of g) text found → IsFronted g text stop (Some found)
 fronted g text stop found reached is = record {
   reached = reached;
@@ -100,8 +108,17 @@ module _ (m : Notation) (ready : IsReady m) (text : List ℕ) where
   accepted : (n : ℕ) (l : Literal) → Reads m l (take n text) → is_accepted m (scan m (Some start) (take n text)) ≡ true
   accepted n l reads = rw (reads.whole) (literal_arrives m ready.roles l reads.literal).0
 
-  pub read_nothing : (seeks : Bool) → HasRead m seeks text 0 start no_cuts None
-  read_nothing seeks = grind arith
+  -- Nothing is a literal before any byte has been read.
+  pub none_at_first : IsLongest m text 0 None
+  none_at_first = (read_nothing true).longest_is refl where
+    read_nothing : (seeks : Bool) → HasRead m seeks text 0 start no_cuts None
+    read_nothing seeks = grind arith
+
+  -- What has been read at first.
+  pub has_begun : (seeks : Bool) (counted : Counted) → IsCounted m text counted → (IsTrue seeks → IsLongest m text counted.at.size None)
+      → HasRead m seeks text counted.at.size counted.at.read (cuts_of counted.counts) None
+  has_begun seeks counted is none =
+      record { ready = ready; within = is.at.within; read = is.at.read; counted = is.at.counted; longest_is = none }
 
   module _ (seeks : Bool) (i : ℕ) (s : Summary) (c : Cuts) (longest : Option ℕ) (has : HasRead m seeks text i s c longest) where
     next_scan : i < length text → scan m (Some start) (take (i + 1) text) ≡ step m s (byte_class m (get_or text i 0))
@@ -160,13 +177,12 @@ module _ (m : Notation) (ready : IsReady m) (text : List ℕ) where
     }
 
     -- What the loop has found where it is left.
-    pub is_scanned : (row : ℕ) (counts : List ℕ) → row < ROWS → s ≡ tables.summary_at row → c ≡ tables.cuts_of counts → IsValidUpTo m text i
-        → (i < length text → lets m (tables.summary_at row) (slice_get text i) ≡ false)
-        → IsScanned m seeks text (record { stop = record { size = i; row = row }; literal = longest; counts = counts })
-    is_scanned row counts small at lengths wrong refused = let read = has.read ∙ ap Some at in record {
+    pub is_scanned : (counts : List ℕ) → c ≡ cuts_of counts → IsValidUpTo m text i
+        → (i < length text → lets m s (slice_get text i) ≡ false)
+        → IsScanned m seeks text (record { stop = record { size = i; read = s }; literal = longest; counts = counts })
+    is_scanned counts lengths wrong refused = let read = has.read in record {
       stop = record {
         valid = wrong;
-        row = small;
         read = read;
         refused = refused;
         complete = λ complete. literal_from m ready.roles (take i text) (ap (is_accepted m) read ∙ complete);

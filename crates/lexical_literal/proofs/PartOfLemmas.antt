@@ -6,10 +6,11 @@ use Rattle.lexical_util.specs.declared.feature_format.roles.Role.{Role}
 use Rattle.lexical_util.specs.declared.feature_format.roles.Role.TheVariants as roles
 use Rattle.lexical_util.specs.declared.format_flags.Part.{Part}
 use Rattle.lexical_util.specs.declared.format_flags.Part.TheVariants as parts
+use Rattle.lexical_literal.specs.Additions.Plain.{HasRoles}
 use Rattle.lexical_literal.specs.Notation.{Notation}
 use Rattle.lexical_literal.specs.Additions.Summary.{after, scan, takes}
 use Rattle.lexical_literal.specs.declared.steps.Summary.{Summary}
-use Rattle.lexical_literal.proofs.ScanLemmas.{HasRoles, role_in, scan_none, as_role, took}
+use Rattle.lexical_literal.proofs.ScanLemmas.{role_in, scan_none, as_role, took}
 
 -- After `None`, nothing is read.
 pub none_after : (m : Notation) (text : List ℕ) (last : Summary) → scan m None text ≡ Some last → ⊥

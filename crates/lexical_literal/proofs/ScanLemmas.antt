@@ -8,20 +8,13 @@ use Rattle.lexical_util.specs.declared.feature_format.roles.Role.TheVariants as 
 use Rattle.lexical_util.specs.declared.format_flags.Part.{Part}
 use Rattle.lexical_util.specs.declared.format_flags.Part.TheVariants as parts
 use Rattle.lexical_literal.specs.Notation.{Notation, set_of_role, IsOnlyRole}
+use Rattle.lexical_literal.specs.Additions.Plain.{HasRoles}
 use Rattle.lexical_literal.specs.Additions.Summary.{Cuts, add, admits, byte_class, role_of, in_part, is_plus_class, is_zero, takes, after}
 use Rattle.lexical_literal.specs.Additions.Summary.{move_by, scan_by, step_by, accepted_by, count, no_condition, tally_by}
 use Rattle.lexical_literal.specs.declared.steps.Piece.{Piece}
 use Rattle.lexical_literal.specs.declared.steps.Summary.{Summary}
 use Rattle.lexical_literal.specs.declared.syntax.Condition.{Condition}
 use Rattle.lexical_literal.specs.declared.syntax.Condition.TheVariants as conditions
-
--- `HasRoles m` holds if no byte plays two roles, 0 is a digit, the mantissa has one radix, and integers have neither a
--- decimal point nor an exponent.
-pub record HasRoles (m : Notation) : Type 0 where
-  pub one : (a b : Role) (byte : ℕ) → IsTrue (set_of_role m a byte) → IsTrue (set_of_role m b byte) → a ≡ b
-  pub zero_is_digit : (part : Part) → m.digit part 48 ≡ true
-  pub one_mantissa : (byte : ℕ) → m.digit parts.Fraction byte ≡ m.digit parts.Integer byte
-  pub integers : m.integers_only ≡ true → (byte : ℕ) → (m.point byte ≡ false) × (m.exponent_character byte ≡ false)
 
 -- `IsReady m` holds if `m` is the notation of a syntax.
 pub record IsReady (m : Notation) : Type 0 where

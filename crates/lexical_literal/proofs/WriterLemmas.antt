@@ -4,13 +4,14 @@ use Rattle.std.proofs.lemmas.Bool.Decides.{nat_tests}
 use Rattle.lexical_util.specs.Layout as layout
 use Rattle.lexical_util.specs.declared.feature_format.roles.Role.TheVariants as roles
 use Rattle.lexical_util.specs.declared.format_flags.Part.TheVariants as parts
+use Rattle.lexical_literal.specs.Additions.Plain.{HasRoles}
 use Rattle.lexical_literal.specs.Notation.{Notation}
 use Rattle.lexical_literal.specs.Literal.{Literal, Reads}
 use Rattle.lexical_literal.specs.Readings.{AllIn}
 use Rattle.lexical_literal.specs.Additions.Summary.{byte_class, needs_exponent, move_by, step, scan, is_accepted, start}
 use Rattle.lexical_literal.specs.declared.steps.Stage.{Stage}
 use Rattle.lexical_literal.specs.declared.steps.Stage.TheVariants as stages
-use Rattle.lexical_literal.proofs.ScanLemmas.{HasRoles, scan_none, moved, digit_role, is_role}
+use Rattle.lexical_literal.proofs.ScanLemmas.{scan_none, moved, digit_role, is_role}
 use Rattle.lexical_literal.proofs.StepLemmas.{reading}
 use Rattle.lexical_literal.specs.declared.syntax.Condition.TheVariants as conditions
 use Rattle.lexical_literal.proofs.ConditionLemmas.{literal_from, literal_arrives}

@@ -1,6 +1,6 @@
 pub mod Summary
+pub mod Plain
 pub mod Longest
 pub mod Forms
-pub mod Tables
 pub mod Causes
 pub mod Explained

@@ -10,14 +10,12 @@ ghost use Rattle.lexical_literal.specs.Additions.Explained.{ungrouped_of, unmet,
 ghost use Rattle.lexical_literal.specs.Additions.Summary.{byte_class, in_part};
 ghost use Rattle.lexical_literal.specs.Cause.{adding, bare, binds, case_set, first_unmet, is_same, with_rules};
 ghost use Rattle.lexical_literal.specs.Notation.{has, notation_of};
-ghost use Rattle.lexical_literal.specs.declared.tables.TheConstants.{ROWS};
 
 use crate::span::{error, span};
 use crate::steps::{
     self, Summary, byte_class, has_digit, in_part, is_exponent_character, needs_exponent,
 };
 use crate::syntax::{Condition, Conditions, Grammar};
-use crate::tables::summary_at;
 use lexical_util::error::Error;
 use lexical_util::format as masks;
 use lexical_util::format::{Part, Role};
@@ -60,13 +58,13 @@ pub struct Marks {
     pub(crate) run: usize,
 }
 
-// Where reading stopped: the row of what has been read, the byte that cannot follow, or `None` if bytes are missing, and the
+// Where reading stopped: what has been read, the byte that cannot follow, or `None` if bytes are missing, and the
 // bytes that follow it in its character, or 0 for each that does not. If the text is a literal whose integer is not in groups,
 // the first wrong group begins at `marks.first`, and ends at `marks.run`.
 #[derive(Debug, Clone, Copy, PartialEq, Eq, Hash)]
 pub struct Spot {
     pub(crate) grammar: Grammar,
-    pub(crate) row: u8,
+    pub(crate) read: Summary,
     pub(crate) byte: Option<u8>,
     pub(crate) tail: [u8; 3],
     pub(crate) marks: Marks,
@@ -105,11 +103,10 @@ impl Model for ReadError {
 
     ghost use Rattle.std.specs.Prelude.{◌<◌, ◌^◌};
     ghost use Rattle.lexical_literal.specs.Additions.Explained.{explained};
-    ghost use Rattle.lexical_literal.specs.declared.tables.TheConstants.{ROWS};
 
     ghost view = { λ error. explained error.spot };
 
-    ghost invariant = { λ error. (error.spot.row < ROWS) × (error.spot.marks.size < 2 ^ 63) };
+    ghost invariant = { λ error. error.spot.marks.size < 2 ^ 63 };
 
     ghost inverse = { λ error. record { spot = error.spot } };
 }
@@ -218,8 +215,7 @@ impl Spot {
 
     // Returns the answers of a text with which no literal goes on.
     const fn refusal(self) -> Refusal
-        requires row { self.row < ROWS }
-        requires size { self.marks.size < 2 ^ 63 }
+        requires { self.marks.size < 2 ^ 63 }
         ensures { result ≡ refusal_of (notation_of self.grammar) self }
     {
         let Spot {
@@ -230,7 +226,7 @@ impl Spot {
         } = self;
         let stop = Stop {
             grammar,
-            read: summary_at(self.row),
+            read: self.read,
             byte,
         };
         let Blame { kind, mask } = stop.blame();

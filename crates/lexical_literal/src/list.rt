@@ -6,7 +6,8 @@ ghost use Rattle.lexical_literal.specs.Forms.{IsFormError};
 ghost use Rattle.lexical_literal.specs.Takes.{Refuses};
 
 use crate::cause::ReadError;
-use crate::read::{Found, Reader, Stop};
+use crate::plain::At;
+use crate::read::{Found, Reader};
 use std::marker::Model;
 
 /// The readers of the forms of numbers, at least one. The first form that takes a text decides what number it is.
@@ -65,7 +66,7 @@ impl<'a> ReaderList<'a> {
         let mut form = 0;
         while form < self.readers.len() {
             let reader = &self.readers[form];
-            let scanned = reader.scan(text, false);
+            let scanned = reader.scan(text);
             if reader.takes(text, scanned) {
                 let counts = scanned.counts;
                 return Ok((form, counts));
@@ -108,7 +109,7 @@ impl<'a> ReaderList<'a> {
     }
 
     // Returns why `text` is not a literal of the form that goes furthest.
-    fn refuse(&self, text: &[u8], furthest: Option<(usize, Stop)>) -> FormError
+    fn refuse(&self, text: &[u8], furthest: Option<(usize, At)>) -> FormError
         requires furthest { IsFurthestForm self.now text.now furthest }
         requires none { All (λ g. Refuses g text.now) self.now }
         ensures { IsFormError self.now text.now result }
@@ -139,7 +140,7 @@ const fn longer(
 
 // Returns which of two forms goes further, the first of equals.
 #[inline(always)]
-const fn further(furthest: Option<(usize, Stop)>, form: usize, stop: Stop) -> Option<(usize, Stop)>
+const fn further(furthest: Option<(usize, At)>, form: usize, stop: At) -> Option<(usize, At)>
     ensures { result ≡ further furthest form stop }
 {
     match furthest {

@@ -1,10 +1,13 @@
 //! Calls that read literals.
 
+ghost use Rattle.lexical_literal.specs.Additions.Plain.{IsCounted};
+ghost use Rattle.lexical_literal.specs.Notation.{notation_of};
 ghost use Rattle.lexical_literal.specs.Forms.{IsFrontByForms, IsReadByForms};
 ghost use Rattle.lexical_literal.specs.Parts.{IsRead, IsReadPrefix};
 
 use crate::cause::ReadError;
 use crate::list::{FormError, ReaderList};
+use crate::plain::Counted;
 use crate::read::{Found, Parts, Reader, cut, front_of};
 
 /// A leading piece of a text that is a literal.
@@ -25,7 +28,21 @@ impl Reader {
     pub fn read<'a>(&self, text: &'a [u8]) -> Result<Parts<'a>, ReadError>
         ensures { IsRead self.now text.now result }
     {
-        let scanned = self.scan(text, false);
+        let counted = self.begin(text);
+        if self.is_whole(text, counted) {
+            Ok(cut(text, counted.counts))
+        } else {
+            self.read_slowly(text, counted)
+        }
+    }
+
+    // Returns the same, where `counted` has been read.
+    #[inline(never)]
+    fn read_slowly<'a>(&self, text: &'a [u8], counted: Counted) -> Result<Parts<'a>, ReadError>
+        requires { IsCounted (notation_of self.now) text.now counted }
+        ensures { IsRead self.now text.now result }
+    {
+        let scanned = self.scan_on(text, counted);
         if self.takes(text, scanned) {
             Ok(cut(text, scanned.counts))
         } else {

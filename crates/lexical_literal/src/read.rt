@@ -1,23 +1,23 @@
 //! How literals are found, and the lengths of their parts.
 
-ghost use Rattle.std.specs.Prelude.{◌≡◌, ◌++◌, ◌∷◌, ◌<◌, ◌≤◌, Bool, ℕ, List, [], false, length, slice_get, take};
+ghost use Rattle.std.specs.Prelude.{◌≡◌, ◌++◌, ◌∷◌, ◌<◌, ◌≤◌, Bool, IsTrue, None, ℕ, List, [], false, true, length, slice_get, take};
 ghost use Rattle.lexical_literal.specs.Additions.Explained.{tail_byte, tail_size};
-ghost use Rattle.lexical_literal.specs.Additions.Longest.{IsCountedFront, IsFronted, IsGrouped, IsMeasured, IsScanned, IsStopped};
-ghost use Rattle.lexical_literal.specs.Additions.Summary.{HasLengths, is_complete};
+ghost use Rattle.lexical_literal.specs.Additions.Longest.{IsCountedFront, IsFronted, IsGrouped, IsLongest, IsMeasured, IsScanned, IsStopped};
+ghost use Rattle.lexical_literal.specs.Additions.Plain.{IsCounted};
+ghost use Rattle.lexical_literal.specs.Additions.Summary.{HasLengths, cuts_of, is_complete};
 ghost use Rattle.lexical_literal.specs.Additions.Causes.{lets};
-ghost use Rattle.lexical_literal.specs.Additions.Tables.{cuts_of, summary_at};
 ghost use Rattle.lexical_literal.specs.Cause.{IsRefusal};
 ghost use Rattle.lexical_literal.specs.Literal.{Literal, Reads, text_of};
 ghost use Rattle.lexical_literal.specs.Notation.{notation_of};
 ghost use Rattle.lexical_literal.specs.Parts.{literal_of};
 ghost use Rattle.lexical_literal.specs.Takes.{IsError, IsUngrouped, Refuses};
-ghost use Rattle.lexical_literal.specs.declared.tables.TheConstants.{ROWS};
 
 use crate::cause::{Marks, ReadError, Spot};
 use crate::groups::{is_grouped, wrong_group};
 use crate::span::marks;
+use crate::plain::{At, BEGIN, Counted, plain};
+use crate::steps::{Summary, byte_class, is_complete, piece_number, step};
 use crate::syntax::Syntax;
-use crate::tables::{START, Tables, piece_number};
 use lexical_util::laws::flags::role_facts;
 use std::marker::Model;
 
@@ -51,12 +51,10 @@ pub(crate) struct Found {
     pub(crate) counts: [usize; 9],
 }
 
-/// A syntax with tables of all its steps, which reads literals. To make one takes as long as to read some 400 texts
-/// with it. For a `static`, as in the first example of this module, the compiler makes it.
+/// A syntax that reads literals.
 #[derive(Drop)]
 pub struct Reader {
     pub(crate) syntax: Syntax,
-    pub(crate) tables: Tables,
 }
 
 impl Model for Reader {
@@ -64,13 +62,11 @@ impl Model for Reader {
 
     ghost Value = { Grammar };
 
-    ghost use Rattle.lexical_literal.specs.Notation.{notation_of};
     ghost use Rattle.lexical_literal.specs.Syntax.{IsSyntax};
-    ghost use Rattle.lexical_literal.specs.Additions.Tables.{HasTables};
 
     ghost view = { λ reader. reader.syntax };
 
-    ghost invariant = { λ reader. IsSyntax reader.syntax × HasTables (notation_of reader.syntax) reader.tables };
+    ghost invariant = { λ reader. IsSyntax reader.syntax };
 }
 
 impl Reader {
@@ -79,10 +75,7 @@ impl Reader {
     pub const fn new(syntax: Syntax) -> Reader
         ensures { result ≡ syntax }
     {
-        Reader {
-            syntax,
-            tables: Tables::new(syntax.grammar()),
-        }
+        Reader { syntax }
     }
 
     /// Returns the syntax.
@@ -99,7 +92,7 @@ impl Reader {
         requires { IsScanned (notation_of self.now) false text.now scanned }
         ensures { IsMeasured self.now text.now scanned.counts result }
     {
-        if scanned.stop.size == text.len() && self.is_complete(scanned.stop.row) {
+        if scanned.stop.size == text.len() && self.is_complete(scanned.stop.read) {
             self.has_groups(text, scanned.counts)
         } else {
             false
@@ -125,19 +118,18 @@ impl Reader {
 
     // Returns where reading `text` stops, and the longest front that is a literal, apart from its groups, if there is one.
     #[inline(always)]
-    pub(crate) fn front(&self, text: &[u8]) -> (Stop, Option<Found>)
+    pub(crate) fn front(&self, text: &[u8]) -> (At, Option<Found>)
         ensures { IsFronted self.now text.now result.0 result.1 }
     {
-        let Scanned {
-            stop,
-            literal,
-            counts,
-        } = self.scan(text, true);
-        match literal {
+        let Scanned { stop, counts, .. } = self.scan(text);
+        if self.is_complete(stop.read) {
+            let size = stop.size;
+            return (stop, Some(Found { size, counts }));
+        }
+        match self.seek(text) {
             None => (stop, None),
-            Some(size) if size == stop.size => (stop, Some(Found { size, counts })),
             Some(size) => {
-                let counts = self.scan(front_of(text, size), false).counts;
+                let counts = self.scan(front_of(text, size)).counts;
                 (stop, Some(Found { size, counts }))
             }
         }
@@ -157,35 +149,111 @@ impl Reader {
         }
     }
 
-    // Reads `text` until no literal begins with what has been read. Seeks the longest front that is a literal if `seeks`
-    // is true.
+    // Reads a front of `text` with which some literal begins.
     #[inline(always)]
-    pub(crate) const fn scan(&self, text: &[u8], seeks: bool) -> Scanned
+    pub(crate) const fn begin(&self, text: &[u8]) -> Counted
+        ensures { IsCounted (notation_of self.now) text.now result }
+    {
+        role_facts();
+        plain(self.syntax.grammar(), text)
+    }
+
+    // Returns whether all of `text` is a literal that has been read, and there is no condition on groups.
+    #[inline(always)]
+    pub(crate) fn is_whole(&self, text: &[u8], counted: Counted) -> bool
+        requires { IsCounted (notation_of self.now) text.now counted }
+        ensures { IsTrue result → IsMeasured self.now text.now counted.counts true }
+    {
+        let is_free = matches!(
+            self.syntax.grammar().conditions.integer_group_size,
+            None
+        );
+        if is_free && counted.at.size == text.len() {
+            self.takes(text, self.whole(text, counted))
+        } else {
+            false
+        }
+    }
+
+    // Returns what has been read, where all of `text` has been read.
+    #[inline(always)]
+    const fn whole(&self, _text: &[u8], counted: Counted) -> Scanned
+        requires counted { IsCounted (notation_of self.now) _text.now counted }
+        requires all { counted.at.size ≡ length _text.now }
+        ensures scanned { IsScanned (notation_of self.now) false _text.now result }
+        ensures counts { result.counts ≡ counted.counts }
+    {
+        role_facts();
+        let _ = &self.syntax;
+        let Counted { at, counts } = counted;
+        Scanned {
+            stop: at,
+            literal: None,
+            counts,
+        }
+    }
+
+    // Reads `text` until no literal begins with what has been read.
+    #[inline(always)]
+    pub(crate) const fn scan(&self, text: &[u8]) -> Scanned
+        ensures { IsScanned (notation_of self.now) false text.now result }
+    {
+        self.scan_on(text, self.begin(text))
+    }
+
+    // Reads on behind what has been read.
+    #[inline(always)]
+    pub(crate) const fn scan_on(&self, text: &[u8], counted: Counted) -> Scanned
+        requires { IsCounted (notation_of self.now) text.now counted }
+        ensures { IsScanned (notation_of self.now) false text.now result }
+    {
+        if counted.at.size == text.len() {
+            self.whole(text, counted)
+        } else {
+            self.read_on(text, counted, false)
+        }
+    }
+
+    // Returns the length of the longest front of `text` that is a literal, if there is one.
+    #[cold]
+    const fn seek(&self, text: &[u8]) -> Option<usize>
+        ensures { IsLongest (notation_of self.now) text.now (length text.now) result }
+    {
+        role_facts();
+        let _ = &self.syntax;
+        self.read_on(text, BEGIN, true).literal
+    }
+
+    // Reads on where `at` has been read, until no literal begins with what has been read. Seeks the longest front that is a
+    // literal if `seeks` is true.
+    #[cold]
+    const fn read_on(&self, text: &[u8], counted: Counted, seeks: bool) -> Scanned
+        requires counted { IsCounted (notation_of self.now) text.now counted }
+        requires none { IsTrue seeks → IsLongest (notation_of self.now) text.now counted.at.size None }
         ensures { IsScanned (notation_of self.now) seeks text.now result }
     {
         role_facts();
-        let tables = &self.tables;
-        let mut row = START;
-        let mut counts = [0; 9];
+        let grammar = self.syntax.grammar();
+        let At { mut size, mut read } = counted.at;
+        let mut counts = counted.counts;
         let mut literal = None;
-        let mut index = 0;
-        while index < text.len() {
-            let Some(next) = tables.step(row, text[index]) else {
-                let stop = Stop { size: index, row };
+        while size < text.len() {
+            let Some(next) = step(grammar, read, byte_class(grammar, text[size])) else {
+                let stop = At { size, read };
                 return Scanned {
                     stop,
                     literal,
                     counts,
                 };
             };
-            row = next.row;
+            read = next.summary;
             counts[piece_number(next.piece)] += 1;
-            if seeks && self.is_complete(row) {
-                literal = Some(index + 1);
+            size += 1;
+            if seeks && is_complete(grammar, read) {
+                literal = Some(size);
             }
-            index += 1;
         }
-        let stop = Stop { size: index, row };
+        let stop = At { size, read };
         Scanned {
             stop,
             literal,
@@ -193,23 +261,22 @@ impl Reader {
         }
     }
 
-    // Returns whether a row is that of a literal.
+    // Returns whether what has been read is a literal.
     #[inline(always)]
-    const fn is_complete(&self, row: u8) -> bool
-        requires { row < ROWS }
-        ensures { result ≡ is_complete (notation_of self.now) (summary_at row) }
+    const fn is_complete(&self, read: Summary) -> bool
+        ensures { result ≡ is_complete (notation_of self.now) read }
     {
-        self.tables.is_complete(row)
+        is_complete(self.syntax.grammar(), read)
     }
 
     // Returns why `text`, of which reading stopped at `stop`, is not a literal.
     #[cold]
-    pub(crate) fn refuse(&self, text: &[u8], stop: Stop) -> ReadError
+    pub(crate) fn refuse(&self, text: &[u8], stop: At) -> ReadError
         requires stopped { IsStopped (notation_of self.now) text.now stop }
         requires refuses { Refuses self.now text.now }
         ensures { IsError self.now text.now result.refusal }
     {
-        if stop.size == text.len() && self.is_complete(stop.row) {
+        if stop.size == text.len() && self.is_complete(stop.read) {
             self.ungrouped(text)
         } else {
             self.refuse_byte(text, stop)
@@ -223,7 +290,7 @@ impl Reader {
         requires refuses { Refuses self.now text.now }
         ensures { IsUngrouped self.now text.now result.refusal }
     {
-        let counts = self.scan(text, false).counts;
+        let counts = self.scan(text).counts;
         let grammar = self.syntax.grammar();
         let Some(size) = grammar.conditions.integer_group_size else {
             unreachable!()
@@ -234,7 +301,7 @@ impl Reader {
         ReadError {
             spot: Spot {
                 grammar,
-                row: START,
+                read: BEGIN.at.read,
                 byte: None,
                 tail: [0; 3],
                 marks: Marks {
@@ -250,9 +317,9 @@ impl Reader {
 
     // Returns why the byte that follows is not allowed, or what is missing.
     #[cold]
-    fn refuse_byte(&self, text: &[u8], stop: Stop) -> ReadError
+    fn refuse_byte(&self, text: &[u8], stop: At) -> ReadError
         requires stopped { IsStopped (notation_of self.now) text.now stop }
-        requires refused { lets (notation_of self.now) (summary_at stop.row) (slice_get text.now stop.size) ≡ false }
+        requires refused { lets (notation_of self.now) stop.read (slice_get text.now stop.size) ≡ false }
         ensures { IsRefusal (notation_of self.now) text.now result.refusal }
     {
         role_facts();
@@ -262,7 +329,7 @@ impl Reader {
         ReadError {
             spot: Spot {
                 grammar,
-                row: stop.row,
+                read: stop.read,
                 byte,
                 tail: tail_at(text, size, byte),
                 marks: marks(grammar, front_of(text, size)),
@@ -272,18 +339,11 @@ impl Reader {
     }
 }
 
-// Where reading a text stops: the length of its longest front that some literal begins with, and the row of this front.
-#[derive(Clone, Copy)]
-pub(crate) struct Stop {
-    pub(crate) size: usize,
-    row: u8,
-}
-
 // What a pass over a text finds: where it stops, the length of the longest front that is a literal, if it was sought, and
 // the lengths of the parts of what has been read.
 #[derive(Clone, Copy)]
 pub(crate) struct Scanned {
-    pub(crate) stop: Stop,
+    pub(crate) stop: At,
     literal: Option<usize>,
     pub(crate) counts: [usize; 9],
 }

@@ -1,11 +1,12 @@
 //! The steps of a reader: what has been read of a number, changed by the class of one byte.
 
-ghost use Rattle.std.specs.Prelude.{◌≡◌, nat_lt};
+ghost use Rattle.std.specs.Prelude.{◌≡◌, ◌<◌, ◌≤◌, length, nat_lt};
 ghost use Rattle.lexical_util.specs.Digits.{byte_value};
 ghost use Rattle.lexical_util.specs.Record.{raw};
 ghost use Rattle.lexical_literal.specs.Notation.{has, notation_of, radix_of, point_of, exponent_character_of};
 ghost use Rattle.lexical_literal.specs.Run.{is_place};
-ghost use Rattle.lexical_literal.specs.Additions.Summary.{byte_class, role_of, in_part, piece_of, has_digit, may_follow};
+ghost use Rattle.lexical_literal.specs.Additions.Plain.{AreDigits};
+ghost use Rattle.lexical_literal.specs.Additions.Summary.{byte_class, role_of, in_part, piece_number, piece_of, has_digit, is_settled, may_follow};
 ghost use Rattle.lexical_literal.specs.Additions.Summary.{admits, finishes, gap_fits, is_negative, is_signed, lacks_prefix, leads_to_prefix, needs_exponent};
 ghost use Rattle.lexical_literal.specs.Additions.Summary.{continues, ends, is_complete, takes, after, IsMove};
 
@@ -44,8 +45,8 @@ pub(crate) enum Piece {
 }
 
 // The digits of a part that have been read.
-#[derive(Clone, Copy)]
-pub(crate) enum Stage {
+#[derive(Debug, Clone, Copy, PartialEq, Eq, Hash)]
+pub enum Stage {
     Start, // Nothing of the number.
     Empty, // No digits of the integer.
     Bare, // The digit 0, and no separators.
@@ -58,13 +59,21 @@ pub(crate) enum Stage {
 }
 
 // What has been read of a number.
-#[derive(Clone, Copy)]
-pub(crate) struct Summary {
+#[derive(Debug, Clone, Copy, PartialEq, Eq, Hash)]
+pub struct Summary {
     pub(crate) part: Part, // The part that a digit belongs to.
     pub(crate) stage: Stage,
     pub(crate) gap: bool, // Whether the last byte is a separator.
     pub(crate) ended: bool, // Whether the suffix has been read.
 }
+
+// The summary before any byte.
+pub(crate) const START: Summary = Summary {
+    part: Part::Integer,
+    stage: Stage::Start,
+    gap: false,
+    ended: false,
+};
 
 // What one byte makes of what has been read.
 #[derive(Clone, Copy)]
@@ -74,6 +83,7 @@ pub(crate) struct Move {
 }
 
 // Returns whether `byte` is a digit of `part`.
+#[inline(always)]
 pub(crate) const fn is_digit(grammar: Grammar, part: Part, byte: u8) -> bool
     ensures { result ≡ nat_lt (byte_value byte) (radix_of (raw grammar.word) part) }
 {
@@ -85,6 +95,7 @@ pub(crate) const fn is_digit(grammar: Grammar, part: Part, byte: u8) -> bool
 
 // Returns whether `byte` is the decimal point.
 #[tactic(auto, unfolding(lexical_util::specs::Unfoldable::cased))]
+#[inline(always)]
 pub(crate) const fn is_point(grammar: Grammar, byte: u8) -> bool
     ensures { result ≡ point_of grammar.options byte }
 {
@@ -95,6 +106,7 @@ pub(crate) const fn is_point(grammar: Grammar, byte: u8) -> bool
 }
 
 // Returns whether `byte` is the exponent character.
+#[inline(always)]
 pub(crate) const fn is_exponent_character(grammar: Grammar, byte: u8) -> bool
     ensures { result ≡ exponent_character_of (raw grammar.word) grammar.options byte }
 {
@@ -155,7 +167,8 @@ pub(crate) const fn in_part(part: Part, class: Class) -> Option<Role>
 }
 
 // Returns the piece that a byte with the role `role` belongs to, after a front that ends in `part`.
-const fn piece_of(part: Part, role: Role) -> Piece
+#[inline(always)]
+pub(crate) const fn piece_of(part: Part, role: Role) -> Piece
     ensures { result ≡ piece_of part role }
 {
     match (role, part) {
@@ -171,7 +184,38 @@ const fn piece_of(part: Part, role: Role) -> Piece
     }
 }
 
+// Returns the place of a piece in a list of lengths.
+#[inline(always)]
+pub(crate) const fn piece_number(piece: Piece) -> usize
+    ensures value { result ≡ piece_number piece }
+    ensures small { result < 9 }
+{
+    piece as usize
+}
+
+// Returns whether another digit of the part changes no summary.
+#[inline(always)]
+pub(crate) const fn is_settled(read: Summary) -> bool
+    ensures { result ≡ is_settled read }
+{
+    matches!(read.stage, Stage::Led | Stage::Digits) && !read.gap && !read.ended
+}
+
+// Returns the index behind the digits of `part` that begin at `start`.
+#[inline(always)]
+pub(crate) const fn digits_end(grammar: Grammar, part: Part, text: &[u8], start: usize) -> usize
+    requires { start ≤ length text.now }
+    ensures { AreDigits ((notation_of grammar).digit part) text.now start result }
+{
+    let mut index = start;
+    while index < text.len() && is_digit(grammar, part, text[index]) {
+        index += 1;
+    }
+    index
+}
+
 // Returns whether the part has a digit.
+#[inline(always)]
 pub(crate) const fn has_digit(stage: Stage) -> bool
     ensures { result ≡ has_digit stage }
 {
@@ -182,6 +226,7 @@ pub(crate) const fn has_digit(stage: Stage) -> bool
 }
 
 // Returns whether a separator may be at a place in `part` with digits before it, or not, and after it, or not.
+#[inline(always)]
 const fn is_place(grammar: Grammar, part: Part, before: bool, after: bool) -> bool
     ensures { result ≡ is_place (notation_of grammar) part before after }
 {
@@ -195,6 +240,7 @@ const fn is_place(grammar: Grammar, part: Part, before: bool, after: bool) -> bo
 }
 
 // Returns whether an exponent is required.
+#[inline(always)]
 pub(crate) const fn needs_exponent(grammar: Grammar) -> bool
     ensures { result ≡ needs_exponent (notation_of grammar) }
 {
@@ -202,6 +248,7 @@ pub(crate) const fn needs_exponent(grammar: Grammar) -> bool
 }
 
 // Returns whether another digit may follow: after a zero, only if some literal has a leading zero.
+#[inline(always)]
 const fn may_follow(grammar: Grammar, stage: Stage) -> bool
     ensures { result ≡ may_follow (notation_of grammar) stage }
 {
@@ -211,6 +258,7 @@ const fn may_follow(grammar: Grammar, stage: Stage) -> bool
 }
 
 // Returns whether there is no gap, or one that fits where a digit follows, or not.
+#[inline(always)]
 const fn gap_fits(grammar: Grammar, read: Summary, next: bool) -> bool
     ensures { result ≡ gap_fits (notation_of grammar) read.part (has_digit read.stage) read.gap next }
 {
@@ -218,6 +266,7 @@ const fn gap_fits(grammar: Grammar, read: Summary, next: bool) -> bool
 }
 
 // Returns whether `part` has a sign, or needs none.
+#[inline(always)]
 const fn is_signed(grammar: Grammar, part: Part, stage: Stage) -> bool
     ensures { result ≡ is_signed (notation_of grammar) part stage }
 {
@@ -229,6 +278,7 @@ const fn is_signed(grammar: Grammar, part: Part, stage: Stage) -> bool
 }
 
 // Returns whether the part that is read may end.
+#[inline(always)]
 const fn ends(grammar: Grammar, read: Summary) -> bool
     ensures { result ≡ ends (notation_of grammar) read }
 {
@@ -245,6 +295,7 @@ const fn ends(grammar: Grammar, read: Summary) -> bool
 }
 
 // Returns whether a byte with the role `role` may follow a part that may end.
+#[inline(always)]
 const fn continues(grammar: Grammar, part: Part, stage: Stage, role: Role) -> bool
     ensures { result ≡ continues (notation_of grammar) part stage role }
 {
@@ -271,6 +322,7 @@ const fn continues(grammar: Grammar, part: Part, stage: Stage, role: Role) -> bo
 }
 
 // Returns whether what has been read is a literal.
+#[inline(always)]
 pub(crate) const fn is_complete(grammar: Grammar, read: Summary) -> bool
     ensures { result ≡ is_complete (notation_of grammar) read }
 {
@@ -279,6 +331,7 @@ pub(crate) const fn is_complete(grammar: Grammar, read: Summary) -> bool
 }
 
 // Returns whether the base prefix may still follow, or what is left of it.
+#[inline(always)]
 const fn lacks_prefix(stage: Stage) -> bool
     ensures { result ≡ lacks_prefix stage }
 {
@@ -287,6 +340,7 @@ const fn lacks_prefix(stage: Stage) -> bool
 
 // Returns whether a byte with the role `role`, the digit 0 if `zero` is true, is the sign before a base prefix, or one of its
 // own bytes.
+#[inline(always)]
 const fn leads_to_prefix(stage: Stage, zero: bool, role: Role) -> bool
     ensures { result ≡ leads_to_prefix stage zero role }
 {
@@ -299,6 +353,7 @@ const fn leads_to_prefix(stage: Stage, zero: bool, role: Role) -> bool
 }
 
 // Returns whether a byte with the role `role`, which is a plus sign if `plus` is true, is a minus sign of the mantissa.
+#[inline(always)]
 const fn is_negative(part: Part, plus: bool, role: Role) -> bool
     ensures { result ≡ is_negative part plus role }
 {
@@ -307,7 +362,7 @@ const fn is_negative(part: Part, plus: bool, role: Role) -> bool
 
 // Returns whether the conditions let a byte with the role `role` follow.
 #[inline(always)]
-const fn admits(conditions: Conditions, read: Summary, plus: bool, zero: bool, role: Role) -> bool
+pub(crate) const fn admits(conditions: Conditions, read: Summary, plus: bool, zero: bool, role: Role) -> bool
     ensures { result ≡ admits (has conditions) read plus zero role }
 {
     if conditions.are_free() {
@@ -333,6 +388,7 @@ const fn some_admit(
 }
 
 // Returns whether the conditions let a literal end.
+#[inline(always)]
 const fn finishes(conditions: Conditions, read: Summary) -> bool
     ensures { result ≡ finishes (has conditions) read }
 {
@@ -341,7 +397,8 @@ const fn finishes(conditions: Conditions, read: Summary) -> bool
 }
 
 // Returns whether some literal goes on with a byte that has the role `role`, and is a plus sign if `plus` is true.
-const fn takes(grammar: Grammar, read: Summary, plus: bool, role: Role) -> bool
+#[inline(always)]
+pub(crate) const fn takes(grammar: Grammar, read: Summary, plus: bool, role: Role) -> bool
     ensures { result ≡ takes (notation_of grammar) read plus role }
 {
     let format = grammar.view();
@@ -372,7 +429,8 @@ const fn takes(grammar: Grammar, read: Summary, plus: bool, role: Role) -> bool
 }
 
 // Returns the summary after a byte that has the role `role`, and is the digit 0 if `zero` is true.
-const fn after(read: Summary, zero: bool, role: Role) -> Summary
+#[inline(always)]
+pub(crate) const fn after(read: Summary, zero: bool, role: Role) -> Summary
     ensures { result ≡ after read zero role }
 {
     let part = read.part;

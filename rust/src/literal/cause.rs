@@ -6,7 +6,6 @@ use crate::error::Error;
 use crate::literal::span::{error, span};
 use crate::literal::steps::{self, byte_class, has_digit, in_part, is_exponent_character, needs_exponent, Summary};
 use crate::literal::syntax::{Condition, Conditions, Grammar};
-use crate::literal::tables::summary_at;
 use crate::word as masks;
 use crate::word::{Part, Role};
 
@@ -49,13 +48,13 @@ pub struct Marks {
     pub(crate) run: usize,
 }
 
-// Where reading stopped: the row of what has been read, the byte that cannot follow, or `None` if bytes are missing, and the
+// Where reading stopped: what has been read, the byte that cannot follow, or `None` if bytes are missing, and the
 // bytes that follow it in its character, or 0 for each that does not. If the text is a literal whose integer is not in groups,
 // the first wrong group begins at `marks.first`, and ends at `marks.run`.
 #[derive(Debug, Clone, Copy, PartialEq, Eq, Hash)]
 pub struct Spot {
     pub(crate) grammar: Grammar,
-    pub(crate) row: u8,
+    pub(crate) read: Summary,
     pub(crate) byte: Option<u8>,
     pub(crate) tail: [u8; 3],
     pub(crate) marks: Marks,
@@ -170,7 +169,7 @@ impl Spot {
     // Returns the answers of a text with which no literal goes on.
     const fn refusal(self) -> Refusal {
         let Spot { grammar, byte, marks, .. } = self;
-        let stop = Stop { grammar, read: summary_at(self.row), byte };
+        let stop = Stop { grammar, read: self.read, byte };
         let Blame { kind, mask } = stop.blame();
         let conditions = stop.unmet();
         let number = mask.trailing_zeros();

@@ -3,7 +3,8 @@
 //! Lists of readers: the numbers of a language that has several forms, such as `10`, `0x1F` and `0b1`.
 
 use crate::literal::cause::ReadError;
-use crate::literal::read::{Found, Reader, Stop};
+use crate::literal::plain::At;
+use crate::literal::read::{Found, Reader};
 
 /// The readers of the forms of numbers, at least one. The first form that takes a text decides what number it is.
 #[derive(Debug, Clone, Copy, PartialEq, Eq)]
@@ -44,7 +45,7 @@ impl<'a> ReaderList<'a> {
         let mut form = 0;
         while form < self.readers.len() {
             let reader = &self.readers[form];
-            let scanned = reader.scan(text, false);
+            let scanned = reader.scan(text);
             if reader.takes(text, scanned) {
                 let counts = scanned.counts;
                 return Ok((form, counts));
@@ -82,7 +83,7 @@ impl<'a> ReaderList<'a> {
     }
 
     // Returns why `text` is not a literal of the form that goes furthest.
-    const fn refuse(&self, text: &[u8], furthest: Option<(usize, Stop)>) -> FormError {
+    const fn refuse(&self, text: &[u8], furthest: Option<(usize, At)>) -> FormError {
         let Some((form, stop)) = furthest else { unreachable!() };
         let error = self.readers()[form].refuse(text, stop);
         FormError { form, error }
@@ -101,7 +102,7 @@ const fn longer(longest: Option<(usize, Found)>, form: usize, found: Option<Foun
 
 // Returns which of two forms goes further, the first of equals.
 #[inline(always)]
-const fn further(furthest: Option<(usize, Stop)>, form: usize, stop: Stop) -> Option<(usize, Stop)> {
+const fn further(furthest: Option<(usize, At)>, form: usize, stop: At) -> Option<(usize, At)> {
     match furthest {
         Some((_, best)) if best.size >= stop.size => furthest,
         _ => Some((form, stop)),

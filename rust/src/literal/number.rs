@@ -5,6 +5,7 @@ use core::{iter::FusedIterator, slice};
 
 use crate::digit::char_to_valid_digit_const;
 use crate::format_flags::Part;
+use crate::literal::plain::Counted;
 use crate::literal::read::{cut, Found, Parts};
 use crate::literal::{ReadError, Reader, Syntax};
 use crate::view::FormatView;
@@ -36,7 +37,18 @@ impl Reader {
     ///
     /// If `text` is not a literal, returns why, and how far it is right.
     pub const fn read<'a>(&self, text: &'a [u8]) -> Result<Literal<'a>, ReadError> {
-        let scanned = self.scan(text, false);
+        let counted = self.begin(text);
+        if self.is_whole(text, counted) {
+            Ok(Literal { text, counts: counted.counts, view: self.syntax.format().view() })
+        } else {
+            self.read_slowly(text, counted)
+        }
+    }
+
+    // Returns the same, where `counted` has been read.
+    #[inline(never)]
+    const fn read_slowly<'a>(&self, text: &'a [u8], counted: Counted) -> Result<Literal<'a>, ReadError> {
+        let scanned = self.scan_on(text, counted);
         if self.takes(text, scanned) {
             Ok(Literal { text, counts: scanned.counts, view: self.syntax.format().view() })
         } else {

@@ -4,9 +4,10 @@
 
 use crate::literal::cause::{Marks, ReadError, Spot};
 use crate::literal::groups::{is_grouped, wrong_group};
+use crate::literal::plain::{plain, At, Counted, BEGIN};
 use crate::literal::span::marks;
+use crate::literal::steps::{byte_class, is_complete, piece_number, step, Summary};
 use crate::literal::syntax::Syntax;
-use crate::literal::tables::{piece_number, Tables, START};
 
 /// The parts of a literal, in the order of the text. An absent part has no bytes.
 #[derive(Debug, Clone, Copy, PartialEq, Eq, Hash)]
@@ -38,19 +39,17 @@ pub(crate) struct Found {
     pub(crate) counts: [usize; 9],
 }
 
-/// A syntax with tables of all its steps, which reads literals. To make one takes as long as to read some 400 texts
-/// with it. For a `static`, as in the first example of this module, the compiler makes it.
+/// A syntax that reads literals.
 #[derive(Clone)]
 pub struct Reader {
     pub(crate) syntax: Syntax,
-    pub(crate) tables: Tables,
 }
 
 impl Reader {
     /// Returns a reader of the literals of `syntax`.
     #[must_use]
     pub const fn new(syntax: Syntax) -> Reader {
-        Reader { syntax, tables: Tables::new(syntax.grammar()) }
+        Reader { syntax }
     }
 
     /// Returns the syntax.
@@ -62,7 +61,7 @@ impl Reader {
     // Returns whether `text` is a literal, of which a pass has found `scanned`.
     #[inline(always)]
     pub(crate) const fn takes(&self, text: &[u8], scanned: Scanned) -> bool {
-        if scanned.stop.size == text.len() && self.is_complete(scanned.stop.row) {
+        if scanned.stop.size == text.len() && self.is_complete(scanned.stop.read) {
             self.has_groups(text, scanned.counts)
         } else {
             false
@@ -84,13 +83,16 @@ impl Reader {
 
     // Returns where reading `text` stops, and the longest front that is a literal, apart from its groups, if there is one.
     #[inline(always)]
-    pub(crate) const fn front(&self, text: &[u8]) -> (Stop, Option<Found>) {
-        let Scanned { stop, literal, counts } = self.scan(text, true);
-        match literal {
+    pub(crate) const fn front(&self, text: &[u8]) -> (At, Option<Found>) {
+        let Scanned { stop, counts, .. } = self.scan(text);
+        if self.is_complete(stop.read) {
+            let size = stop.size;
+            return (stop, Some(Found { size, counts }));
+        }
+        match self.seek(text) {
             None => (stop, None),
-            Some(size) if size == stop.size => (stop, Some(Found { size, counts })),
             Some(size) => {
-                let counts = self.scan(front_of(text, size), false).counts;
+                let counts = self.scan(front_of(text, size)).counts;
                 (stop, Some(Found { size, counts }))
             }
         }
@@ -107,41 +109,88 @@ impl Reader {
         }
     }
 
-    // Reads `text` until no literal begins with what has been read. Seeks the longest front that is a literal if `seeks`
-    // is true.
+    // Reads a front of `text` with which some literal begins.
     #[inline(always)]
-    pub(crate) const fn scan(&self, text: &[u8], seeks: bool) -> Scanned {
-        let tables = &self.tables;
-        let mut row = START;
-        let mut counts = [0; 9];
+    pub(crate) const fn begin(&self, text: &[u8]) -> Counted {
+        plain(self.syntax.grammar(), text)
+    }
+
+    // Returns whether all of `text` is a literal that has been read, and there is no condition on groups.
+    #[inline(always)]
+    pub(crate) const fn is_whole(&self, text: &[u8], counted: Counted) -> bool {
+        let is_free = matches!(self.syntax.grammar().conditions.integer_group_size, None);
+        if is_free && counted.at.size == text.len() {
+            self.takes(text, self.whole(text, counted))
+        } else {
+            false
+        }
+    }
+
+    // Returns what has been read, where all of `text` has been read.
+    #[inline(always)]
+    const fn whole(&self, _text: &[u8], counted: Counted) -> Scanned {
+        let _ = &self.syntax;
+        let Counted { at, counts } = counted;
+        Scanned { stop: at, literal: None, counts }
+    }
+
+    // Reads `text` until no literal begins with what has been read.
+    #[inline(always)]
+    pub(crate) const fn scan(&self, text: &[u8]) -> Scanned {
+        self.scan_on(text, self.begin(text))
+    }
+
+    // Reads on behind what has been read.
+    #[inline(always)]
+    pub(crate) const fn scan_on(&self, text: &[u8], counted: Counted) -> Scanned {
+        if counted.at.size == text.len() {
+            self.whole(text, counted)
+        } else {
+            self.read_on(text, counted, false)
+        }
+    }
+
+    // Returns the length of the longest front of `text` that is a literal, if there is one.
+    #[cold]
+    const fn seek(&self, text: &[u8]) -> Option<usize> {
+        let _ = &self.syntax;
+        self.read_on(text, BEGIN, true).literal
+    }
+
+    // Reads on where `at` has been read, until no literal begins with what has been read. Seeks the longest front that is a
+    // literal if `seeks` is true.
+    #[cold]
+    const fn read_on(&self, text: &[u8], counted: Counted, seeks: bool) -> Scanned {
+        let grammar = self.syntax.grammar();
+        let At { mut size, mut read } = counted.at;
+        let mut counts = counted.counts;
         let mut literal = None;
-        let mut index = 0;
-        while index < text.len() {
-            let Some(next) = tables.step(row, text[index]) else {
-                let stop = Stop { size: index, row };
+        while size < text.len() {
+            let Some(next) = step(grammar, read, byte_class(grammar, text[size])) else {
+                let stop = At { size, read };
                 return Scanned { stop, literal, counts };
             };
-            row = next.row;
+            read = next.summary;
             counts[piece_number(next.piece)] += 1;
-            if seeks && self.is_complete(row) {
-                literal = Some(index + 1);
+            size += 1;
+            if seeks && is_complete(grammar, read) {
+                literal = Some(size);
             }
-            index += 1;
         }
-        let stop = Stop { size: index, row };
+        let stop = At { size, read };
         Scanned { stop, literal, counts }
     }
 
-    // Returns whether a row is that of a literal.
+    // Returns whether what has been read is a literal.
     #[inline(always)]
-    const fn is_complete(&self, row: u8) -> bool {
-        self.tables.is_complete(row)
+    const fn is_complete(&self, read: Summary) -> bool {
+        is_complete(self.syntax.grammar(), read)
     }
 
     // Returns why `text`, of which reading stopped at `stop`, is not a literal.
     #[cold]
-    pub(crate) const fn refuse(&self, text: &[u8], stop: Stop) -> ReadError {
-        if stop.size == text.len() && self.is_complete(stop.row) {
+    pub(crate) const fn refuse(&self, text: &[u8], stop: At) -> ReadError {
+        if stop.size == text.len() && self.is_complete(stop.read) {
             self.ungrouped(text)
         } else {
             self.refuse_byte(text, stop)
@@ -151,7 +200,7 @@ impl Reader {
     // Returns that the integer of `text` is not in groups, and the first wrong group.
     #[cold]
     const fn ungrouped(&self, text: &[u8]) -> ReadError {
-        let counts = self.scan(text, false).counts;
+        let counts = self.scan(text).counts;
         let grammar = self.syntax.grammar();
         let Some(size) = grammar.conditions.integer_group_size else { unreachable!() };
         let parts = cut(text, counts);
@@ -160,7 +209,7 @@ impl Reader {
         ReadError {
             spot: Spot {
                 grammar,
-                row: START,
+                read: BEGIN.at.read,
                 byte: None,
                 tail: [0; 3],
                 marks: Marks { size: text.len(), exponent: 0, first: before + start, run: before + end },
@@ -171,14 +220,14 @@ impl Reader {
 
     // Returns why the byte that follows is not allowed, or what is missing.
     #[cold]
-    const fn refuse_byte(&self, text: &[u8], stop: Stop) -> ReadError {
+    const fn refuse_byte(&self, text: &[u8], stop: At) -> ReadError {
         let grammar = self.syntax.grammar();
         let size = stop.size;
         let byte = byte_at(text, size);
         ReadError {
             spot: Spot {
                 grammar,
-                row: stop.row,
+                read: stop.read,
                 byte,
                 tail: tail_at(text, size, byte),
                 marks: marks(grammar, front_of(text, size)),
@@ -188,18 +237,11 @@ impl Reader {
     }
 }
 
-// Where reading a text stops: the length of its longest front that some literal begins with, and the row of this front.
-#[derive(Clone, Copy)]
-pub(crate) struct Stop {
-    pub(crate) size: usize,
-    row: u8,
-}
-
 // What a pass over a text finds: where it stops, the length of the longest front that is a literal, if it was sought, and
 // the lengths of the parts of what has been read.
 #[derive(Clone, Copy)]
 pub(crate) struct Scanned {
-    pub(crate) stop: Stop,
+    pub(crate) stop: At,
     literal: Option<usize>,
     pub(crate) counts: [usize; 9],
 }

@@ -37,8 +37,8 @@ pub(crate) enum Piece {
 }
 
 // The digits of a part that have been read.
-#[derive(Clone, Copy)]
-pub(crate) enum Stage {
+#[derive(Debug, Clone, Copy, PartialEq, Eq, Hash)]
+pub enum Stage {
     Start,  // Nothing of the number.
     Empty,  // No digits of the integer.
     Bare,   // The digit 0, and no separators.
@@ -51,13 +51,16 @@ pub(crate) enum Stage {
 }
 
 // What has been read of a number.
-#[derive(Clone, Copy)]
-pub(crate) struct Summary {
+#[derive(Debug, Clone, Copy, PartialEq, Eq, Hash)]
+pub struct Summary {
     pub(crate) part: Part, // The part that a digit belongs to.
     pub(crate) stage: Stage,
     pub(crate) gap: bool,   // Whether the last byte is a separator.
     pub(crate) ended: bool, // Whether the suffix has been read.
 }
+
+// The summary before any byte.
+pub(crate) const START: Summary = Summary { part: Part::Integer, stage: Stage::Start, gap: false, ended: false };
 
 // What one byte makes of what has been read.
 #[derive(Clone, Copy)]
@@ -67,6 +70,7 @@ pub(crate) struct Move {
 }
 
 // Returns whether `byte` is a digit of `part`.
+#[inline(always)]
 pub(crate) const fn is_digit(grammar: Grammar, part: Part, byte: u8) -> bool {
     match part {
         Part::Exponent => matches!(grammar.view().exponent_digit(byte), Some(_)),
@@ -75,6 +79,7 @@ pub(crate) const fn is_digit(grammar: Grammar, part: Part, byte: u8) -> bool {
 }
 
 // Returns whether `byte` is the decimal point.
+#[inline(always)]
 pub(crate) const fn is_point(grammar: Grammar, byte: u8) -> bool {
     match grammar.options {
         None => false,
@@ -83,6 +88,7 @@ pub(crate) const fn is_point(grammar: Grammar, byte: u8) -> bool {
 }
 
 // Returns whether `byte` is the exponent character.
+#[inline(always)]
 pub(crate) const fn is_exponent_character(grammar: Grammar, byte: u8) -> bool {
     match grammar.options {
         None => false,
@@ -135,7 +141,8 @@ pub(crate) const fn in_part(part: Part, class: Class) -> Option<Role> {
 }
 
 // Returns the piece that a byte with the role `role` belongs to, after a front that ends in `part`.
-const fn piece_of(part: Part, role: Role) -> Piece {
+#[inline(always)]
+pub(crate) const fn piece_of(part: Part, role: Role) -> Piece {
     match (role, part) {
         (Role::Digit | Role::Separator, Part::Integer) => Piece::Integer,
         (Role::Digit | Role::Separator, Part::Fraction) => Piece::Fraction,
@@ -149,12 +156,36 @@ const fn piece_of(part: Part, role: Role) -> Piece {
     }
 }
 
+// Returns the place of a piece in a list of lengths.
+#[inline(always)]
+pub(crate) const fn piece_number(piece: Piece) -> usize {
+    piece as usize
+}
+
+// Returns whether another digit of the part changes no summary.
+#[inline(always)]
+pub(crate) const fn is_settled(read: Summary) -> bool {
+    matches!(read.stage, Stage::Led | Stage::Digits) && !read.gap && !read.ended
+}
+
+// Returns the index behind the digits of `part` that begin at `start`.
+#[inline(always)]
+pub(crate) const fn digits_end(grammar: Grammar, part: Part, text: &[u8], start: usize) -> usize {
+    let mut index = start;
+    while index < text.len() && is_digit(grammar, part, text[index]) {
+        index += 1;
+    }
+    index
+}
+
 // Returns whether the part has a digit.
+#[inline(always)]
 pub(crate) const fn has_digit(stage: Stage) -> bool {
     matches!(stage, Stage::Bare | Stage::Zero | Stage::Led | Stage::Digits)
 }
 
 // Returns whether a separator may be at a place in `part` with digits before it, or not, and after it, or not.
+#[inline(always)]
 const fn is_place(grammar: Grammar, part: Part, before: bool, after: bool) -> bool {
     let allowed = grammar.view().separators(part);
     match (before, after) {
@@ -166,11 +197,13 @@ const fn is_place(grammar: Grammar, part: Part, before: bool, after: bool) -> bo
 }
 
 // Returns whether an exponent is required.
+#[inline(always)]
 pub(crate) const fn needs_exponent(grammar: Grammar) -> bool {
     grammar.view().required_exponent_notation() && matches!(grammar.options, Some(_))
 }
 
 // Returns whether another digit may follow: after a zero, only if some literal has a leading zero.
+#[inline(always)]
 const fn may_follow(grammar: Grammar, stage: Stage) -> bool {
     !matches!(stage, Stage::Bare | Stage::Zero)
         || (matches!(grammar.options, Some(_)) && !grammar.view().no_float_leading_zeros())
@@ -178,11 +211,13 @@ const fn may_follow(grammar: Grammar, stage: Stage) -> bool {
 }
 
 // Returns whether there is no gap, or one that fits where a digit follows, or not.
+#[inline(always)]
 const fn gap_fits(grammar: Grammar, read: Summary, next: bool) -> bool {
     !read.gap || is_place(grammar, read.part, has_digit(read.stage), next)
 }
 
 // Returns whether `part` has a sign, or needs none.
+#[inline(always)]
 const fn is_signed(grammar: Grammar, part: Part, stage: Stage) -> bool {
     let needs_sign = match part {
         Part::Exponent => grammar.view().required_exponent_sign(),
@@ -192,6 +227,7 @@ const fn is_signed(grammar: Grammar, part: Part, stage: Stage) -> bool {
 }
 
 // Returns whether the part that is read may end.
+#[inline(always)]
 const fn ends(grammar: Grammar, read: Summary) -> bool {
     let format = grammar.view();
     let has_mantissa = !matches!(read.stage, Stage::Lone);
@@ -206,6 +242,7 @@ const fn ends(grammar: Grammar, read: Summary) -> bool {
 }
 
 // Returns whether a byte with the role `role` may follow a part that may end.
+#[inline(always)]
 const fn continues(grammar: Grammar, part: Part, stage: Stage, role: Role) -> bool {
     let format = grammar.view();
     let digit = has_digit(stage);
@@ -230,18 +267,21 @@ const fn continues(grammar: Grammar, part: Part, stage: Stage, role: Role) -> bo
 }
 
 // Returns whether what has been read is a literal.
+#[inline(always)]
 pub(crate) const fn is_complete(grammar: Grammar, read: Summary) -> bool {
     (read.ended || (ends(grammar, read) && continues(grammar, read.part, read.stage, Role::Suffix)))
         && finishes(grammar.conditions, read)
 }
 
 // Returns whether the base prefix may still follow, or what is left of it.
+#[inline(always)]
 const fn lacks_prefix(stage: Stage) -> bool {
     matches!(stage, Stage::Start | Stage::Empty | Stage::Bare)
 }
 
 // Returns whether a byte with the role `role`, the digit 0 if `zero` is true, is the sign before a base prefix, or one of its
 // own bytes.
+#[inline(always)]
 const fn leads_to_prefix(stage: Stage, zero: bool, role: Role) -> bool {
     match (stage, role) {
         (Stage::Bare, role) => matches!(role, Role::Prefix),
@@ -252,13 +292,14 @@ const fn leads_to_prefix(stage: Stage, zero: bool, role: Role) -> bool {
 }
 
 // Returns whether a byte with the role `role`, which is a plus sign if `plus` is true, is a minus sign of the mantissa.
+#[inline(always)]
 const fn is_negative(part: Part, plus: bool, role: Role) -> bool {
     matches!(role, Role::Sign) && !matches!(part, Part::Exponent) && !plus
 }
 
 // Returns whether the conditions let a byte with the role `role` follow.
 #[inline(always)]
-const fn admits(conditions: Conditions, read: Summary, plus: bool, zero: bool, role: Role) -> bool {
+pub(crate) const fn admits(conditions: Conditions, read: Summary, plus: bool, zero: bool, role: Role) -> bool {
     if conditions.are_free() {
         return true;
     }
@@ -274,12 +315,14 @@ const fn some_admit(conditions: Conditions, read: Summary, plus: bool, zero: boo
 }
 
 // Returns whether the conditions let a literal end.
+#[inline(always)]
 const fn finishes(conditions: Conditions, read: Summary) -> bool {
     !(conditions.required_base_prefix && lacks_prefix(read.stage)) && (!conditions.required_base_suffix || read.ended)
 }
 
 // Returns whether some literal goes on with a byte that has the role `role`, and is a plus sign if `plus` is true.
-const fn takes(grammar: Grammar, read: Summary, plus: bool, role: Role) -> bool {
+#[inline(always)]
+pub(crate) const fn takes(grammar: Grammar, read: Summary, plus: bool, role: Role) -> bool {
     let format = grammar.view();
     let Summary { part, stage, .. } = read;
     let digit = has_digit(stage);
@@ -304,7 +347,8 @@ const fn takes(grammar: Grammar, read: Summary, plus: bool, role: Role) -> bool 
 }
 
 // Returns the summary after a byte that has the role `role`, and is the digit 0 if `zero` is true.
-const fn after(read: Summary, zero: bool, role: Role) -> Summary {
+#[inline(always)]
+pub(crate) const fn after(read: Summary, zero: bool, role: Role) -> Summary {
     let part = read.part;
     let (part, stage) = match (role, read.stage) {
         (Role::Digit, Stage::Start | Stage::Empty) if zero && read.gap => (part, Stage::Zero),

@@ -6,7 +6,6 @@ use Rattle.lexical_util.specs.Record.{word_of}
 use Rattle.lexical_util.specs.Roles.{other_case}
 use Rattle.lexical_literal.specs.Additions.Causes.{is_at_gap, lets, place_of}
 use Rattle.lexical_literal.specs.Additions.Summary.{byte_class, in_part}
-use Rattle.lexical_literal.specs.Additions.Tables.{summary_at}
 use Rattle.lexical_literal.specs.Cause.{Explained, adding, bare, binds, case_set, error_of, first_unmet, is_one_of}
 use Rattle.lexical_literal.specs.Cause.{leading_zero_flags, lowest, number_separator_flags, requiring, span_of}
 use Rattle.lexical_literal.specs.Notation.{Notation, no_conditions, notation_of}
@@ -92,8 +91,8 @@ ungrouped_of spot = record {
 -- `refusal_of m spot` is what an error answers that was made at `spot` since no literal goes on there.
 abbrev pub refusal_of : Notation → Spot → Refusal
 refusal_of m spot =
-    let b = blame m (summary_at spot.row) spot.byte in
-    let unmet = conditions_of (unmet m (summary_at spot.row) spot.byte) in
+    let b = blame m spot.read spot.byte in
+    let unmet = conditions_of (unmet m spot.read spot.byte) in
     let f = lowest b.mask in
     let c = first_unmet b.mask unmet in
     let span = span_of m spot.marks spot.byte b.kind f c in record {

@@ -1,15 +1,14 @@
 -- What one pass over several forms finds.
 use Rattle.std.specs.Prelude.{ℕ, if◌then◌else◌, nat_lt, IfErr, IfOk, IsErr, IsSomeAnd, List, Option, Some, None, Result, All, slice_get}
 use Rattle.lexical_literal.specs.Additions.Longest.{IsCountedFront, IsGroupedFront, IsStopped}
-use Rattle.lexical_literal.specs.Additions.Summary.{HasLengths}
-use Rattle.lexical_literal.specs.Additions.Tables.{cuts_of}
+use Rattle.lexical_literal.specs.Additions.Summary.{HasLengths, cuts_of}
 use Rattle.lexical_literal.specs.Forms.{GoesTo, HasFront, IsFirst, IsFormError, IsFormFrontError, IsGreatest}
 use Rattle.lexical_literal.specs.Literal.{Literal}
 use Rattle.lexical_literal.specs.Notation.{notation_of}
 use Rattle.lexical_literal.specs.Takes.{Refuses}
 use Rattle.lexical_literal.specs.declared.list.FormError.{FormError}
 use Rattle.lexical_literal.specs.declared.read.Found.{Found}
-use Rattle.lexical_literal.specs.declared.read.Stop.{Stop}
+use Rattle.lexical_literal.specs.declared.plain.At.{At}
 use Rattle.lexical_literal.specs.declared.syntax.Grammar.{Grammar}
 
 -- `greater size best form found` is `best`, or `found` of the form with the index `form` if its `size` is greater.
@@ -18,8 +17,8 @@ greater size None form found = Some (form, found)
 greater size (Some best) form found = if nat_lt (size best.1) (size found) then Some (form, found) else Some best
 
 -- `further furthest form stop` is `furthest`, or the form with the index `form` if it goes further, to `stop`.
-abbrev pub further : Option (ℕ × Stop) → ℕ → Stop → Option (ℕ × Stop)
-further furthest form stop = greater (λ (stop : Stop). stop.size) furthest form stop
+abbrev pub further : Option (ℕ × At) → ℕ → At → Option (ℕ × At)
+further furthest form stop = greater (λ (stop : At). stop.size) furthest form stop
 
 -- `longer longest form found` is the front `longest`, or that of the form with the index `form` if it has a longer one.
 abbrev pub longer : Option (ℕ × Found) → ℕ → Option Found → Option (ℕ × Found)
@@ -48,6 +47,6 @@ pub record IsLongestForm (forms : List Grammar) (text : List ℕ) (form : ℕ) (
 
 -- `IsFurthestForm forms text furthest` holds if `furthest` has the index of the form that goes furthest in `text`, the first of
 -- equals, and where it stops.
-abbrev pub IsFurthestForm : List Grammar → List ℕ → Option (ℕ × Stop) → Type 0
+abbrev pub IsFurthestForm : List Grammar → List ℕ → Option (ℕ × At) → Type 0
 IsFurthestForm forms text furthest = IsSomeAnd furthest (λ best.
     IsGreatest (GoesTo text) forms best.0 best.1.size × IsSomeAnd (slice_get forms best.0) (λ g. IsStopped (notation_of g) text best.1))

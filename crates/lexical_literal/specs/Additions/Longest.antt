@@ -8,12 +8,10 @@ use Rattle.lexical_literal.specs.Literal.{Literal, Reads}
 use Rattle.lexical_literal.specs.Cause.{Explained}
 use Rattle.lexical_literal.specs.Front.{IsValidUpTo, NoLiteral, ReadsFront}
 use Rattle.lexical_literal.specs.Additions.Causes.{lets}
-use Rattle.lexical_literal.specs.Additions.Summary.{HasLengths, is_complete, scan, start}
-use Rattle.lexical_literal.specs.Additions.Tables.{cuts_of, summary_at}
+use Rattle.lexical_literal.specs.Additions.Summary.{HasLengths, cuts_of, is_complete, scan, start}
 use Rattle.lexical_literal.specs.declared.read.Found.{Found}
 use Rattle.lexical_literal.specs.declared.read.Scanned.{Scanned}
-use Rattle.lexical_literal.specs.declared.read.Stop.{Stop}
-use Rattle.lexical_literal.specs.declared.tables.TheConstants.{ROWS}
+use Rattle.lexical_literal.specs.declared.plain.At.{At}
 
 -- `IsLongest m text bound longest` holds if `longest` is the length of the longest front of `text` that is a literal and has
 -- at most `bound` bytes, or `None` if there is none.
@@ -23,13 +21,12 @@ pub record IsLongest (m : Notation) (text : List ℕ) (bound : ℕ) (longest : O
 
 -- `IsStopped m text stop` holds if `stop` has the length of the longest front of `text` that some literal begins with, and its
 -- summary, which tells whether it is a literal and does not allow a byte that follows.
-pub record IsStopped (m : Notation) (text : List ℕ) (stop : Stop) : Type 0 where
+pub record IsStopped (m : Notation) (text : List ℕ) (stop : At) : Type 0 where
   pub valid : IsValidUpTo m text stop.size
-  pub row : stop.row < ROWS
-  pub read : scan m (Some start) (take stop.size text) ≡ Some (summary_at stop.row)
-  pub refused : stop.size < length text → lets m (summary_at stop.row) (slice_get text stop.size) ≡ false
-  pub complete : is_complete m (summary_at stop.row) ≡ true → (l : Literal) × Reads m l (take stop.size text)
-  pub incomplete : is_complete m (summary_at stop.row) ≡ false → NoLiteral m (take stop.size text)
+  pub read : scan m (Some start) (take stop.size text) ≡ Some stop.read
+  pub refused : stop.size < length text → lets m stop.read (slice_get text stop.size) ≡ false
+  pub complete : is_complete m stop.read ≡ true → (l : Literal) × Reads m l (take stop.size text)
+  pub incomplete : is_complete m stop.read ≡ false → NoLiteral m (take stop.size text)
 
 -- `IsScanned m seeks text scanned` holds if `scanned` has where reading `text` stops, the lengths of the parts of what has
 -- been read if it is a literal, and the length of the longest front that is a literal if `seeks` is true.
@@ -54,7 +51,7 @@ pub record IsCountedFront (m : Notation) (text : List ℕ) (found : Found) : Typ
 
 -- `IsFronted g text stop found` holds if `stop` is where reading `text` stops, and `found` the longest front that is a literal
 -- of the notation of `g`, or `None` if there is none.
-pub record IsFronted (g : Grammar) (text : List ℕ) (stop : Stop) (found : Option Found) : Type 0 where
+pub record IsFronted (g : Grammar) (text : List ℕ) (stop : At) (found : Option Found) : Type 0 where
   pub reached : IsStopped (notation_of g) text stop
   pub longest : ForSome found (IsCountedFront (notation_of g) text)
   pub none : IsNone found → NoFront text g

@@ -1,5 +1,5 @@
 -- What has been read of a number, changed by one byte.
-use Rattle.std.specs.Prelude.{ℕ, Bool, true, false, not, ◌==◌, ◌&&◌, ◌||◌, if◌then◌else◌, ◌+◌, ◌≡◌, length}
+use Rattle.std.specs.Prelude.{ℕ, Bool, true, false, not, ◌==◌, ◌&&◌, ◌||◌, if◌then◌else◌, ◌+◌, ◌≡◌, length, slice_index}
 use Rattle.std.specs.Prelude.{List, [], ◌∷◌, Option, Some, None}
 use Rattle.lexical_util.specs.Layout as layout
 use Rattle.lexical_util.specs.Layout.{separators_in}
@@ -88,6 +88,16 @@ is_lone _ = false
 abbrev pub is_led : Stage → Bool
 is_led stages.Led = true
 is_led _ = false
+
+-- `is_run stage` is true if another digit changes no stage, and may follow.
+abbrev pub is_run : Stage → Bool
+is_run stages.Led = true
+is_run stages.Digits = true
+is_run _ = false
+
+-- `is_settled s` is true if another digit of the part changes no summary.
+abbrev pub is_settled : Summary → Bool
+is_settled s = is_run s.stage && (not s.gap && not s.ended)
 
 -- `is_bare stage` is true if the integer is the digit 0, which may be the zero of a prefix.
 abbrev pub is_bare : Stage → Bool
@@ -246,6 +256,12 @@ after s zero roles.Point = record s { part = parts.Fraction; stage = after_point
 after s zero roles.Exponent = record s { part = parts.Exponent; stage = stages.Mark; gap = false }
 after s zero roles.Suffix = record s { ended = true }
 
+-- `part_after part role` is the part that a digit belongs to after a byte with the role `role` in `part`.
+abbrev pub part_after : Part → Role → Part
+part_after part roles.Point = parts.Fraction
+part_after part roles.Exponent = parts.Exponent
+part_after part role = part
+
 -- `move_by C m s plus zero role` is the summary after a byte with this role, or `None` if no literal of the format of `m` and
 -- the conditions `C` begins so.
 abbrev pub move_by : (Condition → Bool) → Notation → Summary → Bool → Bool → Option Role → Option Summary
@@ -297,6 +313,14 @@ Cuts = Piece → ℕ
 -- `add c piece` counts one more byte of `piece`.
 abbrev pub add : Cuts → Piece → Cuts
 add c piece other = if piece_number other == piece_number piece then c other + 1 else c other
+
+-- `add_more c piece n` counts `n` more bytes of `piece`.
+abbrev pub add_more : Cuts → Piece → ℕ → Cuts
+add_more c piece n other = if piece_number other == piece_number piece then c other + n else c other
+
+-- `cuts_of counts` has the lengths in the list `counts`.
+abbrev pub cuts_of : List ℕ → Cuts
+cuts_of counts piece = slice_index counts (piece_number piece)
 
 -- `count part role c` counts one more byte with the role `role` in `part`.
 abbrev pub count : Part → Option Role → Cuts → Cuts

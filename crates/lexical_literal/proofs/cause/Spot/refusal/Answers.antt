@@ -1,6 +1,5 @@
 -- Each answer is made of the cause.
 use Rattle.std.proofs.Common.{ap, ◌∙◌}
-use Rattle.lexical_literal.specs.Additions.Explained.{blame, conditions_of, unmet}
 use Rattle.lexical_literal.specs.Cause.{error_of, first_unmet, lowest, span_of}
 use Rattle.lexical_literal.specs.Notation.{notation_of}
 use Rattle.lexical_literal.specs.declared.cause.Blame.{Blame}
@@ -10,11 +9,10 @@ pub returns : goal.returns
 returns c =
     let spot = c.args.self in
     let m = notation_of spot.grammar in
-    let read = c.summary_at.ensures in
-    let blamed = c.blame-kind.ensures ∙ (λ j. blame m (read j) spot.byte) in
+    let blamed = c.blame-kind.ensures in
     let kind = ap (λ (b : Blame). b.kind) blamed in
     let mask = ap (λ (b : Blame). b.mask) blamed in
-    let conditions = c.unmet-conditions.ensures ∙ (λ j. conditions_of (unmet m (read j) spot.byte)) in
+    let conditions = c.unmet-conditions.ensures in
     let first = c.first_unmet-unmet.ensures ∙ (λ j. first_unmet (mask j) (conditions j)) in
     let span = c.span-start.ensures ∙ (λ j. span_of m spot.marks spot.byte (kind j) (lowest (mask j)) (first j)) in
     let code = c.error.ensures ∙ (λ j. error_of m spot.marks (kind j) (lowest (mask j)) (first j) (span j).0) in

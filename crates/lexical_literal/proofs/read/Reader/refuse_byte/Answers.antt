@@ -3,7 +3,6 @@ use Rattle.std.proofs.Common.{◌≡◌, false, slice_get, sym, ap, subst, ◌�
 use Rattle.lexical_literal.specs.Additions.Causes.{IsReadOf, lets}
 use Rattle.lexical_literal.specs.Additions.Longest.{IsStopped}
 use Rattle.lexical_literal.specs.Additions.Summary.{start}
-use Rattle.lexical_literal.specs.Additions.Tables.{summary_at}
 use Rattle.lexical_literal.specs.Additions.Explained.{refusal_of}
 use Rattle.lexical_literal.specs.Cause.{IsRefusal, marks_of}
 use Rattle.lexical_literal.specs.Notation.{notation_of}
@@ -21,10 +20,10 @@ returns c =
     let m = notation_of g in
     let size = c.args.stop.size in
     let front = take size c.args.text.now in
-    let s = summary_at c.args.stop.row in
+    let s = c.args.stop.read in
     let stopped : IsStopped m c.args.text.now c.args.stop = rw c.self.view_is c.requires.stopped in
     let refused : lets m s (slice_get c.args.text.now size) ≡ false = rw c.self.view_is c.requires.refused in
-    let is_ready = ready c.role_facts.ensures.disjoint c.role_facts.ensures.five c.role_facts.ensures.lawful g c.self.invariant.0 in
+    let is_ready = ready c.role_facts.ensures.disjoint c.role_facts.ensures.five c.role_facts.ensures.lawful g c.self.invariant in
     let is_read : IsReadOf m s front = record {
       decides = λ next A D weaker. decided m A D is_ready weaker front s stopped.read next;
       part = ends_in m is_ready.roles start front s stopped.read;
@@ -34,7 +33,7 @@ returns c =
     (c.marks.ensures ∙ ap (marks_of (notation_of c.grammar-grammar.result)) c.front_of.ensures) in
     let spot : Grammar → Spot = λ h. record {
       grammar = h;
-      row = c.args.stop.row;
+      read = c.args.stop.read;
       byte = c.byte_at-byte.result;
       tail = c.tail_at.result;
       marks = c.marks.result;
@@ -43,5 +42,5 @@ returns c =
     let h = c.grammar-grammar.result in
     subst (λ now. IsRefusal (notation_of now) c.args.text.now (refusal_of (notation_of h) (spot h))) c.self.view_is
     (subst (λ h. IsRefusal m c.args.text.now (refusal_of (notation_of h) (spot h))) (sym same)
-    (refusal_at g c.args.text.now c.args.stop.row c.tail_at.result c.marks.result size stopped.valid.within stopped.valid is_read refused
+    (refusal_at g c.args.text.now c.args.stop.read c.tail_at.result c.marks.result size stopped.valid.within stopped.valid is_read refused
     c.byte_at-byte.result c.byte_at-byte.ensures is_marks))

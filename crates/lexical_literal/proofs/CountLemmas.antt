@@ -1,0 +1,34 @@
+-- The lengths of parts.
+use Rattle.std.proofs.Common.{ℕ, ◌≡◌, ◌<◌, ◌≤◌, ◌+◌, List, [], ◌∷◌, length, get_or, set}
+use Rattle.std.proofs.Common.{refl, arith, get_or-set_other, get_or-set_same, replicate}
+use Rattle.std.proofs.lemmas.Bool.Decides.{nat_tests}
+use Rattle.lexical_literal.specs.Additions.Summary.{add, cuts_of, no_cuts, piece_number}
+use Rattle.lexical_literal.specs.declared.steps.Piece.{Piece}
+use Rattle.lexical_literal.specs.declared.steps.Piece.TheVariants as pieces
+
+-- At first, no piece has any bytes.
+pub no_counts : no_cuts ≡ cuts_of (replicate 9 0)
+no_counts = λ j piece. none piece j where
+  none : (piece : Piece) → 0 ≡ cuts_of (replicate 9 0) piece
+  none pieces.Sign = refl
+  none _ = refl
+
+-- One more byte of a piece.
+pub count_one : (counts : List ℕ) → length counts ≡ 9 → (piece : Piece)
+    → add (cuts_of counts) piece ≡ cuts_of (set counts (piece_number piece) (get_or counts (piece_number piece) 0 + 1))
+count_one (a ∷ b ∷ c ∷ d ∷ e ∷ f ∷ g ∷ h ∷ i ∷ []) nine piece = λ j other. each piece other j where
+  each : (piece other : Piece) → let counts = a ∷ b ∷ c ∷ d ∷ e ∷ f ∷ g ∷ h ∷ i ∷ [] in
+      add (cuts_of counts) piece other ≡ cuts_of (set counts (piece_number piece) (get_or counts (piece_number piece) 0 + 1)) other
+  each pieces.Sign pieces.Sign = refl
+  each pieces.Sign _ = refl
+  each _ pieces.Sign = refl
+  each _ _ = refl
+count_one counts nine piece = absurd (omega (arith, nine))
+
+-- No piece has more bytes than have been read.
+pub small_more : (counts : List ℕ) (n k : ℕ) → k < length counts → ((j : ℕ) → get_or counts j 0 ≤ n)
+    → (j : ℕ) → get_or (set counts k (get_or counts k 0 + 1)) j 0 ≤ n + 1
+small_more counts n k inside small j =
+    let same = get_or-set_same counts k (get_or counts k 0 + 1) 0 inside in
+    let other = get_or-set_other counts k j (get_or counts k 0 + 1) 0 in
+    let here = small k in let there = small j in grind (arith, nat_tests)
