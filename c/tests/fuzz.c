@@ -131,7 +131,7 @@ static void test_written(const peltzivar_syntax *syntax, bool is_lawful, const p
     } values[2] = {{7, 7, {7, 7}, 7}, {7, 7, {7, 7}, 7}};
     size_t needed = 0;
     draw_syntax(draw_word(), &other);
-    if (!peltzivar_format_literal(&other, literal, &style, text, sizeof text, &needed)) CHECK(needed == strlen(text) + 1);
+    if (!peltzivar_format_literal(&other, literal, &style, text, sizeof text, &needed)) CHECK(0 < needed && needed <= sizeof text);
 #define CHECK_LAWFUL(condition) do { const bool holds = condition; CHECK(holds || !is_lawful); } while (0)
     CHECK_LAWFUL(!peltzivar_format_literal(syntax, literal, &style, text, sizeof text, &needed) && needed == strlen(text) + 1);
     const bool is_read = peltzivar_read(syntax, text, strlen(text), &again, NULL);
@@ -181,6 +181,13 @@ static void test_literals(peltzivar_word word) {
         const bool has_part = why.kind == PELTZIVAR_KIND_MISSING || why.kind == PELTZIVAR_KIND_SEPARATOR;
         CHECK(1 <= why.kind && why.kind <= 5 && has_part == (why.part != PELTZIVAR_NO_PART));
     }
+    /* The normal form of a lawful word is read in the same way. */
+    peltzivar_syntax normal = syntax;
+    peltzivar_explanation why_normal;
+    normal.format = peltzivar_normal_form(syntax.format);
+    CHECK_LAWFUL(peltzivar_read(&normal, from, len, &literal_before, &error_before) == is_read);
+    if (is_read) CHECK_LAWFUL(!memcmp(&literal.sign, &literal_before.sign, offsetof(peltzivar_literal, is_float) - offsetof(peltzivar_literal, sign)));
+    if (is_explained) CHECK_LAWFUL(peltzivar_explain(&error_before, &why_normal) && !memcmp(&why, &why_normal, sizeof why));
     if (peltzivar_read_prefix(&syntax, from, len, &literal, &error)) {
         const peltzivar_span *const parts = &literal.sign;
         for (int i = 0; i < 9; i++) CHECK(parts[i].start == (i ? parts[i - 1].end : 0) && parts[i].start <= parts[i].end);

@@ -42,7 +42,9 @@ fn main() {
     // A `peltzivar_literal` has 288 bytes.
     let read = |text: &str, literal: &mut MaybeUninit<[u128; 18]>| {
         // SAFETY: the literal is large enough and aligned, the text has this length, and the error may be null.
-        unsafe { peltzivar_read(syntax.as_ptr(), text.as_ptr(), text.len() - 1, literal.as_mut_ptr().cast(), null_mut()) }
+        unsafe {
+            peltzivar_read(syntax.as_ptr(), text.as_ptr(), text.len() - 1, literal.as_mut_ptr().cast(), null_mut())
+        }
     };
     time("peltzivar_read", |text| read(text, black_box(&mut MaybeUninit::uninit())));
     time("peltzivar_read and peltzivar_to_f64", |text| {

@@ -10,7 +10,7 @@ use core::ops::Range;
 use peltzivar::literal::{self, Conditions, FormError, Number, ReadErrorKind, Readers};
 use peltzivar::{Error, Format, FormatError};
 
-/// A word with an exponent character, a decimal point and conditions, which may be refused. If both are 0, literals are
+/// A word with an exponent character, a decimal point and conditions, of any values. If both are 0, literals are
 /// integers. A condition is 0 if there is none.
 #[repr(C)]
 pub struct Syntax {
@@ -25,6 +25,14 @@ pub struct Syntax {
 }
 
 impl Syntax {
+    /// Returns the exponent character and the decimal point, unless literals are integers.
+    fn options(&self) -> Option<(u8, u8)> {
+        match (self.exponent, self.decimal_point) {
+            (0, 0) => None,
+            options => Some(options),
+        }
+    }
+
     /// Returns the conditions.
     fn conditions(&self) -> Conditions {
         Conditions::NONE
@@ -34,24 +42,26 @@ impl Syntax {
             .integer_group_size(NonZeroU8::new(self.integer_group_size).map(NonZeroU8::get))
     }
 
-    /// Returns the syntax, or `None` if it is refused.
+    /// Returns the syntax, which may not be lawful, or `None` if there is none or if a later version may read it otherwise.
+    #[inline(always)]
     pub fn given(syntax: Option<&Syntax>) -> Option<literal::Syntax> {
-        checked(syntax).ok()
+        let syntax = syntax.filter(|it| it.reserved == [0; 10])?;
+        Some(literal::Syntax::unchecked(syntax.format.number(), syntax.options(), syntax.conditions()))
     }
-}
 
-/// Returns the checked syntax.
-fn checked(syntax: Option<&Syntax>) -> Result<literal::Syntax, Refusal<FormatError>> {
-    let syntax = syntax.ok_or(Refusal::Argument("the syntax is a null pointer"))?;
-    if syntax.reserved != [0; 10] {
-        return Err(Refusal::Argument("the reserved bytes of the syntax are not 0"));
+    /// Returns the checked syntax.
+    fn checked(syntax: Option<&Syntax>) -> Result<literal::Syntax, Refusal<FormatError>> {
+        let syntax = syntax.ok_or(Refusal::Argument("the syntax is a null pointer"))?;
+        if syntax.reserved != [0; 10] {
+            return Err(Refusal::Argument("the reserved bytes of the syntax are not 0"));
+        }
+        let format = Format::new(syntax.format.number())?;
+        let made = match syntax.options() {
+            None => literal::Syntax::integers(format),
+            Some((exponent, point)) => literal::Syntax::new(format, exponent, point)?,
+        };
+        Ok(made.with(syntax.conditions())?)
     }
-    let format = Format::new(syntax.format.number())?;
-    let made = match (syntax.exponent, syntax.decimal_point) {
-        (0, 0) => literal::Syntax::integers(format),
-        (exponent, point) => literal::Syntax::new(format, exponent, point)?,
-    };
-    Ok(made.with(syntax.conditions())?)
 }
 
 impl From<literal::Syntax> for Syntax {
@@ -158,25 +168,14 @@ pub struct Parts {
 impl<'a> Literal<'a> {
     #[inline(always)]
     fn of(literal: literal::Literal<'a>, form: usize) -> Literal<'a> {
-        let mut size = 0;
-        let parts = [
-            literal.sign(),
-            literal.prefix(),
-            literal.integer(),
-            literal.point(),
-            literal.fraction(),
-            literal.exponent_character(),
-            literal.exponent_sign(),
-            literal.exponent(),
-            literal.suffix(),
-        ];
-        let parts = parts.map(|part| {
+        let (lengths, mut size) = (literal.lengths(), 0);
+        let parts = lengths.map(|length| {
             let start = size;
-            size += part.len();
+            size += length;
             Span { start, end: size }
         });
-        // `is_float` is not inlined.
-        let is_float = !literal.point().is_empty() || !literal.exponent_character().is_empty();
+        // That of the point, and that of the exponent character.
+        let is_float = lengths[3] | lengths[5] != 0;
         Made::new(Parts { text: literal.as_bytes().as_ptr(), parts, size, is_float, form: form as u8 }, literal)
     }
 }
@@ -225,65 +224,58 @@ impl From<literal::ReadError> for Explanation {
     }
 }
 
-/// Why reading a text with a form refuses it.
-type Refused = (Refusal<literal::ReadError>, usize);
+const TOO_LONG: &str = "the text has more than PTRDIFF_MAX bytes";
 
-/// Returns the syntax or the forms, and the text, or why there are none.
-///
-/// # Safety
-///
-/// As that of [`input`].
-unsafe fn given<'a, T>(by: Option<T>, null: &'static str, text: (*const u8, usize)) -> Result<(T, &'a [u8]), Refused> {
-    let by = by.ok_or((Refusal::Argument(null), 0))?;
-    Ok((by, input(text.0, text.1).ok_or((Refusal::Argument("the text has more than PTRDIFF_MAX bytes"), 0))?))
-}
-
-/// Returns what `read` returns for a text by a syntax.
-unsafe fn by_syntax<'a>(
-    syntax: Option<&Syntax>,
-    text: (*const u8, usize),
-    read: impl FnOnce(&literal::Syntax, &'a [u8]) -> Result<literal::Literal<'a>, literal::ReadError>,
-) -> Result<(literal::Literal<'a>, usize), Refused> {
-    let (syntax, text) = given(Syntax::given(syntax), "peltzivar_check_syntax refuses this syntax", text)?;
-    read(&syntax, text).map(|literal| (literal, 0)).map_err(|error| (Refusal::Library(error), 0))
-}
-
-/// Returns what `read` returns for a text by the forms of a language.
-unsafe fn by_forms<'a>(
-    forms: Option<&Forms>,
-    text: (*const u8, usize),
-    read: impl FnOnce(&Readers<'_>, &'a [u8]) -> Result<Number<'a>, FormError>,
-) -> Result<(literal::Literal<'a>, usize), Refused> {
-    let readers = forms.and_then(|forms| Readers::new(forms.readers().as_slice()));
-    let (readers, text) = given(readers, "the forms are a null pointer", text)?;
-    match read(&readers, text) {
-        Ok(Number::Literal { literal, form }) => Ok((literal, form)),
-        Ok(Number::Special(_)) => Err((Refusal::Argument("a special value"), 0)),
-        Err(FormError { form, error, .. }) => Err((Refusal::Library(error), form)),
-    }
-}
-
-/// Writes what was read, and returns whether it is a literal.
-fn write<'a>(
-    read: Result<(literal::Literal<'a>, usize), Refused>,
+/// Writes what `read` returns for a text by a syntax, and returns whether it is a literal.
+#[inline(always)]
+unsafe fn read_by<'a>(
+    (syntax, text, len): (Option<&Syntax>, *const u8, usize),
     (literal, error): (Out<Literal<'a>>, Out<ReadError>),
+    read: impl FnOnce(&literal::Syntax, &'a [u8]) -> Result<literal::Literal<'a>, literal::ReadError>,
 ) -> bool {
-    match read {
-        Ok((found, form)) => {
-            literal.write(Literal::of(found, form));
-            true
-        }
-        Err((refusal, form)) => {
-            let valid_up_to = if let Refusal::Library(error) = &refusal { error.valid_up_to() } else { 0 };
-            error.write(Made::new(Stop { valid_up_to, form: form as u8 }, refusal));
-            false
-        }
+    let Some(syntax) = Syntax::given(syntax) else {
+        return refuse("peltzivar_check_syntax refuses this syntax", error);
+    };
+    let Some(text) = input(text, len) else { return refuse(TOO_LONG, error) };
+    match read(&syntax, text) {
+        Ok(found) => literal.write_some(Some(Literal::of(found, 0))),
+        Err(why) => stop(why, 0, error),
     }
+}
+
+/// Writes what `read` returns for a text by the forms of a language, and returns whether it is a literal.
+#[inline(always)]
+unsafe fn read_by_forms<'a>(
+    (forms, text, len): (Option<&Forms>, *const u8, usize),
+    (literal, error): (Out<Literal<'a>>, Out<ReadError>),
+    read: impl FnOnce(&Readers<'_>, &'a [u8]) -> Result<Number<'a>, FormError>,
+) -> bool {
+    let readers = forms.and_then(|forms| Readers::new(forms.readers().as_slice()));
+    let Some(readers) = readers else { return refuse("the forms are a null pointer", error) };
+    let Some(text) = input(text, len) else { return refuse(TOO_LONG, error) };
+    match read(&readers, text) {
+        Ok(Number::Literal { literal: found, form }) => literal.write_some(Some(Literal::of(found, form))),
+        Ok(Number::Special(_)) => refuse("a special value", error),
+        Err(FormError { form, error: why, .. }) => stop(why, form, error),
+    }
+}
+
+/// Writes why an argument is refused.
+#[cold]
+fn refuse(sentence: &'static str, error: Out<ReadError>) -> bool {
+    error.write(Made::new(Stop { valid_up_to: 0, form: 0 }, Refusal::Argument(sentence)));
+    false
+}
+
+/// Writes why a text is not a literal of a form.
+fn stop(why: literal::ReadError, form: usize, error: Out<ReadError>) -> bool {
+    error.write(Made::new(Stop { valid_up_to: why.valid_up_to(), form: form as u8 }, Refusal::Library(why)));
+    false
 }
 
 calls! {
     fn peltzivar_check_syntax(syntax: Option<&Syntax>) -> ErrorNumber {
-        error_number(match checked(syntax) {
+        error_number(match Syntax::checked(syntax) {
             Ok(_) => Error::Success,
             Err(Refusal::Argument(_)) => Error::InvalidFlags,
             Err(Refusal::Library(error)) => error.into(),
@@ -291,31 +283,31 @@ calls! {
     }
 
     fn peltzivar_syntax_error_text(syntax: Option<&Syntax>, text: *mut u8, len: usize) -> usize {
-        write_text(text, len, checked(syntax).err())
+        write_text(text, len, Syntax::checked(syntax).err())
     }
 
     fn peltzivar_read(
         syntax: Option<&Syntax>, text: *const u8, len: usize, literal: Out<Literal>, error: Out<ReadError>
     ) -> bool {
-        write(by_syntax(syntax, (text, len), |syntax, text| reading::read(syntax, text)), (literal, error))
+        read_by((syntax, text, len), (literal, error), reading::read)
     }
 
     fn peltzivar_read_prefix(
         syntax: Option<&Syntax>, text: *const u8, len: usize, literal: Out<Literal>, error: Out<ReadError>
     ) -> bool {
-        write(by_syntax(syntax, (text, len), |syntax, text| reading::read_prefix(syntax, text)), (literal, error))
+        read_by((syntax, text, len), (literal, error), reading::read_prefix)
     }
 
     fn peltzivar_forms_read(
         forms: Option<&Forms>, text: *const u8, len: usize, literal: Out<Literal>, error: Out<ReadError>
     ) -> bool {
-        write(by_forms(forms, (text, len), |forms, text| forms.read(text)), (literal, error))
+        read_by_forms((forms, text, len), (literal, error), |forms, text| forms.read(text))
     }
 
     fn peltzivar_forms_read_prefix(
         forms: Option<&Forms>, text: *const u8, len: usize, literal: Out<Literal>, error: Out<ReadError>
     ) -> bool {
-        write(by_forms(forms, (text, len), |forms, text| Ok(forms.read_prefix(text)?.0)), (literal, error))
+        read_by_forms((forms, text, len), (literal, error), |forms, text| Ok(forms.read_prefix(text)?.0))
     }
 
     fn peltzivar_explain(error: &ReadError, out: Out<Explanation>) -> bool {

@@ -66,13 +66,19 @@ impl Write for Shortest {
 /// The syntax of the texts of floats.
 const FLOATS: literal::Syntax = literal::Syntax::new_or_panic(Format::of::<STANDARD>(), b'e', b'.');
 
-/// Returns a style.
-fn given(style: Option<&Style>) -> literal::Style {
+/// Returns a syntax in whose radixes calls can write, and the style.
+fn given(syntax: Option<&Syntax>, style: Option<&Style>) -> Option<(literal::Syntax, literal::Style)> {
+    let syntax = Syntax::given(syntax)?;
+    let format = syntax.format();
+    let mut radixes = [format.mantissa_radix(), format.exponent_base(), format.exponent_radix()].into_iter();
     let plain = literal::Style::PLAIN;
-    style.map_or(plain, |style| {
-        let plain = if style.without_base != 0 { plain.without_base() } else { plain };
-        plain.group(style.group.into())
-    })
+    radixes.all(|it| (2..=36).contains(&it)).then_some((
+        syntax,
+        style.map_or(plain, |style| {
+            let plain = if style.without_base != 0 { plain.without_base() } else { plain };
+            plain.group(style.group.into())
+        }),
+    ))
 }
 
 /// Writes what `format` returns for a syntax and a style, and the size that is enough.
@@ -81,8 +87,8 @@ unsafe fn write<'a>(
     (text, len, needed): (*mut u8, usize, Out<usize>),
     format: impl FnOnce(&literal::Syntax, literal::Style) -> Result<Written<'a>, WriteError>,
 ) -> WriteStatus {
-    let Some(syntax) = Syntax::given(syntax) else { return ARGUMENT };
-    match format(&syntax, given(style)) {
+    let Some((syntax, style)) = given(syntax, style) else { return ARGUMENT };
+    match format(&syntax, style) {
         Ok(written) => {
             let length = write_text(text, len, Some(written));
             needed.write(length + 1);
@@ -126,7 +132,8 @@ calls! {
         syntax: Option<&Syntax>, value: f64, style: Option<&Style>, text: *mut u8, len: usize, needed: Out<usize>
     ) -> WriteStatus {
         let format = |digits: Shortest| write((syntax, style), (text, len, needed), |syntax, style| {
-            let literal = reading::read(&FLOATS, &digits.bytes[..digits.len]).map_err(|_| WriteError::Special)?;
+            // `read` has one caller, so it is inlined there.
+            let literal = reading::read_prefix(&FLOATS, &digits.bytes[..digits.len]).map_err(|_| WriteError::Special)?;
             match syntax.point() {
                 // No float type has a value of a literal with these digits and another exponent base.
                 _ if syntax.format().exponent_base() != 10 => Err(WriteError::Radix),

@@ -148,6 +148,18 @@ impl<'a> Literal<'a> {
         cut(self.text, self.counts)
     }
 
+    /// Returns the lengths of the nine parts, in the order of the text.
+    #[doc(hidden)]
+    #[must_use]
+    #[inline]
+    pub const fn lengths(&self) -> [usize; 9] {
+        let mut lengths = self.counts;
+        // The zero of a prefix is counted as a digit of the integer.
+        lengths[2] = lengths[2].wrapping_sub(lengths[1]);
+        lengths[1] += lengths[1];
+        lengths
+    }
+
     /// Returns all bytes of the literal.
     #[must_use]
     pub const fn as_bytes(&self) -> &'a [u8] {
