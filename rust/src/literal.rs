@@ -64,6 +64,7 @@ mod plain;
     clippy::manual_unwrap_or,
     clippy::needless_lifetimes,
     clippy::redundant_pattern_matching,
+    dead_code,
     reason = "as it is proved"
 )]
 mod read;

@@ -14,6 +14,8 @@ mod WriterLemmas
 mod ExampleLemmas
 mod CountLemmas
 mod PlainLemmas
+mod SumLemmas
+mod JoinLemmas
 mod SpecialLemmas
 mod CauseLemmas
 mod RefusalLemmas

@@ -1,18 +1,18 @@
 -- Fronts of a text, and where the loop is left.
 use Rattle.std.proofs.Common.{ℕ, Bool, IsTrue, ◌&&◌, Option, if◌then◌else◌, ◌≡◌, ◌<◌, ◌≤◌, ◌+◌, inl, inr, true, false, List, [], ◌∷◌, ◌++◌}
 use Rattle.std.proofs.Common.{length, get_or, take, drop, Some, None, refl, sym, ap, subst, append_assoc, append-nil, take-append-drop, ◌∙◌, arith}
-use Rattle.std.specs.Prelude.{slice_get}
+use Rattle.std.specs.Prelude.{is_some, slice_get}
 use Rattle.std.proofs.lemmas.Bool.{false≢true, cases_lt}
-use Rattle.std.proofs.lemmas.Option.{slice_get_past}
+use Rattle.std.proofs.lemmas.Option.{slice_get-get_or, slice_get_past}
 use Rattle.std.proofs.lemmas.List.{take-take, take_more, take_all}
 use Rattle.lexical_literal.specs.Notation.{Notation, notation_of}
 use Rattle.lexical_literal.specs.Literal.{Literal, IsLiteral, Reads}
 use Rattle.lexical_literal.specs.Additions.Summary.{Cuts, cuts_of, byte_class, in_part, scan, step, is_accepted, is_complete}
 use Rattle.lexical_literal.specs.Additions.Summary.{tally, count, start, no_cuts, HasLengths}
 use Rattle.lexical_literal.specs.Front.{IsFront, IsValidUpTo, NoLiteral, ReadsFront}
-use Rattle.lexical_literal.specs.Additions.Longest.{IsCountedFront, IsFronted, IsLongest, IsScanned, IsStopped}
+use Rattle.lexical_literal.specs.Additions.Longest.{HasFound, IsCountedFront, IsFronted, IsLongest, IsScanned, IsStopped}
 use Rattle.lexical_literal.specs.Additions.Causes.{lets}
-use Rattle.lexical_literal.specs.Additions.Plain.{IsCounted}
+use Rattle.lexical_literal.specs.Additions.Plain.{IsBegun, IsCounted}
 use Rattle.lexical_literal.specs.declared.read.Found.{Found}
 use Rattle.lexical_literal.specs.declared.plain.At.{At}
 use Rattle.lexical_literal.specs.declared.plain.Counted.{Counted}
@@ -95,6 +95,15 @@ module _ (m : Notation) (text : List ℕ) where
     },
   )
 
+-- A literal that has been found is the longest front that is one if reading stops behind it.
+pub found_there : (m : Notation) (text : List ℕ) (counted : Counted) → HasFound m text counted → counted.complete ≡ true → (stop : At) → IsStopped m text stop
+    → stop.size ≡ counted.at.size → IsCountedFront m text (record { size = stop.size; counts = counted.counts })
+found_there m text counted has complete stop is same = let l = has.literal complete in record {
+  literal = l.0;
+  reads = stop_literal m text stop is l.0 (subst (λ n. Reads m l.0 (take n text)) (sym same) l.1);
+  counted = λ k reads. has.lengths complete k (subst (λ n. Reads m k (take n text)) same reads);
+}
+
 -- What a pass finds that seeks the longest front.
 pub fronted : (g : Grammar) (text : List ℕ) (stop : At) (found : Found) → IsStopped (notation_of g) text stop
     → IsCountedFront (notation_of g) text found → IsFronted g text stop (Some found)
@@ -108,17 +117,13 @@ module _ (m : Notation) (ready : IsReady m) (text : List ℕ) where
   accepted : (n : ℕ) (l : Literal) → Reads m l (take n text) → is_accepted m (scan m (Some start) (take n text)) ≡ true
   accepted n l reads = rw (reads.whole) (literal_arrives m ready.roles l reads.literal).0
 
-  -- Nothing is a literal before any byte has been read.
-  pub none_at_first : IsLongest m text 0 None
-  none_at_first = (read_nothing true).longest_is refl where
-    read_nothing : (seeks : Bool) → HasRead m seeks text 0 start no_cuts None
-    read_nothing seeks = grind arith
-
   -- What has been read at first.
-  pub has_begun : (seeks : Bool) (counted : Counted) → IsCounted m text counted → (IsTrue seeks → IsLongest m text counted.at.size None)
-      → HasRead m seeks text counted.at.size counted.at.read (cuts_of counted.counts) None
-  has_begun seeks counted is none =
-      record { ready = ready; within = is.at.within; read = is.at.read; counted = is.at.counted; longest_is = none }
+  pub has_begun : (seeks : Bool) → HasRead m seeks text 0 start no_cuts None
+  has_begun seeks = grind arith
+
+  -- What has been read where `at` is.
+  pub has_read : (at : At) → IsBegun m text at → HasRead m false text at.size at.read (tally m (Some start) no_cuts (take at.size text)) None
+  has_read at is = record { ready = ready; within = is.within; read = is.read; counted = refl; longest_is = λ no. absurd (false≢true no) }
 
   module _ (seeks : Bool) (i : ℕ) (s : Summary) (c : Cuts) (longest : Option ℕ) (has : HasRead m seeks text i s c longest) where
     next_scan : i < length text → scan m (Some start) (take (i + 1) text) ≡ step m s (byte_class m (get_or text i 0))
@@ -176,25 +181,60 @@ module _ (m : Notation) (ready : IsReady m) (text : List ℕ) where
       no_longer = λ more over within is. absurd (omega arith);
     }
 
+    -- Where reading stops.
+    pub is_stopped : IsValidUpTo m text i → (i < length text → lets m s (slice_get text i) ≡ false) → IsStopped m text (record { size = i; read = s })
+    is_stopped wrong refused = record {
+      valid = wrong;
+      read = has.read;
+      refused = refused;
+      complete = λ complete. literal_from m ready.roles (take i text) (ap (is_accepted m) has.read ∙ complete);
+      incomplete = λ incomplete l reads. false≢true (sym incomplete ∙ ap (is_accepted m) (sym has.read) ∙ accepted i l reads);
+    }
+
+    -- The lengths of the parts of a literal.
+    pub has_counted : (counts : List ℕ) → c ≡ cuts_of counts → (l : Literal) → Reads m l (take i text) → HasLengths l (cuts_of counts)
+    has_counted counts lengths l reads =
+        rw (← lengths, ← has.counted, reads.whole, (literal_arrives m ready.roles l reads.literal).1) (has_lengths m l reads.literal.spelled)
+
     -- What the loop has found where it is left.
     pub is_scanned : (counts : List ℕ) → c ≡ cuts_of counts → IsValidUpTo m text i
         → (i < length text → lets m s (slice_get text i) ≡ false)
         → IsScanned m seeks text (record { stop = record { size = i; read = s }; literal = longest; counts = counts })
-    is_scanned counts lengths wrong refused = let read = has.read in record {
-      stop = record {
-        valid = wrong;
-        read = read;
-        refused = refused;
-        complete = λ complete. literal_from m ready.roles (take i text) (ap (is_accepted m) read ∙ complete);
-        incomplete = λ incomplete l reads. false≢true (sym incomplete ∙ ap (is_accepted m) (sym read) ∙ accepted i l reads);
-      };
+    is_scanned counts lengths wrong refused = record {
+      stop = is_stopped wrong refused;
       longest = λ sought. record {
         found = λ size is. let old = (has.longest_is sought).found size is in (omega (arith, old.0, has.within), old.1, old.2);
         no_longer = λ more within past l reads. (has.longest_is sought).no_longer more (no_longer_than m text i wrong more within l reads) past l reads;
       };
-      counted = λ l reads.
-          rw (← lengths, ← has.counted, reads.whole, (literal_arrives m ready.roles l reads.literal).1) (has_lengths m l reads.literal.spelled);
+      counted = has_counted counts lengths;
     }
+
+  module _ (at : At) (is : IsBegun m text at) where
+    abbrev step_of : Option Summary
+    step_of = step m at.read (byte_class m (get_or text at.size 0))
+
+    -- One more byte, a byte that is not taken, and the end of the text.
+    pub begun_more : (t : Summary) → at.size < length text → step_of ≡ Some t → IsBegun m text (record { size = at.size + 1; read = t })
+    begun_more t inside taken = record {
+      within = omega (arith, inside);
+      read = next_scan false at.size at.read _ None (has_read at is) inside ∙ taken;
+    }
+
+    pub stops_at : at.size < length text → step_of ≡ None → IsStopped m text at
+    stops_at inside none = is_stopped false at.size at.read _ None (has_read at is) (wrong_at false at.size at.read _ None (has_read at is) inside none)
+        (λ inside. rw (slice_get-get_or text at.size 0 inside) (ap is_some none))
+
+    pub stops_at_end : length text ≤ at.size → IsStopped m text at
+    stops_at_end end = is_stopped false at.size at.read _ None (has_read at is) (wrong_at_end false at.size at.read _ None (has_read at is) end)
+        (λ inside. absurd (omega (arith, inside, end)))
+
+  -- What has been found at first.
+  pub has_found : (counted : Counted) → IsCounted m text counted → HasFound m text counted
+  has_found counted is = record {
+    begun = is.begun;
+    literal = λ yes. literal_from m ready.roles (take counted.at.size text) (ap (is_accepted m) is.begun.read ∙ is.complete yes);
+    lengths = λ yes. has_counted false counted.at.size counted.at.read _ None (has_read counted.at is.begun) counted.counts (is.lengths yes);
+  }
 
   -- A text has one reading.
   pub one_reading : (l k : Literal) → Reads m l text → Reads m k text → l ≡ k

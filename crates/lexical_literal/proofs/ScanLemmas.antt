@@ -3,6 +3,7 @@ use Rattle.std.proofs.Common.{ℕ, ◌≡◌, Bool, true, false, not, IsTrue, �
 use Rattle.std.proofs.Common.{refl, sym, ap, subst, ◌∙◌, arith}
 use Rattle.std.proofs.lemmas.Bool.{false≢true, false_from_ne_true, or_left}
 use Rattle.lexical_util.specs.Layout as layout
+use Rattle.lexical_util.specs.Roles.{signs}
 use Rattle.lexical_util.specs.declared.feature_format.roles.Role.{Role}
 use Rattle.lexical_util.specs.declared.feature_format.roles.Role.TheVariants as roles
 use Rattle.lexical_util.specs.declared.format_flags.Part.{Part}
@@ -114,6 +115,13 @@ module _ (m : Notation) (h : HasRoles m) where
 
   pub is_role : (part : Part) (r : Role) (b : ℕ) → (roles.Digit ≡ r → ⊥) → set_of_role m r b ≡ true → role_in m part b ≡ Some r
   is_role part r b other is = let only = (only_role b r).0 is in grind arith
+
+  -- A byte without a role.
+  pub no_role : (part : Part) (b : ℕ) → m.digit part b ≡ false → m.separator b ≡ false → m.point b ≡ false → m.exponent_character b ≡ false
+      → m.suffix b ≡ false → signs b ≡ false → m.prefix b ≡ false → role_in m part b ≡ None
+  no_role parts.Integer b digit separator point mark suffix sign prefix = grind arith
+  no_role parts.Fraction b digit separator point mark suffix sign prefix = let same = h.one_mantissa b in grind arith
+  no_role parts.Exponent b digit separator point mark suffix sign prefix = grind arith
 
 module _ (C : Condition → Bool) (m : Notation) (h : HasRoles m) where
   -- What a byte makes of a summary.

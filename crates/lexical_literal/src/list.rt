@@ -66,12 +66,16 @@ impl<'a> ReaderList<'a> {
         let mut form = 0;
         while form < self.readers.len() {
             let reader = &self.readers[form];
-            let scanned = reader.scan(text);
-            if reader.takes(text, scanned) {
-                let counts = scanned.counts;
+            let counted = reader.begin(text);
+            if reader.is_whole(text, counted) {
+                let counts = counted.counts;
                 return Ok((form, counts));
             }
-            furthest = further(furthest, form, scanned.stop);
+            let stop = reader.stop(text, counted.at);
+            match reader.lengths(text, stop) {
+                Some(counts) => return Ok((form, counts)),
+                None => furthest = further(furthest, form, stop),
+            }
             form += 1;
         }
         Err(self.refuse(text, furthest))

@@ -1,13 +1,13 @@
 //! Calls that read literals.
 
-ghost use Rattle.lexical_literal.specs.Additions.Plain.{IsCounted};
+ghost use Rattle.lexical_literal.specs.Additions.Plain.{IsBegun};
 ghost use Rattle.lexical_literal.specs.Notation.{notation_of};
 ghost use Rattle.lexical_literal.specs.Forms.{IsFrontByForms, IsReadByForms};
 ghost use Rattle.lexical_literal.specs.Parts.{IsRead, IsReadPrefix};
 
 use crate::cause::ReadError;
 use crate::list::{FormError, ReaderList};
-use crate::plain::Counted;
+use crate::plain::At;
 use crate::read::{Found, Parts, Reader, cut, front_of};
 
 /// A leading piece of a text that is a literal.
@@ -32,21 +32,20 @@ impl Reader {
         if self.is_whole(text, counted) {
             Ok(cut(text, counted.counts))
         } else {
-            self.read_slowly(text, counted)
+            self.read_slowly(text, counted.at)
         }
     }
 
-    // Returns the same, where `counted` has been read.
+    // Returns the same, where `at` has been read.
     #[inline(never)]
-    fn read_slowly<'a>(&self, text: &'a [u8], counted: Counted) -> Result<Parts<'a>, ReadError>
-        requires { IsCounted (notation_of self.now) text.now counted }
+    fn read_slowly<'a>(&self, text: &'a [u8], at: At) -> Result<Parts<'a>, ReadError>
+        requires { IsBegun (notation_of self.now) text.now at }
         ensures { IsRead self.now text.now result }
     {
-        let scanned = self.scan_on(text, counted);
-        if self.takes(text, scanned) {
-            Ok(cut(text, scanned.counts))
-        } else {
-            Err(self.refuse(text, scanned.stop))
+        let stop = self.stop(text, at);
+        match self.lengths(text, stop) {
+            Some(counts) => Ok(cut(text, counts)),
+            None => Err(self.refuse(text, stop)),
         }
     }
 

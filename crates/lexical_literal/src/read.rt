@@ -1,9 +1,9 @@
 //! How literals are found, and the lengths of their parts.
 
-ghost use Rattle.std.specs.Prelude.{◌≡◌, ◌++◌, ◌∷◌, ◌<◌, ◌≤◌, Bool, IsTrue, None, ℕ, List, [], false, true, length, slice_get, take};
+ghost use Rattle.std.specs.Prelude.{◌≡◌, ◌+◌, ◌++◌, ◌∷◌, ◌<◌, ◌≤◌, Bool, IfSome, IsNone, IsTrue, None, ℕ, List, [], false, true, length, slice_get, take};
 ghost use Rattle.lexical_literal.specs.Additions.Explained.{tail_byte, tail_size};
-ghost use Rattle.lexical_literal.specs.Additions.Longest.{IsCountedFront, IsFronted, IsGrouped, IsLongest, IsMeasured, IsScanned, IsStopped};
-ghost use Rattle.lexical_literal.specs.Additions.Plain.{IsCounted};
+ghost use Rattle.lexical_literal.specs.Additions.Longest.{HasFound, IsCountedFront, IsFronted, IsGrouped, IsLongest, IsMeasured, IsScanned, IsStopped};
+ghost use Rattle.lexical_literal.specs.Additions.Plain.{IsBegun};
 ghost use Rattle.lexical_literal.specs.Additions.Summary.{HasLengths, cuts_of, is_complete};
 ghost use Rattle.lexical_literal.specs.Additions.Causes.{lets};
 ghost use Rattle.lexical_literal.specs.Cause.{IsRefusal};
@@ -16,7 +16,7 @@ use crate::cause::{Marks, ReadError, Spot};
 use crate::groups::{is_grouped, wrong_group};
 use crate::span::marks;
 use crate::plain::{At, BEGIN, Counted, plain};
-use crate::steps::{Summary, byte_class, is_complete, piece_number, step};
+use crate::steps::{Summary, byte_class, is_complete, piece_number, step, step_at};
 use crate::syntax::Syntax;
 use lexical_util::laws::flags::role_facts;
 use std::marker::Model;
@@ -86,19 +86,6 @@ impl Reader {
         self.syntax
     }
 
-    // Returns whether `text` is a literal, of which a pass has found `scanned`.
-    #[inline(always)]
-    pub(crate) fn takes(&self, text: &[u8], scanned: Scanned) -> bool
-        requires { IsScanned (notation_of self.now) false text.now scanned }
-        ensures { IsMeasured self.now text.now scanned.counts result }
-    {
-        if scanned.stop.size == text.len() && self.is_complete(scanned.stop.read) {
-            self.has_groups(text, scanned.counts)
-        } else {
-            false
-        }
-    }
-
     // Returns whether the integer of the literal `text` is in groups, if the syntax requires it.
     #[inline(always)]
     fn has_groups(&self, text: &[u8], counts: [usize; 9]) -> bool
@@ -121,15 +108,16 @@ impl Reader {
     pub(crate) fn front(&self, text: &[u8]) -> (At, Option<Found>)
         ensures { IsFronted self.now text.now result.0 result.1 }
     {
-        let Scanned { stop, counts, .. } = self.scan(text);
-        if self.is_complete(stop.read) {
+        let Counted { at, counts, complete } = self.begin(text);
+        let stop = self.stop(text, at);
+        if complete && stop.size == at.size {
             let size = stop.size;
             return (stop, Some(Found { size, counts }));
         }
         match self.seek(text) {
             None => (stop, None),
             Some(size) => {
-                let counts = self.scan(front_of(text, size)).counts;
+                let counts = self.count(front_of(text, size));
                 (stop, Some(Found { size, counts }))
             }
         }
@@ -152,66 +140,94 @@ impl Reader {
     // Reads a front of `text` with which some literal begins.
     #[inline(always)]
     pub(crate) const fn begin(&self, text: &[u8]) -> Counted
-        ensures { IsCounted (notation_of self.now) text.now result }
+        ensures { HasFound (notation_of self.now) text.now result }
     {
         role_facts();
         plain(self.syntax.grammar(), text)
     }
 
-    // Returns whether all of `text` is a literal that has been read, and there is no condition on groups.
+    // Returns whether all of `text` is a literal that has been read.
     #[inline(always)]
     pub(crate) fn is_whole(&self, text: &[u8], counted: Counted) -> bool
-        requires { IsCounted (notation_of self.now) text.now counted }
+        requires { HasFound (notation_of self.now) text.now counted }
         ensures { IsTrue result → IsMeasured self.now text.now counted.counts true }
     {
-        let is_free = matches!(
-            self.syntax.grammar().conditions.integer_group_size,
-            None
-        );
-        if is_free && counted.at.size == text.len() {
-            self.takes(text, self.whole(text, counted))
+        if counted.complete && counted.at.size == text.len() {
+            self.has_groups(text, counted.counts)
         } else {
             false
         }
     }
 
-    // Returns what has been read, where all of `text` has been read.
+    // Returns the lengths of the parts of `text`, of which reading stops at `stop`, if it is a literal.
     #[inline(always)]
-    const fn whole(&self, _text: &[u8], counted: Counted) -> Scanned
-        requires counted { IsCounted (notation_of self.now) _text.now counted }
-        requires all { counted.at.size ≡ length _text.now }
-        ensures scanned { IsScanned (notation_of self.now) false _text.now result }
-        ensures counts { result.counts ≡ counted.counts }
+    pub(crate) fn lengths(&self, text: &[u8], stop: At) -> Option<[usize; 9]>
+        requires { IsStopped (notation_of self.now) text.now stop }
+        ensures some { IfSome result (λ counts. IsMeasured self.now text.now counts true) }
+        ensures none { IsNone result → Refuses self.now text.now }
+    {
+        if stop.size == text.len() && self.is_complete(stop.read) {
+            let counts = self.count(text);
+            if self.has_groups(text, counts) {
+                return Some(counts);
+            }
+        }
+        None
+    }
+
+    // Returns where reading `text` stops, if it goes on at `at`.
+    #[inline(always)]
+    pub(crate) const fn stop(&self, text: &[u8], at: At) -> At
+        requires { IsBegun (notation_of self.now) text.now at }
+        ensures { IsStopped (notation_of self.now) text.now result }
+    {
+        match self.step(text, at) {
+            None => at,
+            Some(next) => self.walk(text, next),
+        }
+    }
+
+    // Returns what has been read with one more byte, or `None` if reading stops at `at`.
+    #[inline(always)]
+    const fn step(&self, text: &[u8], at: At) -> Option<At>
+        requires { IsBegun (notation_of self.now) text.now at }
+        ensures next { IfSome result (λ next. IsBegun (notation_of self.now) text.now next × (next.size ≡ at.size + 1)) }
+        ensures stop { IsNone result → IsStopped (notation_of self.now) text.now at }
     {
         role_facts();
-        let _ = &self.syntax;
-        let Counted { at, counts } = counted;
-        Scanned {
-            stop: at,
-            literal: None,
-            counts,
+        let grammar = self.syntax.grammar();
+        let At { size, read } = at;
+        if size == text.len() {
+            return None;
+        }
+        match step_at(grammar, read, text[size]) {
+            None => None,
+            Some(read) => Some(At {
+                size: size + 1,
+                read,
+            }),
         }
     }
 
-    // Reads `text` until no literal begins with what has been read.
-    #[inline(always)]
-    pub(crate) const fn scan(&self, text: &[u8]) -> Scanned
-        ensures { IsScanned (notation_of self.now) false text.now result }
+    // Returns where reading stops, step by step.
+    #[cold]
+    const fn walk(&self, text: &[u8], at: At) -> At
+        requires { IsBegun (notation_of self.now) text.now at }
+        ensures { IsStopped (notation_of self.now) text.now result }
     {
-        self.scan_on(text, self.begin(text))
+        let mut stop = at;
+        while let Some(next) = self.step(text, stop) {
+            stop = next;
+        }
+        stop
     }
 
-    // Reads on behind what has been read.
-    #[inline(always)]
-    pub(crate) const fn scan_on(&self, text: &[u8], counted: Counted) -> Scanned
-        requires { IsCounted (notation_of self.now) text.now counted }
-        ensures { IsScanned (notation_of self.now) false text.now result }
+    // Returns the lengths of the parts of the literal `text`.
+    #[cold]
+    const fn count(&self, text: &[u8]) -> [usize; 9]
+        ensures { (l : Literal) → Reads (notation_of self.now) l text.now → HasLengths l (cuts_of result) }
     {
-        if counted.at.size == text.len() {
-            self.whole(text, counted)
-        } else {
-            self.read_on(text, counted, false)
-        }
+        self.read_on(text, false).counts
     }
 
     // Returns the length of the longest front of `text` that is a literal, if there is one.
@@ -219,23 +235,19 @@ impl Reader {
     const fn seek(&self, text: &[u8]) -> Option<usize>
         ensures { IsLongest (notation_of self.now) text.now (length text.now) result }
     {
-        role_facts();
-        let _ = &self.syntax;
-        self.read_on(text, BEGIN, true).literal
+        self.read_on(text, true).literal
     }
 
-    // Reads on where `at` has been read, until no literal begins with what has been read. Seeks the longest front that is a
-    // literal if `seeks` is true.
+    // Reads `text` until no literal begins with what has been read, and counts the bytes of each part. Seeks the longest front
+    // that is a literal if `seeks` is true.
     #[cold]
-    const fn read_on(&self, text: &[u8], counted: Counted, seeks: bool) -> Scanned
-        requires counted { IsCounted (notation_of self.now) text.now counted }
-        requires none { IsTrue seeks → IsLongest (notation_of self.now) text.now counted.at.size None }
+    const fn read_on(&self, text: &[u8], seeks: bool) -> Scanned
         ensures { IsScanned (notation_of self.now) seeks text.now result }
     {
         role_facts();
         let grammar = self.syntax.grammar();
-        let At { mut size, mut read } = counted.at;
-        let mut counts = counted.counts;
+        let At { mut size, mut read } = BEGIN;
+        let mut counts = [0; 9];
         let mut literal = None;
         while size < text.len() {
             let Some(next) = step(grammar, read, byte_class(grammar, text[size])) else {
@@ -270,7 +282,7 @@ impl Reader {
     }
 
     // Returns why `text`, of which reading stopped at `stop`, is not a literal.
-    #[cold]
+    #[inline(always)]
     pub(crate) fn refuse(&self, text: &[u8], stop: At) -> ReadError
         requires stopped { IsStopped (notation_of self.now) text.now stop }
         requires refuses { Refuses self.now text.now }
@@ -290,7 +302,7 @@ impl Reader {
         requires refuses { Refuses self.now text.now }
         ensures { IsUngrouped self.now text.now result.refusal }
     {
-        let counts = self.scan(text).counts;
+        let counts = self.count(text);
         let grammar = self.syntax.grammar();
         let Some(size) = grammar.conditions.integer_group_size else {
             unreachable!()
@@ -301,7 +313,7 @@ impl Reader {
         ReadError {
             spot: Spot {
                 grammar,
-                read: BEGIN.at.read,
+                read: BEGIN.read,
                 byte: None,
                 tail: [0; 3],
                 marks: Marks {
@@ -343,9 +355,9 @@ impl Reader {
 // the lengths of the parts of what has been read.
 #[derive(Clone, Copy)]
 pub(crate) struct Scanned {
-    pub(crate) stop: At,
+    stop: At,
     literal: Option<usize>,
-    pub(crate) counts: [usize; 9],
+    counts: [usize; 9],
 }
 
 // Returns the byte behind the first `size`, if there is one.

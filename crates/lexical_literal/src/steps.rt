@@ -1,17 +1,20 @@
 //! The steps of a reader: what has been read of a number, changed by the class of one byte.
 
-ghost use Rattle.std.specs.Prelude.{◌≡◌, ◌<◌, ◌≤◌, length, nat_lt};
-ghost use Rattle.lexical_util.specs.Digits.{byte_value};
+ghost use Rattle.std.specs.Prelude.{◌≡◌, ◌<◌, ◌&&◌, false, not, nat_lt};
+ghost use Rattle.lexical_util.specs.Digits.{byte_value, digit_of};
 ghost use Rattle.lexical_util.specs.Record.{raw};
+ghost use Rattle.lexical_util.specs.Roles.{signs};
 ghost use Rattle.lexical_literal.specs.Notation.{has, notation_of, radix_of, point_of, exponent_character_of};
 ghost use Rattle.lexical_literal.specs.Run.{is_place};
-ghost use Rattle.lexical_literal.specs.Additions.Plain.{AreDigits};
-ghost use Rattle.lexical_literal.specs.Additions.Summary.{byte_class, role_of, in_part, piece_number, piece_of, has_digit, is_settled, may_follow};
-ghost use Rattle.lexical_literal.specs.Additions.Summary.{admits, finishes, gap_fits, is_negative, is_signed, lacks_prefix, leads_to_prefix, needs_exponent};
-ghost use Rattle.lexical_literal.specs.Additions.Summary.{continues, ends, is_complete, takes, after, IsMove};
+ghost use Rattle.lexical_literal.specs.Additions.Plain.{HasRoles};
+ghost use Rattle.lexical_literal.specs.declared.syntax.Condition.TheVariants as conditions;
+ghost use Rattle.lexical_literal.specs.Additions.Summary.{byte_class, role_of, in_part, piece_number, piece_of, has_digit, may_follow};
+ghost use Rattle.lexical_literal.specs.Additions.Summary.{admits, finishes, forbids_plus, gap_fits, is_begun, is_negative, is_signed, lacks_prefix, leads_to_prefix, needs_exponent};
+ghost use Rattle.lexical_literal.specs.Additions.Summary.{continues, ends, is_complete, step, takes, after, IsMove};
 
 use crate::syntax::{Conditions, Grammar};
 use lexical_util::format::{Part, Role};
+use lexical_util::format_flags::digit_separator;
 
 // A class of bytes: bytes of one class mean the same in a number.
 #[derive(Clone, Copy)]
@@ -91,6 +94,56 @@ pub(crate) const fn is_digit(grammar: Grammar, part: Part, byte: u8) -> bool
         Part::Exponent => matches!(grammar.view().exponent_digit(byte), Some(_)),
         _ => matches!(grammar.view().mantissa_digit(byte), Some(_)),
     }
+}
+
+// Returns the value of `byte` as a digit of `part`, or `None` if it is none.
+#[inline(always)]
+pub(crate) const fn digit_value(grammar: Grammar, part: Part, byte: u8) -> Option<u32>
+    ensures { result ≡ digit_of byte (radix_of (raw grammar.word) part) }
+{
+    match part {
+        Part::Exponent => grammar.view().exponent_digit(byte),
+        _ => grammar.view().mantissa_digit(byte),
+    }
+}
+
+// Returns the radix of the digits of `part`.
+#[inline(always)]
+pub(crate) const fn radix_of(grammar: Grammar, part: Part) -> u64
+    ensures { result ≡ radix_of (raw grammar.word) part }
+{
+    match part {
+        Part::Exponent => grammar.view().exponent_radix() as u64,
+        _ => grammar.view().mantissa_radix() as u64,
+    }
+}
+
+// Returns whether `byte` is the separator, and some flag allows one. Most bytes are another one than it.
+#[tactic(auto, unfolding(lexical_util::specs::Unfoldable::cased))]
+#[inline(always)]
+pub(crate) const fn is_separator(grammar: Grammar, byte: u8) -> bool
+    ensures { result ≡ (notation_of grammar).separator byte }
+{
+    byte == digit_separator(grammar.word) && grammar.view().is_separator(byte)
+}
+
+// Returns whether a plus sign may be before the digits of `part`.
+#[inline(always)]
+pub(crate) const fn allows_plus(grammar: Grammar, part: Part) -> bool
+    ensures { result ≡ not (forbids_plus (notation_of grammar) part) }
+{
+    match part {
+        Part::Exponent => !grammar.view().no_positive_exponent_sign(),
+        _ => !grammar.view().no_positive_mantissa_sign(),
+    }
+}
+
+// Returns whether a minus sign may be before the digits of `part`.
+#[inline(always)]
+pub(crate) const fn allows_minus(grammar: Grammar, part: Part) -> bool
+    ensures { result ≡ not (has grammar.conditions conditions.NegativeSign && is_negative part false Role.Sign) }
+{
+    matches!(part, Part::Exponent) || !grammar.conditions.no_negative_mantissa_sign
 }
 
 // Returns whether `byte` is the decimal point.
@@ -193,25 +246,12 @@ pub(crate) const fn piece_number(piece: Piece) -> usize
     piece as usize
 }
 
-// Returns whether another digit of the part changes no summary.
+// Returns whether the integer has no digits, and a zero is a leading one.
 #[inline(always)]
-pub(crate) const fn is_settled(read: Summary) -> bool
-    ensures { result ≡ is_settled read }
+pub(crate) const fn is_begun(stage: Stage) -> bool
+    ensures { result ≡ is_begun stage }
 {
-    matches!(read.stage, Stage::Led | Stage::Digits) && !read.gap && !read.ended
-}
-
-// Returns the index behind the digits of `part` that begin at `start`.
-#[inline(always)]
-pub(crate) const fn digits_end(grammar: Grammar, part: Part, text: &[u8], start: usize) -> usize
-    requires { start ≤ length text.now }
-    ensures { AreDigits ((notation_of grammar).digit part) text.now start result }
-{
-    let mut index = start;
-    while index < text.len() && is_digit(grammar, part, text[index]) {
-        index += 1;
-    }
-    index
+    matches!(stage, Stage::Start | Stage::Empty)
 }
 
 // Returns whether the part has a digit.
@@ -249,7 +289,7 @@ pub(crate) const fn needs_exponent(grammar: Grammar) -> bool
 
 // Returns whether another digit may follow: after a zero, only if some literal has a leading zero.
 #[inline(always)]
-const fn may_follow(grammar: Grammar, stage: Stage) -> bool
+pub(crate) const fn may_follow(grammar: Grammar, stage: Stage) -> bool
     ensures { result ≡ may_follow (notation_of grammar) stage }
 {
     !matches!(stage, Stage::Bare | Stage::Zero)
@@ -267,7 +307,7 @@ const fn gap_fits(grammar: Grammar, read: Summary, next: bool) -> bool
 
 // Returns whether `part` has a sign, or needs none.
 #[inline(always)]
-const fn is_signed(grammar: Grammar, part: Part, stage: Stage) -> bool
+pub(crate) const fn is_signed(grammar: Grammar, part: Part, stage: Stage) -> bool
     ensures { result ≡ is_signed (notation_of grammar) part stage }
 {
     let needs_sign = match part {
@@ -417,11 +457,7 @@ pub(crate) const fn takes(grammar: Grammar, read: Summary, plus: bool, role: Rol
                     || is_place(grammar, part, digit, false))
         }
         Role::Sign => {
-            let forbids_plus = match part {
-                Part::Exponent => format.no_positive_exponent_sign(),
-                _ => format.no_positive_mantissa_sign(),
-            };
-            matches!(stage, Stage::Start | Stage::Mark) && (!forbids_plus || !plus)
+            matches!(stage, Stage::Start | Stage::Mark) && (!plus || allows_plus(grammar, part))
         }
         Role::Prefix => matches!(stage, Stage::Bare),
         _ => ends(grammar, read) && continues(grammar, part, stage, role),
@@ -458,6 +494,58 @@ pub(crate) const fn after(read: Summary, zero: bool, role: Role) -> Summary
         stage,
         gap,
         ended: read.ended || matches!(role, Role::Suffix),
+    }
+}
+
+// Returns whether `byte` is a sign.
+#[inline(always)]
+const fn is_sign(byte: u8) -> bool
+    ensures { result ≡ signs byte }
+{
+    matches!(byte, b'+' | b'-')
+}
+
+// Returns the role of `byte` after a front that ends in `part`, if no byte plays two roles.
+#[inline(always)]
+const fn role_at(grammar: Grammar, part: Part, byte: u8) -> Option<Role>
+    requires { HasRoles (notation_of grammar) }
+    ensures { result ≡ in_part part (byte_class (notation_of grammar) byte) }
+{
+    if is_digit(grammar, part, byte) {
+        Some(Role::Digit)
+    } else if is_separator(grammar, byte) {
+        Some(Role::Separator)
+    } else if is_point(grammar, byte) {
+        Some(Role::Point)
+    } else if is_exponent_character(grammar, byte) {
+        Some(Role::Exponent)
+    } else if grammar.view().is_base_suffix(byte) {
+        Some(Role::Suffix)
+    } else if is_sign(byte) {
+        Some(Role::Sign)
+    } else if grammar.view().is_base_prefix(byte) {
+        Some(Role::Prefix)
+    } else {
+        None
+    }
+}
+
+// Returns what `byte` makes of what has been read, or `None` if no literal begins so, if no byte plays two roles.
+#[inline(always)]
+pub(crate) const fn step_at(grammar: Grammar, read: Summary, byte: u8) -> Option<Summary>
+    requires { HasRoles (notation_of grammar) }
+    ensures { result ≡ step (notation_of grammar) read (byte_class (notation_of grammar) byte) }
+{
+    let plus = byte == b'+';
+    let zero = byte == b'0';
+    match role_at(grammar, read.part, byte) {
+        Some(role)
+            if !read.ended
+                && takes(grammar, read, plus, role)
+                && admits(grammar.conditions, read, plus, zero, role) => {
+            Some(after(read, zero, role))
+        }
+        _ => None,
     }
 }
 

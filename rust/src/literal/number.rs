@@ -5,7 +5,7 @@ use core::{iter::FusedIterator, slice};
 
 use crate::digit::char_to_valid_digit_const;
 use crate::format_flags::Part;
-use crate::literal::plain::Counted;
+use crate::literal::plain::At;
 use crate::literal::read::{cut, Found, Parts};
 use crate::literal::{ReadError, Reader, Syntax};
 use crate::view::FormatView;
@@ -41,18 +41,17 @@ impl Reader {
         if self.is_whole(text, counted) {
             Ok(Literal { text, counts: counted.counts, view: self.syntax.format().view() })
         } else {
-            self.read_slowly(text, counted)
+            self.read_slowly(text, counted.at)
         }
     }
 
-    // Returns the same, where `counted` has been read.
+    // Returns the same, where `at` has been read.
     #[inline(never)]
-    const fn read_slowly<'a>(&self, text: &'a [u8], counted: Counted) -> Result<Literal<'a>, ReadError> {
-        let scanned = self.scan_on(text, counted);
-        if self.takes(text, scanned) {
-            Ok(Literal { text, counts: scanned.counts, view: self.syntax.format().view() })
-        } else {
-            Err(self.refuse(text, scanned.stop))
+    const fn read_slowly<'a>(&self, text: &'a [u8], at: At) -> Result<Literal<'a>, ReadError> {
+        let stop = self.stop(text, at);
+        match self.lengths(text, stop) {
+            Some(counts) => Ok(Literal { text, counts, view: self.syntax.format().view() }),
+            None => Err(self.refuse(text, stop)),
         }
     }
 

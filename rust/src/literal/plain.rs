@@ -1,9 +1,12 @@
 // Made by rust/tools/erase.py from crates/lexical_literal/src/plain.rt: change that file.
 
 //! How the parts of a literal are read, one after another.
+//!
+//! What is read here may stop anywhere: where it stops, one step decides whether reading goes on.
 
 use crate::literal::steps::{
-    admits, after, digits_end, is_digit, is_exponent_character, is_point, is_settled, takes, Summary, START,
+    allows_minus, allows_plus, digit_value, has_digit, is_begun, is_complete, is_exponent_character, is_point,
+    is_separator, is_signed, may_follow, radix_of, takes, Stage, Summary, START,
 };
 use crate::literal::syntax::Grammar;
 use crate::word::{Part, Role};
@@ -15,171 +18,305 @@ pub(crate) struct At {
     pub(crate) read: Summary,
 }
 
-// What has been read of a text, and the lengths of the parts.
+// What has been read of a text. If `complete` is true, it is a literal, and its parts have the lengths `counts`.
 #[derive(Clone, Copy)]
 pub(crate) struct Counted {
     pub(crate) at: At,
     pub(crate) counts: [usize; 9],
+    pub(crate) complete: bool,
+}
+
+// The digits of a part that have been read, and separators: the index behind them, their stage, the number of digits, and
+// the number that they represent, modulo `2 ^ 64`.
+#[derive(Clone, Copy)]
+pub(crate) struct Run {
+    pub(crate) size: usize,
+    pub(crate) stage: Stage,
+    pub(crate) digits: usize,
+    pub(crate) sum: u64,
+}
+
+// The lengths of the parts up to the fraction. The zero of a prefix is counted as a digit of the integer.
+#[derive(Clone, Copy)]
+pub(crate) struct Sizes {
+    pub(crate) sign: usize,
+    pub(crate) prefix: usize,
+    pub(crate) integer: usize,
+    pub(crate) point: usize,
+    pub(crate) fraction: usize,
+}
+
+// What comes before the digits of the integer: the lengths of the sign and of the prefix without its zero, the index behind
+// them, and the stage there.
+#[derive(Clone, Copy)]
+pub(crate) struct Opening {
+    pub(crate) sign: usize,
+    pub(crate) prefix: usize,
+    pub(crate) size: usize,
+    pub(crate) stage: Stage,
 }
 
 // Nothing has been read.
-pub(crate) const BEGIN: Counted = Counted { at: At { size: 0, read: START }, counts: [0; 9] };
+pub(crate) const BEGIN: At = At { size: 0, read: START };
 
-// Reads the byte that follows, which has the role `role`, if some literal goes on with it.
+// Returns where `size` bytes have been read, of which the last is no separator and no suffix.
 #[inline(always)]
-const fn take(grammar: Grammar, text: &[u8], at: At, role: Role) -> At {
-    let At { size, read } = at;
-    let byte = text[size];
-    let plus = byte == b'+';
-    let zero = byte == b'0';
-    if !read.ended && takes(grammar, read, plus, role) && admits(grammar.conditions, read, plus, zero, role) {
-        At { size: size + 1, read: after(read, zero, role) }
+const fn place(part: Part, size: usize, stage: Stage) -> At {
+    At { size, read: Summary { part, stage, gap: false, ended: false } }
+}
+
+// Returns that reading stops at `at`, where no literal has been found.
+#[inline(always)]
+const fn stopped(at: At) -> Counted {
+    Counted { at, counts: [0; 9], complete: false }
+}
+
+// Returns whether a sign of the mantissa, or of the exponent, follows and is read.
+#[inline(always)]
+const fn reads_sign(grammar: Grammar, text: &[u8], part: Part, size: usize) -> bool {
+    if size >= text.len() {
+        return false;
+    }
+    let plus = text[size] == b'+';
+    let minus = text[size] == b'-';
+    (plus & allows_plus(grammar, part)) | (minus & allows_minus(grammar, part))
+}
+
+// Returns the length of the sign of the mantissa, or of the exponent, or `None` if one is required that does not follow.
+#[inline(always)]
+const fn sign(grammar: Grammar, text: &[u8], part: Part, size: usize) -> Option<usize> {
+    if reads_sign(grammar, text, part, size) {
+        Some(1)
+    } else if is_signed(grammar, part, behind_sign(part, 0)) {
+        Some(0)
     } else {
-        at
+        None
     }
 }
 
-// Reads the digits that follow, if another digit of the part changes no summary.
+// Returns the stage behind a sign with this length.
 #[inline(always)]
-const fn run(grammar: Grammar, text: &[u8], at: At, part: Part) -> At {
-    let At { size, read } = at;
-    if is_settled(read) {
-        let size = digits_end(grammar, part, text, size);
-        At { size, read }
-    } else {
-        at
+const fn behind_sign(part: Part, sign: usize) -> Stage {
+    match part {
+        Part::Exponent if sign == 0 => Stage::Mark,
+        Part::Exponent => Stage::Free,
+        _ if sign == 0 => Stage::Start,
+        _ => Stage::Empty,
     }
 }
 
-// Reads a sign, if one follows.
+// Returns whether a base prefix follows, with its zero, and is read.
 #[inline(always)]
-const fn sign(grammar: Grammar, text: &[u8], at: At) -> At {
-    if at.size < text.len() && (text[at.size] == b'-' || text[at.size] == b'+') {
-        take(grammar, text, at, Role::Sign)
+const fn reads_prefix(grammar: Grammar, text: &[u8], size: usize) -> bool {
+    if size + 1 >= text.len() {
+        return false;
+    }
+    text[size] == b'0' && grammar.view().is_base_prefix(text[size + 1])
+}
+
+// Returns the value of the digit of `part` at `index`, if there is one.
+#[inline(always)]
+const fn value_at(grammar: Grammar, text: &[u8], part: Part, index: usize) -> Option<u32> {
+    if index < text.len() {
+        digit_value(grammar, part, text[index])
     } else {
-        at
+        None
     }
 }
 
-// Reads digits of `part`, and digit separators.
+// Returns the run with one more digit, whose byte is the last of `bytes` more.
 #[inline(always)]
-const fn digits(grammar: Grammar, text: &[u8], at: At, part: Part) -> At {
-    let first = digit(grammar, text, at, part);
-    if first.size < text.len() && grammar.view().is_separator(text[first.size]) {
-        separated(grammar, text, first, part)
-    } else {
-        first
+const fn push(grammar: Grammar, part: Part, run: Run, value: u32, bytes: usize) -> Run {
+    Run {
+        size: run.size + bytes,
+        stage: run.stage,
+        digits: run.digits + 1,
+        sum: run.sum.wrapping_mul(radix_of(grammar, part)).wrapping_add(value as u64),
     }
 }
 
-// Reads a digit of `part`, if one follows, and those behind it if they change no summary.
+// Returns the value of the digit behind a separator at `index`, if a separator may be there.
 #[inline(always)]
-const fn digit(grammar: Grammar, text: &[u8], at: At, part: Part) -> At {
-    if at.size < text.len() && is_digit(grammar, part, text[at.size]) {
-        run(grammar, text, take(grammar, text, at, Role::Digit), part)
+const fn separated(grammar: Grammar, text: &[u8], part: Part, index: usize) -> Option<u32> {
+    if index < text.len() && is_separator(grammar, text[index]) && grammar.view().separators(part).internal {
+        value_at(grammar, text, part, index + 1)
     } else {
-        at
+        None
     }
 }
 
-// Reads digit separators and digits of `part`.
+// Reads the digits that follow others. They do not change the stage.
 #[inline(always)]
-const fn separated(grammar: Grammar, text: &[u8], at: At, part: Part) -> At {
-    let mut at = at;
-    while at.size < text.len() && grammar.view().is_separator(text[at.size]) {
-        let next = take(grammar, text, at, Role::Separator);
-        if next.size == at.size {
-            return at;
+const fn more_digits(grammar: Grammar, text: &[u8], part: Part, begun: Run) -> Run {
+    let mut run = begun;
+    while let Some(value) = value_at(grammar, text, part, run.size) {
+        run = push(grammar, part, run, value, 1);
+    }
+    run
+}
+
+// Reads the digits that follow others, and separators between them. They do not change the stage.
+#[inline(always)]
+const fn groups(grammar: Grammar, text: &[u8], part: Part, begun: Run) -> Run {
+    let mut run = begun;
+    loop {
+        run = more_digits(grammar, text, part, run);
+        let Some(value) = separated(grammar, text, part, run.size) else {
+            return run;
+        };
+        run = push(grammar, part, run, value, 2);
+    }
+}
+
+// Reads the digits of `part` that begin at `from`, behind `stage`, and separators between them.
+#[inline(always)]
+const fn digits(grammar: Grammar, text: &[u8], part: Part, from: usize, stage: Stage, before: u64) -> Run {
+    let none = Run { size: from, stage, digits: 0, sum: before };
+    let Some(value) = value_at(grammar, text, part, from) else {
+        return none;
+    };
+    let one = push(grammar, part, none, value, 1);
+    if text[from] == b'0' && is_begun(stage) {
+        behind_zero(grammar, text, part, staged(one, Stage::Bare))
+    } else {
+        groups(grammar, text, part, staged(one, Stage::Digits))
+    }
+}
+
+// Returns the run with another stage.
+#[inline(always)]
+const fn staged(run: Run, stage: Stage) -> Run {
+    Run { size: run.size, stage, digits: run.digits, sum: run.sum }
+}
+
+// Reads the digits behind the zero that begins the integer.
+#[inline(always)]
+const fn behind_zero(grammar: Grammar, text: &[u8], part: Part, zero: Run) -> Run {
+    match value_at(grammar, text, part, zero.size) {
+        Some(value) if may_follow(grammar, Stage::Bare) => {
+            groups(grammar, text, part, staged(push(grammar, part, zero, value, 1), Stage::Led))
         }
-        at = digit(grammar, text, next, part);
-    }
-    at
-}
-
-// Reads a base prefix behind its zero, if it follows.
-#[inline(always)]
-const fn prefix(grammar: Grammar, text: &[u8], at: At) -> At {
-    if at.size < text.len() && grammar.view().is_base_prefix(text[at.size]) {
-        take(grammar, text, at, Role::Prefix)
-    } else {
-        at
-    }
-}
-
-// Reads a decimal point, if it follows.
-#[inline(always)]
-const fn point(grammar: Grammar, text: &[u8], at: At) -> At {
-    if at.size < text.len() && is_point(grammar, text[at.size]) {
-        take(grammar, text, at, Role::Point)
-    } else {
-        at
-    }
-}
-
-// Reads an exponent character, if it follows.
-#[inline(always)]
-const fn exponent_character(grammar: Grammar, text: &[u8], at: At) -> At {
-    if at.size < text.len() && is_exponent_character(grammar, text[at.size]) {
-        take(grammar, text, at, Role::Exponent)
-    } else {
-        at
-    }
-}
-
-// Reads digits of `part` and digit separators, if something has been read behind `before`.
-#[inline(always)]
-const fn digits_behind(grammar: Grammar, text: &[u8], before: At, at: At, part: Part) -> At {
-    if at.size != before.size {
-        digits(grammar, text, at, part)
-    } else {
-        at
-    }
-}
-
-// Reads a sign of the exponent, if one follows an exponent character that has been read behind `before`.
-#[inline(always)]
-const fn exponent_sign(grammar: Grammar, text: &[u8], before: At, at: At) -> At {
-    if at.size != before.size {
-        sign(grammar, text, at)
-    } else {
-        at
+        _ => zero,
     }
 }
 
 // Reads a front of `text` with which some literal begins.
 #[inline(always)]
 pub(crate) const fn plain(grammar: Grammar, text: &[u8]) -> Counted {
-    let signed = sign(grammar, text, BEGIN.at);
-    let zero = digits(grammar, text, signed, Part::Integer);
-    let prefixed = prefix(grammar, text, zero);
-    let integer = digits_behind(grammar, text, zero, prefixed, Part::Integer);
-    let prefix = prefixed.size - zero.size;
-    let count = integer.size - signed.size - prefix;
-    if integer.size == text.len() {
-        return Counted { at: integer, counts: [signed.size, prefix, count, 0, 0, 0, 0, 0, 0] };
+    let Some(sign) = sign(grammar, text, Part::Integer, 0) else {
+        return stopped(BEGIN);
+    };
+    let Some(opening) = open(grammar, text, sign) else {
+        return without_prefix(grammar, text, sign);
+    };
+    integer(grammar, text, opening)
+}
+
+// Returns what comes before the digits of the integer, or `None` if a base prefix is required that does not follow.
+#[inline(always)]
+const fn open(grammar: Grammar, text: &[u8], sign: usize) -> Option<Opening> {
+    if reads_prefix(grammar, text, sign) {
+        Some(Opening { sign, prefix: 1, size: sign + 2, stage: Stage::Free })
+    } else if grammar.conditions.required_base_prefix {
+        None
+    } else {
+        Some(Opening { sign, prefix: 0, size: sign, stage: behind_sign(Part::Integer, sign) })
     }
-    let pointed = point(grammar, text, integer);
-    let fraction = digits_behind(grammar, text, integer, pointed, Part::Fraction);
-    let point = pointed.size - integer.size;
-    let places = fraction.size - pointed.size;
-    if fraction.size == text.len() {
-        return Counted { at: fraction, counts: [signed.size, prefix, count, point, places, 0, 0, 0, 0] };
+}
+
+// Reads the zero with which a required base prefix begins, if it follows.
+#[inline(always)]
+const fn without_prefix(_grammar: Grammar, text: &[u8], sign: usize) -> Counted {
+    if sign < text.len() && text[sign] == b'0' {
+        stopped(place(Part::Integer, sign + 1, Stage::Bare))
+    } else {
+        stopped(place(Part::Integer, sign, behind_sign(Part::Integer, sign)))
     }
-    let marked = exponent_character(grammar, text, fraction);
-    let scaled = exponent_sign(grammar, text, fraction, marked);
-    let exponent = digits_behind(grammar, text, fraction, scaled, Part::Exponent);
+}
+
+// Reads the integer, and what follows it.
+#[inline(always)]
+const fn integer(grammar: Grammar, text: &[u8], opening: Opening) -> Counted {
+    let Opening { sign, prefix, size, stage } = opening;
+    let run = digits(grammar, text, Part::Integer, size, stage, 0);
+    if run.size == size {
+        return stopped(place(Part::Integer, size, stage));
+    }
+    let integer = run.size - sign - prefix;
+    let sizes = Sizes { sign, prefix, integer, point: 0, fraction: 0 };
+    let at = place(Part::Integer, run.size, run.stage);
+    if run.size < text.len() && is_point(grammar, text[run.size]) && takes(grammar, at.read, false, Role::Point) {
+        return fraction(grammar, text, sizes, run);
+    }
+    if run.size < text.len()
+        && is_exponent_character(grammar, text[run.size])
+        && takes(grammar, at.read, false, Role::Exponent)
+    {
+        return exponent(grammar, text, sizes, run.size + 1);
+    }
+    end(grammar, text, at, sizes, [0; 3])
+}
+
+// Reads the fraction behind its decimal point, and what follows it.
+#[inline(always)]
+const fn fraction(grammar: Grammar, text: &[u8], sizes: Sizes, integer: Run) -> Counted {
+    let from = integer.size + 1;
+    let stage = behind_point(integer.stage);
+    let run = digits(grammar, text, Part::Fraction, from, stage, integer.sum);
+    if run.size == from {
+        return stopped(place(Part::Fraction, from, stage));
+    }
+    let Sizes { sign, prefix, integer, .. } = sizes;
+    let sizes = Sizes { sign, prefix, integer, point: 1, fraction: run.size - from };
+    let at = place(Part::Fraction, run.size, run.stage);
+    if run.size < text.len()
+        && is_exponent_character(grammar, text[run.size])
+        && takes(grammar, at.read, false, Role::Exponent)
+    {
+        return exponent(grammar, text, sizes, run.size + 1);
+    }
+    end(grammar, text, at, sizes, [0; 3])
+}
+
+// Returns the stage behind a decimal point.
+#[inline(always)]
+const fn behind_point(integer: Stage) -> Stage {
+    if has_digit(integer) {
+        Stage::Free
+    } else {
+        Stage::Lone
+    }
+}
+
+// Reads the exponent behind its character, and what follows it.
+#[inline(always)]
+const fn exponent(grammar: Grammar, text: &[u8], sizes: Sizes, size: usize) -> Counted {
+    let Some(sign) = sign(grammar, text, Part::Exponent, size) else {
+        return stopped(place(Part::Exponent, size, Stage::Mark));
+    };
+    let from = size + sign;
+    let run = digits(grammar, text, Part::Exponent, from, behind_sign(Part::Exponent, sign), 0);
+    let at = place(Part::Exponent, run.size, run.stage);
+    end(grammar, text, at, sizes, [1, sign, run.size - from])
+}
+
+// Reads the suffix, if it follows.
+#[inline(always)]
+const fn end(grammar: Grammar, text: &[u8], at: At, sizes: Sizes, scale: [usize; 3]) -> Counted {
+    let Sizes { sign, prefix, integer, point, fraction } = sizes;
+    let At { size, read } = at;
+    if size < text.len() && grammar.view().is_base_suffix(text[size]) && takes(grammar, read, false, Role::Suffix) {
+        let Summary { part, stage, gap, .. } = read;
+        let read = Summary { part, stage, gap, ended: true };
+        return Counted {
+            at: At { size: size + 1, read },
+            counts: [sign, prefix, integer, point, fraction, scale[0], scale[1], scale[2], 1],
+            complete: is_complete(grammar, read),
+        };
+    }
     Counted {
-        at: exponent,
-        counts: [
-            signed.size,
-            prefix,
-            count,
-            point,
-            places,
-            marked.size - fraction.size,
-            scaled.size - marked.size,
-            exponent.size - scaled.size,
-            0,
-        ],
+        at,
+        counts: [sign, prefix, integer, point, fraction, scale[0], scale[1], scale[2], 0],
+        complete: is_complete(grammar, read),
     }
 }

@@ -6,7 +6,7 @@ use crate::literal::cause::{Marks, ReadError, Spot};
 use crate::literal::groups::{is_grouped, wrong_group};
 use crate::literal::plain::{plain, At, Counted, BEGIN};
 use crate::literal::span::marks;
-use crate::literal::steps::{byte_class, is_complete, piece_number, step, Summary};
+use crate::literal::steps::{byte_class, is_complete, piece_number, step, step_at, Summary};
 use crate::literal::syntax::Syntax;
 
 /// The parts of a literal, in the order of the text. An absent part has no bytes.
@@ -58,16 +58,6 @@ impl Reader {
         self.syntax
     }
 
-    // Returns whether `text` is a literal, of which a pass has found `scanned`.
-    #[inline(always)]
-    pub(crate) const fn takes(&self, text: &[u8], scanned: Scanned) -> bool {
-        if scanned.stop.size == text.len() && self.is_complete(scanned.stop.read) {
-            self.has_groups(text, scanned.counts)
-        } else {
-            false
-        }
-    }
-
     // Returns whether the integer of the literal `text` is in groups, if the syntax requires it.
     #[inline(always)]
     const fn has_groups(&self, text: &[u8], counts: [usize; 9]) -> bool {
@@ -84,15 +74,16 @@ impl Reader {
     // Returns where reading `text` stops, and the longest front that is a literal, apart from its groups, if there is one.
     #[inline(always)]
     pub(crate) const fn front(&self, text: &[u8]) -> (At, Option<Found>) {
-        let Scanned { stop, counts, .. } = self.scan(text);
-        if self.is_complete(stop.read) {
+        let Counted { at, counts, complete } = self.begin(text);
+        let stop = self.stop(text, at);
+        if complete && stop.size == at.size {
             let size = stop.size;
             return (stop, Some(Found { size, counts }));
         }
         match self.seek(text) {
             None => (stop, None),
             Some(size) => {
-                let counts = self.scan(front_of(text, size)).counts;
+                let counts = self.count(front_of(text, size));
                 (stop, Some(Found { size, counts }))
             }
         }
@@ -115,55 +106,80 @@ impl Reader {
         plain(self.syntax.grammar(), text)
     }
 
-    // Returns whether all of `text` is a literal that has been read, and there is no condition on groups.
+    // Returns whether all of `text` is a literal that has been read.
     #[inline(always)]
     pub(crate) const fn is_whole(&self, text: &[u8], counted: Counted) -> bool {
-        let is_free = matches!(self.syntax.grammar().conditions.integer_group_size, None);
-        if is_free && counted.at.size == text.len() {
-            self.takes(text, self.whole(text, counted))
+        if counted.complete && counted.at.size == text.len() {
+            self.has_groups(text, counted.counts)
         } else {
             false
         }
     }
 
-    // Returns what has been read, where all of `text` has been read.
+    // Returns the lengths of the parts of `text`, of which reading stops at `stop`, if it is a literal.
     #[inline(always)]
-    const fn whole(&self, _text: &[u8], counted: Counted) -> Scanned {
-        let _ = &self.syntax;
-        let Counted { at, counts } = counted;
-        Scanned { stop: at, literal: None, counts }
-    }
-
-    // Reads `text` until no literal begins with what has been read.
-    #[inline(always)]
-    pub(crate) const fn scan(&self, text: &[u8]) -> Scanned {
-        self.scan_on(text, self.begin(text))
-    }
-
-    // Reads on behind what has been read.
-    #[inline(always)]
-    pub(crate) const fn scan_on(&self, text: &[u8], counted: Counted) -> Scanned {
-        if counted.at.size == text.len() {
-            self.whole(text, counted)
-        } else {
-            self.read_on(text, counted, false)
+    pub(crate) const fn lengths(&self, text: &[u8], stop: At) -> Option<[usize; 9]> {
+        if stop.size == text.len() && self.is_complete(stop.read) {
+            let counts = self.count(text);
+            if self.has_groups(text, counts) {
+                return Some(counts);
+            }
         }
+        None
+    }
+
+    // Returns where reading `text` stops, if it goes on at `at`.
+    #[inline(always)]
+    pub(crate) const fn stop(&self, text: &[u8], at: At) -> At {
+        match self.step(text, at) {
+            None => at,
+            Some(next) => self.walk(text, next),
+        }
+    }
+
+    // Returns what has been read with one more byte, or `None` if reading stops at `at`.
+    #[inline(always)]
+    const fn step(&self, text: &[u8], at: At) -> Option<At> {
+        let grammar = self.syntax.grammar();
+        let At { size, read } = at;
+        if size == text.len() {
+            return None;
+        }
+        match step_at(grammar, read, text[size]) {
+            None => None,
+            Some(read) => Some(At { size: size + 1, read }),
+        }
+    }
+
+    // Returns where reading stops, step by step.
+    #[cold]
+    const fn walk(&self, text: &[u8], at: At) -> At {
+        let mut stop = at;
+        while let Some(next) = self.step(text, stop) {
+            stop = next;
+        }
+        stop
+    }
+
+    // Returns the lengths of the parts of the literal `text`.
+    #[cold]
+    const fn count(&self, text: &[u8]) -> [usize; 9] {
+        self.read_on(text, false).counts
     }
 
     // Returns the length of the longest front of `text` that is a literal, if there is one.
     #[cold]
     const fn seek(&self, text: &[u8]) -> Option<usize> {
-        let _ = &self.syntax;
-        self.read_on(text, BEGIN, true).literal
+        self.read_on(text, true).literal
     }
 
-    // Reads on where `at` has been read, until no literal begins with what has been read. Seeks the longest front that is a
-    // literal if `seeks` is true.
+    // Reads `text` until no literal begins with what has been read, and counts the bytes of each part. Seeks the longest front
+    // that is a literal if `seeks` is true.
     #[cold]
-    const fn read_on(&self, text: &[u8], counted: Counted, seeks: bool) -> Scanned {
+    const fn read_on(&self, text: &[u8], seeks: bool) -> Scanned {
         let grammar = self.syntax.grammar();
-        let At { mut size, mut read } = counted.at;
-        let mut counts = counted.counts;
+        let At { mut size, mut read } = BEGIN;
+        let mut counts = [0; 9];
         let mut literal = None;
         while size < text.len() {
             let Some(next) = step(grammar, read, byte_class(grammar, text[size])) else {
@@ -188,7 +204,7 @@ impl Reader {
     }
 
     // Returns why `text`, of which reading stopped at `stop`, is not a literal.
-    #[cold]
+    #[inline(always)]
     pub(crate) const fn refuse(&self, text: &[u8], stop: At) -> ReadError {
         if stop.size == text.len() && self.is_complete(stop.read) {
             self.ungrouped(text)
@@ -200,7 +216,7 @@ impl Reader {
     // Returns that the integer of `text` is not in groups, and the first wrong group.
     #[cold]
     const fn ungrouped(&self, text: &[u8]) -> ReadError {
-        let counts = self.scan(text).counts;
+        let counts = self.count(text);
         let grammar = self.syntax.grammar();
         let Some(size) = grammar.conditions.integer_group_size else { unreachable!() };
         let parts = cut(text, counts);
@@ -209,7 +225,7 @@ impl Reader {
         ReadError {
             spot: Spot {
                 grammar,
-                read: BEGIN.at.read,
+                read: BEGIN.read,
                 byte: None,
                 tail: [0; 3],
                 marks: Marks { size: text.len(), exponent: 0, first: before + start, run: before + end },
@@ -241,9 +257,9 @@ impl Reader {
 // the lengths of the parts of what has been read.
 #[derive(Clone, Copy)]
 pub(crate) struct Scanned {
-    pub(crate) stop: At,
+    stop: At,
     literal: Option<usize>,
-    pub(crate) counts: [usize; 9],
+    counts: [usize; 9],
 }
 
 // Returns the byte behind the first `size`, if there is one.

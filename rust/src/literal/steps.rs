@@ -2,6 +2,7 @@
 
 //! The steps of a reader: what has been read of a number, changed by the class of one byte.
 
+use crate::format_flags::digit_separator;
 use crate::literal::syntax::{Conditions, Grammar};
 use crate::word::{Part, Role};
 
@@ -76,6 +77,45 @@ pub(crate) const fn is_digit(grammar: Grammar, part: Part, byte: u8) -> bool {
         Part::Exponent => matches!(grammar.view().exponent_digit(byte), Some(_)),
         _ => matches!(grammar.view().mantissa_digit(byte), Some(_)),
     }
+}
+
+// Returns the value of `byte` as a digit of `part`, or `None` if it is none.
+#[inline(always)]
+pub(crate) const fn digit_value(grammar: Grammar, part: Part, byte: u8) -> Option<u32> {
+    match part {
+        Part::Exponent => grammar.view().exponent_digit(byte),
+        _ => grammar.view().mantissa_digit(byte),
+    }
+}
+
+// Returns the radix of the digits of `part`.
+#[inline(always)]
+pub(crate) const fn radix_of(grammar: Grammar, part: Part) -> u64 {
+    match part {
+        Part::Exponent => grammar.view().exponent_radix() as u64,
+        _ => grammar.view().mantissa_radix() as u64,
+    }
+}
+
+// Returns whether `byte` is the separator, and some flag allows one. Most bytes are another one than it.
+#[inline(always)]
+pub(crate) const fn is_separator(grammar: Grammar, byte: u8) -> bool {
+    byte == digit_separator(grammar.word) && grammar.view().is_separator(byte)
+}
+
+// Returns whether a plus sign may be before the digits of `part`.
+#[inline(always)]
+pub(crate) const fn allows_plus(grammar: Grammar, part: Part) -> bool {
+    match part {
+        Part::Exponent => !grammar.view().no_positive_exponent_sign(),
+        _ => !grammar.view().no_positive_mantissa_sign(),
+    }
+}
+
+// Returns whether a minus sign may be before the digits of `part`.
+#[inline(always)]
+pub(crate) const fn allows_minus(grammar: Grammar, part: Part) -> bool {
+    matches!(part, Part::Exponent) || !grammar.conditions.no_negative_mantissa_sign
 }
 
 // Returns whether `byte` is the decimal point.
@@ -162,20 +202,10 @@ pub(crate) const fn piece_number(piece: Piece) -> usize {
     piece as usize
 }
 
-// Returns whether another digit of the part changes no summary.
+// Returns whether the integer has no digits, and a zero is a leading one.
 #[inline(always)]
-pub(crate) const fn is_settled(read: Summary) -> bool {
-    matches!(read.stage, Stage::Led | Stage::Digits) && !read.gap && !read.ended
-}
-
-// Returns the index behind the digits of `part` that begin at `start`.
-#[inline(always)]
-pub(crate) const fn digits_end(grammar: Grammar, part: Part, text: &[u8], start: usize) -> usize {
-    let mut index = start;
-    while index < text.len() && is_digit(grammar, part, text[index]) {
-        index += 1;
-    }
-    index
+pub(crate) const fn is_begun(stage: Stage) -> bool {
+    matches!(stage, Stage::Start | Stage::Empty)
 }
 
 // Returns whether the part has a digit.
@@ -204,7 +234,7 @@ pub(crate) const fn needs_exponent(grammar: Grammar) -> bool {
 
 // Returns whether another digit may follow: after a zero, only if some literal has a leading zero.
 #[inline(always)]
-const fn may_follow(grammar: Grammar, stage: Stage) -> bool {
+pub(crate) const fn may_follow(grammar: Grammar, stage: Stage) -> bool {
     !matches!(stage, Stage::Bare | Stage::Zero)
         || (matches!(grammar.options, Some(_)) && !grammar.view().no_float_leading_zeros())
         || (!grammar.view().no_integer_leading_zeros() && !needs_exponent(grammar))
@@ -218,7 +248,7 @@ const fn gap_fits(grammar: Grammar, read: Summary, next: bool) -> bool {
 
 // Returns whether `part` has a sign, or needs none.
 #[inline(always)]
-const fn is_signed(grammar: Grammar, part: Part, stage: Stage) -> bool {
+pub(crate) const fn is_signed(grammar: Grammar, part: Part, stage: Stage) -> bool {
     let needs_sign = match part {
         Part::Exponent => grammar.view().required_exponent_sign(),
         _ => grammar.view().required_mantissa_sign(),
@@ -334,13 +364,7 @@ pub(crate) const fn takes(grammar: Grammar, read: Summary, plus: bool, role: Rol
                 && ((is_place(grammar, part, digit, true) && may_follow(grammar, stage))
                     || is_place(grammar, part, digit, false))
         }
-        Role::Sign => {
-            let forbids_plus = match part {
-                Part::Exponent => format.no_positive_exponent_sign(),
-                _ => format.no_positive_mantissa_sign(),
-            };
-            matches!(stage, Stage::Start | Stage::Mark) && (!forbids_plus || !plus)
-        }
+        Role::Sign => matches!(stage, Stage::Start | Stage::Mark) && (!plus || allows_plus(grammar, part)),
         Role::Prefix => matches!(stage, Stage::Bare),
         _ => ends(grammar, read) && continues(grammar, part, stage, role),
     }
@@ -370,6 +394,51 @@ pub(crate) const fn after(read: Summary, zero: bool, role: Role) -> Summary {
         _ => false,
     };
     Summary { part, stage, gap, ended: read.ended || matches!(role, Role::Suffix) }
+}
+
+// Returns whether `byte` is a sign.
+#[inline(always)]
+const fn is_sign(byte: u8) -> bool {
+    matches!(byte, b'+' | b'-')
+}
+
+// Returns the role of `byte` after a front that ends in `part`, if no byte plays two roles.
+#[inline(always)]
+const fn role_at(grammar: Grammar, part: Part, byte: u8) -> Option<Role> {
+    if is_digit(grammar, part, byte) {
+        Some(Role::Digit)
+    } else if is_separator(grammar, byte) {
+        Some(Role::Separator)
+    } else if is_point(grammar, byte) {
+        Some(Role::Point)
+    } else if is_exponent_character(grammar, byte) {
+        Some(Role::Exponent)
+    } else if grammar.view().is_base_suffix(byte) {
+        Some(Role::Suffix)
+    } else if is_sign(byte) {
+        Some(Role::Sign)
+    } else if grammar.view().is_base_prefix(byte) {
+        Some(Role::Prefix)
+    } else {
+        None
+    }
+}
+
+// Returns what `byte` makes of what has been read, or `None` if no literal begins so, if no byte plays two roles.
+#[inline(always)]
+pub(crate) const fn step_at(grammar: Grammar, read: Summary, byte: u8) -> Option<Summary> {
+    let plus = byte == b'+';
+    let zero = byte == b'0';
+    match role_at(grammar, read.part, byte) {
+        Some(role)
+            if !read.ended
+                && takes(grammar, read, plus, role)
+                && admits(grammar.conditions, read, plus, zero, role) =>
+        {
+            Some(after(read, zero, role))
+        }
+        _ => None,
+    }
 }
 
 // Returns what a byte of `class` makes of what has been read, or `None` if no literal begins so.

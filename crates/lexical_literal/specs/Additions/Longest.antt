@@ -11,7 +11,9 @@ use Rattle.lexical_literal.specs.Additions.Causes.{lets}
 use Rattle.lexical_literal.specs.Additions.Summary.{HasLengths, cuts_of, is_complete, scan, start}
 use Rattle.lexical_literal.specs.declared.read.Found.{Found}
 use Rattle.lexical_literal.specs.declared.read.Scanned.{Scanned}
+use Rattle.lexical_literal.specs.Additions.Plain.{IsBegun}
 use Rattle.lexical_literal.specs.declared.plain.At.{At}
+use Rattle.lexical_literal.specs.declared.plain.Counted.{Counted}
 
 -- `IsLongest m text bound longest` holds if `longest` is the length of the longest front of `text` that is a literal and has
 -- at most `bound` bytes, or `None` if there is none.
@@ -27,6 +29,13 @@ pub record IsStopped (m : Notation) (text : List ℕ) (stop : At) : Type 0 where
   pub refused : stop.size < length text → lets m stop.read (slice_get text stop.size) ≡ false
   pub complete : is_complete m stop.read ≡ true → (l : Literal) × Reads m l (take stop.size text)
   pub incomplete : is_complete m stop.read ≡ false → NoLiteral m (take stop.size text)
+
+-- `HasFound m text counted` holds if `counted` has what has been read of `text` and, if it says that this is a literal, the
+-- lengths of its parts.
+pub record HasFound (m : Notation) (text : List ℕ) (counted : Counted) : Type 0 where
+  pub begun : IsBegun m text counted.at
+  pub literal : IsTrue counted.complete → (l : Literal) × Reads m l (take counted.at.size text)
+  pub lengths : IsTrue counted.complete → (l : Literal) → Reads m l (take counted.at.size text) → HasLengths l (cuts_of counted.counts)
 
 -- `IsScanned m seeks text scanned` holds if `scanned` has where reading `text` stops, the lengths of the parts of what has
 -- been read if it is a literal, and the length of the longest front that is a literal if `seeks` is true.

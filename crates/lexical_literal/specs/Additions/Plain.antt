@@ -1,14 +1,24 @@
 -- What is read of a text part after part.
-use Rattle.std.specs.Prelude.{ℕ, ◌≡◌, ◌<◌, ◌≤◌, ◌-◌, IsTrue, List, Some, true, false, get_or, length, take}
-use Rattle.lexical_util.specs.Ascii.{ByteSet}
+use Rattle.std.specs.Prelude.{ℕ, ◌≡◌, ◌<◌, ◌≤◌, ◌+◌, ◌-◌, ◌%◌, ◌^◌, ◌==◌, ◌&&◌, if◌then◌else◌, Bool, not, IsTrue, List, [], ◌∷◌, Some, true, false, drop, get_or, length, take}
+use Rattle.std.specs.Int.Digits.{number_from_digits_after}
+use Rattle.std.specs.List.{filter_map}
+use Rattle.lexical_util.specs.Digits.{digit_of}
+use Rattle.lexical_util.specs.Layout.{separators_in}
 use Rattle.lexical_util.specs.declared.feature_format.roles.Role.{Role}
+use Rattle.lexical_util.specs.declared.feature_format.roles.Role.TheVariants as roles
 use Rattle.lexical_util.specs.declared.format_flags.Part.{Part}
 use Rattle.lexical_util.specs.declared.format_flags.Part.TheVariants as parts
 use Rattle.lexical_literal.specs.Notation.{Notation, set_of_role}
-use Rattle.lexical_literal.specs.Additions.Summary.{Cuts, add_more, cuts_of, no_cuts, scan, start, tally}
+use Rattle.lexical_literal.specs.Additions.Summary.{Cuts, add_more, after_mark, cuts_of, digits_piece, has_digit, is_begun, is_complete, is_signed, lacks_prefix, no_cuts, piece_of, scan, start, tally}
 use Rattle.lexical_literal.specs.declared.plain.At.{At}
 use Rattle.lexical_literal.specs.declared.plain.Counted.{Counted}
+use Rattle.lexical_literal.specs.declared.plain.Opening.{Opening}
+use Rattle.lexical_literal.specs.declared.plain.Run.{Run}
+use Rattle.lexical_literal.specs.declared.plain.Sizes.{Sizes}
 use Rattle.lexical_literal.specs.declared.steps.Piece.{Piece}
+use Rattle.lexical_literal.specs.declared.steps.Stage.{Stage}
+use Rattle.lexical_literal.specs.declared.steps.Stage.TheVariants as stages
+use Rattle.lexical_literal.specs.declared.syntax.Condition.TheVariants as conditions
 
 -- `HasRoles m` holds if no byte plays two roles, 0 is a digit, the mantissa has one radix, and integers have neither a
 -- decimal point nor an exponent.
@@ -29,13 +39,81 @@ pub record IsReadOn (m : Notation) (text : List ℕ) (at : At) (piece : Piece) (
   pub more : at.size ≤ next.size
   pub reads : (c : Cuts) → IsAt m text at c → IsAt m text next (add_more c piece (next.size - at.size))
 
--- `AreDigits D text from end` holds if the bytes of `text` from the index `from` to `end` are in `D`.
-pub record AreDigits (D : ByteSet) (text : List ℕ) (from end : ℕ) : Type 0 where
-  pub more : from ≤ end
-  pub within : end ≤ length text
-  pub digits : (k : ℕ) → from ≤ k → k < end → IsTrue (D (get_or text k 0))
+-- `place part size stage` is where `size` bytes have been read, of which the last is no separator and no suffix.
+abbrev pub place : Part → ℕ → Stage → At
+place part size stage = record { size = size; read = record { part = part; stage = stage; gap = false; ended = false } }
 
--- `IsCounted m text counted` holds if `counted` has what has been read of `text`, and the lengths of the parts.
+-- `fresh part` is the stage before any byte of `part`, which begins with a sign or a digit.
+abbrev pub fresh : Part → Stage
+fresh parts.Exponent = stages.Mark
+fresh part = stages.Start
+
+-- `behind_sign part sign` is the stage behind a sign with this length, or before any byte of `part` if there is none.
+abbrev pub behind_sign : Part → ℕ → Stage
+behind_sign part sign = if sign == 0 then fresh part else after_mark (fresh part)
+
+-- `IsSign m text part size sign` holds if a sign with this length, or none, is read, and if digits of `part` may follow.
+pub record IsSign (m : Notation) (text : List ℕ) (part : Part) (size sign : ℕ) : Type 0 where
+  pub within : size + sign ≤ length text
+  pub on : IsReadOn m text (place part size (fresh part)) (piece_of part roles.Sign) (place part (size + sign) (behind_sign part sign))
+  pub signed : is_signed m part (behind_sign part sign) ≡ true
+
+-- `is_free m stage` is true if no base prefix is required that has not been read.
+abbrev pub is_free : Notation → Stage → Bool
+is_free m stage = not (m.condition conditions.BasePrefix && lacks_prefix stage)
+
+-- `IsFirst m stage` holds if the first digit of the integer may follow, and if a zero is then a leading one, or that of a prefix.
+pub record IsFirst (m : Notation) (stage : Stage) : Type 0 where
+  pub begun : is_begun stage ≡ true
+  pub signed : is_signed m parts.Integer stage ≡ true
+
+-- `between text from end` has the bytes of `text` from the index `from` to `end`.
+abbrev pub between : List ℕ → ℕ → ℕ → List ℕ
+between text from end = take (end - from) (drop from text)
+
+-- `digits_in radix bytes` lists the values of the digits of `radix` among `bytes`.
+abbrev pub digits_in : ℕ → List ℕ → List ℕ
+digits_in radix bytes = filter_map (λ byte. digit_of byte radix) bytes
+
+-- `IsDigitAt radix text index value` holds if the byte at `index` is the digit of `radix` with this value.
+abbrev pub IsDigitAt : ℕ → List ℕ → ℕ → ℕ → Type 0
+IsDigitAt radix text index value = (index < length text) × (digit_of (get_or text index 0) radix ≡ Some value)
+
+-- `IsSeparated m radix text part index value` holds if a separator is at `index`, and the digit with this value behind it.
+pub record IsSeparated (m : Notation) (radix : ℕ) (text : List ℕ) (part : Part) (index value : ℕ) : Type 0 where
+  pub digit : IsDigitAt radix text (index + 1) value
+  pub separator : m.separator (get_or text index 0) ≡ true
+  pub allowed : m.flag (separators_in part).internal ≡ true
+
+-- `IsRunOn m radix text part begun run` holds if bytes of the run of `part` that `begun` has, or none, are read between `begun`
+-- and `run`, which has so many digits more, and the number that they represent behind those of `begun`, modulo `2 ^ 64`.
+pub record IsRunOn (m : Notation) (radix : ℕ) (text : List ℕ) (part : Part) (begun run : Run) : Type 0 where
+  pub on : IsReadOn m text (place part begun.size begun.stage) (digits_piece part) (place part run.size run.stage)
+  pub within : begun.size ≤ length text → run.size ≤ length text
+  pub digits : run.digits ≡ begun.digits + length (digits_in radix (between text begun.size run.size))
+  pub sum : run.sum % 2 ^ 64 ≡ number_from_digits_after radix begun.sum (digits_in radix (between text begun.size run.size)) % 2 ^ 64
+
+-- `counts_of s mark sign exponent suffix` lists the lengths of the parts.
+abbrev pub counts_of : Sizes → ℕ → ℕ → ℕ → ℕ → List ℕ
+counts_of s mark sign exponent suffix = s.sign ∷ s.prefix ∷ s.integer ∷ s.point ∷ s.fraction ∷ mark ∷ sign ∷ exponent ∷ suffix ∷ []
+
+-- `IsOpened m text opening` holds if `opening` has the sign and the base prefix that `text` begins with, and if a digit may follow.
+pub record IsOpened (m : Notation) (text : List ℕ) (opening : Opening) : Type 0 where
+  pub at : IsAt m text (place parts.Integer opening.size opening.stage)
+      (cuts_of (opening.sign ∷ opening.prefix ∷ opening.prefix ∷ 0 ∷ 0 ∷ 0 ∷ 0 ∷ 0 ∷ 0 ∷ []))
+  pub size : opening.size ≡ opening.sign + opening.prefix + opening.prefix
+  pub signed : is_signed m parts.Integer opening.stage ≡ true
+  pub free : is_free m opening.stage ≡ true
+  pub none : has_digit opening.stage ≡ false
+
+-- `IsBegun m text at` holds if `at` has the summary of the first bytes of `text`, with which some literal begins.
+pub record IsBegun (m : Notation) (text : List ℕ) (at : At) : Type 0 where
+  pub within : at.size ≤ length text
+  pub read : scan m (Some start) (take at.size text) ≡ Some at.read
+
+-- `IsCounted m text counted` holds if `counted` has what has been read of `text` and, if it says that this is a literal, the
+-- lengths of its parts.
 pub record IsCounted (m : Notation) (text : List ℕ) (counted : Counted) : Type 0 where
-  pub at : IsAt m text counted.at (cuts_of counted.counts)
-  pub small : (k : ℕ) → get_or counted.counts k 0 ≤ counted.at.size
+  pub begun : IsBegun m text counted.at
+  pub complete : IsTrue counted.complete → is_complete m counted.at.read ≡ true
+  pub lengths : IsTrue counted.complete → tally m (Some start) no_cuts (take counted.at.size text) ≡ cuts_of counted.counts

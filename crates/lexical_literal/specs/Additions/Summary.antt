@@ -95,9 +95,11 @@ is_run stages.Led = true
 is_run stages.Digits = true
 is_run _ = false
 
--- `is_settled s` is true if another digit of the part changes no summary.
-abbrev pub is_settled : Summary → Bool
-is_settled s = is_run s.stage && (not s.gap && not s.ended)
+-- `is_begun stage` is true if the integer has no digits, and a zero is a leading one.
+abbrev pub is_begun : Stage → Bool
+is_begun stages.Start = true
+is_begun stages.Empty = true
+is_begun _ = false
 
 -- `is_bare stage` is true if the integer is the digit 0, which may be the zero of a prefix.
 abbrev pub is_bare : Stage → Bool

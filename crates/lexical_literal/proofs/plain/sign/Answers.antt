@@ -1,14 +1,27 @@
--- The byte is a sign.
-use Rattle.std.proofs.Common.{arith}
+-- A sign, or none.
+use Rattle.std.proofs.Common.{◌≡◌, ◌+◌, sym, subst, ◌∙◌, ap, arith}
 use Rattle.lexical_literal.specs.Notation.{notation_of}
+use Rattle.lexical_literal.specs.Additions.Plain.{IsReadOn, behind_sign, fresh, place}
+use Rattle.lexical_literal.specs.Additions.Summary.{is_signed, piece_of}
 use Rattle.lexical_util.specs.declared.feature_format.roles.Role.TheVariants as roles
-use Rattle.lexical_literal.proofs.ScanLemmas.{is_role}
+use Rattle.lexical_literal.proofs.JoinLemmas.{signed_behind}
+use Rattle.lexical_literal.proofs.PlainLemmas.{stay}
 use Rattle.lexical_literal.proofs.plain.sign.Goals as goal
-use Rattle.lexical_literal.proofs.plain.sign.Goals.{then-text-at-eq45, else-text-at-eq45}
 
-pub take-requires-clause-plays : goal.take-requires-clause-plays
-take-requires-clause-plays c =
-    is_role (notation_of c.args.grammar) c.requires.roles c.args.at.read.part roles.Sign _ (λ same. cc) (elim c.if-text-at-eq45.branch [
-      | then-text-at-eq45 w ↦ let is = w.if-text-at-eq45.true in grind arith
-      | else-text-at-eq45 w ↦ let is = c.if-text-at-eq43.true in let value = w.value-is in grind arith
-    ])
+pub returns-then-reads_sign : goal.returns-then-reads_sign
+returns-then-reads_sign c = let yes = c.if-reads_sign.true in record {
+  within = let inside = c.reads_sign.ensures.inside yes in omega (arith, inside);
+  on = c.reads_sign.ensures.on yes;
+  signed = signed_behind (notation_of c.args.grammar) c.args.part;
+}
+
+pub returns-then-is_signed : goal.returns-then-is_signed
+returns-then-is_signed c =
+    let m = notation_of c.args.grammar in
+    let same : c.args.size + 0 ≡ c.args.size = omega arith in
+    record {
+      within = let within = c.requires.within in omega (arith, within);
+      on = subst (λ n. IsReadOn m c.args.text.now (place c.args.part c.args.size (fresh c.args.part)) (piece_of c.args.part roles.Sign)
+          (place c.args.part n (fresh c.args.part))) (sym same) (stay m c.args.text.now (place c.args.part c.args.size (fresh c.args.part)) (piece_of c.args.part roles.Sign));
+      signed = ap (is_signed m c.args.part) (sym c.behind_sign.ensures) ∙ sym c.is_signed.ensures ∙ c.if-is_signed.true;
+    }

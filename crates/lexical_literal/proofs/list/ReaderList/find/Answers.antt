@@ -1,5 +1,5 @@
 -- The first form that reads the text, or the error of the one that goes furthest.
-use Rattle.std.proofs.Common.{◌+◌, IsSomeAnd, sym, subst}
+use Rattle.std.proofs.Common.{◌+◌, IsSomeAnd, refl, sym, subst}
 use Rattle.std.proofs.lemmas.Bool.{false≢true}
 use Rattle.std.proofs.lemmas.List.Elements.{All-more}
 use Rattle.std.proofs.lemmas.Option.{slice_get-get_or}
@@ -7,16 +7,33 @@ use Rattle.lexical_literal.specs.Takes.{Refuses, Takes}
 use Rattle.lexical_literal.proofs.FormLemmas.{IsBest, all_tried, best_more, furthest_is, goes}
 use Rattle.lexical_literal.proofs.list.ReaderList.find.Goals as goal
 
-pub returns-then-takes : goal.returns-then-takes
-returns-then-takes c =
+pub returns-then-is_whole : goal.returns-then-is_whole
+returns-then-is_whole c =
     let forms = c.self.inside.readers.now in
-    let l = c.takes.ensures.takes c.if-takes.true in
+    let is = c.is_whole.ensures c.if-is_whole.true in
+    let l = is.takes refl in
     let here = slice_get-get_or forms c.loop-form.form c.index-self-form.result c.loop-form-test.true in
     rw (← c.self.view_is) (record {
       found = (
         l.0,
         record { takes = subst (λ o. IsSomeAnd o (λ g. Takes g l.0 c.args.text.now)) (sym here) l.1; before = c.loop-form.invariant.none },
-        c.takes.ensures.counted l.0 l.1,
+        is.counted l.0 l.1,
+      );
+      none = λ err. absurd (false≢true err);
+      error = tt;
+    })
+
+pub returns-in-Some : goal.returns-in-Some
+returns-in-Some c =
+    let forms = c.self.inside.readers.now in
+    let is = c.in-Some.ensures.some in
+    let l = is.takes refl in
+    let here = slice_get-get_or forms c.loop-form.form c.index-self-form.result c.loop-form-test.true in
+    rw (← c.self.view_is) (record {
+      found = (
+        l.0,
+        record { takes = subst (λ o. IsSomeAnd o (λ g. Takes g l.0 c.args.text.now)) (sym here) l.1; before = c.loop-form.invariant.none },
+        is.counted l.0 l.1,
       );
       none = λ err. absurd (false≢true err);
       error = tt;
@@ -28,10 +45,10 @@ loop-form-preserved c =
     let i = c.loop-form.form in
     record {
       none = All-more (λ g. Refuses g c.args.text.now) forms i c.index-self-form.result c.loop-form-test.true c.loop-form.invariant.none
-          (c.takes.ensures.refuses c.if-takes.false);
+          (c.in-None.ensures.none refl);
       furthest = subst (IsBest (goes c.args.text.now) forms (i + 1)) (sym c.further-furthest.ensures)
-          (best_more (goes c.args.text.now) forms i c.index-self-form.result c.loop-form-test.true c.scan-scanned.result.stop
-          c.scan-scanned.ensures.stop c.loop-form.furthest c.loop-form.invariant.furthest);
+          (best_more (goes c.args.text.now) forms i c.index-self-form.result c.loop-form-test.true c.stop-stop.result
+          c.stop-stop.ensures c.loop-form.furthest c.loop-form.invariant.furthest);
     }
 
 pub refuse-requires-clause-furthest : goal.refuse-requires-clause-furthest

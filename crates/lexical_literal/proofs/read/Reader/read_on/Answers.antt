@@ -3,13 +3,13 @@ use Rattle.std.proofs.Common.{ℕ, ◌≡◌, Bool, true, false, ◌&&◌, if◌
 use Rattle.std.proofs.lemmas.Option.{slice_get-get_or}
 use Rattle.std.specs.Prelude.{is_some}
 use Rattle.lexical_literal.specs.Notation.{Notation, notation_of}
-use Rattle.lexical_literal.specs.Additions.Summary.{IsMove, byte_class, cuts_of, is_complete, piece_number}
+use Rattle.lexical_literal.specs.Additions.Summary.{IsMove, byte_class, cuts_of, is_complete, piece_number, start}
 use Rattle.lexical_literal.specs.declared.steps.Class.{Class}
 use Rattle.lexical_literal.specs.declared.steps.Move.{Move}
 use Rattle.lexical_literal.specs.declared.steps.Summary.{Summary}
 use Rattle.lexical_literal.specs.declared.syntax.Grammar.{Grammar}
 use Rattle.lexical_literal.proofs.RoleLemmas.{ready}
-use Rattle.lexical_literal.proofs.CountLemmas.{count_one, small_more}
+use Rattle.lexical_literal.proofs.CountLemmas.{count_one, no_counts, small_at_first, small_more}
 use Rattle.lexical_literal.proofs.ScanLemmas.{IsReady}
 use Rattle.lexical_literal.proofs.LongestLemmas.{HasRead, has_begun, read_more, wrong_at, wrong_at_end, is_scanned}
 use Rattle.lexical_literal.proofs.read.Reader.read_on.Goals as goal
@@ -20,7 +20,11 @@ loop-size-init c =
     let m = notation_of c.args.self.now in
     let is_ready : IsReady m = rw (← c.self.view_is) (ready c.role_facts.ensures.disjoint c.role_facts.ensures.five c.role_facts.ensures.lawful
     c.self.inside.syntax c.self.invariant) in
-    record { nine = search rules; small = c.requires.counted.small; has = has_begun m is_ready c.args.text.now c.args.seeks c.args.counted c.requires.counted c.requires.none }
+    record {
+      nine = refl;
+      small = small_at_first;
+      has = subst (λ counts. HasRead m c.args.seeks c.args.text.now 0 start counts None) no_counts (has_begun m is_ready c.args.text.now c.args.seeks);
+    }
 
 -- One more byte in a loop that counts the bytes of each part.
 counted_more : (m : Notation) (text : List ℕ) (seeks : Bool) (i : ℕ) (s : Summary) (counts : List ℕ) (longest : Option ℕ) (k : ℕ) (next : Move)

@@ -6,19 +6,18 @@ use Rattle.lexical_literal.specs.Notation.{no_conditions, notation_of}
 use Rattle.lexical_literal.specs.Parts.{literal_of}
 use Rattle.lexical_literal.specs.declared.syntax.Grammar.{Grammar}
 use Rattle.lexical_literal.proofs.GroupLemmas.{not_grouped}
-use Rattle.lexical_literal.proofs.LongestLemmas.{whole_front}
 use Rattle.lexical_literal.proofs.read.Reader.ungrouped.Goals as goal
 
 within : (text : List ℕ) (l : Literal) (n : ℕ) → text ≡ text_of l → n ≤ length l.integer → length l.sign + length l.prefix + n ≤ length text
 within text l n whole small = omega (arith, length-append {A = ℕ}, ap length whole, small)
 
 pub cut-parts-requires : goal.cut-parts-requires
-cut-parts-requires c = let l = c.requires.read in (l.0, l.1.whole, c.scan.ensures.counted l.0 (whole_front _ _ _ c.scan.ensures.stop l.0 l.1))
+cut-parts-requires c = let l = c.requires.read in (l.0, l.1.whole, c.count-counts.ensures l.0 l.1)
 
 pub wrong_group-start-requires : goal.wrong_group-start-requires
 wrong_group-start-requires c =
     let l = c.requires.read in
-    let parts = c.cut-parts.ensures l.0 l.1.whole (c.scan.ensures.counted l.0 (whole_front _ _ _ c.scan.ensures.stop l.0 l.1)) in
+    let parts = c.cut-parts.ensures l.0 l.1.whole (c.count-counts.ensures l.0 l.1) in
     let reads = subst (λ k. Reads (notation_of c.args.self.now) k c.args.text.now) (sym parts) l.1 in
     let same = c.grammar-grammar.ensures.value ∙ c.self.view_is in
     subst (λ (g : Grammar). is_grouped (notation_of g).separator c.in-Some.size c.cut-parts.result.integer.now ≡ false) (sym same)
@@ -28,7 +27,7 @@ wrong_group-start-requires c =
 pub overflow_add-result : goal.overflow_add-result
 overflow_add-result c =
     let l = c.requires.read in
-    let parts = c.cut-parts.ensures l.0 l.1.whole (c.scan.ensures.counted l.0 (whole_front _ _ _ c.scan.ensures.stop l.0 l.1)) in
+    let parts = c.cut-parts.ensures l.0 l.1.whole (c.count-counts.ensures l.0 l.1) in
     let group = c.wrong_group-start.ensures in
     let small = within c.args.text.now (literal_of c.cut-parts.result) c.wrong_group-start.result.0 (l.1.whole ∙ ap text_of (sym parts))
     (omega (arith, group.ends, group.within)) in
@@ -37,7 +36,7 @@ overflow_add-result c =
 pub overflow_add-result-2 : goal.overflow_add-result-2
 overflow_add-result-2 c =
     let l = c.requires.read in
-    let parts = c.cut-parts.ensures l.0 l.1.whole (c.scan.ensures.counted l.0 (whole_front _ _ _ c.scan.ensures.stop l.0 l.1)) in
+    let parts = c.cut-parts.ensures l.0 l.1.whole (c.count-counts.ensures l.0 l.1) in
     let small = within c.args.text.now (literal_of c.cut-parts.result) c.wrong_group-start.result.1 (l.1.whole ∙ ap text_of (sym parts))
     c.wrong_group-start.ensures.within in
     omega (arith, small, c.type_inv.text)
@@ -45,7 +44,7 @@ overflow_add-result-2 c =
 pub returns : goal.returns
 returns c =
     let l = c.requires.read in
-    let parts = c.cut-parts.ensures l.0 l.1.whole (c.scan.ensures.counted l.0 (whole_front _ _ _ c.scan.ensures.stop l.0 l.1)) in
+    let parts = c.cut-parts.ensures l.0 l.1.whole (c.count-counts.ensures l.0 l.1) in
     let reads = subst (λ k. Reads (notation_of c.args.self.now) k c.args.text.now) (sym parts) l.1 in
     let same = c.grammar-grammar.ensures.value ∙ c.self.view_is in
     let size = c.in-Some.size in

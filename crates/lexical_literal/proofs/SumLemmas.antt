@@ -1,0 +1,153 @@
+-- The digits of a run, their number, and the number that they represent, modulo `2 ^ 64`.
+use Rattle.std.proofs.Common.{ℕ, ◌≡◌, ◌<◌, ◌≤◌, ◌+◌, ◌-◌, ◌*◌, ◌%◌, ◌^◌, ◌∙◌, Bool, true, false, List, [], ◌∷◌, ◌++◌, Option, Some, None, nat_lt, cond}
+use Rattle.std.proofs.Common.{get_or, length, take, drop, refl, sym, ap, subst, arith, append-nil}
+use Rattle.std.proofs.lemmas.Int.Digits.{number_after_append}
+use Rattle.std.proofs.lemmas.List.Elements.{filter_map-append}
+use Rattle.std.proofs.lemmas.List.{drop-drop, get_or-drop, length-drop, take_more}
+use Rattle.std.proofs.lemmas.Nat.{mul-mod_first}
+use Rattle.std.proofs.Math.Nat.{mod-add-mod, mod-mod}
+use Rattle.std.proofs.Math.Seq.{take-add}
+use Rattle.std.specs.Int.Digits.{number_from_digits_after}
+use Rattle.std.specs.List.{cons_option}
+use lib.ListN.{length-append}
+use Rattle.lexical_util.specs.Digits.{byte_value, digit_of}
+use Rattle.lexical_util.specs.Layout.{separators_in}
+use Rattle.lexical_util.specs.Record.{raw}
+use Rattle.lexical_util.specs.declared.format_flags.Part.{Part}
+use Rattle.lexical_literal.specs.Notation.{Notation, notation_of, radix_of}
+use Rattle.lexical_literal.specs.Additions.Plain.{HasRoles, IsDigitAt, IsReadOn, IsRunOn, IsSeparated, between, digits_in, place}
+use Rattle.lexical_literal.specs.Additions.Summary.{digits_piece, is_run}
+use Rattle.lexical_literal.specs.declared.plain.Run.{Run}
+use Rattle.lexical_literal.specs.declared.steps.Stage.{Stage}
+use Rattle.lexical_literal.specs.declared.syntax.Grammar.{Grammar}
+use Rattle.lexical_literal.proofs.PlainLemmas.{go_on, read_digit, read_separated, stay}
+use Rattle.lexical_literal.proofs.ScanLemmas.{is_role, no_digit}
+use Rattle.lexical_util.specs.declared.feature_format.roles.Role.TheVariants as roles
+
+-- The value of a digit.
+pub is_digit : (radix b v : ℕ) → digit_of b radix ≡ Some v → nat_lt (byte_value b) radix ≡ true
+is_digit radix b v is = go (nat_lt (byte_value b) radix) is where
+  go : (test : Bool) → cond test (Some (byte_value b)) None ≡ Some v → test ≡ true
+  go true is = refl
+  go false is = absurd (let apart : None ≡ Some v = is in cc)
+
+no_value : (radix b : ℕ) → nat_lt (byte_value b) radix ≡ false → digit_of b radix ≡ None
+no_value radix b other = ap (λ test. cond test (Some (byte_value b)) None) other
+
+-- Digits behind a number are those behind each number that is the same modulo `2 ^ 64`.
+push_same : (radix s t v : ℕ) → s % 2 ^ 64 ≡ t % 2 ^ 64 → (s * radix + v) % 2 ^ 64 ≡ (t * radix + v) % 2 ^ 64
+push_same radix s t v same =
+    let product : s * radix % 2 ^ 64 ≡ t * radix % 2 ^ 64 =
+    sym (mul-mod_first s radix (2 ^ 64)) ∙ ap (λ n. n * radix % 2 ^ 64) same ∙ mul-mod_first t radix (2 ^ 64) in
+    sym (mod-add-mod (s * radix) (2 ^ 64) v) ∙ ap (λ n. (n + v) % 2 ^ 64) product ∙ mod-add-mod (t * radix) (2 ^ 64) v
+
+after_same : (radix s t : ℕ) (ds : List ℕ) → s % 2 ^ 64 ≡ t % 2 ^ 64 → number_from_digits_after radix s ds % 2 ^ 64 ≡ number_from_digits_after radix t ds % 2 ^ 64
+after_same radix s t [] same = same
+after_same radix s t (v ∷ ds) same = after_same radix (s * radix + v) (t * radix + v) ds (push_same radix s t v same)
+
+module _ (radix : ℕ) (text : List ℕ) where
+  none_between : (n : ℕ) → digits_in radix (between text n n) ≡ []
+  none_between n = let none : n - n ≡ 0 = omega arith in ap (λ k. digits_in radix (take k (drop n text))) none
+
+  -- The digits of two pieces that follow one another.
+  both_between : (a b c : ℕ) → a ≤ b → b ≤ c → digits_in radix (between text a c) ≡ digits_in radix (between text a b) ++ digits_in radix (between text b c)
+  both_between a b c low high =
+      let sum : c - a ≡ b - a + (c - b) = omega (arith, low, high) in
+      let at : a + (b - a) ≡ b = omega (arith, low) in
+      ap (λ n. digits_in radix (take n (drop a text))) sum ∙ ap (digits_in radix) (take-add (b - a) (c - b) (drop a text))
+      ∙ filter_map-append _ (take (b - a) (drop a text)) (take (c - b) (drop (b - a) (drop a text)))
+      ∙ ap (λ rest. digits_in radix (between text a b) ++ digits_in radix (take (c - b) rest)) (drop-drop (b - a) a text ∙ ap (λ n. drop n text) at)
+
+  -- One byte.
+  byte_between : (n : ℕ) (o : Option ℕ) → n < length text → digit_of (get_or text n 0) radix ≡ o → digits_in radix (between text n (n + 1)) ≡ cons_option o []
+  byte_between n o inside is =
+      let one : n + 1 - n ≡ 0 + 1 = omega arith in
+      let zero : n + 0 ≡ n = omega arith in
+      let some : 0 < length (drop n text) = omega (arith, length-drop n text, inside) in
+      ap (λ k. digits_in radix (take k (drop n text))) one
+      ∙ ap (digits_in radix) (take_more (drop n text) 0 0 some ∙ ap (λ b. b ∷ []) (get_or-drop n text 0 0 ∙ ap (λ k. get_or text k 0) zero))
+      ∙ ap (λ o. cons_option o []) is
+
+module _ (m : Notation) (radix : ℕ) (text : List ℕ) (part : Part) where
+  pub same_run : (run : Run) → IsRunOn m radix text part run run
+  same_run run = record {
+    on = stay m text (place part run.size run.stage) (digits_piece part);
+    within = λ is. is;
+    digits = sym (ap (λ ds. run.digits + length ds) (none_between radix text run.size) ∙ omega arith);
+    sum = sym (ap (λ ds. number_from_digits_after radix run.sum ds % 2 ^ 64) (none_between radix text run.size));
+  }
+
+  -- Two runs that follow one another.
+  pub both_runs : (a b c : Run) → IsRunOn m radix text part a b → IsRunOn m radix text part b c → IsRunOn m radix text part a c
+  both_runs a b c first second =
+      let low = first.on.more in
+      let high = second.on.more in
+      let all = both_between radix text a.size b.size c.size low high in
+      record {
+        on = go_on m text (place part a.size a.stage) (place part b.size b.stage) (place part c.size c.stage) (digits_piece part) first.on second.on;
+        within = λ is. second.within (first.within is);
+        digits = omega (
+          arith,
+          second.digits,
+          first.digits,
+          ap length all,
+          length-append (digits_in radix (between text a.size b.size)) (digits_in radix (between text b.size c.size)),
+        );
+        sum = second.sum ∙ after_same radix b.sum _ (digits_in radix (between text b.size c.size)) first.sum
+            ∙ ap (λ n. n % 2 ^ 64) (sym (number_after_append radix a.sum (digits_in radix (between text a.size b.size)) (digits_in radix (between text b.size c.size))))
+            ∙ ap (λ ds. number_from_digits_after radix a.sum ds % 2 ^ 64) (sym all);
+      }
+
+-- `pushed radix run value bytes` is the run with one more digit, the last of so many bytes.
+abbrev pub pushed : ℕ → Run → ℕ → ℕ → Run
+pushed radix run value bytes = record {
+  size = run.size + bytes;
+  stage = run.stage;
+  digits = run.digits + 1;
+  sum = (run.sum * radix % 2 ^ 64 + value) % 2 ^ 64;
+}
+
+pushed_sum : (radix s v : ℕ) → (s * radix % 2 ^ 64 + v) % 2 ^ 64 % 2 ^ 64 ≡ (s * radix + v) % 2 ^ 64
+pushed_sum radix s v = mod-mod (s * radix % 2 ^ 64 + v) (2 ^ 64) ∙ mod-add-mod (s * radix) (2 ^ 64) v
+
+-- One digit, wherever it leads.
+pub one_digit : (m : Notation) (radix : ℕ) (text : List ℕ) (part : Part) (run : Run) (stage : Stage) (v : ℕ) → IsDigitAt radix text run.size v
+    → IsReadOn m text (place part run.size run.stage) (digits_piece part) (place part (run.size + 1) stage)
+    → IsRunOn m radix text part run (record (pushed radix run v 1) { stage = stage })
+one_digit m radix text part run stage v digit on = let one = byte_between radix text run.size (Some v) digit.0 digit.1 in record {
+  on = on;
+  within = λ is. omega (arith, digit.0);
+  digits = sym (ap (λ ds. run.digits + length ds) one);
+  sum = pushed_sum radix run.sum v ∙ sym (ap (λ ds. number_from_digits_after radix run.sum ds % 2 ^ 64) one);
+}
+
+module _ (g : Grammar) (text : List ℕ) (part : Part) (run : Run) (v : ℕ) (h : HasRoles (notation_of g)) (is : is_run run.stage ≡ true) where
+  abbrev m : Notation
+  m = notation_of g
+
+  abbrev radix : ℕ
+  radix = radix_of (raw g.word) part
+
+  pub more_digit : IsDigitAt radix text run.size v → IsRunOn m radix text part run (pushed radix run v 1)
+  more_digit digit = one_digit m radix text part run run.stage v digit
+      (read_digit m text h part run.size run.stage is digit.0 (is_digit radix (get_or text run.size 0) v digit.1))
+
+  pub more_separated : IsSeparated m radix text part run.size v → IsRunOn m radix text part run (pushed radix run v 2)
+  more_separated separated =
+      let two : run.size + 1 + 1 ≡ run.size + 2 = omega arith in
+      let inside : run.size < length text = omega (arith, separated.digit.0) in
+      let first = byte_between radix text run.size None inside
+      (no_value radix (get_or text run.size 0) (no_digit m h part (get_or text run.size 0)
+          (is_role m h part roles.Separator (get_or text run.size 0) (λ same. cc) separated.separator))) in
+      let second = byte_between radix text (run.size + 1) (Some v) separated.digit.0 separated.digit.1 in
+      let one : digits_in radix (between text run.size (run.size + 2)) ≡ v ∷ [] =
+      both_between radix text run.size (run.size + 1) (run.size + 2) (omega arith) (omega arith)
+      ∙ ap (λ ds. ds ++ digits_in radix (between text (run.size + 1) (run.size + 2))) first
+      ∙ ap (λ n. digits_in radix (between text (run.size + 1) n)) (sym two) ∙ second in
+      record {
+        on = read_separated m text h part run.size run.stage is separated.digit.0 separated.separator
+            (is_digit radix (get_or text (run.size + 1) 0) v separated.digit.1) separated.allowed;
+        within = λ is. omega (arith, separated.digit.0);
+        digits = sym (ap (λ ds. run.digits + length ds) one);
+        sum = pushed_sum radix run.sum v ∙ sym (ap (λ ds. number_from_digits_after radix run.sum ds % 2 ^ 64) one);
+      }

@@ -1,0 +1,38 @@
+-- Digits, then a separator and the digit behind it.
+use Rattle.std.proofs.Common.{◌≡◌, ◌≤◌, length, sym, ap, subst, ◌∙◌, arith}
+use Rattle.lexical_util.specs.Record.{raw}
+use Rattle.lexical_literal.specs.Notation.{notation_of, radix_of}
+use Rattle.lexical_literal.specs.Additions.Plain.{IsRunOn}
+use Rattle.lexical_literal.specs.Additions.Summary.{is_run}
+use Rattle.lexical_literal.specs.declared.plain.Run.{Run}
+use Rattle.lexical_literal.proofs.SumLemmas.{both_runs, more_separated, pushed}
+use Rattle.lexical_literal.proofs.plain.groups.Goals as goal
+
+pub returns-in_default-clause-run : goal.returns-in_default-clause-run
+returns-in_default-clause-run c = both_runs (notation_of c.args.grammar) (radix_of (raw c.args.grammar.word) c.args.part) c.args.text.now c.args.part
+    c.args.begun c.loop-value.run c.more_digits-run.result c.loop-value.invariant.on c.more_digits-run.ensures.run
+
+pub loop-value-preserved : goal.loop-value-preserved
+loop-value-preserved c =
+    let g = c.args.grammar in
+    let m = notation_of g in
+    let text = c.args.text.now in
+    let radix = radix_of (raw g.word) c.args.part in
+    let run = c.loop-value.run in
+    let now = c.loop-value.invariant in
+    let more = c.more_digits-run.result in
+    let is = c.more_digits-run.ensures in
+    let v = c.in-Some.value in
+    let next = pushed radix more v 2 in
+    let same : c.push-run.result ≡ next = c.push-run.ensures in
+    let stage = is.stage ∙ now.stage in
+    let digits = is.digits in
+    record {
+      within = subst (λ (r : Run). r.size ≤ length text) (sym same) (omega (arith, c.in-Some.ensures.digit.0));
+      digits = subst (λ (r : Run). r.digits ≤ r.size) (sym same) (omega (arith, digits));
+      stage = ap (λ (r : Run). r.stage) same ∙ stage;
+      on = subst (IsRunOn m radix text c.args.part c.args.begun) (sym same)
+          (both_runs m radix text c.args.part c.args.begun more next
+          (both_runs m radix text c.args.part c.args.begun run more now.on is.run)
+          (more_separated g text c.args.part more v c.requires.roles (ap is_run stage ∙ c.requires.run) c.in-Some.ensures));
+    }

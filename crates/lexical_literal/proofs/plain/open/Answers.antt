@@ -1,0 +1,15 @@
+-- What comes before the digits.
+use Rattle.std.proofs.Common.{◌≡◌, false, sym, subst, ◌∙◌, arith}
+use Rattle.lexical_literal.specs.Notation.{notation_of}
+use Rattle.lexical_literal.specs.Additions.Plain.{IsOpened, behind_sign}
+use Rattle.lexical_literal.proofs.JoinLemmas.{opened, opened_prefix}
+use Rattle.lexical_literal.proofs.plain.open.Goals as goal
+
+pub returns-then-reads_prefix : goal.returns-then-reads_prefix
+returns-then-reads_prefix c = opened_prefix (notation_of c.args.grammar) c.args.text.now c.requires.roles c.args.sign c.requires.sign
+    (c.reads_prefix.ensures.on c.if-reads_prefix.true)
+
+pub returns-else-grammar : goal.returns-else-grammar
+returns-else-grammar c =
+    subst (λ stage. IsOpened (notation_of c.args.grammar) c.args.text.now (record { sign = c.args.sign; prefix = 0; size = c.args.sign; stage = stage }))
+    (sym c.behind_sign.ensures) (opened (notation_of c.args.grammar) c.args.text.now c.args.sign c.requires.sign c.if-grammar.false)
