@@ -218,7 +218,9 @@ impl Reader {
     const fn ungrouped(&self, text: &[u8]) -> ReadError {
         let counts = self.count(text);
         let grammar = self.syntax.grammar();
-        let Some(size) = grammar.conditions.integer_group_size else { unreachable!() };
+        let Some(size) = grammar.conditions.integer_group_size else {
+            return self.refuse_byte(text, BEGIN);
+        };
         let parts = cut(text, counts);
         let before = parts.sign.len() + parts.prefix.len();
         let (start, end) = wrong_group(grammar, size, parts.integer);
