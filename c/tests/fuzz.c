@@ -108,8 +108,11 @@ static bool draw_syntax(peltzivar_word word, peltzivar_syntax *syntax) {
     const peltzivar_syntax of = {word, drawn[0], drawn[1], draw() % 8 == 0, draw() % 8 == 0, draw() % 8 == 0,
         (uint8_t)(draw() % 4 ? 0 : draw() % 9), {0}};
     *syntax = of;
-    for (uint64_t count = draw() % 4 ? 0 : draw() % 48; count > 0; count--) {
-        ((unsigned char *)syntax)[draw() % (draw() % 64 ? offsetof(peltzivar_syntax, reserved) : sizeof of)] = draw_edit().value;
+    /* Other bytes, of which several may be the same. Most have the radixes as before. */
+    for (uint64_t count = draw() % 2 ? 0 : draw() % 48, all = draw(); count > 0; count--) {
+        const size_t index = draw() % (draw() % 64 ? offsetof(peltzivar_syntax, reserved) : sizeof of);
+        if (index / 4 == 3 && all % 8) continue;
+        ((unsigned char *)syntax)[index] = all % 2 ? draw_edit().value : (uint8_t)"01e.-+_x"[draw() % 8];
     }
     const bool is_lawful = !peltzivar_check_syntax(syntax);
     WRITE(peltzivar_syntax_error_text, syntax);
@@ -198,31 +201,6 @@ static void test_literals(peltzivar_word word) {
     free(from);
 }
 
-/* Syntaxes whose bytes have several roles read texts of these bytes without a fault. */
-static void test_clashes(void) {
-    static const char bytes[] = "0011e.-+_x";
-#define DRAW_BYTE (uint8_t)bytes[draw() % 10]
-    static const uint8_t radixes[] = {2, 10, 10, 16};
-    peltzivar_fields fields = {draw() & draw(), DRAW_BYTE, DRAW_BYTE, DRAW_BYTE, radixes[draw() % 4], 0, radixes[draw() % 4]};
-    const peltzivar_syntax syntax = {peltzivar_pack(&fields), DRAW_BYTE, DRAW_BYTE, draw() % 8 == 0, draw() % 8 == 0, draw() % 8 == 0,
-        (uint8_t)(draw() % 4 ? 0 : draw() % 9), {0}};
-    for (int tries = 0; tries < 8; tries++) {
-        const size_t len = (size_t)draw() % 10;
-        peltzivar_literal literal;
-        peltzivar_read_error error;
-        peltzivar_explanation why;
-        for (size_t i = 0; i < len; i++) text[i] = (char)DRAW_BYTE;
-        char *const from = copy(len);
-        for (int is_prefix = 0; is_prefix < 2; is_prefix++) {
-            if ((is_prefix ? peltzivar_read_prefix : peltzivar_read)(&syntax, from, len, &literal, &error)) {
-                CHECK(literal.size <= len && literal.suffix.end == literal.size);
-                test_written(&syntax, false, &literal);
-            } else CHECK(peltzivar_explain(&error, &why) && why.span.start <= why.span.end && why.span.end <= len && error.valid_up_to <= len);
-        }
-        free(from);
-    }
-}
-
 /* A text is a special value only if it is a spelling with other signs, cases and separators. */
 static void test_special_values(peltzivar_word word) {
     static const char *const spellings[] = {NULL, "", "NaN", "inf", "i_n'f", "+e.\377"};
@@ -286,7 +264,7 @@ int main(int argc, char **argv) {
     const unsigned long cases = argc > 1 ? strtoul(argv[1], NULL, 10) : 1000;
     for (number = 0; number < cases; number++) {
         const peltzivar_word word = draw_word();
-        test_word(word), test_reasons(word), test_literals(word), test_special_values(word), test_clashes(), test_lines(), test_settings();
+        test_word(word), test_reasons(word), test_literals(word), test_special_values(word), test_lines(), test_settings();
     }
     return 0;
 }

@@ -29,7 +29,6 @@ mod languages;
 mod literals;
 mod names;
 mod numbers;
-mod reading;
 mod settings;
 mod values;
 mod words;

@@ -1,8 +1,8 @@
 //! Calls that check syntaxes, that read literals, and that print why a text is not one.
 
 use crate::arguments::{input, write_text, Out};
+use crate::languages::Forms;
 use crate::numbers::{error_number, ErrorNumber, Setter, Word, NO_PART, NO_SETTER};
-use crate::{languages::Forms, reading};
 use core::fmt::{self, Display, Formatter};
 use core::mem::ManuallyDrop;
 use core::num::NonZeroU8;
@@ -231,13 +231,13 @@ const TOO_LONG: &str = "the text has more than PTRDIFF_MAX bytes";
 unsafe fn read_by<'a>(
     (syntax, text, len): (Option<&Syntax>, *const u8, usize),
     (literal, error): (Out<Literal<'a>>, Out<ReadError>),
-    read: impl FnOnce(&literal::Syntax, &'a [u8]) -> Result<literal::Literal<'a>, literal::ReadError>,
+    read: impl FnOnce(literal::Reader, &'a [u8]) -> Result<literal::Literal<'a>, literal::ReadError>,
 ) -> bool {
     let Some(syntax) = Syntax::given(syntax) else {
         return refuse("peltzivar_check_syntax refuses this syntax", error);
     };
     let Some(text) = input(text, len) else { return refuse(TOO_LONG, error) };
-    match read(&syntax, text) {
+    match read(literal::Reader::new(syntax), text) {
         Ok(found) => literal.write_some(Some(Literal::of(found, 0))),
         Err(why) => stop(why, 0, error),
     }
@@ -289,13 +289,13 @@ calls! {
     fn peltzivar_read(
         syntax: Option<&Syntax>, text: *const u8, len: usize, literal: Out<Literal>, error: Out<ReadError>
     ) -> bool {
-        read_by((syntax, text, len), (literal, error), reading::read)
+        read_by((syntax, text, len), (literal, error), |it, text| it.read(text))
     }
 
     fn peltzivar_read_prefix(
         syntax: Option<&Syntax>, text: *const u8, len: usize, literal: Out<Literal>, error: Out<ReadError>
     ) -> bool {
-        read_by((syntax, text, len), (literal, error), reading::read_prefix)
+        read_by((syntax, text, len), (literal, error), |it, text| Ok(it.read_prefix(text)?.0))
     }
 
     fn peltzivar_forms_read(

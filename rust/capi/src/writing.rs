@@ -3,7 +3,6 @@
 use crate::arguments::{write_text, Out};
 use crate::literals::{Literal, Syntax};
 use crate::names::{at, texts};
-use crate::reading;
 use crate::values::I128;
 use core::fmt::{self, Write};
 use peltzivar::format::STANDARD;
@@ -132,8 +131,9 @@ calls! {
         syntax: Option<&Syntax>, value: f64, style: Option<&Style>, text: *mut u8, len: usize, needed: Out<usize>
     ) -> WriteStatus {
         let format = |digits: Shortest| write((syntax, style), (text, len, needed), |syntax, style| {
+            let digits = &digits.bytes[..digits.len];
             // `read` has one caller, so it is inlined there.
-            let literal = reading::read_prefix(&FLOATS, &digits.bytes[..digits.len]).map_err(|_| WriteError::Special)?;
+            let (literal, _) = literal::Reader::new(FLOATS).read_prefix(digits).map_err(|_| WriteError::Special)?;
             match syntax.point() {
                 // No float type has a value of a literal with these digits and another exponent base.
                 _ if syntax.format().exponent_base() != 10 => Err(WriteError::Radix),

@@ -13,11 +13,8 @@ impl Syntax {
     #[doc(hidden)]
     #[must_use]
     #[inline]
-    pub const fn unchecked(word: u128, options: Option<(u8, u8)>, conditions: Conditions) -> Syntax {
-        let options = match options {
-            Some((exponent, point)) => Some(Options { exponent, point }),
-            None => None,
-        };
+    pub fn unchecked(word: u128, options: Option<(u8, u8)>, conditions: Conditions) -> Syntax {
+        let options = options.map(|(exponent, point)| Options { exponent, point });
         Syntax { format: Format { word }, options, conditions }
     }
 
