@@ -37,7 +37,7 @@ impl Reader {
     ///
     /// If `text` is not a literal, returns why, and how far it is right.
     pub const fn read<'a>(&self, text: &'a [u8]) -> Result<Literal<'a>, ReadError> {
-        let counted = self.begin(text);
+        let counted = self.begin(text, false);
         if self.is_whole(text, counted) {
             Ok(Literal { text, counts: counted.counts, view: self.syntax.format().view() })
         } else {
